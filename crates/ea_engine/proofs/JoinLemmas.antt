@@ -1,0 +1,50 @@
+-- One more worker's seats are joined, and the nodes of its hand wait.
+use Rattle.std.proofs.Common.{◌≡◌, ℕ, List, ◌++◌, inl, inr, Option}
+use Rattle.std.specs.Prelude.{Contains, IfSome}
+use Rattle.std.specs.Option.{option_to_list}
+use Rattle.std.proofs.lemmas.List.Elements.{Contains-append_cases, Contains-append_left, Contains-append_right}
+use Rattle.ea_road.specs.Roads.{Roads}
+use Rattle.ea_labels.specs.declared.record.SeatRecord.{SeatRecord}
+use Rattle.ea_labels.specs.Core.{joined}
+use Rattle.ea_pool.specs.declared.account.Account.{Account}
+use Rattle.ea_pool.specs.declared.entry.Entry.{Entry}
+use Rattle.ea_engine.specs.declared.turn.Hand.{Hand}
+use Rattle.ea_engine.specs.Closed.{IsClosedAccount}
+use Rattle.ea_engine.specs.Gathered.{IsGathered}
+use Rattle.ea_engine.proofs.AccountLemmas.{closed_joined}
+use Rattle.ea_engine.proofs.Settling.{of_option}
+
+-- The nodes of a hand wait beside those that waited.
+pub waits_hand : (back refused : List Entry) (hand : Hand) (before after : List ℕ)
+    → ((entry : Entry) → Contains (back ++ refused) entry → Contains before entry.node)
+    → ((node : ℕ) → Contains before node → Contains after node)
+    → IfSome hand.popped (λ e. Contains after e.node) → IfSome hand.refused (λ e. Contains after e.node)
+    → (entry : Entry) → Contains ((back ++ option_to_list hand.popped) ++ (refused ++ option_to_list hand.refused)) entry → Contains after entry.node
+waits_hand back refused hand before after waits kept popped held entry inside =
+    let on = option_to_list hand.popped in
+    let off = option_to_list hand.refused in
+    elim (Contains-append_cases (back ++ on) (refused ++ off) entry inside) [
+      | inl front ↦ elim (Contains-append_cases back on entry front) [
+        | inl old ↦ kept entry.node (waits entry (Contains-append_left back refused entry old))
+        | inr now ↦ of_option hand.popped _ popped entry now
+      ]
+      | inr end ↦ elim (Contains-append_cases refused off entry end) [
+        | inl old ↦ kept entry.node (waits entry (Contains-append_right back refused entry old))
+        | inr now ↦ of_option hand.refused _ held entry now
+      ]
+    ]
+
+module _ (roads : Roads) (answers : ℕ → ℕ → ℕ → ℕ → Type 0) (target : Option ℕ) where
+  pub gathered_joined : (r s both : SeatRecord) (a b sum : Account) (hand : Hand) (before after : List ℕ)
+      → both ≡ joined r s → sum.pushed ≡ a.pushed ++ b.pushed → sum.popped ≡ a.popped ++ b.popped
+      → IsGathered roads answers target r a before
+      → IsClosedAccount roads answers target s b (option_to_list hand.popped) (option_to_list hand.refused)
+      → ((node : ℕ) → Contains before node → Contains after node)
+      → IfSome hand.popped (λ e. Contains after e.node) → IfSome hand.refused (λ e. Contains after e.node)
+      → IsGathered roads answers target both sum after
+  gathered_joined r s both a b sum hand before after e pushed popped h k kept on off = record {
+    back = h.back ++ option_to_list hand.popped;
+    refused = h.refused ++ option_to_list hand.refused;
+    closed = closed_joined roads answers target r s both a b sum h.back (option_to_list hand.popped) h.refused (option_to_list hand.refused) e pushed popped h.closed k;
+    waits = waits_hand h.back h.refused hand before after h.waits kept on off;
+  }

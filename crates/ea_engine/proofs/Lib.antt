@@ -1,0 +1,13 @@
+pub mod Multisets
+pub mod Nothing
+pub mod ProgressLemmas
+pub mod RowLemmas
+pub mod RowedLemmas
+pub mod DoneRows
+pub mod BoundLemmas
+pub mod CounterLemmas
+pub mod TurnLemmas
+pub mod WorkLemmas
+pub mod AccountLemmas
+pub mod Settling
+pub mod JoinLemmas

@@ -1,0 +1,100 @@
+-- Turns that found nothing, and turns after a pop.
+use Rattle.std.proofs.Common.{◌≡◌, ℕ, ◌≤◌, ◌^◌, zero-add, true, List, [], ◌∷◌, ◌++◌, refl, sym, ◌∙◌, ap, arith, Option, None}
+use Rattle.std.specs.Prelude.{Contains}
+use Rattle.std.specs.Option.{option_to_list}
+use Rattle.std.proofs.lemmas.Bool.{false≢true}
+use Rattle.rand_core.specs.Stream.{Stream, next_u64}
+use Rattle.ea_road.specs.Roads.{Roads}
+use Rattle.ea_pool.specs.declared.entry.Entry.{Entry}
+use Rattle.ea_engine.specs.declared.turn.Turn.{Turn}
+use Rattle.ea_engine.specs.declared.turn.Hand.{Hand}
+use Rattle.ea_engine.specs.declared.turn.TurnKind.{TurnKind}
+use Rattle.ea_engine.specs.declared.turn.TurnKind.TheVariants.{Empty, Busy, Stale, Scanned, Refused, Cut}
+use Rattle.ea_engine.specs.Words.{after_words}
+use Rattle.ea_labels.specs.declared.record.Bound.{Bound}
+use Rattle.ea_labels.specs.declared.record.SeatRecord.{SeatRecord}
+use Rattle.ea_pool.specs.declared.account.Account.{Account}
+use Rattle.ea_pool.specs.Pools.{SameBooks, Pops}
+use Rattle.ea_engine.specs.Turns.{is_idle, IsShaped, popped_as, popped_in}
+use Rattle.ea_engine.specs.Closed.{IsClosedAs, IsClosedTurn}
+use Rattle.ea_engine.specs.Worked.{kit, Progress, IsTurn, IsHandOf, IsInside}
+use Rattle.ea_engine.proofs.ProgressLemmas.{Progress-then}
+
+popped_as-idle : (k : TurnKind) (x y : ℕ) → is_idle k ≡ true → popped_as k x y ≡ []
+popped_as-idle Empty x y e = refl
+popped_as-idle Busy x y e = refl
+popped_as-idle Stale x y e = absurd (false≢true e)
+popped_as-idle Scanned x y e = absurd (false≢true e)
+popped_as-idle Refused x y e = absurd (false≢true e)
+popped_as-idle Cut x y e = absurd (false≢true e)
+
+IsHandOf-idle : (k : TurnKind) (h : Hand) → is_idle k ≡ true → h.popped ≡ None → h.refused ≡ None → IsHandOf k h
+IsHandOf-idle Empty h e p r = (p, r)
+IsHandOf-idle Busy h e p r = (p, r)
+IsHandOf-idle Stale h e p r = (p, r)
+IsHandOf-idle Scanned h e p r = (p, r)
+IsHandOf-idle Refused h e p r = absurd (false≢true e)
+IsHandOf-idle Cut h e p r = absurd (false≢true e)
+
+-- nothing but words was drawn
+pub Progress-drawn : (r : SeatRecord) (a b : Account) (w u : Stream) (popped : List Entry) (words : ℕ) → b.shares ≡ a.shares → b.pushed ≡ a.pushed → b.popped ≡ popped ++ a.popped → u ≡ after_words words w
+    → Progress (kit r a w) (kit r b u) popped words 0 []
+Progress-drawn r a b w u popped words shares pushed is_popped d = record {
+  lowerings = [];
+  pushed = [];
+  lowerings_are = refl;
+  pushed_are = pushed;
+  popped_are = is_popped;
+  bounds_stay = λ x h. h;
+  label_shares = refl;
+  pool_shares = shares;
+  own_entries = refl;
+  lowered_is = refl;
+  words_are = d;
+}
+
+two_words : (w v u : Stream) (x y : ℕ) → (x, v) ≡ next_u64 w → (y, u) ≡ next_u64 v → u ≡ after_words 2 w
+two_words w v u x y e f = ap (λ (p : ℕ × Stream). p.1) f ∙ ap (λ s. (next_u64 s).1) (ap (λ (p : ℕ × Stream). p.1) e)
+
+module _ (roads : Roads) (answers : ℕ → ℕ → ℕ → ℕ → Type 0) (target : Option ℕ) where
+  IsClosedAs-idle : (bs : List Bound) (hand : List Entry) (k : TurnKind) (e : Entry) → is_idle k ≡ true → IsClosedAs roads answers target bs hand k e
+  IsClosedAs-idle bs hand Empty e i = tt
+  IsClosedAs-idle bs hand Busy e i = tt
+  IsClosedAs-idle bs hand Stale e i = absurd (false≢true i)
+  IsClosedAs-idle bs hand Scanned e i = absurd (false≢true i)
+  IsClosedAs-idle bs hand Refused e i = absurd (false≢true i)
+  IsClosedAs-idle bs hand Cut e i = absurd (false≢true i)
+
+  pub IsTurn-idle : (r : SeatRecord) (a b : Account) (w v u : Stream) (x y n : ℕ) (t : Turn) (h : Hand)
+      → SameBooks a b → (x, v) ≡ next_u64 w → (y, u) ≡ next_u64 v
+      → t.number ≡ n → is_idle t.kind ≡ true → IsShaped t → t.lowered ≡ 0 → h.popped ≡ None → h.refused ≡ None
+      → IsTurn roads answers target (kit r a w) (kit r b u) n t h
+  IsTurn-idle r a b w v u x y n t h e d d' number idle shaped lowered hand refused = record {
+    number_is = number;
+    shaped = shaped;
+    few = omega arith;
+    hand_is = IsHandOf-idle t.kind h idle hand refused;
+    hand_popped = λ e inside. absurd (omega (arith, (rw hand at inside).1));
+    hand_inside = rw (hand, refused) (tt, tt);
+    progress = rw (refused, lowered, popped_as-idle t.kind t.key t.node idle)
+        (Progress-drawn r a b w u [] 2 e.0 e.1 e.2 (two_words w v u x y d d'));
+    closed = IsClosedAs-idle r.bounds (option_to_list h.popped) t.kind _ idle;
+  }
+
+  pub IsTurn-popped : (r s : SeatRecord) (a b c : Account) (w v u z : Stream) (x y n : ℕ) (t : Turn) (h : Hand) (e : Entry)
+      → Pops a e b → (x, v) ≡ next_u64 w → (y, u) ≡ next_u64 v
+      → t.number ≡ n → popped_in t ≡ e ∷ [] → IsShaped t → t.lowered ≤ 2 ^ 28 → IsHandOf t.kind h → IsInside roads h → ((x : Entry) → Contains (option_to_list h.popped) x → Contains (popped_in t) x)
+      → Progress (kit r b u) (kit s c z) [] t.lowered t.lowered (option_to_list h.refused)
+      → IsClosedTurn roads answers target s.bounds (option_to_list h.popped) t
+      → IsTurn roads answers target (kit r a w) (kit s c z) n t h
+  IsTurn-popped r s a b c w v u z x y n t h e is_b d d' number popped shaped few hand inside from progress closed = record {
+    number_is = number;
+    shaped = shaped;
+    few = few;
+    hand_is = hand;
+    hand_popped = from;
+    hand_inside = inside;
+    progress = Progress-then _ (kit r b u) _ (e ∷ []) [] (popped_in t) 2 t.lowered _ 0 t.lowered _ _
+        (Progress-drawn r a b w u (e ∷ []) 2 is_b.0 is_b.1 is_b.2 (two_words w v u x y d d')) progress popped refl (sym (zero-add t.lowered));
+    closed = closed;
+  }

@@ -1,0 +1,195 @@
+-- A worker's turns so far: what the loop of `work` keeps.
+use Rattle.std.proofs.Common.{◌≡◌, ℕ, ◌+◌, ◌*◌, ◌^◌, ◌<◌, ◌≤◌, Bool, true, false, ◌||◌, cond, List, [], ◌∷◌, ◌++◌, length, get_or, take, refl, sym, ◌∙◌, ap, arith, length-append, append_assoc, zero-add, below_more, None, Some, Option, inl, inr, ◌⊎◌}
+use Rattle.std.specs.Prelude.{Contains, IsSome}
+use Rattle.std.specs.Option.{option_to_list}
+use Rattle.std.specs.List.{FoldsTo}
+use Rattle.std.proofs.Math.Seq.{take-append_seam}
+use Rattle.std.proofs.lemmas.List.{take-append-le, length-map}
+use Rattle.std.proofs.lemmas.List.Sums.{fold-append}
+use Rattle.std.proofs.lemmas.Bool.{false≢true}
+use Rattle.std.proofs.lemmas.List.Elements.{Contains-append_left}
+use Rattle.std.proofs.lemmas.Fn.{FoldsTo-push}
+use Rattle.std.specs.Prelude.{if◌then◌else◌}
+use Rattle.ea_road.specs.Roads.{Roads}
+use Rattle.ea_pool.specs.declared.entry.Entry.{Entry}
+use Rattle.ea_engine.specs.declared.turn.Turn.{Turn}
+use Rattle.ea_engine.specs.declared.turn.Hand.{Hand}
+use Rattle.ea_engine.specs.declared.turn.Flow.{Flow}
+use Rattle.ea_engine.specs.declared.turn.TurnKind.{TurnKind}
+use Rattle.ea_engine.specs.declared.turn.TurnKind.TheVariants.{Empty, Busy, Stale, Scanned, Refused, Cut}
+use Rattle.ea_engine.specs.declared.counters.Counters.{Counters}
+use Rattle.ea_labels.specs.declared.record.Bound.{Bound}
+use Rattle.ea_engine.specs.Turns.{Told, IsShaped, IsOver, is_ended, idle_run, ends_worker, is_idle, is_leave, is_refused, counters_of, counted, count_kind, lowered_in_all, popped_in, popped_in_all, IsRoomy}
+use Rattle.ea_engine.specs.Closed.{entry_of, IsClosedAs, IsClosedTurn}
+use Rattle.ea_engine.specs.Worked.{Kit, Progress, IsTurn, IsWork, IsHandOf, IsInside}
+use Rattle.ea_engine.proofs.ProgressLemmas.{Progress-none, Progress-then}
+use Rattle.ea_engine.proofs.BoundLemmas.{IsStale-more, IsScanned-more, IsCut-more}
+use Rattle.ea_engine.proofs.CounterLemmas.{index_push, popped_count, popped_count_push, lowered_push, refused_push, counters_push, IsRoomy-few}
+
+some_one : (o : Option Entry) → IsSome o → length (option_to_list o) ≡ 1
+some_one None h = absurd (false≢true h)
+some_one (Some x) h = refl
+
+none_zero : (o : Option Entry) → o ≡ None → length (option_to_list o) ≡ 0
+none_zero o e = rw e refl
+
+hand_sizes : (k : TurnKind) (h : Hand) → IsHandOf k h → (length (option_to_list h.popped) ≡ cond (is_refused k) 1 0) × (length (option_to_list h.refused) ≡ cond (is_refused k) 1 0)
+hand_sizes Empty h e = (none_zero h.popped e.0, none_zero h.refused e.1)
+hand_sizes Busy h e = (none_zero h.popped e.0, none_zero h.refused e.1)
+hand_sizes Stale h e = (none_zero h.popped e.0, none_zero h.refused e.1)
+hand_sizes Scanned h e = (none_zero h.popped e.0, none_zero h.refused e.1)
+hand_sizes Cut h e = (none_zero h.popped e.0, none_zero h.refused e.1)
+hand_sizes Refused h e = (some_one h.popped e.0, some_one h.refused e.1)
+
+hand_open : (k : TurnKind) (h : Hand) (leaves : Bool) → IsHandOf k h → (is_refused k || leaves) ≡ false → (h.popped ≡ None) × (h.refused ≡ None)
+hand_open Empty h leaves e f = e
+hand_open Busy h leaves e f = e
+hand_open Stale h leaves e f = e
+hand_open Scanned h leaves e f = e
+hand_open Cut h leaves e f = e
+hand_open Refused h leaves e f = absurd (false≢true (sym f))
+
+append-nil : {X : Type 0} (xs : List X) → xs ++ [] ≡ xs
+append-nil [] = refl
+append-nil (x ∷ xs) = ap (λ ys. x ∷ ys) (append-nil xs)
+
+popped_push : (ts : List Told) (t : Told) → popped_in_all (ts ++ t ∷ []) ≡ popped_in t.0 ++ popped_in_all ts
+popped_push [] t = sym (append-nil (popped_in t.0))
+popped_push (u ∷ ts) t = ap (λ xs. xs ++ popped_in u.0) (popped_push ts t) ∙ append_assoc (popped_in t.0) (popped_in_all ts) (popped_in u.0)
+
+module _ (roads : Roads) (answers : ℕ → ℕ → ℕ → ℕ → Type 0) (target : Option ℕ) where
+  pub IsClosedAs-more : (bs cs : List Bound) (hand hand' : List Entry) (k : TurnKind) (e : Entry) → ((b : Bound) → Contains bs b → Contains cs b) → ((x : Entry) → Contains hand x → Contains hand' x)
+      → IsClosedAs roads answers target bs hand k e → IsClosedAs roads answers target cs hand' k e
+  IsClosedAs-more bs cs hand hand' Empty e stays held h = tt
+  IsClosedAs-more bs cs hand hand' Cut e stays held h = IsCut-more bs cs stays target e h
+  IsClosedAs-more bs cs hand hand' Busy e stays held h = tt
+  IsClosedAs-more bs cs hand hand' Stale e stays held h = IsStale-more bs cs stays e h
+  IsClosedAs-more bs cs hand hand' Scanned e stays held h = IsScanned-more bs cs stays roads answers e h
+  IsClosedAs-more bs cs hand hand' Refused e stays held h = held e h
+
+  module _ {T : Type 0} (shows : T → Turn → Flow → T → Type 0) where
+    pub record SoFar (from to : Kit) (budget : ℕ) (tracer tracer' : T) (counters : Counters) (hand : Hand) (number idle : ℕ) (ended : Bool) : Type 0 where
+      pub turns : List Told
+      pub numbered : (i : ℕ) (d : Told) → i < length turns → (get_or turns i d).0.number ≡ i
+      pub shaped : (i : ℕ) (d : Told) → i < length turns → IsShaped (get_or turns i d).0
+      pub not_before : (n : ℕ) → n < length turns → IsOver budget (take n turns) → ⊥
+      pub number_is : length turns ≡ number
+      pub idle_is : idle_run turns ≡ idle
+      pub ended_is : is_ended turns ≡ ended
+      pub few : lowered_in_all turns ≤ number * 2 ^ 28
+      pub shown : FoldsTo (λ p t q. shows p t.0 t.1 q) tracer turns tracer'
+      pub counted : counters ≡ counters_of turns
+      pub progress : Progress from to (popped_in_all turns) (2 * length turns + lowered_in_all turns) (lowered_in_all turns) (option_to_list hand.refused)
+      pub closed : (i : ℕ) (d : Told) → i < length turns → IsClosedTurn roads answers target to.labels.bounds (option_to_list hand.popped) (get_or turns i d).0
+      pub hand_popped : (entry : Entry) → Contains (option_to_list hand.popped) entry → Contains (popped_in_all turns) entry
+      pub hand_inside : IsInside roads hand
+      pub open_hand : ended ≡ false → (hand.popped ≡ None) × (hand.refused ≡ None)
+      pub popped_is : length (popped_in_all turns) ≡ popped_count turns
+      pub popped_back : length (option_to_list hand.popped) ≡ count_kind is_refused turns
+      pub refused_back : length (option_to_list hand.refused) ≡ count_kind is_refused turns
+
+    pub SoFar-start : (k : Kit) (budget : ℕ) (tracer : T) (counters : Counters) (hand : Hand) → counters ≡ counters_of [] → hand.popped ≡ None → hand.refused ≡ None
+        → SoFar k k budget tracer tracer counters hand 0 0 false
+    SoFar-start k budget tracer counters hand zeros popped refused = record {
+      turns = [];
+      numbered = λ i d lt. absurd (omega arith);
+      shaped = λ i d lt. absurd (omega arith);
+      not_before = λ n lt. absurd (omega arith);
+      number_is = refl;
+      idle_is = refl;
+      ended_is = refl;
+      few = omega arith;
+      shown = refl;
+      counted = zeros;
+      progress = rw refused (Progress-none k);
+      closed = λ i d lt. absurd (omega arith);
+      hand_popped = λ e inside. absurd (omega (arith, (rw popped at inside).1));
+      hand_inside = rw (popped, refused) (tt, tt);
+      open_hand = λ e. (popped, refused);
+      popped_is = refl;
+      popped_back = rw popped refl;
+      refused_back = rw refused refl;
+    }
+
+    pub SoFar-roomy : (from to : Kit) (budget : ℕ) (tracer tracer' : T) (counters : Counters) (hand : Hand) (number idle : ℕ) (ended : Bool)
+        → SoFar from to budget tracer tracer' counters hand number idle ended → number ≤ 1000000000 → IsRoomy counters
+    SoFar-roomy from to budget tracer tracer' counters hand number idle ended h few =
+        rw h.counted (IsRoomy-few h.turns (omega (arith, h.number_is)) (omega (arith, h.few)))
+
+    -- no turn list that is a proper part is over, nor is the whole one while the loop goes on
+    not_over : (from to : Kit) (budget : ℕ) (tracer tracer' : T) (counters : Counters) (hand : Hand) (number idle : ℕ)
+        → (h : SoFar from to budget tracer tracer' counters hand number idle false) → idle < 32 → number < budget → IsOver budget h.turns → ⊥
+    not_over from to budget tracer tracer' counters hand number idle h low more over = elim over [
+      | inl spent ↦ omega (arith, spent, h.number_is)
+      | inr (inl done) ↦ false≢true (sym h.ended_is ∙ done)
+      | inr (inr waits) ↦ omega (arith, waits, h.idle_is)
+    ]
+
+    -- one more turn
+    module _ (from mid to : Kit) (budget : ℕ) (tracer tracer' tracer'' : T) (counters counters' : Counters) (hand hand' : Hand) (number idle idle' : ℕ) (ended' : Bool) (turn : Turn) (flow : Flow)
+        (h : SoFar from mid budget tracer tracer' counters hand number idle false)
+        (low : idle < 32) (more : number < budget)
+        (one : IsTurn roads answers target mid to number turn hand')
+        (told : shows tracer' turn flow tracer'')
+        (counts : counters' ≡ counted counters turn)
+        (idles : idle' ≡ (if is_idle turn.kind then idle + 1 else 0))
+        (ends : ended' ≡ (is_refused turn.kind || is_leave flow)) where
+      none_refused : count_kind is_refused h.turns ≡ 0
+      none_refused = sym h.refused_back ∙ ap (λ o. length (option_to_list o)) (h.open_hand refl).1
+
+      pub SoFar-more : SoFar from to budget tracer tracer'' counters' hand' (number + 1) idle' ended'
+      SoFar-more = record {
+        turns = h.turns ++ (turn, flow) ∷ [];
+        numbered = index_push (λ i t. t.0.number ≡ i) h.turns (turn, flow) h.numbered (one.number_is ∙ sym h.number_is);
+        shaped = index_push (λ i t. IsShaped t.0) h.turns (turn, flow) h.shaped one.shaped;
+        not_before = λ n lt. below_more (λ m. IsOver budget (take m (h.turns ++ (turn, flow) ∷ [])) → ⊥) (length h.turns)
+            (λ m less over. h.not_before m less (rw (take-append-le m h.turns ((turn, flow) ∷ []) (omega arith)) at over))
+            (λ over. not_over from mid budget tracer tracer' counters hand number idle h low more (rw (take-append_seam h.turns ((turn, flow) ∷ [])) at over))
+            n (omega (arith, length-append h.turns ((turn, flow) ∷ [])));
+        number_is = length-append h.turns ((turn, flow) ∷ []) ∙ ap (λ n. n + 1) h.number_is;
+        idle_is = fold-append (λ (n : ℕ) (t : Told). if is_idle t.0.kind then n + 1 else 0) 0 h.turns ((turn, flow) ∷ [])
+            ∙ ap (λ n. if is_idle turn.kind then n + 1 else 0) h.idle_is ∙ sym idles;
+        ended_is = fold-append (λ (b : Bool) (t : Told). ends_worker t) false h.turns ((turn, flow) ∷ []) ∙ sym ends;
+        few = omega (arith, lowered_push h.turns (turn, flow), h.few, one.few);
+        shown = FoldsTo-push (λ p t q. shows p t.0 t.1 q) tracer h.turns tracer' (turn, flow) tracer'' h.shown told;
+        counted = counts ∙ ap (λ x. counted x turn) h.counted ∙ counters_push h.turns (turn, flow) none_refused one.shaped;
+        progress = Progress-then from mid to (popped_in_all h.turns) (popped_in turn) _ (2 * length h.turns + lowered_in_all h.turns) (2 + turn.lowered) _
+            (lowered_in_all h.turns) turn.lowered _ (option_to_list hand'.refused) (rw ((h.open_hand refl).1) at h.progress) one.progress
+            (popped_push h.turns (turn, flow))
+            (omega (arith, length-append h.turns ((turn, flow) ∷ []), lowered_push h.turns (turn, flow))) (lowered_push h.turns (turn, flow));
+        closed = index_push (λ i t. IsClosedTurn roads answers target to.labels.bounds (option_to_list hand'.popped) t.0) h.turns (turn, flow)
+            (λ i d lt. IsClosedAs-more mid.labels.bounds to.labels.bounds (option_to_list hand.popped) (option_to_list hand'.popped) _ _ one.progress.bounds_stay (λ x inside. absurd (omega (arith, (rw ((h.open_hand refl).0) at inside).1))) (h.closed i d lt)) one.closed;
+        hand_popped = λ e inside. rw (popped_push h.turns (turn, flow)) (Contains-append_left (popped_in turn) (popped_in_all h.turns) e (one.hand_popped e inside));
+        hand_inside = one.hand_inside;
+        open_hand = λ e. hand_open turn.kind hand' (is_leave flow) one.hand_is (sym ends ∙ e);
+        popped_is = omega (arith, h.popped_is, popped_count_push h.turns (turn, flow), ap length (popped_push h.turns (turn, flow)), length-append (popped_in turn) (popped_in_all h.turns));
+        popped_back = (hand_sizes turn.kind hand' one.hand_is).0 ∙ sym (refused_push h.turns (turn, flow) ∙ ap (λ n. n + cond (is_refused turn.kind) 1 0) none_refused ∙ zero-add _);
+        refused_back = (hand_sizes turn.kind hand' one.hand_is).1 ∙ sym (refused_push h.turns (turn, flow) ∙ ap (λ n. n + cond (is_refused turn.kind) 1 0) none_refused ∙ zero-add _);
+      }
+
+    pub SoFar-end : (from to : Kit) (budget : ℕ) (tracer tracer' : T) (counters : Counters) (hand : Hand) (number idle : ℕ) (ended : Bool)
+        → SoFar from to budget tracer tracer' counters hand number idle ended → number ≤ 1000000000 → (ended ≡ true) ⊎ (32 ≤ idle) ⊎ (budget ≤ number)
+        → IsWork roads answers target shows from to budget tracer tracer' counters hand
+    SoFar-end from to budget tracer tracer' counters hand number idle ended h small why = record {
+      turns = h.turns;
+      lawful = record {
+        numbered = h.numbered;
+        shaped = λ k d lt. h.shaped k d lt;
+        over = elim why [
+          | inl done ↦ inr (inl (h.ended_is ∙ done))
+          | inr (inl waits) ↦ inr (inr (omega (arith, waits, h.idle_is)))
+          | inr (inr spent) ↦ inl (omega (arith, spent, h.number_is))
+        ];
+        not_before = h.not_before;
+      };
+      shown = h.shown;
+      counted = h.counted;
+      progress = h.progress;
+      closed = λ k d lt. h.closed k d lt;
+      hand_popped = h.hand_popped;
+      hand_inside = h.hand_inside;
+      pushed_few = (SoFar-roomy from to budget tracer tracer' counters hand number idle ended h small).pushed;
+      popped_is = ap (λ (x : Counters). x.popped) h.counted ∙ sym h.popped_is;
+      returned_is = ap (λ (x : Counters). x.returned) h.counted ∙ omega (arith, h.popped_back, h.refused_back);
+      pushed_is = ap (λ (x : Counters). x.pushed) h.counted ∙ omega (arith, h.refused_back, h.progress.lowered_is, ap length h.progress.own_entries, length-map h.progress.lowerings entry_of, length-append (option_to_list hand.refused) h.progress.pushed);
+    }

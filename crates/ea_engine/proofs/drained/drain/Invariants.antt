@@ -1,0 +1,19 @@
+use Rattle.std.proofs.Common.{◌≡◌, ◌≤◌, ◌+◌, ℕ, ◌⊎◌, length}
+use Rattle.std.specs.Prelude.{Contains}
+use Rattle.ea_pool.specs.declared.entry.Entry.{Entry}
+use Rattle.ea_lists.specs.Totals.{total}
+use Rattle.ea_engine.proofs.drained.drain.Given as goal
+
+abbrev pub invariant-loop-entry : goal.invariant-loop-entry
+invariant-loop-entry l = record {
+  left : (entry : Entry) → Contains l.closed entry → Contains l.fn.closed entry;
+  done : (entry : Entry) → Contains l.fn.closed entry → Contains l.closed entry ⊎ Contains l.todo.waiting entry.node;
+  kept : (node : ℕ) → Contains l.fn.todo.waiting node → Contains l.todo.waiting node;
+  counted : l.drained + length l.closed ≡ length l.fn.closed;
+  few : length l.todo.waiting ≤ length l.fn.todo.waiting + l.drained;
+  room : l.todo.nodes ≡ l.fn.todo.nodes;
+  walks : l.todo.walks ≡ l.fn.todo.walks;
+}
+
+abbrev pub decreases-loop-entry : goal.decreases-loop-entry
+decreases-loop-entry l = total (λ _. 1) l.closed

@@ -1,0 +1,46 @@
+use Rattle.std.proofs.Common.{[], refl, sym, ap, arith, zero-add}
+use Rattle.ea_engine.proofs.ProgressLemmas.{Progress-noted, Progress-then}
+use Rattle.ea_engine.proofs.BoundLemmas.{IsReachedBefore-noted}
+use Rattle.ea_road.proofs.Reached.{reaches_node}
+use Rattle.ea_engine.proofs.step.visit.Goals as goal
+
+pub read-label-requires-clause-node : goal.read-label-requires-clause-node
+read-label-requires-clause-node g c κs outlives =
+    let ground = c.requires.ground in
+    let is = reaches_node c.args.network.now _ ground.problem.network c.args.query.now.sources c.args.entry.node c.args.entry.key (λ source among. (ground.problem.sources_in source among).0) ((ground.names c.args.entry.node c.args.entry.key).0 c.requires.entry) in
+    (is.from_one, omega (arith, is.to_last, ground.places_are))
+
+pub returns-then-label-entry-clause-progress : goal.returns-then-label-entry-clause-progress
+returns-then-label-entry-clause-progress g c =
+    rw (c.popped_turn.ensures, c.empty.ensures.refused) (Progress-noted _ _ _ _ c.args.entry.node c.read-label.result c.read-label.ensures.gains)
+
+pub returns-then-label-entry-clause-closed : goal.returns-then-label-entry-clause-closed
+returns-then-label-entry-clause-closed g c =
+    rw c.popped_turn.ensures (IsReachedBefore-noted _ _ c.args.entry.node c.read-label.result c.args.entry.key (ap (λ x. x.bounds) c.read-label.ensures.gains) c.if-label-entry.true)
+
+pub returns-then-is_above_target-clause-progress : goal.returns-then-is_above_target-clause-progress
+returns-then-is_above_target-clause-progress g c =
+    let read = Progress-noted _ _ _ _ c.args.entry.node c.read-label.result c.read-label.ensures.gains in
+    rw (c.popped_turn-then-is_above_target.ensures, c.empty-then-is_above_target.ensures.refused)
+    (Progress-then _ _ _ [] [] [] 0 0 0 0 0 0 [] read (c.is_above_target.ensures.progress _ _) refl refl refl)
+
+pub returns-in-None-clause-progress : goal.returns-in-None-clause-progress
+returns-in-None-clause-progress g c =
+    let read = Progress-noted _ _ _ _ c.args.entry.node c.read-label.result c.read-label.ensures.gains in
+    let looked = Progress-then _ _ _ [] [] [] 0 0 0 0 0 0 [] read (c.is_above_target.ensures.progress _ _) refl refl refl in
+    let n = c.scan_entry-end.result.lowered in
+    rw c.empty-in-None.ensures.refused (Progress-then _ _ _ [] [] [] 0 n n 0 n n [] looked (rw c.in-None.is at c.scan_entry-end.ensures.progress) refl (sym (zero-add n)) (sym (zero-add n)))
+
+pub returns-in-Some-clause-progress : goal.returns-in-Some-clause-progress
+returns-in-Some-clause-progress g c =
+    let read = Progress-noted _ _ _ _ c.args.entry.node c.read-label.result c.read-label.ensures.gains in
+    let looked = Progress-then _ _ _ [] [] [] 0 0 0 0 0 0 [] read (c.is_above_target.ensures.progress _ _) refl refl refl in
+    let n = c.scan_entry-end.result.lowered in
+    Progress-then _ _ _ [] [] [] 0 n n 0 n n _ looked (rw c.in-Some.is at c.scan_entry-end.ensures.progress) refl (sym (zero-add n)) (sym (zero-add n))
+
+pub returns-in-Some-clause-inside : goal.returns-in-Some-clause-inside
+returns-in-Some-clause-inside g c =
+    let ground = c.requires.ground in (
+      reaches_node c.args.network.now _ ground.problem.network c.args.query.now.sources c.args.entry.node c.args.entry.key (λ source among. (ground.problem.sources_in source among).0) ((ground.names c.args.entry.node c.args.entry.key).0 c.requires.entry),
+      rw c.in-Some.is at c.scan_entry-end.ensures.inside,
+    )

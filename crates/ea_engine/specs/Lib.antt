@@ -1,0 +1,16 @@
+pub mod Words
+pub mod Closed
+pub mod Ends
+pub mod Opened
+pub mod Ground
+pub mod Turns
+pub mod Worked
+pub mod Scans
+pub mod Parts
+pub mod Rows
+pub mod Reports
+pub mod Gathered
+pub mod Seeds
+pub mod Rowed
+pub mod Settled
+pub mod Tallies

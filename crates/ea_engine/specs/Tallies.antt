@@ -1,0 +1,21 @@
+-- The counts of a run.
+use Rattle.std.specs.Prelude.{◌≡◌, ℕ, ◌+◌, ◌-◌, ◌≤◌, List, sum_by}
+use Rattle.ea_engine.specs.declared.counters.Counters.{Counters}
+
+abbrev pub pushed_by_all : List Counters → ℕ
+pushed_by_all counters = sum_by (λ c. c.pushed) counters
+
+abbrev pub popped_by_all : List Counters → ℕ
+popped_by_all counters = sum_by (λ c. c.popped) counters
+
+abbrev pub returned_by_all : List Counters → ℕ
+returned_by_all counters = sum_by (λ c. c.returned) counters
+
+-- Of so many sources the pool took `seeded` entries. What it took was popped or drained; a finishing pass that starts with
+-- `finish` open nodes opened no more than were drained and handed back; what the workers don't account for of what was
+-- handed back are seeds.
+pub record IsTally (sources seeded returned drained finish : ℕ) (counters : List Counters) : Type 0 where
+  pub balance : seeded + pushed_by_all counters ≡ popped_by_all counters + drained
+  pub few_open : finish ≤ drained + returned
+  pub hands : returned_by_all counters ≤ returned
+  pub seeds : seeded + (returned - returned_by_all counters) ≤ sources

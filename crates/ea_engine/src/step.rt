@@ -1,0 +1,221 @@
+ghost use Rattle.std.specs.Prelude.{◌≡◌, ◌≤◌, ◌^◌, [], ◌∷◌, true, Contains, IfSome};
+ghost use Rattle.std.specs.Option.{option_to_list};
+ghost use Rattle.ea_engine.specs.Ground.{IsGround};
+ghost use Rattle.rand_core.specs.Stream.{Stream};
+ghost use Rattle.ea_labels.specs.Core.{IsNode};
+ghost use Rattle.ea_pool.specs.Seats.{account_of, IsSeatOf};
+ghost use Rattle.ea_pool.specs.declared.account.Account.{Account};
+ghost use Rattle.ea_pool.specs.declared.entry.Entry.{Entry as PoolEntry};
+ghost use Rattle.ea_engine.specs.Closed.{IsClosedTurn, IsCut};
+ghost use Rattle.ea_engine.specs.Turns.{is_idle, is_refused, is_leave, IsShaped, popped_in};
+ghost use Rattle.ea_engine.specs.Worked.{kit, Progress, IsTurn, IsHandOf, IsInside, hand_size};
+
+use crate::scan::{Means, scan_entry};
+use crate::turn::{Flow, Hand, Turn, TurnKind};
+use ea_labels::{LabelSeat, Labels};
+use ea_pool::{Entry, Pool, PoolSeat, Popped};
+use ea_road::{Known, Network, Query, TravelTimes};
+use rand_core::Rng;
+use std::alloc::Global;
+
+impl TurnKind {
+    /// Whether the turn found nothing to pop.
+    pub fn is_idle(self) -> bool
+        ensures { result ≡ is_idle self }
+    {
+        matches!(self, TurnKind::Empty | TurnKind::Busy)
+    }
+
+    /// Whether the pool refused an entry.
+    pub fn is_refused(self) -> bool
+        ensures { result ≡ is_refused self }
+    {
+        matches!(self, TurnKind::Refused)
+    }
+}
+
+impl Flow {
+    /// Whether the worker is to leave.
+    pub fn is_leave(self) -> bool
+        ensures { result ≡ is_leave self }
+    {
+        matches!(self, Flow::Leave)
+    }
+}
+
+impl Hand {
+    /// No entry.
+    pub fn empty() -> Hand
+        ensures popped { result.popped ≡ None }
+        ensures refused { result.refused ≡ None }
+    {
+        Hand {
+            popped: None,
+            refused: None,
+        }
+    }
+}
+
+/// A turn and the entries that it hands back.
+#[derive(Clone, Copy)]
+pub struct TurnEnd {
+    pub turn: Turn,
+    pub hand: Hand,
+}
+
+// A turn that found nothing.
+fn idle_turn(number: u64, kind: TurnKind) -> TurnEnd
+    requires { is_idle kind ≡ true }
+    ensures number { result.turn.number ≡ number }
+    ensures kind { result.turn.kind ≡ kind }
+    ensures shaped { IsShaped result.turn }
+    ensures lowered { result.turn.lowered ≡ 0 }
+    ensures popped { result.hand.popped ≡ None }
+    ensures refused { result.hand.refused ≡ None }
+{
+    TurnEnd {
+        turn: Turn {
+            number,
+            kind,
+            node: 0,
+            key: 0,
+            lowered: 0,
+        },
+        hand: Hand::empty(),
+    }
+}
+
+// Whether the key is above the target's label, where there is a target.
+fn is_above_target<K: Known>(
+    labels: &Labels<K>,
+    seat: &mut LabelSeat<K>,
+    target: Option<u32>,
+    entry: Entry,
+) -> bool
+    requires seat { seat.old.table ≡ labels.now.table }
+    requires target { IfSome target (λ node. IsNode labels.now.nodes node) }
+    ensures seat { seat.new.table ≡ labels.now.table }
+    ensures progress { (account : Account) (words : Stream) → Progress (kit seat.old.history account words) (kit seat.new.history account words) [] 0 0 [] }
+    ensures cut { result ≡ true → IsCut target seat.new.history.bounds entry }
+{
+    match target {
+        None => false,
+        Some(node) => labels.read(seat, node) < entry.key,
+    }
+}
+
+// A turn that popped an entry and is over.
+fn popped_turn(number: u64, kind: TurnKind, entry: Entry) -> Turn
+    ensures { result ≡ record { number = number; kind = kind; node = entry.node; key = entry.key; lowered = 0 } }
+{
+    Turn {
+        number,
+        kind,
+        node: entry.node,
+        key: entry.key,
+        lowered: 0,
+    }
+}
+
+/// Reads the label of a popped entry, and scans the entry if the label isn't below its key and its key isn't above the
+/// target's label.
+pub fn visit<K: Known, P: TravelTimes, R: Rng>(
+    network: &Network,
+    profiles: &P,
+    query: &Query,
+    target: Option<u32>,
+    labels: &Labels<K>,
+    pool: &Pool<K>,
+    means: &mut Means<LabelSeat<K>, PoolSeat<K>, R>,
+    number: u64,
+    entry: Entry,
+) -> TurnEnd
+    requires ground { IsGround K.is_known labels.now.nodes network.now (P.answers profiles.now) (P.classes profiles.now) query.now.sources query.now.target }
+    requires target { target ≡ query.now.target }
+    requires label_seat { means.old.label_seat.table ≡ labels.now.table }
+    requires pool_seat { IsSeatOf pool.now means.old.pool_seat }
+    requires entry { K.is_known entry.node entry.key }
+    ensures label_seat { means.new.label_seat.table ≡ labels.now.table }
+    ensures pool_seat { IsSeatOf pool.now means.new.pool_seat }
+    ensures number { result.turn.number ≡ number }
+    ensures popped { popped_in result.turn ≡ entry ∷ [] }
+    ensures shaped { IsShaped result.turn }
+    ensures few { result.turn.lowered ≤ 2 ^ 28 }
+    ensures hand { IsHandOf result.turn.kind result.hand }
+    ensures inside { IsInside network.now result.hand }
+    ensures from { (popped : PoolEntry) → Contains (option_to_list result.hand.popped) popped → Contains (popped_in result.turn) popped }
+    ensures progress { Progress
+        (kit means.old.label_seat.history (account_of means.old.pool_seat) (R.stream means.old.rng))
+        (kit means.new.label_seat.history (account_of means.new.pool_seat) (R.stream means.new.rng))
+        [] result.turn.lowered result.turn.lowered (option_to_list result.hand.refused) }
+    ensures closed { IsClosedTurn network.now (P.answers profiles.now) query.now.target means.new.label_seat.history.bounds (option_to_list result.hand.popped) result.turn }
+{
+    let label = labels.read(&mut means.label_seat, entry.node);
+    if label < entry.key {
+        return TurnEnd {
+            turn: popped_turn(number, TurnKind::Stale, entry),
+            hand: Hand::empty(),
+        };
+    }
+    if is_above_target(labels, &mut means.label_seat, target, entry) {
+        return TurnEnd {
+            turn: popped_turn(number, TurnKind::Cut, entry),
+            hand: Hand::empty(),
+        };
+    }
+    let end = scan_entry(network, profiles, query, labels, pool, means, entry);
+    match end.refused {
+        None => {
+            let mut turn = popped_turn(number, TurnKind::Scanned, entry);
+            turn.lowered = end.lowered;
+            TurnEnd {
+                turn,
+                hand: Hand::empty(),
+            }
+        }
+        Some(refused) => {
+            let mut turn = popped_turn(number, TurnKind::Refused, entry);
+            turn.lowered = end.lowered;
+            TurnEnd {
+                turn,
+                hand: Hand {
+                    popped: Some(entry),
+                    refused: Some(refused),
+                },
+            }
+        }
+    }
+}
+
+/// One turn of a worker.
+pub fn take_turn<K: Known, P: TravelTimes, R: Rng>(
+    network: &Network,
+    profiles: &P,
+    query: &Query,
+    target: Option<u32>,
+    labels: &Labels<K>,
+    pool: &Pool<K>,
+    means: &mut Means<LabelSeat<K>, PoolSeat<K>, R>,
+    number: u64,
+) -> TurnEnd
+    requires ground { IsGround K.is_known labels.now.nodes network.now (P.answers profiles.now) (P.classes profiles.now) query.now.sources query.now.target }
+    requires target { target ≡ query.now.target }
+    requires label_seat { means.old.label_seat.table ≡ labels.now.table }
+    requires pool_seat { IsSeatOf pool.now means.old.pool_seat }
+    ensures label_seat { means.new.label_seat.table ≡ labels.now.table }
+    ensures pool_seat { IsSeatOf pool.now means.new.pool_seat }
+    ensures turn { IsTurn network.now (P.answers profiles.now) query.now.target
+        (kit means.old.label_seat.history (account_of means.old.pool_seat) (R.stream means.old.rng))
+        (kit means.new.label_seat.history (account_of means.new.pool_seat) (R.stream means.new.rng))
+        number result.turn result.hand }
+{
+    let first = means.rng.next_u64();
+    let second = means.rng.next_u64();
+    match pool.pop_as(&mut means.pool_seat, first, second) {
+        Popped::Empty => idle_turn(number, TurnKind::Empty),
+        Popped::Busy => idle_turn(number, TurnKind::Busy),
+        Popped::Entry(entry) => visit(
+            network, profiles, query, target, labels, pool, means, number, entry,
+        ),
+    }
+}

@@ -1,0 +1,14 @@
+use Rattle.std.proofs.Common.{◌≡◌, ◌+◌, sum, length, Contains}
+use Rattle.ea_finish.specs.Scans.{Underway}
+use Rattle.ea_finish.proofs.finishing.finish.Given as goal
+
+abbrev pub invariant-loop-node : goal.invariant-loop-node
+invariant-loop-node g l = record {
+  underway : Underway l.network (g.T.TravelTimes.answers l.times) l.query.sources l.query.target l.table.items (Contains l.todo.waiting);
+  room : l.todo.nodes ≡ l.network.nodes;
+  walks : l.todo.walks ≡ l.initial.todo.walks;
+}
+
+-- each lowering takes one from the sum at least, and adds one waiting node at most
+abbrev pub decreases-loop-node : goal.decreases-loop-node
+decreases-loop-node g l = sum l.table.items + length l.todo.waiting

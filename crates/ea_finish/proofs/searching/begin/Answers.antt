@@ -1,0 +1,52 @@
+use Rattle.std.proofs.Common.{◌≡◌, ◌<◌, ℕ, List, length, get_or, ◌∙◌, subst, ap, arith, rules}
+use Rattle.std.specs.List.{IsAmong}
+use Rattle.std.proofs.lemmas.List.{with_items_is, take_more, take_all, get_or_default}
+use Rattle.ea_road.specs.declared.source.Source.{Source}
+use Rattle.ea_finish.specs.Frontiers.{WaitsAt}
+use Rattle.ea_finish.specs.Underway.{entry}
+use Rattle.ea_finish.specs.Worklist.{Room}
+use Rattle.ea_finish.specs.Scans.{Underway}
+use Rattle.ea_finish.proofs.Entries.{Underway-none, Underway-source}
+use Rattle.ea_finish.proofs.searching.begin.Goals as goal
+
+abbrev none : Source
+none = record { node = 0; departure = 0 }
+
+among_at : (sources : List Source) (place : ℕ) → place < length sources → IsAmong sources (get_or sources place none)
+among_at sources place inside = (place, (inside, get_or_default sources place none (get_or sources place none) inside))
+
+pub loop-source-init : goal.loop-source-init
+loop-source-init g c = record {
+  underway = rw (c.in_ok-table.ensures.items_if_clones_equal (λ y e. search rules), c.nodes.ensures.nodes) (Underway-none _ _ _ _);
+  nodes = search rules;
+  walks = search rules;
+}
+
+pub lower-requires-clause-node : goal.lower-requires-clause-node
+lower-requires-clause-node g c =
+    let within = rw c.sources-source-items.ensures.sources at c.loop-source-test.true in
+    let node = c.requires.problem.sources _ (among_at c.args.query.now.sources c.loop-source.source-index within) in
+    rw c.sources-source-items.ensures.sources (node.from_one, omega (arith, node.to_last, c.loop-source.invariant.nodes, c.requires.room))
+
+pub loop-source-preserved : goal.loop-source-preserved
+loop-source-preserved g c =
+    let sources = c.args.query.now.sources in
+    let at = c.loop-source.source-index in
+    let within = rw c.sources-source-items.ensures.sources at c.loop-source-test.true in
+    let among = among_at sources at within in
+    let lowers = rw (c.sources-source-items.ensures.sources, c.deref_mut.ensures.value) at c.lower.ensures.lowers in
+    let under = Underway-source _ _ _ _ (get_or sources at none) _ _ _ _ (c.requires.problem.departures _ among) c.loop-source.invariant.underway lowers in
+    let filled : length c.lower.new.table ≡ c.loop-source.table.len = omega (arith, lowers.places, c.loop-source.table.ok.0) in
+    record {
+      underway = rw (with_items_is c.loop-source.table c.lower.new.table filled, take_more sources at none within) under;
+      nodes = ap (λ (r : Room). r.nodes) c.lower.ensures.room ∙ c.loop-source.invariant.nodes;
+      walks = ap (λ (r : Room). r.walks) c.lower.ensures.room ∙ c.loop-source.invariant.walks;
+    }
+
+pub returns-clause-underway : goal.returns-clause-underway
+returns-clause-underway g c =
+    let sources = c.args.query.now.sources in
+    let past = rw c.sources-source-items.ensures.sources at c.loop-source-test.false in
+    let all = take_all c.loop-source.source-index sources past in
+    let P : List Source → Type 0 = λ xs. Underway c.args.network.now (g.T.TravelTimes.answers c.args.times.now) xs c.args.query.now.target c.loop-source.table.items (WaitsAt c.loop-source.frontier (entry c.loop-source.table.items)) in
+    subst P all c.loop-source.invariant.underway

@@ -1,0 +1,16 @@
+use Rattle.std.proofs.Common.{◌≡◌, ◌+◌, sum, length}
+use Rattle.ea_finish.specs.Frontiers.{WaitsAt}
+use Rattle.ea_finish.specs.Scans.{Underway}
+use Rattle.ea_finish.specs.Underway.{entry}
+use Rattle.ea_finish.proofs.searching.exhaust.Given as goal
+
+abbrev pub invariant-loop-key : goal.invariant-loop-key
+invariant-loop-key g l = record {
+  underway : Underway l.network (g.T.TravelTimes.answers l.times) l.query.sources l.query.target l.table.items (WaitsAt l.frontier (entry l.table.items));
+  nodes : l.frontier.todo.nodes ≡ l.initial.frontier.todo.nodes;
+  walks : l.frontier.todo.walks ≡ l.initial.frontier.todo.walks;
+}
+
+-- each lowering takes one from the sum at least, and adds one entry at most
+abbrev pub decreases-loop-key : goal.decreases-loop-key
+decreases-loop-key g l = sum l.table.items + length l.frontier.entries

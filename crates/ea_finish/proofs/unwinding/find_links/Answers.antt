@@ -1,0 +1,73 @@
+use Rattle.std.proofs.Common.{◌≡◌, ℕ, ◌<◌, List, length, get_or, refl, ◌∙◌, ap, arith}
+use Rattle.std.specs.List.{IsAmong}
+use Rattle.std.proofs.lemmas.List.{with_items_is, get_or_default}
+use Rattle.ea_road.specs.declared.source.Source.{Source}
+use Rattle.ea_finish.proofs.Linked.{are_links}
+use Rattle.ea_finish.proofs.Linkings.{Linking-none, Linking-spread, Linking-time, AreSown-more, AreSown-lower, Offers-lower, sow_step}
+use Rattle.ea_finish.proofs.unwinding.find_links.Goals as goal
+
+abbrev none : Source
+none = record { node = 0; departure = 0 }
+
+among_at : (sources : List Source) (place : ℕ) → place < length sources → IsAmong sources (get_or sources place none)
+among_at sources place inside = (place, (inside, get_or_default sources place none (get_or sources place none) inside))
+
+pub loop-source-init : goal.loop-source-init
+loop-source-init g c = record {
+  linking = rw (c.into_parts-waiting.ensures.links, c.into_parts-waiting.ensures.waiting, c.requires.nobody, c.requires.room.0) (Linking-none _ _ _ _);
+  sown = λ k d l. absurd (omega arith);
+  nodes = c.into_parts-waiting.ensures.nodes ∙ c.requires.room.0;
+}
+
+pub sow-requires-clause-node : goal.sow-requires-clause-node
+sow-requires-clause-node g c =
+    let start = c.requires.sources _ (among_at c.args.sources.now c.loop-source.source-index c.loop-source-test.true) in
+    (start.0.from_one, omega (arith, start.0.to_last, c.loop-source.invariant.nodes))
+
+pub loop-source-preserved : goal.loop-source-preserved
+loop-source-preserved g c =
+    let sources = c.args.sources.now in
+    let place = c.loop-source.source-index in
+    let among = among_at sources place c.loop-source-test.true in
+    let start = c.requires.sources _ among in
+    let seeds = rw (c.deref_mut.ensures.value, c.loop-source.invariant.nodes) at c.sow.ensures.seeds in
+    let others = rw c.deref_mut.ensures.value at c.sow.ensures.others in
+    let step = sow_step _ _ _ _ (get_or sources place none) c.loop-source.links.items c.sow.new.links c.loop-source.waiting.waiting c.sow.new.waiting.waiting among start.1 c.loop-source.invariant.linking seeds
+    (λ differs. ((others differs).0, ap (λ w. w.waiting) (others differs).1)) in
+    let filled : length c.sow.new.links ≡ c.loop-source.links.len = omega (arith, step.linking.places, c.loop-source.invariant.linking.places, c.loop-source.links.ok.0) in
+    record {
+      linking = rw (with_items_is c.loop-source.links c.sow.new.links filled) step.linking;
+      sown = rw (with_items_is c.loop-source.links c.sow.new.links filled) (AreSown-more _ _ _ _ place none c.loop-source.invariant.sown c.loop-source-test.true step.here step.lower);
+      nodes = c.sow.ensures.nodes ∙ c.loop-source.invariant.nodes;
+    }
+
+pub spread-requires-clause-departure : goal.spread-requires-clause-departure
+spread-requires-clause-departure g c =
+    let before = rw c.in-Some.ensures.taken at c.loop-node.invariant.linking in
+    Linking-time _ _ _ _ _ _ before c.in-Some.node (before.waits c.in-Some.node (0, omega arith, refl))
+
+pub spread-requires-clause-level : goal.spread-requires-clause-level
+spread-requires-clause-level g c =
+    let before = rw c.in-Some.ensures.taken at c.loop-node.invariant.linking in
+    let bound = before.bounded c.in-Some.node (before.waits c.in-Some.node (0, omega arith, refl)) in
+    let few = c.nodes.ensures.network.nodes_limit in
+    rw c.deref_mut-in-Some.ensures.value (omega arith)
+
+pub loop-node-preserved : goal.loop-node-preserved
+loop-node-preserved g c =
+    let before = rw c.in-Some.ensures.taken at c.loop-node.invariant.linking in
+    let few = c.nodes.ensures.network.nodes_limit in
+    let offers = rw c.deref_mut-in-Some.ensures.value at c.spread.ensures.offers in
+    let spent = rw c.deref_mut-in-Some.ensures.value at c.spread.ensures.spent in
+    let linking = Linking-spread _ _ _ _ c.in-Some.node _ _ _ _ (omega arith) before offers spent in
+    let filled : length c.spread.new.links ≡ c.loop-node.links.len = omega (arith, offers.places, c.loop-node.links.ok.0) in
+    record {
+      linking = rw (with_items_is c.loop-node.links c.spread.new.links filled) linking;
+      sown = rw (with_items_is c.loop-node.links c.spread.new.links filled) (AreSown-lower _ _ _ _ _ c.loop-node.invariant.sown (Offers-lower _ _ _ _ _ _ offers));
+      nodes = c.spread.ensures.nodes ∙ c.in-Some.ensures.nodes ∙ c.loop-node.invariant.nodes;
+    }
+
+pub returns : goal.returns
+returns g c =
+    let linking = rw c.in_default.ensures.taken.0 at c.loop-node.invariant.linking in
+    are_links c.args.network.now _ _ c.args.sources.now c.nodes.ensures.network c.requires.classes (g.met.T.TravelTimes.fifo c.args.times.now) c.requires.sources c.args.table.now c.requires.places c.loop-node.links.items linking c.loop-node.invariant.sown

@@ -1,0 +1,76 @@
+ghost use Rattle.std.specs.Prelude.{IfOk};
+ghost use Rattle.ea_road.specs.Answers.{IsFifoFunction};
+ghost use Rattle.ea_road.specs.Queries.{IsProblem};
+ghost use Rattle.ea_finish.specs.Answers.{HasArrivals, IsAnswer};
+
+use crate::answer::Answer;
+use crate::finishing::finish;
+use crate::open::Open;
+use crate::searching::search;
+use crate::unwinding::{unwind, without_walks};
+use ea_road::{ArrivalFunction, Network, Profiles, Query, TravelTimes};
+use std::alloc::{AllocError, Global};
+
+/// The earliest arrivals and their canonical walks, found by one thread.
+pub fn solve_alone<T: TravelTimes>(
+    alloc: Global,
+    network: &Network,
+    times: &T,
+    query: &Query,
+) -> Result<Answer, AllocError>
+    requires { IsProblem network.now (T.classes times.now) query.now }
+    ensures { IfOk result (IsAnswer network.now (T.answers times.now) query.now) }
+{
+    let todo = Open::reserve(alloc, network.nodes())?;
+    let (table, todo) = search(alloc, network, times, query, todo)?;
+    let finished = finish(network, times, query, table, todo);
+    Ok(unwind(network, times, query, finished))
+}
+
+/// The earliest arrivals without walks, found by one thread.
+pub fn arrivals_alone<T: TravelTimes>(
+    alloc: Global,
+    network: &Network,
+    times: &T,
+    query: &Query,
+) -> Result<Answer, AllocError>
+    requires { IsProblem network.now (T.classes times.now) query.now }
+    ensures { IfOk result (HasArrivals network.now (T.answers times.now) query.now) }
+{
+    let todo = Open::reserve_without_walks(alloc, network.nodes())?;
+    let (table, todo) = search(alloc, network, times, query, todo)?;
+    let finished = finish(network, times, query, table, todo);
+    Ok(without_walks(network, times, query, finished))
+}
+
+/// `solve_alone` by a caller's closure from class, weight and departure to the arrival, for classes up to the greatest.
+pub fn solve_alone_by<F: ArrivalFunction + Drop>(
+    alloc: Global,
+    network: &Network,
+    closure: F,
+    classes: u32,
+    query: &Query,
+) -> Result<Answer, AllocError>
+    requires fifo { IsFifoFunction (F.may closure) (F.answers closure) classes }
+    requires problem { IsProblem network.now classes query.now }
+    ensures { IfOk result (IsAnswer network.now (λ class weight departure arrival. ∥ F.answers closure class weight departure arrival ∥₁) query.now) }
+{
+    let profiles = Profiles::new(closure, classes);
+    solve_alone(alloc, network, &profiles, query)
+}
+
+/// `arrivals_alone` by a caller's closure.
+pub fn arrivals_alone_by<F: ArrivalFunction + Drop>(
+    alloc: Global,
+    network: &Network,
+    closure: F,
+    classes: u32,
+    query: &Query,
+) -> Result<Answer, AllocError>
+    requires fifo { IsFifoFunction (F.may closure) (F.answers closure) classes }
+    requires problem { IsProblem network.now classes query.now }
+    ensures { IfOk result (HasArrivals network.now (λ class weight departure arrival. ∥ F.answers closure class weight departure arrival ∥₁) query.now) }
+{
+    let profiles = Profiles::new(closure, classes);
+    arrivals_alone(alloc, network, &profiles, query)
+}

@@ -1,0 +1,143 @@
+ghost use Rattle.std.specs.Prelude.{◌≡◌, ℕ, ◌+◌, ◌<◌, ◌≤◌, [], ◌∷◌, List, length, sum, IfSome};
+ghost use Rattle.ea_road.specs.declared.TheConstants.{HORIZON};
+ghost use Rattle.ea_road.specs.Arrivals.{IsLeast, IsLeastAt};
+ghost use Rattle.ea_road.specs.Labels.{label_of, limit, time_of};
+ghost use Rattle.ea_road.specs.Queries.{IsAsked, IsProblem};
+ghost use Rattle.ea_road.specs.Roads.{IsArc, IsNode, leaving, top_class};
+ghost use Rattle.ea_finish.specs.Scans.{Lowers, Scanned};
+ghost use Rattle.ea_finish.specs.Underway.{IsFinished, IsUnderway, entry};
+
+use crate::open::Open;
+use crate::opens::Opens;
+use ea_road::{Arc, HORIZON, NONE, Network, Query, TravelTimes};
+
+/// A table of labels, the first that of node 1, and a list in which nobody waits.
+#[derive(Drop)]
+pub struct Finished {
+    pub table: Vec<u64>,
+    pub todo: Open,
+}
+
+/// Offers a time to a node: a label above it falls to it, and the node is opened.
+pub(crate) fn lower<W: Opens>(table: &mut [u64], todo: &mut W, node: u32, time: u64)
+    requires node { (0 < node) × (node ≤ (W.room todo.old).nodes) }
+    requires places { length table.old ≡ (W.room todo.old).nodes }
+    ensures lowers { Lowers node time table.old (W.waits todo.old (entry table.old)) table.new (W.waits todo.new (entry table.new)) }
+    ensures spent { sum table.new + W.size todo.new ≤ sum table.old + W.size todo.old }
+    ensures room { W.room todo.new ≡ W.room todo.old }
+{
+    let place = node as usize - 1;
+    if time < table[place] {
+        table[place] = time;
+        todo.open(node, time);
+    }
+}
+
+/// Offers its head the arrival along one arc.
+fn follow<T: TravelTimes, W: Opens>(
+    network: &Network,
+    times: &T,
+    number: u32,
+    arc: Arc,
+    departure: u64,
+    table: &mut [u64],
+    todo: &mut W,
+)
+    requires arc { IsArc network.now number arc }
+    requires departure { departure ≤ HORIZON }
+    requires classes { top_class network.now.arcs ≤ T.classes times.now }
+    requires places { length table.old ≡ network.now.nodes }
+    requires nodes { (W.room todo.old).nodes ≡ network.now.nodes }
+    ensures scanned { Scanned network.now (T.answers times.now) arc.tail departure (number ∷ []) table.old (W.waits todo.old (entry table.old)) table.new (W.waits todo.new (entry table.new)) }
+    ensures spent { sum table.new + W.size todo.new ≤ sum table.old + W.size todo.old }
+    ensures room { W.room todo.new ≡ W.room todo.old }
+{
+    let _ = network.nodes();
+    let _ = number;
+    // No arc arrives before it is left.
+    if table[arc.head as usize - 1] <= departure {
+        return;
+    }
+    let arrival = times.arrive(arc.class, u64::from(arc.weight), departure);
+    if arrival <= HORIZON {
+        lower(table, todo, arc.head, arrival);
+    }
+}
+
+/// Offers each head the arrival along the arcs from a node, left at its label. The arcs are read as they lie by tail.
+pub(crate) fn scan<T: TravelTimes, W: Opens>(
+    network: &Network,
+    times: &T,
+    node: u32,
+    departure: u64,
+    table: &mut [u64],
+    todo: &mut W,
+)
+    requires node { IsNode network.now.nodes node }
+    requires departure { departure ≤ HORIZON }
+    requires classes { top_class network.now.arcs ≤ T.classes times.now }
+    requires places { length table.old ≡ network.now.nodes }
+    requires nodes { (W.room todo.old).nodes ≡ network.now.nodes }
+    ensures scanned { Scanned network.now (T.answers times.now) node departure (leaving network.now node) table.old (W.waits todo.old (entry table.old)) table.new (W.waits todo.new (entry table.new)) }
+    ensures spent { sum table.new + W.size todo.new ≤ sum table.old + W.size todo.old }
+    ensures room { W.room todo.new ≡ W.room todo.old }
+{
+    let leaving = network.leaving(node);
+    let numbers = leaving.numbers;
+    let arcs = leaving.arcs;
+    for place in 0..arcs.len() {
+        follow(
+            network,
+            times,
+            numbers[place],
+            arcs[place],
+            departure,
+            table,
+            todo,
+        );
+    }
+}
+
+/// The label above which a label need not be least: the target's, and NONE where all nodes are asked.
+pub(crate) fn latest(target: Option<u32>, table: &[u64]) -> u64
+    requires { IfSome target (λ node. (0 < node) × (node ≤ length table.now)) }
+    ensures { result ≡ limit target (label_of table.now) }
+{
+    match target {
+        Some(node) => table[node as usize - 1],
+        None => NONE,
+    }
+}
+
+/// Scans waiting nodes at their labels, in the order in which they were opened, until nobody waits. Then each label is
+/// the least arrival; in a pair query, each up to the target's. It takes no memory.
+pub fn finish<T: TravelTimes>(
+    network: &Network,
+    times: &T,
+    query: &Query,
+    mut table: Vec<u64>,
+    mut todo: Open,
+) -> Finished
+    requires problem { IsProblem network.now (T.classes times.now) query.now }
+    requires underway { IsUnderway network.now (T.answers times.now) query.now table.items todo.waiting }
+    requires room { todo.nodes ≡ network.now.nodes }
+    ensures finished { IsFinished network.now (T.answers times.now) query.now result.table.items result.todo }
+    ensures walks { result.todo.walks ≡ todo.walks }
+    ensures least { (node : ℕ) → IsNode network.now.nodes node → IsAsked query.now node
+        → IsLeast network.now (T.answers times.now) query.now.sources node (time_of (label_of result.table.items node)) }
+    ensures exact { (node time : ℕ) → IsNode network.now.nodes node
+        → IsLeastAt network.now (T.answers times.now) query.now.sources node time
+        → time ≤ limit query.now.target (label_of result.table.items)
+        → label_of result.table.items node ≡ time }
+{
+    let _ = network.nodes();
+    let target = query.target();
+    while let Some(node) = todo.take() {
+        let departure = table[node as usize - 1];
+        let last = latest(target, &table).min(HORIZON);
+        if departure <= last {
+            scan(network, times, node, departure, &mut table, &mut todo);
+        }
+    }
+    Finished { table, todo }
+}

@@ -1,0 +1,23 @@
+//! Earliest arrivals by one thread: the finishing pass that makes labels least, and the canonical walks to them.
+#![tactic(auto)]
+
+mod alone;
+mod answer;
+mod finishing;
+mod frontier;
+mod link;
+mod open;
+mod opens;
+mod searching;
+mod unwinding;
+mod waiting;
+
+pub use alone::{arrivals_alone, arrivals_alone_by, solve_alone, solve_alone_by};
+pub use answer::Answer;
+pub use finishing::{Finished, finish};
+pub use link::{Link, NO_LEVEL};
+pub use open::Open;
+pub use unwinding::{find_links, unwind, without_walks};
+
+#[cfg(test)]
+mod tests;

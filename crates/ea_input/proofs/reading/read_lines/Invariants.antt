@@ -1,0 +1,13 @@
+use Rattle.std.proofs.Common.{◌≡◌, ◌≤◌, ◌+◌, length}
+use Rattle.ea_input.specs.Reading.{lines_after}
+use Rattle.ea_text.specs.Text.{field_lines}
+use Rattle.ea_input.proofs.reading.read_lines.Given as goal
+
+abbrev pub invariant-loop-rest : goal.invariant-loop-rest
+invariant-loop-rest g l = record {
+  same : lines_after g.R.LineReader.step l.line (g.R.LineReader.state l.reader) (field_lines l.rest) ≡ lines_after g.R.LineReader.step 0 (g.R.LineReader.state l.fn.reader) (field_lines l.text);
+  fewer : l.line + length l.rest ≤ length l.text;
+}
+
+abbrev pub decreases-loop-rest : goal.decreases-loop-rest
+decreases-loop-rest g l = length l.rest

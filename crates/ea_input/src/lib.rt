@@ -1,0 +1,24 @@
+//! The texts of graphs, sources, pairs and timetables, read exactly or refused exactly.
+#![tactic(auto)]
+
+mod fault;
+mod graph;
+mod listing;
+mod pairs;
+mod plain;
+mod range;
+mod reading;
+mod sources;
+mod table;
+
+pub use ea_text::{
+    ByteIn, ByteOut, Device, DeviceFault, ReadFault, StdIn, StdOut, number, read_all,
+};
+pub use fault::{FaultKind, InputFault};
+pub use graph::{RawArc, RawGraph, graph_law, read_gr};
+pub use pairs::{pair_law, read_p2p};
+pub use sources::{read_ss, source_law};
+pub use table::{RawKind, RawTable, read_tp, table_law};
+
+#[cfg(test)]
+mod tests;

@@ -1,0 +1,161 @@
+//! The text of pairs.
+ghost use Rattle.std.specs.Prelude.{◌≡◌, ◌<◌, ◌≤◌, ℕ, List, IfErr, IfOk, MatchResult, ◌⊎◌, map, length, codes};
+ghost use Rattle.ea_input.specs.Checks.{IsFaultOf};
+ghost use Rattle.ea_input.specs.Fault.{Gives, out_of_memory};
+ghost use Rattle.ea_input.specs.Formats.{pair_format};
+ghost use Rattle.ea_input.specs.Grammar.{IsGrammar};
+ghost use Rattle.ea_input.specs.declared.fault.InputFault.{InputFault as FaultType};
+ghost use Rattle.ea_input.specs.Fronts.{pair_step-front};
+ghost use Rattle.ea_input.specs.Listing as spec;
+ghost use Rattle.ea_input.specs.Listing.{Listed, list_end};
+ghost use Rattle.ea_input.specs.Pairs.{DenotesPairs, pair_step, pairs_of};
+ghost use Rattle.ea_text.specs.Text.{field_lines};
+ghost use Rattle.ea_input.specs.Reading.{GivesLine};
+
+use crate::fault::{FaultKind, InputFault};
+use crate::listing::{ListLine, problem_line};
+use crate::range::{numeral, within};
+use crate::reading::{LineReader, read_text};
+use ea_text as text;
+use std::alloc::Global;
+
+#[tactic(auto, unfolding(crate::specs::Pairs::pair_read))]
+fn pair_read(nodes: u32, source: &[u8], target: &[u8]) -> Result<(u32, u32), FaultKind>
+    ensures { result ≡ Rattle.ea_input.specs.Pairs.pair_read nodes source.now target.now }
+{
+    let source = numeral(source)?;
+    let target = numeral(target)?;
+    let source = within(1, nodes, source)?;
+    let target = within(1, nodes, target)?;
+    Ok((source, target))
+}
+
+#[tactic(auto, unfolding(crate::specs::Pairs::pair_of))]
+fn pair_of(nodes: u32, fields: &[&[u8]]) -> Result<(u32, u32), FaultKind>
+    ensures { result ≡ Rattle.ea_input.specs.Pairs.pair_of nodes (map (λ field. field.now) fields.now) }
+{
+    match fields {
+        [source, target] => pair_read(nodes, source, target),
+        _ => Err(FaultKind::FieldCount),
+    }
+}
+
+#[tactic(auto, unfolding(crate::specs::Listing::item_line))]
+fn pair_line(
+    nodes: u32,
+    size: Option<u32>,
+    count: usize,
+    fields: &[&[u8]],
+) -> Result<ListLine<(u32, u32)>, FaultKind>
+    ensures { result ≡ spec.item_line (Rattle.ea_input.specs.Pairs.pair_of nodes) size count (map (λ field. field.now) fields.now) }
+{
+    let size = size.ok_or(FaultKind::NoProblemLine)?;
+    let pair = pair_of(nodes, fields)?;
+    if count < size as usize {
+        Ok(ListLine::Item(pair))
+    } else {
+        Err(FaultKind::TooManyLines)
+    }
+}
+
+#[tactic(auto, unfolding(crate::specs::Listing::list_line))]
+fn line_says(
+    nodes: u32,
+    size: Option<u32>,
+    count: usize,
+    fields: &[&[u8]],
+) -> Result<ListLine<(u32, u32)>, FaultKind>
+    ensures { result ≡ spec.list_line (codes "p2p") (codes "q") (Rattle.ea_input.specs.Pairs.pair_of nodes) size count (map (λ field. field.now) fields.now) }
+{
+    let [word, others @ ..] = fields else {
+        return Ok(ListLine::Silent);
+    };
+    if text::is_comment(word) {
+        Ok(ListLine::Silent)
+    } else if *word == b"p".as_slice() {
+        problem_line(b"p2p", size, others)
+    } else if *word == b"q".as_slice() {
+        pair_line(nodes, size, count, others)
+    } else {
+        Err(FaultKind::UnknownLine)
+    }
+}
+
+/// What the lines of a text said so far.
+#[derive(Drop)]
+struct PairReader {
+    nodes: u32,
+    size: Option<u32>,
+    pairs: Vec<(u32, u32)>,
+}
+
+impl LineReader for PairReader {
+    type Text = Vec<(u32, u32)>;
+
+    ghost Denoted = { List (ℕ × ℕ) };
+
+    ghost view = { λ pairs. pairs.items };
+
+    ghost State = { Listed (ℕ × ℕ) };
+
+    ghost state = { λ reader. record { nodes = reader.nodes; size = reader.size; items = reader.pairs.items } };
+
+    ghost step = { pair_step };
+
+    #[tactic(auto, unfolding(crate::specs::Listing::list_step))]
+    fn read_fields(&mut self, fields: &[&[u8]]) -> Result<(), FaultKind> {
+        match line_says(self.nodes, self.size, self.pairs.len(), fields)? {
+            ListLine::Silent => {}
+            ListLine::Problem(size) => self.size = Some(size),
+            ListLine::Item(pair) => self.pairs.push(pair)?,
+        }
+        Ok(())
+    }
+
+    ghost end = { list_end };
+
+    #[tactic(auto, unfolding(crate::specs::Listing::list_end))]
+    fn finish(self) -> Result<Vec<(u32, u32)>, FaultKind> {
+        let size = self.size.ok_or(FaultKind::NoProblemLine)?;
+        if self.pairs.len() < size as usize {
+            return Err(FaultKind::TooFewLines);
+        }
+        Ok(self.pairs)
+    }
+
+    ghost front = { pair_step-front };
+}
+
+fn read_pairs(alloc: Global, text: &[u8], nodes: u32) -> Result<Vec<(u32, u32)>, InputFault>
+    ensures exact { Gives (λ pairs. pairs.items) result (pairs_of nodes (field_lines text.now)) }
+{
+    let start = PairReader {
+        nodes,
+        size: None,
+        pairs: Vec::new(alloc),
+    };
+    read_text(alloc, start, text)
+}
+
+/// The pairs of a text, in their order; nodes are numbered up to `nodes`.
+pub fn read_p2p(alloc: Global, text: &[u8], nodes: u32) -> Result<Vec<(u32, u32)>, InputFault>
+    // What is read is what the text denotes.
+    ensures denoted { IfOk result (λ found. DenotesPairs nodes (field_lines text.now) (found.items)) }
+    // What the text denotes is read, unless memory is refused.
+    ensures only { (pairs : List (ℕ × ℕ)) → DenotesPairs nodes (field_lines text.now) pairs →
+        MatchResult result (λ read. read.items ≡ pairs) (λ fault. fault ≡ out_of_memory) }
+
+    // A fault is the text's, unless memory is refused.
+    ensures fault { IfErr result (λ fault. (fault ≡ out_of_memory) ⊎ IsFaultOf (pair_format nodes) (field_lines text.now) fault) }
+    // The text's fault is answered, unless memory is refused.
+    ensures faulty { (fault : FaultType) → IsFaultOf (pair_format nodes) (field_lines text.now) fault →
+        MatchResult result (λ _. ⊥) (λ found. (found ≡ out_of_memory) ⊎ (found ≡ fault)) }
+{
+    read_pairs(alloc, text, nodes)
+}
+
+/// The law of the texts of pairs: a text denotes at most one list of pairs and has at most one
+/// fault, and exactly one of the two. It computes nothing.
+pub fn pair_law(_nodes: u32)
+    ensures { IsGrammar (DenotesPairs _nodes) (pair_format _nodes) }
+{}

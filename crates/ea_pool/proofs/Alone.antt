@@ -1,0 +1,79 @@
+-- What a seat with all shares concludes from what it saw of two heaps.
+use Rattle.std.proofs.Common.{◌≡◌, ◌≢◌, ℕ, suc, ◌+◌, ◌<◌, ◌≤◌, List, [], ◌∷◌, length, sym, refl, ap, arith, subst, slice_index_or, min, ◌⊎◌, ⊎_elim}
+use Rattle.std.specs.List.{AllByRecursion}
+use mathlib.Core.Logic.{dite}
+use native.Mathlib.Decide.{ℕ_discrete, dec_lt}
+use Rattle.ea_pool.specs.declared.entry.Entry.{Entry}
+use Rattle.ea_pool.specs.declared.account.SeatState.{SeatState}
+use Rattle.ea_pool.specs.declared.reply.Popped.{Popped}
+use Rattle.ea_pool.specs.declared.reply.Popped.TheVariants as reply
+use Rattle.ea_lists.specs.Totals.{total}
+use Rattle.ea_road.specs.declared.TheConstants.{HORIZON}
+use Rattle.ea_pool.specs.declared.words.TheConstants.{EMPTY}
+use Rattle.ea_pool.specs.Entries.{only, times, IsKnown, face}
+use Rattle.ea_pool.specs.States.{saw}
+use Rattle.ea_pool.specs.Plays.{Surveys}
+use Rattle.ea_pool.specs.Pools.{books, SameBooks, Pops, NothingLeft, IsLeastLeft}
+use Rattle.ea_pool.specs.Replies.{MatchPopped}
+use Rattle.ea_pool.proofs.Weights.{only-same, only-one}
+
+face_le : (d : Entry) (es : List Entry) → 0 < times d es → face es ≤ d.key
+face_le d [] h = absurd (omega arith)
+face_le d (e ∷ es) h = dite (dec_lt 0 (times d es)) (λ later. let b = face_le d es later in omega arith) (λ none. let one = only-one d e (omega arith) in omega (arith, ap (λ (y : Entry). y.key) one))
+
+-- no content has a key below s
+abbrev Bounds : ℕ → List (List Entry) → Type 0
+Bounds s contents = (k : ℕ) → k < length contents → s ≤ face (slice_index_or contents k [])
+
+bounds_all : (s : ℕ) (contents : List (List Entry)) → Bounds s contents → (d : Entry) → 0 < total (times d) contents → s ≤ d.key
+bounds_all s [] h d some = absurd (omega arith)
+bounds_all s (es ∷ rest) h d some = dite (dec_lt 0 (times d es)) (λ here. let a = h 0 (omega arith) in let b = face_le d es here in omega arith) (λ none. bounds_all s rest (λ k l. h (suc k) (omega arith)) d (omega arith))
+
+nothing_in : (contents : List (List Entry)) → ((d : Entry) → 0 < total (times d) contents → ⊥) → (f : Entry → ℕ) → total (total f) contents ≡ 0
+nothing_in [] none f = refl
+nothing_in ([] ∷ rest) none f = omega (arith, nothing_in rest (λ d some. none d (omega arith)) f)
+nothing_in ((e ∷ es) ∷ rest) none f = absurd (none e (omega (arith, only-same e)))
+
+-- two different numbers below 2 are all there are
+both : (i j k : ℕ) (P : ℕ → Type 0) → i < 2 → j < 2 → i ≢ j → k < 2 → P i → P j → P k
+both i j k P near other apart l p q = dite (ℕ_discrete k i) (λ e. subst P (sym e) p) (λ ne. let e : j ≡ k = omega arith in subst P e q)
+
+-- an attempt at one of the two heaps that were looked at
+pub answered : (v w : SeatState) (i x j y : ℕ) (picked : ℕ × ℕ) (answer : Popped) → w ≡ saw (saw v i x) j y → (picked ≡ (i, x)) ⊎ (picked ≡ (j, y))
+    → AllByRecursion (λ p. picked.0 ≡ p.0 → picked.1 ≡ p.1 → MatchPopped answer (λ e. Unit {0}) ⊥ ⊥) w.seen → MatchPopped answer (λ e. Unit {0}) ⊥ ⊥
+answered v w i x j y picked answer is one all =
+    let both = subst (λ (a : SeatState). AllByRecursion (λ p. picked.0 ≡ p.0 → picked.1 ≡ p.1 → MatchPopped answer (λ e. Unit {0}) ⊥ ⊥) a.seen) is all in
+    ⊎_elim (λ (e : picked ≡ (i, x)). both.1.0 (ap (λ (p : ℕ × ℕ). p.0) e) (ap (λ (p : ℕ × ℕ). p.1) e)) (λ (e : picked ≡ (j, y)). both.0 (ap (λ (p : ℕ × ℕ). p.0) e) (ap (λ (p : ℕ × ℕ). p.1) e)) one
+
+module _ (known : ℕ → ℕ → Type 0) (in_time : (node time : ℕ) → known node time → time ≤ HORIZON) (v w : SeatState) (i x j y : ℕ) (survey : Surveys known 2 w) (is : w ≡ saw (saw v i x) j y) (near : i < 2) (other : j < 2) (apart : i ≢ j) where
+  seen : AllByRecursion (λ p. p.0 < 2 → face (slice_index_or survey.contents p.0 []) ≡ p.1) ((j, y) ∷ (i, x) ∷ v.seen)
+  seen = subst (λ (a : SeatState). AllByRecursion (λ p. p.0 < 2 → face (slice_index_or survey.contents p.0 []) ≡ p.1) a.seen) is survey.seen
+
+  left : (f : Entry → ℕ) → total f v.pushed ≡ total f v.popped + total (total f) survey.contents
+  left f = omega (arith, survey.left f, ap (λ (a : SeatState). total f a.pushed) is, ap (λ (a : SeatState). total f a.popped) is)
+
+  bounded : (s : ℕ) → s ≤ x → s ≤ y → Bounds s survey.contents
+  bounded s a b k l =
+      let wide = survey.width in
+      let s₁ = seen.1.0 near in
+      let s₀ = seen.0 other in
+      both i j k (λ n. s ≤ face (slice_index_or survey.contents n [])) near other apart (omega arith) (omega arith) (omega arith)
+
+  pub is_least : (e : Entry) → e.key ≤ x → e.key ≤ y → IsLeastLeft e (books v)
+  is_least e a b d more = bounds_all e.key survey.contents (bounded e.key a b) d (omega (arith, left (only d)))
+
+  pub is_nothing : x ≡ EMPTY → y ≡ EMPTY → NothingLeft (books v)
+  is_nothing a b f = omega (
+    arith,
+    left f,
+    nothing_in survey.contents (λ d some.
+        let low = bounds_all EMPTY survey.contents (bounded EMPTY (omega arith) (omega arith)) d some in
+        let late = in_time d.node d.key (survey.known_all d (omega (arith, left (only d), ap (λ (z : SeatState). times d z.pushed) is))) in
+        omega arith) f,
+  )
+
+  pub pops_least_of_two : (answer : Popped) (b : SeatState) (s : ℕ) → s ≡ min x y → MatchPopped answer (λ e. Pops (books w) e (books b) × IsKnown known e × (e.key ≡ s)) ⊥ (SameBooks (books w) (books b) × (b.seen ≡ [])) → MatchPopped answer (λ e. Unit {0}) ⊥ ⊥
+      → MatchPopped answer (λ e. IsLeastLeft e (books v)) (NothingLeft (books v)) ⊥
+  pops_least_of_two (reply.Entry e) b s m t busy = is_least e (omega (arith, t.2)) (omega (arith, t.2))
+  pops_least_of_two reply.Empty b s m t busy = absurd t
+  pops_least_of_two reply.Busy b s m t busy = busy

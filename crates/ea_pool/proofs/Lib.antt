@@ -1,0 +1,12 @@
+pub mod Weights
+pub mod HeapOrder
+pub mod Lawful
+pub mod Runs
+pub mod Moves
+pub mod Tells
+pub mod Alone
+pub mod Gathered
+pub mod Rows
+pub mod SoloPops
+pub mod Ranks
+pub mod Leaving

@@ -1,0 +1,12 @@
+pub mod Entries
+pub mod Draws
+pub mod States
+pub mod Core
+pub mod Events
+pub mod Plays
+pub mod Pools
+pub mod Replies
+pub mod Seats
+pub mod Tries
+pub mod Solos
+pub mod Left

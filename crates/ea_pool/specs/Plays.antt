@@ -1,0 +1,72 @@
+-- A pool as an `atomic_table`, and what its steps tell: of the step, the seat before, the number found and the seat after.
+use Rattle.std.specs.Prelude.{◌≡◌, ◌≢◌, ℕ, ◌+◌, ◌*◌, ◌<◌, ◌≤◌, List, [], ◌∷◌, length, None, slice_index, slice_index_or}
+use Rattle.std.specs.List.{AllByRecursion}
+use Rattle.atomic_table.specs.Table.{State, Me, Step, rest}
+use Rattle.ea_lists.specs.Totals.{total}
+use Rattle.ea_pool.specs.declared.entry.Entry.{Entry}
+use Rattle.ea_pool.specs.declared.account.SeatState.{SeatState}
+use Rattle.ea_pool.specs.declared.TheConstants.{SHARES}
+use Rattle.ea_pool.specs.declared.words.TheConstants.{OUT, WORDS_APART}
+use Rattle.ea_pool.specs.Entries.{SameEntries, IsKnown, AreKnown, face}
+use Rattle.ea_pool.specs.States.{content_of, saw, forgot, took, pushed, popped, gave}
+use Rattle.ea_pool.specs.Core.{Core}
+use Rattle.ea_pool.specs.Events.{IsReached}
+
+-- Word 0 is the seat word. The word of heap k stands apart from those before and behind it
+abbrev pub word_place : ℕ → ℕ
+word_place k = WORDS_APART * (k + 1)
+
+-- the words of the heaps, spread out
+pub record AreSpread (all words : List ℕ) : Type 0 where
+  pub room : length all ≡ WORDS_APART * (length words + 1)
+  pub each : (k : ℕ) → k < length words → slice_index all (word_place k) ≡ slice_index words k
+
+-- A run leads to the words, the heaps at home and what the seats know
+pub record IsPoolState (known : ℕ → ℕ → Type 0) (heaps : ℕ) (s : State (List Entry) SeatState) : Type 0 where
+  pub core : Core
+  pub reached : IsReached known heaps core
+  pub words : AreSpread s.words core.words
+  pub homes : s.homes ≡ core.homes
+  pub seats : s.views ≡ core.seats
+
+abbrev pub Place : Type 0
+Place = Me (List Entry) SeatState
+
+-- what the slot that the seat took has now
+abbrev pub value_of : List (ℕ × List Entry) → List Entry
+value_of [] = []
+value_of (x ∷ xs) = x.1
+
+-- What a seat with all shares knows of the heaps, which are all at home: they have these contents
+pub record Surveys (known : ℕ → ℕ → Type 0) (heaps : ℕ) (a : SeatState) : Type 0 where
+  pub contents : List (List Entry)
+  pub width : length contents ≡ heaps
+  pub left : (f : Entry → ℕ) → total f a.pushed ≡ total f a.popped + total (total f) contents
+  pub known_all : AreKnown known a.pushed
+  pub seen : AllByRecursion (λ p. p.0 < heaps → face (slice_index_or contents p.0 []) ≡ p.1) a.seen
+
+module _ (known : ℕ → ℕ → Type 0) where
+  abbrev pub Looked : Step (List Entry) → Place → ℕ → Place → Type 0
+  Looked st m r n =
+      ((k : ℕ) → st.word ≡ word_place k → k < st.slots → (n ≡ (saw m.0 k r, m.1)) × (r ≤ OUT))
+      × (m.0.shares ≤ SHARES)
+      × (m.0.shares ≡ SHARES → m.0.held ≡ None → Surveys known st.slots n.0)
+
+  -- the seat has the heap k, whose content has this least key
+  abbrev pub Took : Place → ℕ → ℕ → Place → Type 0
+  Took m k x n = (es : List Entry) × (n ≡ (took m.0 k es, (k, es) ∷ m.1)) × (face es ≡ x) × AreKnown known es
+
+  abbrev pub Taken : Step (List Entry) → Place → ℕ → Place → Type 0
+  Taken st m r n =
+      (r ≡ st.first → (k : ℕ) → st.word ≡ word_place k → Took m k r n)
+      × (r ≢ st.first → n ≡ (forgot m.0, m.1))
+      × (m.0.shares ≡ SHARES → AllByRecursion (λ p. st.word ≡ word_place p.0 → r ≡ p.1) m.0.seen)
+
+  abbrev pub GavePopped : Step (List Entry) → Place → ℕ → Place → Type 0
+  GavePopped st m r n = (e : Entry) → SameEntries (content_of m.0.held) (e ∷ value_of m.1) → (n ≡ (popped m.0 e, rest m.1)) × IsKnown known e
+
+abbrev pub GavePushed : Step (List Entry) → Place → ℕ → Place → Type 0
+GavePushed st m r n = (e : Entry) → SameEntries (value_of m.1) (e ∷ content_of m.0.held) → n ≡ (pushed m.0 e, rest m.1)
+
+abbrev pub GaveBack : Step (List Entry) → Place → ℕ → Place → Type 0
+GaveBack st m r n = n ≡ (gave m.0, rest m.1)

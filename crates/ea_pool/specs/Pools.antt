@@ -1,0 +1,69 @@
+-- What contracts say of a seat's account, and of a seat within a call.
+use Rattle.std.specs.Prelude.{◌≡◌, ℕ, ◌<◌, ◌≤◌, List, [], ◌∷◌, map, Some, None, Contains}
+use mathlib.Core.Option as maybe
+use Rattle.ea_road.specs.declared.TheConstants.{HORIZON}
+use Rattle.ea_pool.specs.declared.entry.Entry.{Entry}
+use Rattle.ea_pool.specs.declared.account.Account.{Account}
+use Rattle.ea_pool.specs.declared.account.SeatState.{SeatState}
+use Rattle.ea_pool.specs.Entries.{times, SameEntries, gathered}
+use Rattle.ea_pool.specs.States.{held_at}
+use Rattle.ea_pool.specs.Core.{Core}
+use Rattle.ea_pool.specs.Events.{IsReached}
+use Rattle.ea_pool.specs.Plays.{Place}
+
+-- the account is as it was
+abbrev pub SameBooks : Account → Account → Type 0
+SameBooks a b = (b.shares ≡ a.shares) × (b.pushed ≡ a.pushed) × (b.popped ≡ a.popped)
+
+-- it gains one pushed entry, and nothing else changes
+abbrev pub Pushes : Account → Entry → Account → Type 0
+Pushes a e b = (b.shares ≡ a.shares) × (b.pushed ≡ e ∷ a.pushed) × (b.popped ≡ a.popped)
+
+-- it gains one popped entry, and nothing else changes
+abbrev pub Pops : Account → Entry → Account → Type 0
+Pops a e b = (b.shares ≡ a.shares) × (b.pushed ≡ a.pushed) × (b.popped ≡ e ∷ a.popped)
+
+-- a seat with these shares that has done nothing
+abbrev pub Opened : ℕ → Account → Type 0
+Opened shares a = (a.shares ≡ shares) × (a.pushed ≡ []) × (a.popped ≡ [])
+
+-- What a seat with all shares pushed, less what it popped, is what the heaps have: nothing
+abbrev pub NothingLeft : Account → Type 0
+NothingLeft a = SameEntries a.pushed a.popped
+
+-- or entries with no key below this one's
+abbrev pub IsLeastLeft : Entry → Account → Type 0
+IsLeastLeft e a = (d : Entry) → times d a.popped < times d a.pushed → e.key ≤ d.key
+
+-- WITHIN A CALL
+
+abbrev pub books : SeatState → Account
+books a = record { shares = a.shares; pushed = a.pushed; popped = a.popped }
+
+-- a seat between two calls has a share and holds nothing
+abbrev pub Rests : Place → Type 0
+Rests m = (m.1 ≡ []) × (m.0.held ≡ None) × (0 < m.0.shares)
+
+-- it holds the heap k alone, with entries of which P holds
+abbrev pub HoldsHeap : Place → ℕ → (List Entry → Type 0) → Type 0
+HoldsHeap m k P = (es : List Entry) × (m.1 ≡ (k, es) ∷ []) × P es
+
+abbrev pub AreInTime : List Entry → Type 0
+AreInTime es = (e : Entry) → 0 < times e es → e.key ≤ HORIZON
+
+-- it took the heap k with entries of which P holds
+abbrev pub IsHeld : SeatState → ℕ → (List Entry → Type 0) → Type 0
+IsHeld a k P = (es : List Entry) × (a.held ≡ Some (held_at k es)) × P es
+
+-- AT THE END
+
+-- some run of a new pool ends with each heap at home, these entries in them, and this account of a seat
+pub record IsRunEnd (known : ℕ → ℕ → Type 0) (heaps : ℕ) (left : List Entry) (account : Account) : Type 0 where
+  pub core : Core
+  pub reached : IsReached known heaps core
+  pub contents : List (List Entry)
+  pub homes : core.homes ≡ map maybe.some contents
+  pub left_is : gathered contents ≡ left
+  pub seat : SeatState
+  pub has_seat : Contains core.seats seat
+  pub account_is : books seat ≡ account

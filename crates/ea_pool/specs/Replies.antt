@@ -1,0 +1,28 @@
+-- Words on what a push and a pop answer.
+use Rattle.std.specs.Prelude.{Bool, true, false, Result, Ok, Err}
+use Rattle.ea_pool.specs.declared.entry.Entry.{Entry}
+use Rattle.ea_pool.specs.declared.reply.PushRefused.{PushRefused}
+use Rattle.ea_pool.specs.declared.reply.PushRefused.TheVariants.{Busy, OutOfMemory}
+use Rattle.ea_pool.specs.declared.reply.Popped.{Popped}
+use Rattle.ea_pool.specs.declared.reply.Popped.TheVariants as popped
+
+-- the entry that comes back
+abbrev pub handed_back : PushRefused → Entry
+handed_back (Busy e) = e
+handed_back (OutOfMemory e) = e
+
+abbrev pub is_busy : PushRefused → Bool
+is_busy (Busy e) = true
+is_busy (OutOfMemory e) = false
+
+-- P where a push was busy
+abbrev pub OnBusy : Result (Unit {0}) PushRefused → Type 0 → Type 0
+OnBusy (Ok done) P = Unit {0}
+OnBusy (Err (Busy e)) P = P
+OnBusy (Err (OutOfMemory e)) P = Unit {0}
+
+-- P of the entry, Q where there was none, and R where the pool was busy
+abbrev pub MatchPopped : Popped → (Entry → Type 0) → Type 0 → Type 0 → Type 0
+MatchPopped (popped.Entry e) P Q R = P e
+MatchPopped popped.Empty P Q R = Q
+MatchPopped popped.Busy P Q R = R

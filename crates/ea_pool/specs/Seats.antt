@@ -1,0 +1,25 @@
+-- A pool and its seats, as a contract sees them.
+use Rattle.std.specs.Prelude.{◌≡◌, ℕ, List}
+use Rattle.atomic_table.specs.Seated.{TableId}
+use Rattle.ea_pool.specs.declared.account.Account.{Account}
+
+-- which table the pool is, and its number of heaps
+pub record PoolView : Type 0 where
+  pub table : TableId
+  pub heaps : ℕ
+
+-- whose table's seat it is, its account, and the words that it has seen since its last step of another kind, each with its heap
+pub record SeatView : Type 0 where
+  pub table : TableId
+  pub account : Account
+  pub seen : List (ℕ × ℕ)
+
+abbrev pub heaps_of : PoolView → ℕ
+heaps_of pool = pool.heaps
+
+abbrev pub account_of : SeatView → Account
+account_of seat = seat.account
+
+-- the seat was made by this pool
+abbrev pub IsSeatOf : PoolView → SeatView → Type 0
+IsSeatOf pool seat = seat.table ≡ pool.table

@@ -1,0 +1,43 @@
+//! Which heaps a call looks at.
+ghost use Rattle.std.specs.Prelude.{◌≡◌, ◌≢◌, ◌*◌, ◌<◌, ◌≤◌, ◌⊎◌, min};
+ghost use Rattle.ea_pool.specs.Draws.{first_draw, second_draw, try_draw};
+
+pub fn draw_first(heaps: usize, first: u64) -> usize
+    requires { (2 ≤ heaps) × (heaps ≤ 128) }
+    ensures draw { result ≡ first_draw heaps first }
+    ensures near { result < heaps }
+{
+    (first % heaps as u64) as usize
+}
+
+pub fn draw_second(heaps: usize, first: u64, second: u64) -> usize
+    requires { (2 ≤ heaps) × (heaps ≤ 128) }
+    ensures draw { result ≡ second_draw heaps first second }
+    ensures near { result < heaps }
+    ensures other { result ≢ first_draw heaps first }
+{
+    let heaps = heaps as u64;
+    ((first % heaps + 1 + second % (heaps - 1)) % heaps) as usize
+}
+
+// The heap of a push's attempt, from 0: from the first draw on, in turn.
+pub fn draw_try(heaps: usize, word: u64, attempt: usize) -> usize
+    requires { (2 ≤ heaps) × (heaps ≤ 128) × (attempt < 2 * heaps) }
+    ensures draw { result ≡ try_draw heaps word attempt }
+    ensures near { result < heaps }
+{
+    (draw_first(heaps, word) + attempt) % heaps
+}
+
+// The lesser word with its heap, and on equal words the heap with the lower number.
+pub fn pick(i: usize, x: u64, j: usize, y: u64) -> (usize, u64)
+    ensures one { (result ≡ (i, x)) ⊎ (result ≡ (j, y)) }
+    ensures least { result.1 ≡ min x y }
+    ensures tie { x ≡ y → result.0 ≡ min i j }
+{
+    if y < x || (y == x && j < i) {
+        (j, y)
+    } else {
+        (i, x)
+    }
+}

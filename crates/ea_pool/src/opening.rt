@@ -1,0 +1,87 @@
+//! How a pool is opened and closed.
+ghost use Rattle.std.specs.Prelude.{◌≡◌, ◌+◌, ◌≤◌, [], ◌++◌, IfOk, replicate};
+ghost use Rattle.ea_pool.specs.Entries.{SameEntries, AreKnown};
+ghost use Rattle.ea_pool.specs.Pools.{Opened, IsRunEnd};
+ghost use Rattle.ea_pool.specs.Seats.{account_of, heaps_of, IsSeatOf};
+
+use crate::closed::ClosedPool;
+use crate::least::LeastHeap;
+use crate::pool::Pool;
+use crate::seat::PoolSeat;
+use crate::words::{EMPTY, WORDS_APART};
+use crate::{OutOfMemory, SHARES};
+use atomic_table::Table;
+use ea_road::Known;
+use std::alloc::Allocator;
+use std::marker::PhantomData;
+
+pub(crate) fn empty_heaps<A: Allocator + Copy>(
+    alloc: A,
+    heaps: usize,
+) -> Result<Vec<LeastHeap<A>, A>, OutOfMemory>
+    ensures { IfOk result (λ row. row.items ≡ replicate heaps []) }
+{
+    let mut row = Vec::with_capacity(alloc, heaps)?;
+    for _ in 0..heaps {
+        row.push(LeastHeap::new(alloc))?;
+    }
+    Ok(row)
+}
+
+impl<K: Known, A: Allocator + Copy> Pool<K, A> {
+    /// A pool of this many heaps, 2 to 128, with no entry, and its first seat, which has all 64 shares.
+    /// It takes the memory for `close` too, and reserves nothing for entries. Err comes only where
+    /// memory was refused.
+    pub fn open(alloc: A, heaps: usize) -> Result<(Pool<K, A>, PoolSeat<K, A>), OutOfMemory>
+        requires { (2 ≤ heaps) × (heaps ≤ 128) }
+        ensures pool { IfOk result (λ made. heaps_of made.0 ≡ heaps) }
+        ensures seat { IfOk result (λ made. IsSeatOf made.0 made.1 × Opened SHARES (account_of made.1)) }
+    {
+        let words = Vec::from_elem(alloc, EMPTY, WORDS_APART * (heaps + 1))?;
+        let slots = empty_heaps(alloc, heaps)?;
+        let spare = Vec::with_capacity(alloc, heaps)?;
+        let Ok((table, seat)) = Table::new(alloc, words.as_slice(), slots, &heaps) else {
+            return Err(OutOfMemory);
+        };
+        let pool = Pool {
+            table,
+            heaps,
+            spare,
+        };
+        let seat = PoolSeat {
+            seat,
+            shares: SHARES,
+            known: PhantomData,
+        };
+        Ok((pool, seat))
+    }
+}
+
+impl<K: Known, A: Allocator> Pool<K, A> {
+    /// What is left, where the seat has all 64 shares: no other seat is live. What the account has
+    /// pushed is what it has popped and what is left.
+    pub fn close(self, seat: PoolSeat<K, A>) -> ClosedPool<A>
+        requires seat { IsSeatOf self seat }
+        requires all { (account_of seat).shares ≡ SHARES }
+        ensures left { SameEntries (account_of seat).pushed ((account_of seat).popped ++ result) }
+        ensures known { AreKnown K.is_known result }
+        ensures run { IsRunEnd K.is_known (heaps_of self) result (account_of seat) }
+    {
+        let Pool {
+            table,
+            heaps,
+            spare: mut row,
+        } = self;
+        let PoolSeat {
+            seat,
+            shares: _,
+            known: _,
+        } = seat;
+        let mut closed = table.close_with(seat);
+        for k in 0..heaps {
+            row.push_reserved(closed.take(k));
+        }
+        closed.free();
+        ClosedPool { heaps: row }
+    }
+}

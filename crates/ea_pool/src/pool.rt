@@ -1,0 +1,33 @@
+//! Heaps that threads share without a lock: each lies in a slot of a table, behind a word.
+use crate::account::SeatState;
+use crate::least::LeastHeap;
+use crate::rules::PoolRule;
+use atomic_table::Table;
+use ea_road::Known;
+use std::alloc::{Allocator, Global};
+use std::marker::Model;
+
+/// Heaps that threads share by reference, each thread with a seat of its own. Contracts see which
+/// table it is and the number of heaps.
+#[derive(Drop)]
+pub struct Pool<K: Known, A: Allocator = Global> {
+    pub(crate) table: Table<LeastHeap<A>, SeatState, usize, PoolRule<K>, A>,
+    pub(crate) heaps: usize,
+    // Room for the heaps when the pool is closed: that takes no memory then.
+    pub(crate) spare: Vec<LeastHeap<A>, A>,
+}
+
+impl<K: Known, A: Allocator> Model for Pool<K, A> {
+    ghost use Rattle.std.specs.Prelude.{◌≡◌, ◌+◌, ◌*◌, ◌≤◌};
+    ghost use Rattle.std.specs.Vec.{vec_len, vec_capacity};
+    ghost use Rattle.ea_pool.specs.declared.words.TheConstants.{WORDS_APART};
+    ghost use Rattle.ea_pool.specs.Seats.{PoolView};
+
+    ghost Value = { PoolView };
+
+    ghost view = { λ p. record { table = p.table.shared.table_id; heaps = p.heaps } };
+
+    ghost invariant = { λ p. (p.table.shared.table_id.words ≡ WORDS_APART * (p.heaps + 1))
+        × (p.table.shared.table_id.slots ≡ p.heaps) × (p.table.shared.key ≡ p.heaps)
+        × (2 ≤ p.heaps) × (p.heaps ≤ 128) × (vec_len p.spare ≡ 0) × (p.heaps ≤ vec_capacity p.spare) };
+}

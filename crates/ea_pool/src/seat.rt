@@ -1,0 +1,41 @@
+//! The right to push to and pop from one pool.
+ghost use Rattle.std.specs.Prelude.{◌≡◌};
+ghost use Rattle.ea_pool.specs.Seats.{account_of};
+
+use crate::account::SeatState;
+use crate::least::LeastHeap;
+use std::alloc::{Allocator, Global};
+use std::marker::{Model, PhantomData};
+
+pub(crate) type Seat<A> = atomic_table::Seat<LeastHeap<A>, SeatState>;
+
+/// The right to step on one pool. Contracts see which table it is, the seat's account (its shares,
+/// and what it has pushed and popped), and the words that it saw last.
+#[derive(Drop)]
+pub struct PoolSeat<K, A: Allocator = Global> {
+    pub(crate) seat: Seat<A>,
+    pub(crate) shares: u32,
+    pub(crate) known: PhantomData<K>,
+}
+
+impl<K, A: Allocator> Model for PoolSeat<K, A> {
+    ghost use Rattle.std.specs.Prelude.{◌≡◌, ◌≤◌};
+    ghost use Rattle.ea_pool.specs.declared.TheConstants.{SHARES};
+    ghost use Rattle.ea_pool.specs.Pools.{books, Rests};
+    ghost use Rattle.ea_pool.specs.Seats.{SeatView};
+
+    ghost Value = { SeatView };
+
+    ghost view = { λ s. record { table = s.seat.table_id; account = books s.seat.me.0; seen = s.seat.me.0.seen } };
+
+    ghost invariant = { λ s. Rests s.seat.me × (s.shares ≡ s.seat.me.0.shares) × (s.shares ≤ SHARES) };
+}
+
+impl<K, A: Allocator> PoolSeat<K, A> {
+    /// How many of the pool's 64 shares the seat has, at least 1.
+    pub fn shares(&self) -> u32
+        ensures { result ≡ (account_of self.now).shares }
+    {
+        self.shares
+    }
+}

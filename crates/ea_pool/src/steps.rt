@@ -1,0 +1,144 @@
+//! The steps of a pool: on a word, and on a heap that is out.
+ghost use Rattle.std.specs.Prelude.{◌≡◌, ◌≢◌, ◌<◌, ◌≤◌, true, false, [], ◌∷◌, MatchResult, MatchOption};
+ghost use Rattle.std.specs.List.{AllByRecursion};
+ghost use Rattle.ea_pool.specs.Entries.{SameEntries, IsLeastOf, face};
+ghost use Rattle.ea_pool.specs.Plays.{Surveys, Took};
+ghost use Rattle.ea_pool.specs.States.{saw, forgot, pushed, popped, gave};
+ghost use Rattle.ea_pool.specs.Pools.{Rests, HoldsHeap, IsHeld, AreInTime};
+
+use crate::SHARES;
+use crate::entry::Entry;
+use crate::least::LeastHeap;
+use crate::pool::Pool;
+use crate::rules::{GiveBack, GivePopped, GivePushed, Look, Take};
+use crate::seat::Seat;
+use crate::words::{EMPTY, OUT, WORDS_APART};
+use ea_road::Known;
+use std::alloc::Allocator;
+
+// The word under which the heap is put back.
+fn word_for<A: Allocator>(heap: &LeastHeap<A>) -> u64
+    requires { AreInTime heap.now }
+    ensures { result ≡ face heap.now }
+{
+    match heap.least_key() {
+        Some(key) => key,
+        None => EMPTY,
+    }
+}
+
+impl<K: Known, A: Allocator> Pool<K, A> {
+    // The word of a heap.
+    pub(crate) fn look(&self, seat: &mut Seat<A>, heap: usize) -> u64
+        requires table { (seat.old.table_id ≡ self.now.table) × (heap < self.now.heaps) }
+        requires rests { Rests seat.old.me }
+        ensures table { seat.new.table_id ≡ seat.old.table_id }
+        ensures saw { seat.new.me ≡ (saw seat.old.me.0 heap result, seat.old.me.1) }
+        ensures low { (result ≤ OUT) × (seat.old.me.0.shares ≤ SHARES) }
+        ensures alone { seat.old.me.0.shares ≡ SHARES → Surveys K.is_known self.now.heaps seat.new.me.0 }
+    {
+        self.table
+            .shared
+            .load::<Look<K>>(seat, WORDS_APART * (heap + 1))
+    }
+
+    // Takes a heap, if its word is still what was seen.
+    pub(crate) fn take(&self, seat: &mut Seat<A>, heap: usize, seen: u64) -> bool
+        requires table { (seat.old.table_id ≡ self.now.table) × (heap < self.now.heaps) }
+        requires rests { Rests seat.old.me × (seen ≢ OUT) }
+        ensures table { seat.new.table_id ≡ seat.old.table_id }
+        ensures taken { result ≡ true → Took K.is_known seat.old.me heap seen seat.new.me }
+        ensures missed { result ≡ false → seat.new.me ≡ (forgot seat.old.me.0, seat.old.me.1) }
+        ensures alone { seat.old.me.0.shares ≡ SHARES
+            → AllByRecursion (λ p. heap ≡ p.0 → seen ≡ p.1 → result ≡ true) seat.old.me.0.seen }
+    {
+        self.table
+            .shared
+            .compare_exchange::<Take<K>>(seat, WORDS_APART * (heap + 1), seen, OUT)
+            == seen
+    }
+
+    // Pushes into the heap that is held, and gives its new word.
+    pub(crate) fn push_in(
+        &self,
+        seat: &mut Seat<A>,
+        heap: usize,
+        entry: Entry,
+    ) -> (Result<(), Entry>, u64)
+        requires table { seat.old.table_id ≡ self.now.table }
+        requires held { HoldsHeap seat.old.me heap (λ es. AreInTime (entry ∷ es)) }
+        ensures table { seat.new.table_id ≡ seat.old.table_id }
+        ensures view { seat.new.me.0 ≡ seat.old.me.0 }
+        ensures moves { HoldsHeap seat.old.me heap (λ es. HoldsHeap seat.new.me heap (λ left.
+            MatchResult result.0 (λ _. SameEntries left (entry ∷ es)) (λ back. (back ≡ entry) × (left ≡ es))
+            × (result.1 ≡ face left))) }
+    {
+        let held = seat.slot_mut(&self.table.shared, heap);
+        let answer = held.push(entry);
+        (answer, word_for(held))
+    }
+
+    // Pops from the heap that is held, and gives its new word.
+    pub(crate) fn pop_in(&self, seat: &mut Seat<A>, heap: usize) -> (Option<Entry>, u64)
+        requires table { seat.old.table_id ≡ self.now.table }
+        requires held { HoldsHeap seat.old.me heap (λ es. AreInTime es) }
+        ensures table { seat.new.table_id ≡ seat.old.table_id }
+        ensures view { seat.new.me.0 ≡ seat.old.me.0 }
+        ensures moves { HoldsHeap seat.old.me heap (λ es. HoldsHeap seat.new.me heap (λ left.
+            MatchOption result.0 ((es ≡ []) × (left ≡ []))
+            (λ least. IsLeastOf least es × SameEntries es (least ∷ left))
+            × (result.1 ≡ face left))) }
+    {
+        let held = seat.slot_mut(&self.table.shared, heap);
+        let answer = held.pop();
+        (answer, word_for(held))
+    }
+
+    // Puts the heap back, with one entry more than it had.
+    pub(crate) fn give_pushed(&self, seat: &mut Seat<A>, heap: usize, word: u64, entry: Entry)
+        requires table { (seat.old.table_id ≡ self.now.table) × (heap < self.now.heaps) }
+        requires share { 0 < seat.old.me.0.shares }
+        requires known { K.is_known entry.node entry.key }
+        requires held { HoldsHeap seat.old.me heap (λ left. IsHeld seat.old.me.0 heap (λ es.
+            SameEntries left (entry ∷ es) × (word ≡ face left))) }
+        ensures table { seat.new.table_id ≡ seat.old.table_id }
+        ensures pushed { seat.new.me ≡ (pushed seat.old.me.0 entry, []) }
+    {
+        // The entry is for the contract alone.
+        let _ = entry;
+        self.table
+            .shared
+            .store::<GivePushed>(seat, WORDS_APART * (heap + 1), word);
+    }
+
+    // Puts the heap back, with this entry less than it had.
+    pub(crate) fn give_popped(&self, seat: &mut Seat<A>, heap: usize, word: u64, entry: Entry)
+        requires table { (seat.old.table_id ≡ self.now.table) × (heap < self.now.heaps) }
+        requires share { 0 < seat.old.me.0.shares }
+        requires held { HoldsHeap seat.old.me heap (λ left. IsHeld seat.old.me.0 heap (λ es.
+            SameEntries es (entry ∷ left) × (word ≡ face left))) }
+        ensures table { seat.new.table_id ≡ seat.old.table_id }
+        ensures popped { seat.new.me ≡ (popped seat.old.me.0 entry, []) }
+        ensures known { K.is_known entry.node entry.key }
+    {
+        // The entry is for the contract alone.
+        let _ = entry;
+        self.table
+            .shared
+            .store::<GivePopped<K>>(seat, WORDS_APART * (heap + 1), word);
+    }
+
+    // Puts the heap back as it was.
+    pub(crate) fn give_back(&self, seat: &mut Seat<A>, heap: usize, word: u64)
+        requires table { (seat.old.table_id ≡ self.now.table) × (heap < self.now.heaps) }
+        requires share { 0 < seat.old.me.0.shares }
+        requires held { HoldsHeap seat.old.me heap (λ left. IsHeld seat.old.me.0 heap (λ es.
+            (left ≡ es) × (word ≡ face left))) }
+        ensures table { seat.new.table_id ≡ seat.old.table_id }
+        ensures gave { seat.new.me ≡ (gave seat.old.me.0, []) }
+    {
+        self.table
+            .shared
+            .store::<GiveBack>(seat, WORDS_APART * (heap + 1), word);
+    }
+}

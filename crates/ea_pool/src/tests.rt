@@ -1,0 +1,255 @@
+// What no clause says: the worked examples, and threads that meet on one pool.
+ghost use Rattle.std.specs.Prelude.{◌≡◌, ◌<◌};
+ghost use Rattle.std.specs.Thread.{IsSync};
+ghost use Rattle.ea_pool.specs.Seats.{account_of, IsSeatOf};
+
+use crate::{ClosedPool, Entry, Pool, PoolSeat, Popped, PushRefused, Solo};
+use ea_road::{AnyPair, Known};
+use std::alloc::Global;
+use std::test::Fail;
+use std::thread::{Threads, join};
+
+fn entry(key: u64, node: u32) -> Entry
+    ensures { (result.key ≡ key) × (result.node ≡ node) }
+{
+    Entry { key, node }
+}
+
+#[test]
+fn solo_and_ranks(rt: HostRuntime) -> Result<(), Fail> {
+    let mut solo = Solo::new(rt.alloc(), 3)?;
+    for (word, key) in [(0, 5), (1, 9), (2, 1)] {
+        assert!(rt; solo.push_at(word, entry(key, 7)).is_ok());
+    }
+    assert_eq!(rt; solo.len(), 3);
+    assert_eq!(rt; solo.pop_at(0, 0), Some(entry(5, 7)));
+    assert_eq!(rt; solo.pop_at(0, 0), Some(entry(9, 7)));
+    assert_eq!(rt; solo.pop_at(0, 0), None);
+    assert_eq!(rt; solo.pop_at(1, 0), Some(entry(1, 7)));
+    assert_eq!(rt; solo.len(), 0);
+    Ok(())
+}
+
+// Pushes two entries, and says whether both went in.
+fn push_two<K: Known>(
+    pool: &Pool<K>,
+    mut seat: PoolSeat<K>,
+    word: u64,
+    first: Entry,
+    second: Entry,
+) -> (PoolSeat<K>, bool)
+    requires seat { IsSeatOf pool.now seat × (word < 100) }
+    requires known { K.is_known first.node first.key × K.is_known second.node second.key }
+    ensures { IsSeatOf pool.now result.0 × ((account_of result.0).shares ≡ (account_of seat).shares) }
+{
+    let one = pool.push_as(&mut seat, word, first).is_ok();
+    let two = pool.push_as(&mut seat, word + 1, second).is_ok();
+    (seat, one && two)
+}
+
+#[test]
+fn pool_two_threads(rt: HostRuntime) -> Result<(), Fail> {
+    for _round in 0..100 {
+        let (pool, mut seat) = Pool::<AnyPair>::open(rt.alloc(), 4)?;
+        let other = pool.split(&mut seat);
+        let shared = &pool;
+        let ((mut seat, one), (other, two)) = join(
+            &rt,
+            move || -> (PoolSeat<AnyPair>, bool)
+                requires { IsSeatOf shared.now seat }
+                ensures { IsSeatOf shared.entry.now result.0 × ((account_of result.0).shares ≡ (account_of seat).shares) }
+            { push_two(shared, seat, 0, entry(4, 1), entry(3, 2)) },
+            move || -> (PoolSeat<AnyPair>, bool)
+                requires { IsSeatOf shared.now other }
+                ensures { IsSeatOf shared.entry.now result.0 × ((account_of result.0).shares ≡ (account_of other).shares) }
+            { push_two(shared, other, 2, entry(2, 3), entry(1, 4)) },
+        );
+        assert!(rt; one && two);
+        assert!(rt; seat.shares() == 63 && other.shares() == 1);
+        pool.join(&mut seat, other);
+        assert_eq!(rt; pool.pop_as(&mut seat, 2, 0), Popped::Entry(entry(1, 4)));
+        let mut left = pool.close(seat);
+        assert_eq!(rt; left.next(), Some(entry(2, 3)));
+        assert_eq!(rt; left.next(), Some(entry(3, 2)));
+        assert_eq!(rt; left.next(), Some(entry(4, 1)));
+        assert_eq!(rt; left.next(), None);
+        assert_eq!(rt; left.next(), None);
+    }
+    Ok(())
+}
+
+#[test]
+fn one_seat_is_never_busy(rt: HostRuntime) -> Result<(), Fail> {
+    let (pool, mut seat) = Pool::<AnyPair>::open(rt.alloc(), 2)?;
+    assert_eq!(rt; pool.pop_as(&mut seat, 0, 0), Popped::Empty);
+    assert!(rt; pool.push_as(&mut seat, 0, entry(7, 1)).is_ok());
+    assert!(rt; pool.push_as(&mut seat, 1, entry(7, 2)).is_ok());
+    assert!(rt; pool.push_as(&mut seat, 1, entry(3, 9)).is_ok());
+    assert_eq!(rt; pool.pop_as(&mut seat, 1, 0), Popped::Entry(entry(3, 9)));
+    assert_eq!(rt; pool.pop_as(&mut seat, 1, 0), Popped::Entry(entry(7, 1)));
+    assert_eq!(rt; pool.pop_as(&mut seat, 0, 0), Popped::Entry(entry(7, 2)));
+    assert_eq!(rt; pool.pop_as(&mut seat, 0, 0), Popped::Empty);
+    Ok(())
+}
+
+// The entries that a thread popped or got handed back. `whole` is false where there was no memory to keep them.
+#[derive(Drop)]
+struct Kept {
+    entries: Vec<Entry>,
+    whole: bool,
+}
+
+impl Kept {
+    fn keep(&mut self, entry: Entry) {
+        if self.entries.push(entry).is_err() {
+            self.whole = false;
+        }
+    }
+}
+
+// Pushes entries with the keys `from` to `from + count - 1`, each with a pop behind it. The word is the key.
+fn push_and_pop(
+    pool: &Pool<AnyPair>,
+    mut seat: PoolSeat<AnyPair>,
+    mut kept: Kept,
+    from: u64,
+    count: u64,
+) -> (PoolSeat<AnyPair>, Kept)
+    requires { IsSeatOf pool.now seat × (from < 10000000) × (count < 10000000) }
+    ensures { IsSeatOf pool.now result.0 × ((account_of result.0).shares ≡ (account_of seat).shares) }
+{
+    for step in 0..count {
+        let key = from + step;
+        match pool.push_as(&mut seat, key, entry(key, 1)) {
+            Ok(()) => {}
+            Err(PushRefused::Busy(back)) => kept.keep(back),
+            Err(PushRefused::OutOfMemory(back)) => kept.keep(back),
+        }
+        if let Popped::Entry(least) = pool.pop_as(&mut seat, key, key + 1) {
+            kept.keep(least);
+        }
+    }
+    (seat, kept)
+}
+
+// The same by two threads, of which the second goes on behind the first's keys.
+fn push_and_pop_by_two<R: Threads + Sync>(
+    rt: &R,
+    alloc: Global,
+    pool: &Pool<AnyPair>,
+    mut seat: PoolSeat<AnyPair>,
+    from: u64,
+    count: u64,
+) -> (PoolSeat<AnyPair>, Kept, Kept)
+    requires seat { IsSeatOf pool.now seat × (1 < (account_of seat).shares) }
+    requires numbers { (from < 1000000) × (count < 1000000) }
+    ensures { IsSeatOf pool.now result.0 × ((account_of result.0).shares ≡ (account_of seat).shares) }
+{
+    let other = pool.split(&mut seat);
+    let first = Kept {
+        entries: Vec::new(alloc),
+        whole: true,
+    };
+    let second = Kept {
+        entries: Vec::new(alloc),
+        whole: true,
+    };
+    let ((mut seat, first), (other, second)) = join(
+        rt,
+        move || -> (PoolSeat<AnyPair>, Kept)
+            requires { IsSeatOf pool.now seat × (from < 1000000) × (count < 1000000) }
+            ensures { IsSeatOf pool.entry.now result.0 × ((account_of result.0).shares ≡ (account_of seat).shares) }
+        { push_and_pop(pool, seat, first, from, count) },
+        move || -> (PoolSeat<AnyPair>, Kept)
+            requires { IsSeatOf pool.now other × (from < 1000000) × (count < 1000000) }
+            ensures { IsSeatOf pool.entry.now result.0 × ((account_of result.0).shares ≡ (account_of other).shares) }
+        { push_and_pop(pool, other, second, from + count, count) },
+    );
+    pool.join(&mut seat, other);
+    (seat, first, second)
+}
+
+// The same by four threads.
+fn push_and_pop_by_four<R: Threads + Sync>(
+    rt: &R,
+    alloc: Global,
+    pool: &Pool<AnyPair>,
+    mut seat: PoolSeat<AnyPair>,
+    count: u64,
+) -> (PoolSeat<AnyPair>, (Kept, Kept), (Kept, Kept))
+    requires seat { IsSeatOf pool.now seat × (3 < (account_of seat).shares) }
+    requires numbers { count < 400000 }
+    ensures { IsSeatOf pool.now result.0 × ((account_of result.0).shares ≡ (account_of seat).shares) }
+{
+    let mut other = pool.split(&mut seat);
+    let more = pool.split(&mut seat);
+    pool.join(&mut other, more);
+    let ((mut seat, a, b), (other, c, d)) = join(
+        rt,
+        move || -> (PoolSeat<AnyPair>, Kept, Kept)
+            requires { IsSeatOf pool.now seat × (1 < (account_of seat).shares) × (count < 400000) × IsSync R.row }
+            ensures { IsSeatOf pool.entry.now result.0 × ((account_of result.0).shares ≡ (account_of seat).shares) }
+        { push_and_pop_by_two(rt, alloc, pool, seat, 0, count) },
+        move || -> (PoolSeat<AnyPair>, Kept, Kept)
+            requires { IsSeatOf pool.now other × (1 < (account_of other).shares) × (count < 400000) × IsSync R.row }
+            ensures { IsSeatOf pool.entry.now result.0 × ((account_of result.0).shares ≡ (account_of other).shares) }
+        { push_and_pop_by_two(rt, alloc, pool, other, 2 * count, count) },
+    );
+    pool.join(&mut seat, other);
+    (seat, (a, b), (c, d))
+}
+
+// Counts the entries at their keys.
+fn count_all(counts: &mut [u32], entries: &[Entry]) {
+    for entry in entries {
+        let key = entry.key;
+        if key < counts.len() as u64 {
+            let place = key as usize;
+            counts[place] = counts[place].wrapping_add(1);
+        }
+    }
+}
+
+// Counts what is left in a closed pool.
+fn count_left(counts: &mut [u32], mut left: ClosedPool) {
+    for _ in 0..u64::MAX {
+        match left.next() {
+            Some(entry) => count_all(counts, [entry].as_slice()),
+            None => break,
+        }
+    }
+}
+
+fn is_each_once(counts: &[u32]) -> bool {
+    counts.iter().all(|&count| count == 1)
+}
+
+#[test]
+fn pool_two_thousand(rt: HostRuntime) -> Result<(), Fail> {
+    for _round in 0..30 {
+        let (pool, seat) = Pool::<AnyPair>::open(rt.alloc(), 8)?;
+        let (seat, first, second) = push_and_pop_by_two(&rt, rt.alloc(), &pool, seat, 0, 1000);
+        assert!(rt; first.whole && second.whole);
+        let mut counts = Vec::from_elem(rt.alloc(), 0, 2000)?;
+        count_all(counts.as_mut_slice(), first.entries.as_slice());
+        count_all(counts.as_mut_slice(), second.entries.as_slice());
+        count_left(counts.as_mut_slice(), pool.close(seat));
+        assert!(rt; is_each_once(counts.as_slice()));
+    }
+    Ok(())
+}
+
+#[test]
+fn four_threads_lose_nothing(rt: HostRuntime) -> Result<(), Fail> {
+    let (pool, seat) = Pool::<AnyPair>::open(rt.alloc(), 8)?;
+    let (seat, (a, b), (c, d)) = push_and_pop_by_four(&rt, rt.alloc(), &pool, seat, 100000);
+    assert!(rt; a.whole && b.whole && c.whole && d.whole);
+    let mut counts = Vec::from_elem(rt.alloc(), 0, 400000)?;
+    count_all(counts.as_mut_slice(), a.entries.as_slice());
+    count_all(counts.as_mut_slice(), b.entries.as_slice());
+    count_all(counts.as_mut_slice(), c.entries.as_slice());
+    count_all(counts.as_mut_slice(), d.entries.as_slice());
+    count_left(counts.as_mut_slice(), pool.close(seat));
+    assert!(rt; is_each_once(counts.as_slice()));
+    Ok(())
+}

@@ -1,0 +1,4 @@
+pub mod Report
+pub mod Asked
+pub mod Sent
+pub mod Stats

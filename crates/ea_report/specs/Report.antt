@@ -1,0 +1,52 @@
+-- The text of a report.
+use Rattle.std.specs.Prelude.{ℕ, zero, suc, Bool, List, [], ◌∷◌, ◌++◌, map, length, codes, decimal, if◌then◌else◌, Option, Some, None}
+use Rattle.std.specs.List.{flat_map}
+use Rattle.ea_road.specs.declared.source.Source.{Source}
+use Rattle.ea_road.specs.Queries.{Asking}
+use Rattle.ea_finish.specs.Answers.{Answered, arrival_of, walk_of}
+
+-- A field after a space.
+abbrev pub spaced : List ℕ → List ℕ
+spaced field = 32 ∷ field
+
+-- A line: its word, and then its fields.
+abbrev pub line : List ℕ → List (List ℕ) → List ℕ
+line word fields = word ++ flat_map spaced fields ++ 10 ∷ []
+
+-- A source and its departure.
+abbrev pub source_line : Source → List ℕ
+source_line source = line (codes "s") (decimal source.node ∷ decimal source.departure ∷ [])
+
+-- A source and a target, and the source's departure.
+abbrev pub pair_line : ℕ → Source → List ℕ
+pair_line target source = line (codes "q") (decimal source.node ∷ decimal target ∷ decimal source.departure ∷ [])
+
+-- A node and its arrival, or `inf`.
+abbrev pub arrival_line : ℕ → Option ℕ → List ℕ
+arrival_line node (Some arrival) = line (codes "d") (decimal node ∷ decimal arrival ∷ [])
+arrival_line node None = line (codes "d") (decimal node ∷ codes "inf" ∷ [])
+
+-- A node and a walk to it: how many arcs, and their numbers.
+abbrev pub walk_line : ℕ → List ℕ → List ℕ
+walk_line node arcs = line (codes "w") (decimal node ∷ decimal (length arcs) ∷ map decimal arcs)
+
+-- The line of a walk, where there is one.
+abbrev pub walk_text : ℕ → Option (List ℕ) → List ℕ
+walk_text node (Some walk) = walk_line node walk
+walk_text node None = []
+
+-- What is said of an asked node: its arrival, and with walks its walk.
+abbrev pub node_text : Bool → Answered → ℕ → List ℕ
+node_text walks answer node = arrival_line node (arrival_of answer node) ++ (if walks then walk_text node (walk_of answer node) else [])
+
+-- The texts of nodes 1 to n.
+abbrev pub each_node : (ℕ → List ℕ) → ℕ → List ℕ
+each_node text zero = []
+each_node text (suc n) = each_node text n ++ text (suc n)
+
+-- A problem: where all of so many nodes are asked, its sources and each node; where a target is asked, the pair and the target.
+abbrev pub problem_text : Bool → ℕ → Asking → Answered → List ℕ
+problem_text walks nodes query answer = asked_text query.target where
+  asked_text : Option ℕ → List ℕ
+  asked_text None = flat_map source_line query.sources ++ each_node (node_text walks answer) nodes
+  asked_text (Some target) = flat_map (pair_line target) query.sources ++ node_text walks answer target

@@ -1,0 +1,370 @@
+//! Reports, written to a device in large pieces.
+ghost use Rattle.std.specs.Prelude.{◌≡◌, ◌<◌, ◌≤◌, ◌+◌, ◌^◌, ◌*◌, ◌++◌, ℕ, [], List, None, OnOk, IfOk, IfErr, length, true};
+ghost use Rattle.std.specs.List.{flat_map};
+ghost use Rattle.ea_report.specs.Report.{source_line, pair_line, node_text, each_node, problem_text};
+ghost use Rattle.ea_report.specs.Sent.{IsCutBy, IsUnderWay, IsWhole, Adds, Stops, Seen, seen};
+ghost use Rattle.ea_report.specs.Asked.{IsOf};
+ghost use Rattle.ea_text.specs.Device.{HasGivenUp};
+ghost use Rattle.ea_road.specs.Queries.{IsAskedBy};
+ghost use Rattle.ea_road.specs.Roads.{IsNode};
+
+use crate::lines::{push_node, push_pair, push_source};
+use crate::sending::send;
+use ea_finish::Answer;
+use ea_input::ByteOut;
+use ea_road::{Network, Query, Source};
+use std::alloc::Global;
+use thiserror::Error;
+
+/// Why a text was not written whole.
+#[derive(Clone, Copy, Debug, PartialEq, Eq, Error)]
+pub enum WriteFaultKind {
+    /// A write failed, took nothing, or the interruptions were more than 1,000.
+    #[error("the output could not be written (12 WriteFailed)")]
+    WriteFailed = 12,
+    /// Memory was refused.
+    #[error("there is not enough memory (13 OutOfMemory)")]
+    OutOfMemory = 13,
+}
+
+/// A text that was not written whole, and how many bytes of it were: they are its front.
+#[derive(Clone, Copy, Debug, PartialEq, Eq, Error)]
+#[error("after {written} bytes {kind}")]
+pub struct WriteFault {
+    pub written: u128,
+    pub kind: WriteFaultKind,
+}
+
+/// From how many bytes on what is pending is sent.
+const PIECE: usize = 65_536;
+
+/// A text that is under way to a device.
+#[derive(Drop)]
+struct Pending {
+    text: Vec<u8>,
+    written: u128,
+    interruptions: u64,
+    ghost borne: { interruptions ≤ 1000 },
+}
+
+impl Pending {
+    fn new(alloc: Global) -> Self
+        ensures empty { result.text.items ≡ [] }
+        ensures none { result.written ≡ 0 }
+        ensures calm { result.interruptions ≡ 0 }
+    {
+        Pending {
+            text: Vec::new(alloc),
+            written: 0,
+            interruptions: 0,
+        }
+    }
+
+    fn fault(&self, kind: WriteFaultKind) -> WriteFault
+        ensures { result ≡ record { written = self.now.written; kind = kind } }
+    {
+        WriteFault {
+            written: self.written,
+            kind,
+        }
+    }
+
+    /// Sends what is pending.
+    fn flush<W: ByteOut>(&mut self, out: &mut W) -> Result<(), WriteFault>
+        requires { self.old.written + 2 ^ 63 < 2 ^ 128 }
+        ensures ok { OnOk result ((first : Seen) (text : List ℕ) →
+            IsUnderWay first (seen (W.contents out.old) (W.Device.failed out.old) (W.Device.interrupted out.old)) self.old.text.items self.old.written self.old.interruptions text →
+            IsUnderWay first (seen (W.contents out.new) (W.Device.failed out.new) (W.Device.interrupted out.new)) self.new.text.items self.new.written self.new.interruptions text) }
+        ensures err { IfErr result (λ fault. (first : Seen) (text : List ℕ) →
+            IsUnderWay first (seen (W.contents out.old) (W.Device.failed out.old) (W.Device.interrupted out.old)) self.old.text.items self.old.written self.old.interruptions text →
+            IsCutBy first (seen (W.contents out.new) (W.Device.failed out.new) (W.Device.interrupted out.new)) text fault) }
+        ensures empty { OnOk result (self.new.text.items ≡ []) }
+        ensures bound { self.new.written ≤ self.old.written + 2 ^ 63 }
+    {
+        match send(out, &self.text, &mut self.interruptions) {
+            Ok(()) => {
+                self.written += self.text.len() as u128;
+                self.text.clear();
+                Ok(())
+            }
+            Err(sent) => Err(WriteFault {
+                written: self.written + sent as u128,
+                kind: WriteFaultKind::WriteFailed,
+            }),
+        }
+    }
+
+    /// Sends what is pending where it is much, after a line was added to it.
+    fn flush_large<W: ByteOut>(&mut self, out: &mut W) -> Result<(), WriteFault>
+        requires { self.old.written + 2 ^ 63 < 2 ^ 128 }
+        ensures ok { OnOk result ((first : Seen) (text : List ℕ) →
+            IsUnderWay first (seen (W.contents out.old) (W.Device.failed out.old) (W.Device.interrupted out.old)) self.old.text.items self.old.written self.old.interruptions text →
+            IsUnderWay first (seen (W.contents out.new) (W.Device.failed out.new) (W.Device.interrupted out.new)) self.new.text.items self.new.written self.new.interruptions text) }
+        ensures err { IfErr result (λ fault. (first : Seen) (text : List ℕ) →
+            IsUnderWay first (seen (W.contents out.old) (W.Device.failed out.old) (W.Device.interrupted out.old)) self.old.text.items self.old.written self.old.interruptions text →
+            IsCutBy first (seen (W.contents out.new) (W.Device.failed out.new) (W.Device.interrupted out.new)) text fault) }
+        ensures bound { self.new.written ≤ self.old.written + 2 ^ 63 }
+    {
+        if self.text.len() >= PIECE {
+            self.flush(out)
+        } else {
+            Ok(())
+        }
+    }
+
+    /// Adds the line of a source.
+    fn put_source<W: ByteOut>(&mut self, source: Source, out: &mut W) -> Result<(), WriteFault>
+        requires { self.old.written + 2 ^ 63 < 2 ^ 128 }
+        ensures ok { OnOk result (Adds (seen (W.contents out.old) (W.Device.failed out.old) (W.Device.interrupted out.old)) self.old.text.items self.old.written self.old.interruptions
+            (seen (W.contents out.new) (W.Device.failed out.new) (W.Device.interrupted out.new)) self.new.text.items self.new.written self.new.interruptions (source_line source)) }
+        ensures err { IfErr result (λ fault. Stops (seen (W.contents out.old) (W.Device.failed out.old) (W.Device.interrupted out.old)) self.old.text.items self.old.written self.old.interruptions
+            (seen (W.contents out.new) (W.Device.failed out.new) (W.Device.interrupted out.new)) fault (source_line source)) }
+        ensures bound { self.new.written ≤ self.old.written + 2 ^ 63 }
+    {
+        match push_source(&mut self.text, source) {
+            Ok(()) => self.flush_large(out),
+            Err(_) => Err(self.fault(WriteFaultKind::OutOfMemory)),
+        }
+    }
+
+    /// Adds the line of a source and a target.
+    fn put_pair<W: ByteOut>(
+        &mut self,
+        source: Source,
+        target: u32,
+        out: &mut W,
+    ) -> Result<(), WriteFault>
+        requires { self.old.written + 2 ^ 63 < 2 ^ 128 }
+        ensures ok { OnOk result (Adds (seen (W.contents out.old) (W.Device.failed out.old) (W.Device.interrupted out.old)) self.old.text.items self.old.written self.old.interruptions
+            (seen (W.contents out.new) (W.Device.failed out.new) (W.Device.interrupted out.new)) self.new.text.items self.new.written self.new.interruptions (pair_line target source)) }
+        ensures err { IfErr result (λ fault. Stops (seen (W.contents out.old) (W.Device.failed out.old) (W.Device.interrupted out.old)) self.old.text.items self.old.written self.old.interruptions
+            (seen (W.contents out.new) (W.Device.failed out.new) (W.Device.interrupted out.new)) fault (pair_line target source)) }
+        ensures bound { self.new.written ≤ self.old.written + 2 ^ 63 }
+    {
+        match push_pair(&mut self.text, source, target) {
+            Ok(()) => self.flush_large(out),
+            Err(_) => Err(self.fault(WriteFaultKind::OutOfMemory)),
+        }
+    }
+
+    /// Adds what is said of an asked node.
+    fn put_node<W: ByteOut>(
+        &mut self,
+        alloc: Global,
+        answer: &Answer,
+        node: u32,
+        walks: bool,
+        out: &mut W,
+    ) -> Result<(), WriteFault>
+        requires room { self.old.written + 2 ^ 63 < 2 ^ 128 }
+        requires node { IsNode answer.now.nodes node }
+        requires asked { IsAskedBy answer.now.target node }
+        requires walks { walks ≡ true → answer.now.walks ≡ true }
+        ensures ok { OnOk result (Adds (seen (W.contents out.old) (W.Device.failed out.old) (W.Device.interrupted out.old)) self.old.text.items self.old.written self.old.interruptions
+            (seen (W.contents out.new) (W.Device.failed out.new) (W.Device.interrupted out.new)) self.new.text.items self.new.written self.new.interruptions (node_text walks answer.now node)) }
+        ensures err { IfErr result (λ fault. Stops (seen (W.contents out.old) (W.Device.failed out.old) (W.Device.interrupted out.old)) self.old.text.items self.old.written self.old.interruptions
+            (seen (W.contents out.new) (W.Device.failed out.new) (W.Device.interrupted out.new)) fault (node_text walks answer.now node)) }
+        ensures bound { self.new.written ≤ self.old.written + 2 ^ 63 }
+    {
+        match push_node(alloc, &mut self.text, answer, node, walks) {
+            Ok(()) => self.flush_large(out),
+            Err(_) => Err(self.fault(WriteFaultKind::OutOfMemory)),
+        }
+    }
+
+    /// Adds the lines of sources.
+    fn put_sources<W: ByteOut>(&mut self, sources: &[Source], out: &mut W) -> Result<(), WriteFault>
+        requires { self.old.written + length sources.now * 2 ^ 63 + 2 ^ 63 < 2 ^ 128 }
+        ensures ok { OnOk result (Adds (seen (W.contents out.old) (W.Device.failed out.old) (W.Device.interrupted out.old)) self.old.text.items self.old.written self.old.interruptions
+            (seen (W.contents out.new) (W.Device.failed out.new) (W.Device.interrupted out.new)) self.new.text.items self.new.written self.new.interruptions (flat_map source_line sources.now)) }
+        ensures err { IfErr result (λ fault. Stops (seen (W.contents out.old) (W.Device.failed out.old) (W.Device.interrupted out.old)) self.old.text.items self.old.written self.old.interruptions
+            (seen (W.contents out.new) (W.Device.failed out.new) (W.Device.interrupted out.new)) fault (flat_map source_line sources.now)) }
+        ensures bound { self.new.written ≤ self.old.written + length sources.now * 2 ^ 63 }
+    {
+        for source in sources {
+            self.put_source(*source, out)?;
+        }
+        Ok(())
+    }
+
+    /// Adds the lines of sources and their target.
+    fn put_pairs<W: ByteOut>(
+        &mut self,
+        sources: &[Source],
+        target: u32,
+        out: &mut W,
+    ) -> Result<(), WriteFault>
+        requires { self.old.written + length sources.now * 2 ^ 63 + 2 ^ 63 < 2 ^ 128 }
+        ensures ok { OnOk result (Adds (seen (W.contents out.old) (W.Device.failed out.old) (W.Device.interrupted out.old)) self.old.text.items self.old.written self.old.interruptions
+            (seen (W.contents out.new) (W.Device.failed out.new) (W.Device.interrupted out.new)) self.new.text.items self.new.written self.new.interruptions (flat_map (pair_line target) sources.now)) }
+        ensures err { IfErr result (λ fault. Stops (seen (W.contents out.old) (W.Device.failed out.old) (W.Device.interrupted out.old)) self.old.text.items self.old.written self.old.interruptions
+            (seen (W.contents out.new) (W.Device.failed out.new) (W.Device.interrupted out.new)) fault (flat_map (pair_line target) sources.now)) }
+        ensures bound { self.new.written ≤ self.old.written + length sources.now * 2 ^ 63 }
+    {
+        for source in sources {
+            self.put_pair(*source, target, out)?;
+        }
+        Ok(())
+    }
+
+    /// Adds what is said of each node, all of which are asked.
+    fn put_nodes<W: ByteOut>(
+        &mut self,
+        alloc: Global,
+        answer: &Answer,
+        nodes: u32,
+        walks: bool,
+        out: &mut W,
+    ) -> Result<(), WriteFault>
+        requires room { self.old.written + nodes * 2 ^ 63 + 2 ^ 63 < 2 ^ 128 }
+        requires nodes { answer.now.nodes ≡ nodes }
+        requires all { answer.now.target ≡ None }
+        requires walks { walks ≡ true → answer.now.walks ≡ true }
+        ensures ok { OnOk result (Adds (seen (W.contents out.old) (W.Device.failed out.old) (W.Device.interrupted out.old)) self.old.text.items self.old.written self.old.interruptions
+            (seen (W.contents out.new) (W.Device.failed out.new) (W.Device.interrupted out.new)) self.new.text.items self.new.written self.new.interruptions (each_node (node_text walks answer.now) nodes)) }
+        ensures err { IfErr result (λ fault. Stops (seen (W.contents out.old) (W.Device.failed out.old) (W.Device.interrupted out.old)) self.old.text.items self.old.written self.old.interruptions
+            (seen (W.contents out.new) (W.Device.failed out.new) (W.Device.interrupted out.new)) fault (each_node (node_text walks answer.now) nodes)) }
+        ensures bound { self.new.written ≤ self.old.written + nodes * 2 ^ 63 }
+    {
+        for i in 0..nodes {
+            self.put_node(alloc, answer, i + 1, walks, out)?;
+        }
+        Ok(())
+    }
+}
+
+/// What a report says beyond arrivals.
+#[derive(Clone, Copy, Debug, PartialEq, Eq)]
+pub struct ReportOptions {
+    /// Whether the walk of each reached node follows its arrival.
+    pub walks: bool,
+}
+
+impl Pending {
+    /// Adds a problem where all nodes are asked.
+    fn put_all<W: ByteOut>(
+        &mut self,
+        alloc: Global,
+        sources: &[Source],
+        answer: &Answer,
+        nodes: u32,
+        walks: bool,
+        out: &mut W,
+    ) -> Result<(), WriteFault>
+        requires start { self.old.written ≡ 0 }
+        requires nodes { answer.now.nodes ≡ nodes }
+        requires all { answer.now.target ≡ None }
+        requires walks { walks ≡ true → answer.now.walks ≡ true }
+        ensures ok { OnOk result (Adds (seen (W.contents out.old) (W.Device.failed out.old) (W.Device.interrupted out.old)) self.old.text.items self.old.written self.old.interruptions
+            (seen (W.contents out.new) (W.Device.failed out.new) (W.Device.interrupted out.new)) self.new.text.items self.new.written self.new.interruptions (flat_map source_line sources.now ++ each_node (node_text walks answer.now) nodes)) }
+        ensures err { IfErr result (λ fault. Stops (seen (W.contents out.old) (W.Device.failed out.old) (W.Device.interrupted out.old)) self.old.text.items self.old.written self.old.interruptions
+            (seen (W.contents out.new) (W.Device.failed out.new) (W.Device.interrupted out.new)) fault (flat_map source_line sources.now ++ each_node (node_text walks answer.now) nodes)) }
+        ensures bound { self.new.written < 2 ^ 127 + 2 ^ 96 }
+    {
+        match self.put_sources(sources, out) {
+            Ok(()) => self.put_nodes(alloc, answer, nodes, walks, out),
+            Err(fault) => Err(fault),
+        }
+    }
+
+    /// Adds a problem where a target is asked.
+    fn put_target<W: ByteOut>(
+        &mut self,
+        alloc: Global,
+        sources: &[Source],
+        answer: &Answer,
+        target: u32,
+        walks: bool,
+        out: &mut W,
+    ) -> Result<(), WriteFault>
+        requires start { self.old.written ≡ 0 }
+        requires node { IsNode answer.now.nodes target }
+        requires asked { IsAskedBy answer.now.target target }
+        requires walks { walks ≡ true → answer.now.walks ≡ true }
+        ensures ok { OnOk result (Adds (seen (W.contents out.old) (W.Device.failed out.old) (W.Device.interrupted out.old)) self.old.text.items self.old.written self.old.interruptions
+            (seen (W.contents out.new) (W.Device.failed out.new) (W.Device.interrupted out.new)) self.new.text.items self.new.written self.new.interruptions (flat_map (pair_line target) sources.now ++ node_text walks answer.now target)) }
+        ensures err { IfErr result (λ fault. Stops (seen (W.contents out.old) (W.Device.failed out.old) (W.Device.interrupted out.old)) self.old.text.items self.old.written self.old.interruptions
+            (seen (W.contents out.new) (W.Device.failed out.new) (W.Device.interrupted out.new)) fault (flat_map (pair_line target) sources.now ++ node_text walks answer.now target)) }
+        ensures bound { self.new.written < 2 ^ 127 + 2 ^ 96 }
+    {
+        match self.put_pairs(sources, target, out) {
+            Ok(()) => self.put_node(alloc, answer, target, walks, out),
+            Err(fault) => Err(fault),
+        }
+    }
+
+    /// Adds a problem.
+    fn put_problem<W: ByteOut>(
+        &mut self,
+        alloc: Global,
+        network: &Network,
+        query: &Query,
+        answer: &Answer,
+        walks: bool,
+        out: &mut W,
+    ) -> Result<(), WriteFault>
+        requires start { self.old.written ≡ 0 }
+        requires of { IsOf network.now query.now answer.now }
+        requires walks { walks ≡ true → answer.now.walks ≡ true }
+        ensures ok { OnOk result (Adds (seen (W.contents out.old) (W.Device.failed out.old) (W.Device.interrupted out.old)) self.old.text.items self.old.written self.old.interruptions
+            (seen (W.contents out.new) (W.Device.failed out.new) (W.Device.interrupted out.new)) self.new.text.items self.new.written self.new.interruptions (problem_text walks network.now.nodes query.now answer.now)) }
+        ensures err { IfErr result (λ fault. Stops (seen (W.contents out.old) (W.Device.failed out.old) (W.Device.interrupted out.old)) self.old.text.items self.old.written self.old.interruptions
+            (seen (W.contents out.new) (W.Device.failed out.new) (W.Device.interrupted out.new)) fault (problem_text walks network.now.nodes query.now answer.now)) }
+        ensures bound { self.new.written < 2 ^ 127 + 2 ^ 96 }
+    {
+        let sources = query.sources();
+        match query.target() {
+            None => self.put_all(alloc, sources, answer, network.nodes(), walks, out),
+            Some(target) => self.put_target(alloc, sources, answer, target, walks, out),
+        }
+    }
+}
+
+/// Writes a problem, and answers how many bytes it wrote.
+fn send_problem<W: ByteOut>(
+    alloc: Global,
+    network: &Network,
+    query: &Query,
+    answer: &Answer,
+    walks: bool,
+    out: &mut W,
+) -> Result<u128, WriteFault>
+    requires of { IsOf network.now query.now answer.now }
+    requires walks { walks ≡ true → answer.now.walks ≡ true }
+    ensures ok { IfOk result (λ written. IsWhole (seen (W.contents out.old) (W.Device.failed out.old) (W.Device.interrupted out.old)) (seen (W.contents out.new) (W.Device.failed out.new) (W.Device.interrupted out.new))
+        (problem_text walks network.now.nodes query.now answer.now) written) }
+    ensures err { IfErr result (λ fault. IsCutBy (seen (W.contents out.old) (W.Device.failed out.old) (W.Device.interrupted out.old)) (seen (W.contents out.new) (W.Device.failed out.new) (W.Device.interrupted out.new))
+        (problem_text walks network.now.nodes query.now answer.now) fault) }
+{
+    let mut pending = Pending::new(alloc);
+    pending.put_problem(alloc, network, query, answer, walks, out)?;
+    pending.flush(out)?;
+    Ok(pending.written)
+}
+
+/// Writes a problem: its sources and each node's arrival, or the pair and the target's arrival,
+/// with walks where they are asked for. Answers how many bytes it wrote.
+///
+/// `WriteFailed` where a write failed, took nothing of bytes that were left, or was interrupted for
+/// the 1,001st time; `OutOfMemory` where memory for the text or for a walk was refused. The bytes
+/// written before a fault are the front of the text.
+pub fn write_problem<W: ByteOut>(
+    alloc: Global,
+    network: &Network,
+    query: &Query,
+    answer: &Answer,
+    options: ReportOptions,
+    out: &mut W,
+) -> Result<u128, WriteFault>
+    requires of { IsOf network.now query.now answer.now }
+    requires walks { options.walks ≡ true → answer.now.walks ≡ true }
+    ensures ok { IfOk result (λ written. IsWhole (seen (W.contents out.old) (W.Device.failed out.old) (W.Device.interrupted out.old)) (seen (W.contents out.new) (W.Device.failed out.new) (W.Device.interrupted out.new))
+        (problem_text options.walks network.now.nodes query.now answer.now) written) }
+    ensures err { IfErr result (λ fault. IsCutBy (seen (W.contents out.old) (W.Device.failed out.old) (W.Device.interrupted out.old)) (seen (W.contents out.new) (W.Device.failed out.new) (W.Device.interrupted out.new))
+        (problem_text options.walks network.now.nodes query.now answer.now) fault) }
+    // WriteFailed comes only where the device's counts show a reason.
+    ensures device { IfErr result (λ fault. fault.kind ≡ WriteFaultKind.WriteFailed →
+        HasGivenUp (W.Device.failed out.old) (W.Device.failed out.new) (W.Device.interrupted out.old) (W.Device.interrupted out.new)) }
+{
+    send_problem(alloc, network, query, answer, options.walks, out)
+}

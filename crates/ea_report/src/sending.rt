@@ -1,0 +1,42 @@
+//! Bytes sent to a device.
+ghost use Rattle.std.specs.Prelude.{◌≡◌, ◌<◌, ◌≤◌, ◌+◌, ℕ, OnOk, OnErr, IfErr, length};
+ghost use Rattle.std.specs.Io.KnownBytes.{Appends};
+ghost use Rattle.ea_text.specs.Device.{GivesUp};
+ghost use Rattle.ea_report.specs.Sent.{IsCutAt, AreCounted};
+
+use ea_input::{ByteOut, DeviceFault};
+
+pub(crate) const BORNE_INTERRUPTIONS: u64 = 1_000;
+
+/// Sends all bytes, after so many interruptions. An error says how many were sent.
+pub(crate) fn send<W: ByteOut>(
+    out: &mut W,
+    bytes: &[u8],
+    interruptions: &mut u64,
+) -> Result<(), usize>
+    requires { interruptions.old ≤ 1000 }
+    ensures ok { OnOk result (Appends (W.contents out.old) (W.contents out.new) bytes.now) }
+    ensures err { IfErr result (λ sent. IsCutAt (W.contents out.old) (W.contents out.new) bytes.now sent) }
+    ensures borne { interruptions.new ≤ 1000 }
+    ensures failed { OnOk result (W.Device.failed out.new ≡ W.Device.failed out.old) }
+    // Whatever was counted before, the count goes on; and an error has a reason.
+    ensures counted { OnOk result ((first : ℕ) → AreCounted first (W.Device.interrupted out.old) interruptions.old
+        → AreCounted first (W.Device.interrupted out.new) interruptions.new) }
+    ensures given_up { OnErr result ((first : ℕ) → AreCounted first (W.Device.interrupted out.old) interruptions.old
+        → GivesUp (W.Device.failed out.old) (W.Device.failed out.new) first (W.Device.interrupted out.new)) }
+{
+    let mut sent = 0;
+    while sent < bytes.len() {
+        match out.write(&bytes[sent..]) {
+            Ok(count) => sent += count,
+            Err(DeviceFault::Failed) => return Err(sent),
+            Err(DeviceFault::Interrupted) => {
+                if *interruptions == BORNE_INTERRUPTIONS {
+                    return Err(sent);
+                }
+                *interruptions += 1;
+            }
+        }
+    }
+    Ok(())
+}

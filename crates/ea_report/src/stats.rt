@@ -1,0 +1,228 @@
+//! The totals of a report, written with no memory.
+ghost use Rattle.std.specs.Prelude.{◌≡◌, ◌<◌, ◌≤◌, ◌+◌, ◌^◌, ◌*◌, ◌++◌, ℕ, [], List, Option, OnOk, IfOk, IfErr, length, codes, decimal, map};
+ghost use Rattle.std.specs.List.{flat_map};
+ghost use Rattle.ea_report.specs.Stats.{total_line, number_end, stats_text};
+ghost use Rattle.ea_report.specs.Report.{spaced};
+ghost use Rattle.ea_text.specs.Device.{HasGivenUp};
+ghost use Rattle.ea_report.specs.Sent.{IsCutBy, IsWhole, Adds, Stops, seen};
+
+use crate::report::{WriteFault, WriteFaultKind};
+use crate::sending::send;
+use ea_input::ByteOut;
+use itoa::Buffer;
+
+/// Totals over all problems and workers.
+#[derive(Clone, Copy, Debug, PartialEq, Eq)]
+pub struct Totals {
+    pub seeded: u128,
+    pub pushed: u128,
+    pub popped: u128,
+    pub stale: u128,
+    pub scanned: u128,
+    pub returned: u128,
+    pub drained: u128,
+    pub finish: u128,
+}
+
+/// A text that is under way to a device, with nothing pending.
+#[derive(Drop)]
+struct Direct {
+    written: u128,
+    interruptions: u64,
+    ghost borne: { interruptions ≤ 1000 },
+}
+
+impl Direct {
+    /// Sends bytes.
+    fn put<W: ByteOut>(&mut self, bytes: &[u8], out: &mut W) -> Result<(), WriteFault>
+        requires { self.old.written + 2 ^ 64 < 2 ^ 128 }
+        ensures ok { OnOk result (Adds (seen (W.contents out.old) (W.Device.failed out.old) (W.Device.interrupted out.old)) [] self.old.written self.old.interruptions
+            (seen (W.contents out.new) (W.Device.failed out.new) (W.Device.interrupted out.new)) [] self.new.written self.new.interruptions bytes.now) }
+        ensures err { IfErr result (λ fault. Stops (seen (W.contents out.old) (W.Device.failed out.old) (W.Device.interrupted out.old)) [] self.old.written self.old.interruptions
+            (seen (W.contents out.new) (W.Device.failed out.new) (W.Device.interrupted out.new)) fault bytes.now) }
+        ensures device { IfErr result (λ fault. fault.kind ≡ WriteFaultKind.WriteFailed) }
+        ensures bound { self.new.written ≤ self.old.written + 2 ^ 64 }
+    {
+        match send(out, bytes, &mut self.interruptions) {
+            Ok(()) => {
+                self.written += bytes.len() as u128;
+                Ok(())
+            }
+            Err(sent) => Err(WriteFault {
+                written: self.written + sent as u128,
+                kind: WriteFaultKind::WriteFailed,
+            }),
+        }
+    }
+}
+
+impl Direct {
+    /// Sends a field after a space.
+    fn put_field<W: ByteOut>(&mut self, field: &[u8], out: &mut W) -> Result<(), WriteFault>
+        requires { self.old.written + 2 * 2 ^ 64 < 2 ^ 128 }
+        ensures ok { OnOk result (Adds (seen (W.contents out.old) (W.Device.failed out.old) (W.Device.interrupted out.old)) [] self.old.written self.old.interruptions
+            (seen (W.contents out.new) (W.Device.failed out.new) (W.Device.interrupted out.new)) [] self.new.written self.new.interruptions (spaced field.now)) }
+        ensures err { IfErr result (λ fault. Stops (seen (W.contents out.old) (W.Device.failed out.old) (W.Device.interrupted out.old)) [] self.old.written self.old.interruptions
+            (seen (W.contents out.new) (W.Device.failed out.new) (W.Device.interrupted out.new)) fault (spaced field.now)) }
+        ensures device { IfErr result (λ fault. fault.kind ≡ WriteFaultKind.WriteFailed) }
+        ensures bound { self.new.written ≤ self.old.written + 2 * 2 ^ 64 }
+    {
+        match self.put(b" ".as_slice(), out) {
+            Ok(()) => self.put(field, out),
+            Err(fault) => Err(fault),
+        }
+    }
+}
+
+impl Direct {
+    /// Sends the line of a total.
+    fn put_total<W: ByteOut>(
+        &mut self,
+        name: &[u8],
+        total: u128,
+        out: &mut W,
+    ) -> Result<(), WriteFault>
+        requires { self.old.written + 6 * 2 ^ 64 < 2 ^ 128 }
+        ensures ok { OnOk result (Adds (seen (W.contents out.old) (W.Device.failed out.old) (W.Device.interrupted out.old)) [] self.old.written self.old.interruptions
+            (seen (W.contents out.new) (W.Device.failed out.new) (W.Device.interrupted out.new)) [] self.new.written self.new.interruptions (total_line (name.now, total))) }
+        ensures err { IfErr result (λ fault. Stops (seen (W.contents out.old) (W.Device.failed out.old) (W.Device.interrupted out.old)) [] self.old.written self.old.interruptions
+            (seen (W.contents out.new) (W.Device.failed out.new) (W.Device.interrupted out.new)) fault (total_line (name.now, total))) }
+        ensures device { IfErr result (λ fault. fault.kind ≡ WriteFaultKind.WriteFailed) }
+        ensures bound { self.new.written ≤ self.old.written + 6 * 2 ^ 64 }
+    {
+        match self.put(b"c".as_slice(), out) {
+            Ok(()) => self.put_fields(name, total, out),
+            Err(fault) => Err(fault),
+        }
+    }
+
+    /// Sends the fields of a total, and the end of its line.
+    fn put_fields<W: ByteOut>(
+        &mut self,
+        name: &[u8],
+        total: u128,
+        out: &mut W,
+    ) -> Result<(), WriteFault>
+        requires { self.old.written + 5 * 2 ^ 64 < 2 ^ 128 }
+        ensures ok { OnOk result (Adds (seen (W.contents out.old) (W.Device.failed out.old) (W.Device.interrupted out.old)) [] self.old.written self.old.interruptions
+            (seen (W.contents out.new) (W.Device.failed out.new) (W.Device.interrupted out.new)) [] self.new.written self.new.interruptions (spaced name.now ++ number_end total)) }
+        ensures err { IfErr result (λ fault. Stops (seen (W.contents out.old) (W.Device.failed out.old) (W.Device.interrupted out.old)) [] self.old.written self.old.interruptions
+            (seen (W.contents out.new) (W.Device.failed out.new) (W.Device.interrupted out.new)) fault (spaced name.now ++ number_end total)) }
+        ensures device { IfErr result (λ fault. fault.kind ≡ WriteFaultKind.WriteFailed) }
+        ensures bound { self.new.written ≤ self.old.written + 5 * 2 ^ 64 }
+    {
+        match self.put_field(name, out) {
+            Ok(()) => self.put_number(total, out),
+            Err(fault) => Err(fault),
+        }
+    }
+
+    /// Sends a number after a space, and the end of its line.
+    fn put_number<W: ByteOut>(&mut self, number: u128, out: &mut W) -> Result<(), WriteFault>
+        requires { self.old.written + 3 * 2 ^ 64 < 2 ^ 128 }
+        ensures ok { OnOk result (Adds (seen (W.contents out.old) (W.Device.failed out.old) (W.Device.interrupted out.old)) [] self.old.written self.old.interruptions
+            (seen (W.contents out.new) (W.Device.failed out.new) (W.Device.interrupted out.new)) [] self.new.written self.new.interruptions (number_end number)) }
+        ensures err { IfErr result (λ fault. Stops (seen (W.contents out.old) (W.Device.failed out.old) (W.Device.interrupted out.old)) [] self.old.written self.old.interruptions
+            (seen (W.contents out.new) (W.Device.failed out.new) (W.Device.interrupted out.new)) fault (number_end number)) }
+        ensures device { IfErr result (λ fault. fault.kind ≡ WriteFaultKind.WriteFailed) }
+        ensures bound { self.new.written ≤ self.old.written + 3 * 2 ^ 64 }
+    {
+        let mut buffer = Buffer::new();
+        match self.put_field(buffer.format(number).as_bytes(), out) {
+            Ok(()) => self.put(b"\n".as_slice(), out),
+            Err(fault) => Err(fault),
+        }
+    }
+}
+
+/// A total and its name.
+#[derive(Clone, Copy)]
+struct Row<'a> {
+    name: &'a [u8],
+    total: u128,
+}
+
+impl Direct {
+    fn put_totals<W: ByteOut>(&mut self, rows: &[Row<'_>], out: &mut W) -> Result<(), WriteFault>
+        requires { self.old.written + length rows.now * (6 * 2 ^ 64) + 6 * 2 ^ 64 < 2 ^ 128 }
+        ensures ok { OnOk result (Adds (seen (W.contents out.old) (W.Device.failed out.old) (W.Device.interrupted out.old)) [] self.old.written self.old.interruptions
+            (seen (W.contents out.new) (W.Device.failed out.new) (W.Device.interrupted out.new)) [] self.new.written self.new.interruptions (flat_map (λ row. total_line (row.name.now, row.total)) rows.now)) }
+        ensures err { IfErr result (λ fault. Stops (seen (W.contents out.old) (W.Device.failed out.old) (W.Device.interrupted out.old)) [] self.old.written self.old.interruptions
+            (seen (W.contents out.new) (W.Device.failed out.new) (W.Device.interrupted out.new)) fault (flat_map (λ row. total_line (row.name.now, row.total)) rows.now)) }
+        ensures device { IfErr result (λ fault. fault.kind ≡ WriteFaultKind.WriteFailed) }
+    {
+        for row in rows {
+            self.put_total(row.name, row.total, out)?;
+        }
+        Ok(())
+    }
+}
+
+/// Sends the eight totals, and answers how many bytes it sent.
+fn send_stats<W: ByteOut>(totals: &Totals, out: &mut W) -> Result<u128, WriteFault>
+    ensures ok { IfOk result (λ written. IsWhole (seen (W.contents out.old) (W.Device.failed out.old) (W.Device.interrupted out.old)) (seen (W.contents out.new) (W.Device.failed out.new) (W.Device.interrupted out.new))
+        (stats_text totals.now) written) }
+    ensures err { IfErr result (λ fault. IsCutBy (seen (W.contents out.old) (W.Device.failed out.old) (W.Device.interrupted out.old)) (seen (W.contents out.new) (W.Device.failed out.new) (W.Device.interrupted out.new))
+        (stats_text totals.now) fault) }
+    ensures kind { IfErr result (λ fault. fault.kind ≡ WriteFaultKind.WriteFailed) }
+{
+    let rows = [
+        Row {
+            name: b"seeded".as_slice(),
+            total: totals.seeded,
+        },
+        Row {
+            name: b"pushed".as_slice(),
+            total: totals.pushed,
+        },
+        Row {
+            name: b"popped".as_slice(),
+            total: totals.popped,
+        },
+        Row {
+            name: b"stale".as_slice(),
+            total: totals.stale,
+        },
+        Row {
+            name: b"scanned".as_slice(),
+            total: totals.scanned,
+        },
+        Row {
+            name: b"returned".as_slice(),
+            total: totals.returned,
+        },
+        Row {
+            name: b"drained".as_slice(),
+            total: totals.drained,
+        },
+        Row {
+            name: b"finish".as_slice(),
+            total: totals.finish,
+        },
+    ];
+    let mut direct = Direct {
+        written: 0,
+        interruptions: 0,
+    };
+    match direct.put_totals(rows.as_slice(), out) {
+        Ok(()) => Ok(direct.written),
+        Err(fault) => Err(fault),
+    }
+}
+
+/// Writes the eight totals, with no memory. Answers how many bytes it wrote.
+///
+/// `WriteFailed` where a write failed, took nothing of bytes that were left, or was interrupted for
+/// the 1,001st time. The bytes written before a fault are the front of the text.
+pub fn write_stats<W: ByteOut>(totals: &Totals, out: &mut W) -> Result<u128, WriteFault>
+    ensures ok { IfOk result (λ written. IsWhole (seen (W.contents out.old) (W.Device.failed out.old) (W.Device.interrupted out.old)) (seen (W.contents out.new) (W.Device.failed out.new) (W.Device.interrupted out.new))
+        (stats_text totals.now) written) }
+    ensures err { IfErr result (λ fault. IsCutBy (seen (W.contents out.old) (W.Device.failed out.old) (W.Device.interrupted out.old)) (seen (W.contents out.new) (W.Device.failed out.new) (W.Device.interrupted out.new))
+        (stats_text totals.now) fault) }
+    // It takes no memory, so the device is the only cause.
+    ensures kind { IfErr result (λ fault. fault.kind ≡ WriteFaultKind.WriteFailed) }
+    ensures device { IfErr result (λ fault. fault.kind ≡ WriteFaultKind.WriteFailed →
+        HasGivenUp (W.Device.failed out.old) (W.Device.failed out.new) (W.Device.interrupted out.old) (W.Device.interrupted out.new)) }
+{
+    send_stats(totals, out)
+}

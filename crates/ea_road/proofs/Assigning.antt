@@ -1,0 +1,63 @@
+-- One assignment more changes the class of its arc alone.
+use Rattle.std.proofs.Common.{◌≡◌, ◌≢◌, ◌∙◌, refl, ℕ, zero, suc, ◌+◌, ◌<◌, Bool, true, false, List, [], ◌∷◌, ◌++◌, length, get_or, set, arith, ap, eq-eqb, eqb-true}
+use Rattle.std.specs.Prelude.{◌==◌, if◌then◌else◌}
+use Rattle.ea_input.specs.declared.graph.RawArc.{RawArc}
+use Rattle.ea_road.specs.declared.arc.Arc.{Arc}
+use Rattle.ea_road.specs.Assigned.{class_after, class_of, arcs_from}
+
+abbrev no_arc : Arc
+no_arc = record { tail = 0; head = 0; weight = 0; class = 0 }
+
+choose_same : (number place class other : ℕ) → number ≡ place → (if number == place then class else other) ≡ class
+choose_same number place class other same = by_test (number == place) (eq-eqb _ _ same)
+  where
+    by_test : (b : Bool) → b ≡ true → (if b then class else other) ≡ class
+    by_test true e = refl
+    by_test false e = cc
+
+choose_other : (number place class other : ℕ) → number ≢ place → (if number == place then class else other) ≡ other
+choose_other number place class other differs = by_test (number == place) refl
+  where
+    by_test : (b : Bool) → (number == place) ≡ b → (if b then class else other) ≡ other
+    by_test true e = absurd (differs (eqb-true _ _ e))
+    by_test false e = refl
+
+after_push : (assigned : List (ℕ × ℕ)) (given : ℕ × ℕ) (number class : ℕ) → class_after (assigned ++ given ∷ []) number class ≡ (if given.0 == number then given.1 else class_after assigned number class)
+after_push [] given number class = refl
+after_push (first ∷ rest) given number class = after_push rest given number (if first.0 == number then first.1 else class)
+
+same_class : (assigned : List (ℕ × ℕ)) (number class place : ℕ) → number ≡ place → class_of (assigned ++ (number, class) ∷ []) place ≡ class
+same_class assigned number class place same = after_push assigned (number, class) place 0 ∙ choose_same number place class _ same
+
+other_class : (assigned : List (ℕ × ℕ)) (number class place : ℕ) → number ≢ place → class_of (assigned ++ (number, class) ∷ []) place ≡ class_of assigned place
+other_class assigned number class place differs = after_push assigned (number, class) place 0 ∙ choose_other number place class _ differs
+
+-- arcs after the assigned one keep their classes
+from_before : (assigned : List (ℕ × ℕ)) (number class first : ℕ) (raw : List RawArc) → number < first → arcs_from (assigned ++ (number, class) ∷ []) first raw ≡ arcs_from assigned first raw
+from_before assigned number class first [] before = refl
+from_before assigned number class first (arc ∷ rest) before =
+    let differs : number ≢ first = omega arith in
+    let one = other_class assigned number class first differs in
+    let more = from_before assigned number class (first + 1) rest (omega arith) in
+    rw (one, more) refl
+
+pub length-arcs_from : (assigned : List (ℕ × ℕ)) (first : ℕ) (raw : List RawArc) → length (arcs_from assigned first raw) ≡ length raw
+length-arcs_from assigned first [] = refl
+length-arcs_from assigned first (arc ∷ rest) = let more = length-arcs_from assigned (first + 1) rest in omega arith
+
+pub assign_more : (assigned : List (ℕ × ℕ)) (number class first place : ℕ) (raw : List RawArc) → place < length raw → number ≡ first + place → set (arcs_from assigned first raw) place (record (get_or (arcs_from assigned first raw) place no_arc) { class = class }) ≡ arcs_from (assigned ++ (number, class) ∷ []) first raw
+assign_more assigned number class first place [] inside same = absurd (omega arith)
+assign_more assigned number class first zero (arc ∷ rest) inside same =
+    let here : number ≡ first = omega arith in
+    let one = same_class assigned number class first here in
+    let more = from_before assigned number class (first + 1) rest (omega arith) in
+    rw (one, more) refl
+assign_more assigned number class first (suc place) (arc ∷ rest) inside same =
+    let differs : number ≢ first = omega arith in
+    let one = other_class assigned number class first differs in
+    let more = assign_more assigned number class (first + 1) place rest (omega (arith, inside)) (omega arith) in
+    rw one (ap (λ arcs. record { tail = arc.tail; head = arc.head; weight = arc.weight; class = class_of assigned first } ∷ arcs) more)
+
+pub plain_more : (first : ℕ) (front : List RawArc) (arc : RawArc) → arcs_from [] first (front ++ arc ∷ []) ≡ arcs_from [] first front ++ record { tail = arc.tail; head = arc.head; weight = arc.weight; class = 0 } ∷ []
+plain_more first [] arc = refl
+plain_more first (one ∷ rest) arc = rw (plain_more (first + 1) rest arc) refl

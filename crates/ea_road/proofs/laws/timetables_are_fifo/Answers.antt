@@ -1,0 +1,5 @@
+use Rattle.ea_road.specs.TimetableLaws.{timetables_are_fifo}
+use Rattle.ea_road.proofs.laws.timetables_are_fifo.Goals as goal
+
+pub returns : goal.returns
+returns c = timetables_are_fifo c.args.times.now.list.items

@@ -1,0 +1,17 @@
+pub mod Answers
+pub mod Roads
+pub mod Queries
+pub mod QueryForms
+pub mod Arrivals
+pub mod Labels
+pub mod Levels
+pub mod Timetables
+pub mod Index
+pub mod Truncated
+pub mod Times
+pub mod TimetableLists
+pub mod KindLaws
+pub mod TimetableLaws
+pub mod ProfileLists
+pub mod ProfileLaws
+pub mod Assigned

@@ -1,0 +1,106 @@
+//! Laws of networks, travel times and walks, as functions that do nothing.
+ghost use Rattle.std.specs.Prelude.{◌≡◌, ◌≤◌, ℕ, List, Option};
+ghost use Rattle.ea_road.specs.Answers.{IsFifo};
+ghost use Rattle.ea_road.specs.Arrivals.{Attains, IsLeast, IsLeastAt};
+ghost use Rattle.ea_road.specs.Labels.{IsFixed, label_of, limit, time_of};
+ghost use Rattle.ea_road.specs.Levels.{IsCanonical, IsLevel};
+ghost use Rattle.ea_road.specs.Queries.{IsAsked, IsProblem};
+ghost use Rattle.ea_road.specs.Roads.{IsNode};
+ghost use Rattle.ea_road.specs.TimetableLists.{TimetablesAnswer};
+ghost use Rattle.ea_road.specs.Timetables.{KindAnswers};
+
+use crate::network::Network;
+use crate::query::Query;
+use crate::timetable::Timetable;
+use crate::timetables::Timetables;
+use crate::travel_times::TravelTimes;
+
+/// A node has at most one least arrival, be it a time or none.
+pub fn least_arrivals_are_one<T: TravelTimes>(network: &Network, times: &T, query: &Query)
+    ensures { (node : ℕ) (this that : Option ℕ)
+        → IsLeast network.now (T.answers times.now) query.now.sources node this
+        → IsLeast network.now (T.answers times.now) query.now.sources node that
+        → this ≡ that }
+{}
+
+/// Labels that are at most the departures at the sources, that are reached, and at which each node is satisfied, are the
+/// least arrivals. In a pair query a node may also have a label above the target's; then the target's label is its least
+/// arrival, and so is each label up to it.
+pub fn fixed_labels_are_least<T: TravelTimes>(
+    network: &Network,
+    times: &T,
+    query: &Query,
+    table: &[u64],
+)
+    requires problem { IsProblem network.now (T.classes times.now) query.now }
+    requires fixed { IsFixed network.now (T.answers times.now) query.now (label_of table.now) }
+    ensures asked { (node : ℕ) → IsNode network.now.nodes node → IsAsked query.now node
+        → IsLeast network.now (T.answers times.now) query.now.sources node (time_of (label_of table.now node)) }
+    ensures up_to_the_target { (node : ℕ) → IsNode network.now.nodes node
+        → label_of table.now node ≤ limit query.now.target (label_of table.now)
+        → IsLeast network.now (T.answers times.now) query.now.sources node (time_of (label_of table.now node)) }
+    ensures exact { (node time : ℕ) → IsNode network.now.nodes node
+        → IsLeastAt network.now (T.answers times.now) query.now.sources node time
+        → time ≤ limit query.now.target (label_of table.now)
+        → label_of table.now node ≡ time }
+{
+    let _ = network.nodes();
+}
+
+/// Where labels are so, each node with a least arrival up to the target's label has a level.
+pub fn reached_nodes_have_levels<T: TravelTimes>(
+    network: &Network,
+    times: &T,
+    query: &Query,
+    table: &[u64],
+)
+    requires problem { IsProblem network.now (T.classes times.now) query.now }
+    requires fixed { IsFixed network.now (T.answers times.now) query.now (label_of table.now) }
+    ensures { (node time : ℕ) → IsNode network.now.nodes node
+        → IsLeastAt network.now (T.answers times.now) query.now.sources node time
+        → time ≤ limit query.now.target (label_of table.now)
+        → (level : ℕ) × IsLevel network.now (T.answers times.now) query.now.sources
+        (IsLeastAt network.now (T.answers times.now) query.now.sources) node level }
+{
+    let _ = network.nodes();
+}
+
+/// Where labels are so, each node with a least arrival up to the target's label has exactly one canonical walk, and that
+/// walk attains its least arrival.
+pub fn reached_nodes_have_one_canonical_walk<T: TravelTimes>(
+    network: &Network,
+    times: &T,
+    query: &Query,
+    table: &[u64],
+)
+    requires problem { IsProblem network.now (T.classes times.now) query.now }
+    requires fixed { IsFixed network.now (T.answers times.now) query.now (label_of table.now) }
+    ensures some { (node time : ℕ) → IsNode network.now.nodes node
+        → IsLeastAt network.now (T.answers times.now) query.now.sources node time
+        → time ≤ limit query.now.target (label_of table.now)
+        → (walk : List ℕ) × IsCanonical network.now (T.answers times.now) query.now.sources
+        (IsLeastAt network.now (T.answers times.now) query.now.sources) node walk }
+    ensures one { (node : ℕ) (this that : List ℕ)
+        → IsCanonical network.now (T.answers times.now) query.now.sources
+        (IsLeastAt network.now (T.answers times.now) query.now.sources) node this
+        → IsCanonical network.now (T.answers times.now) query.now.sources
+        (IsLeastAt network.now (T.answers times.now) query.now.sources) node that
+        → this ≡ that }
+    ensures attains { (node time : ℕ) (walk : List ℕ)
+        → IsLeastAt network.now (T.answers times.now) query.now.sources node time
+        → IsCanonical network.now (T.answers times.now) query.now.sources
+        (IsLeastAt network.now (T.answers times.now) query.now.sources) node walk
+        → Attains network.now (T.answers times.now) query.now.sources walk node time }
+{
+    let _ = network.nodes();
+}
+
+/// Travel times by one timetable, of whichever kind, are first in, first out.
+pub fn timetable_is_fifo(table: &Timetable)
+    ensures { (classes : ℕ) → IsFifo (λ class weight departure arrival. KindAnswers table.now.kind weight departure arrival) classes }
+{}
+
+/// Travel times by a list of timetables are first in, first out.
+pub fn timetables_are_fifo(times: &Timetables)
+    ensures { (classes : ℕ) → IsFifo (TimetablesAnswer times.now.list.items) classes }
+{}

@@ -1,0 +1,48 @@
+//! Road networks whose travel times depend on the departure: networks, travel times, queries, walks, and the laws of
+//! the subject.
+#![tactic(auto)]
+
+mod arc;
+mod arrival_function;
+mod graph_arcs;
+mod index;
+mod known;
+pub mod laws;
+mod network;
+mod problem;
+mod profile;
+mod profile_list;
+mod profiles;
+mod query;
+mod source;
+mod timetable;
+mod timetables;
+mod travel_times;
+mod walk;
+
+pub use arc::Arc;
+pub use arrival_function::ArrivalFunction;
+pub use ea_input::{RawArc, RawGraph, RawKind, RawTable};
+pub use graph_arcs::arcs_of;
+pub use known::{AnyPair, Known};
+pub use network::{Leaving, Network};
+pub use problem::is_problem;
+pub use profile::{Arrival, Profile};
+pub use profile_list::ProfileList;
+pub use profiles::Profiles;
+pub use query::Query;
+pub use source::Source;
+pub use std::alloc::AllocError as OutOfMemory;
+pub use timetable::Timetable;
+pub use timetables::Timetables;
+pub use travel_times::TravelTimes;
+pub use walk::run_walk;
+
+/// The last time of all: 2^48 - 1.
+pub const HORIZON: u64 = 281_474_976_710_655;
+
+/// No label.
+pub const NONE: u64 = u64::MAX;
+
+#[cfg(test)]
+mod tests;

@@ -1,0 +1,143 @@
+ghost use Rattle.std.specs.Prelude.{◌≡◌, ◌≤◌, ◌<◌, ◌↔◌, IfOk, IsTrue, length};
+ghost use Rattle.ea_road.specs.Roads.{AreSideBySide, FitsNodes, IsArc, IsNetwork, IsNode, leaving, top_class};
+
+use crate::arc::Arc;
+use crate::index::{ends_by_tail, place_by_tail};
+use std::alloc::{AllocError, Global};
+use std::marker::Model;
+
+/// A network of roads: nodes numbered from 1, and arcs numbered from 1 in the order in which they were given. Contracts
+/// see it as its number of nodes and its arcs.
+#[derive(Drop)]
+pub struct Network {
+    nodes: u32,
+    arcs: Vec<Arc>,
+    /// Where the arcs from each node begin in `numbers` and `by_tail`, and at the end where those of the last node end.
+    starts: Vec<u32>,
+    /// The numbers of the arcs by their tails, ascending for each tail.
+    numbers: Vec<u32>,
+    /// The arcs themselves, in the order of `numbers`.
+    by_tail: Vec<Arc>,
+}
+
+impl Model for Network {
+    ghost use Rattle.ea_road.specs.Roads.{Roads};
+    ghost use Rattle.ea_road.specs.Index.{IsStored};
+
+    ghost Value = { Roads };
+
+    ghost view = { λ n. record { nodes = n.nodes; arcs = n.arcs.items } };
+
+    ghost invariant = { λ n. IsStored (record { nodes = n.nodes; arcs = n.arcs.items }) n.starts.items n.numbers.items n.by_tail.items };
+}
+
+/// The arcs that leave a node, as they lie in memory: their numbers, ascending, and beside them the arcs.
+#[derive(Clone, Copy)]
+pub struct Leaving<'a> {
+    pub numbers: &'a [u32],
+    pub arcs: &'a [Arc],
+}
+
+impl Network {
+    /// A network of so many nodes and these arcs. It takes time in proportion to both.
+    pub fn new(alloc: Global, nodes: u32, arcs: Vec<Arc>) -> Result<Network, AllocError>
+        requires { IsNetwork (record { nodes = nodes; arcs = arcs.items }) }
+        ensures { IfOk result (λ network. network ≡ record { nodes = nodes; arcs = arcs.items }) }
+    {
+        let mut starts = ends_by_tail(alloc, nodes, &arcs)?;
+        let (numbers, by_tail) = place_by_tail(alloc, nodes, &arcs, &mut starts)?;
+        Ok(Network {
+            nodes,
+            arcs,
+            starts,
+            numbers,
+            by_tail,
+        })
+    }
+
+    /// Whether so many nodes and these arcs make a network: 1 to 67,108,864 nodes, at most 268,435,456 arcs, and each
+    /// tail and head a node.
+    pub fn fits(nodes: u32, arcs: &[Arc]) -> bool
+        ensures { IsTrue result ↔ IsNetwork (record { nodes = nodes; arcs = arcs.now }) }
+    {
+        if nodes == 0 || nodes > 67_108_864 || arcs.len() > 268_435_456 {
+            return false;
+        }
+        for arc in arcs {
+            if !fits_nodes(nodes, *arc) {
+                return false;
+            }
+        }
+        true
+    }
+
+    /// The greatest class of an arc, 0 with no arc.
+    pub fn top_class(&self) -> u32
+        ensures { result ≡ top_class self.now.arcs }
+    {
+        let mut top = 0;
+        for arc in &self.arcs {
+            top = arc.class.max(top);
+        }
+        top
+    }
+
+    /// The number of nodes.
+    pub fn nodes(&self) -> u32
+        ensures nodes { result ≡ self.now.nodes }
+        ensures network { IsNetwork self.now }
+    {
+        self.nodes
+    }
+
+    /// The arcs, in the order of their numbers.
+    pub fn arcs(&self) -> &[Arc]
+        ensures arcs { result.now ≡ self.now.arcs }
+        ensures network { IsNetwork self.now }
+    {
+        &self.arcs
+    }
+
+    /// The arc of a number, from 1.
+    pub fn arc(&self, number: u32) -> Arc
+        requires from_one { 0 < number }
+        requires to_last { number ≤ length self.now.arcs }
+        ensures arc { IsArc self.now number result }
+        ensures fits { FitsNodes self.now.nodes result }
+        ensures network { IsNetwork self.now }
+    {
+        self.arcs[number as usize - 1]
+    }
+
+    /// The numbers of the arcs that leave a node, ascending.
+    pub fn out(&self, node: u32) -> &[u32]
+        requires { IsNode self.now.nodes node }
+        ensures { result.now ≡ leaving self.now node }
+    {
+        let from = self.starts[node as usize - 1] as usize;
+        let to = self.starts[node as usize] as usize;
+        &self.numbers[from..to]
+    }
+
+    /// The arcs that leave a node, with their numbers. They lie side by side, so that a scan reads memory in order.
+    pub fn leaving(&self, node: u32) -> Leaving<'_>
+        requires { IsNode self.now.nodes node }
+        ensures numbers { result.numbers.now ≡ leaving self.now node }
+        ensures arcs { AreSideBySide self.now result.numbers.now result.arcs.now }
+        ensures network { IsNetwork self.now }
+    {
+        let from = self.starts[node as usize - 1] as usize;
+        let to = self.starts[node as usize] as usize;
+        Leaving {
+            numbers: &self.numbers[from..to],
+            arcs: &self.by_tail[from..to],
+        }
+    }
+}
+
+/// Whether an arc's ends are nodes.
+fn fits_nodes(nodes: u32, arc: Arc) -> bool
+    ensures { IsTrue result ↔ FitsNodes nodes arc }
+{
+    0 < arc.tail && arc.tail <= nodes && 0 < arc.head && arc.head <= nodes
+}

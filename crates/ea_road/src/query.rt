@@ -1,0 +1,106 @@
+ghost use Rattle.std.specs.Prelude.{◌≡◌, ◌<◌, ◌↔◌, IsTrue, Some, None, ◌∷◌, []};
+ghost use Rattle.ea_road.specs.Queries.{AreSources, IsAsked, IsQuery, IsSource};
+
+use crate::HORIZON;
+use crate::source::Source;
+use std::marker::Model;
+
+/// What is asked: from these sources the earliest arrivals at all nodes, or from one source that at one target.
+/// Contracts see it as its sources and its target.
+#[derive(Drop)]
+pub struct Query {
+    asked: Asked,
+}
+
+/// The two forms of a query.
+#[derive(Drop)]
+enum Asked {
+    All(Vec<Source>),
+    Pair([Source; 1], u32),
+}
+
+impl Model for Query {
+    ghost use Rattle.ea_road.specs.Queries.{Asking, IsQuery};
+
+    ghost Value = { Asking };
+
+    ghost use Rattle.ea_road.specs.QueryForms.{asking_of};
+
+    ghost view = { λ q. asking_of q.asked };
+
+    ghost invariant = { λ q. IsQuery (asking_of q.asked) };
+}
+
+impl Query {
+    /// Asks for all nodes.
+    pub fn new(sources: Vec<Source>) -> Query
+        requires { AreSources sources.items }
+        ensures { result ≡ record { sources = sources.items; target = None } }
+    {
+        Query {
+            asked: Asked::All(sources),
+        }
+    }
+
+    /// Whether sources may be those of a query: each a node's number from 1, and a departure up to HORIZON.
+    pub fn fits(sources: &[Source]) -> bool
+        ensures { IsTrue result ↔ AreSources sources.now }
+    {
+        for source in sources {
+            if !is_source(*source) {
+                return false;
+            }
+        }
+        true
+    }
+
+    /// Asks for the target alone, from one source.
+    pub fn pair(source: Source, target: u32) -> Query
+        requires source { IsSource source }
+        requires target { 0 < target }
+        ensures { result ≡ record { sources = source ∷ []; target = Some target } }
+    {
+        Query {
+            asked: Asked::Pair([source], target),
+        }
+    }
+
+    /// The sources, in the order in which they were given.
+    pub fn sources(&self) -> &[Source]
+        ensures sources { result.now ≡ self.now.sources }
+        ensures query { IsQuery self.now }
+    {
+        match &self.asked {
+            Asked::All(sources) => sources,
+            Asked::Pair(source, _) => source,
+        }
+    }
+
+    /// The node that is asked alone; none where all nodes are asked.
+    pub fn target(&self) -> Option<u32>
+        ensures target { result ≡ self.now.target }
+        ensures query { IsQuery self.now }
+    {
+        match &self.asked {
+            Asked::All(_) => None,
+            Asked::Pair(_, target) => Some(*target),
+        }
+    }
+
+    /// Whether a node is asked.
+    pub fn asks(&self, node: u32) -> bool
+        ensures { IsTrue result ↔ IsAsked self.now node }
+    {
+        match self.target() {
+            None => true,
+            Some(target) => node == target,
+        }
+    }
+}
+
+/// Whether a source's node is numbered from 1, and its departure is within the horizon.
+fn is_source(source: Source) -> bool
+    ensures { IsTrue result ↔ IsSource source }
+{
+    0 < source.node && source.departure <= HORIZON
+}

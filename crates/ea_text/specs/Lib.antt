@@ -1,0 +1,5 @@
+pub mod Text
+pub mod Device
+pub mod Piece
+pub mod Outcome
+pub mod Opened

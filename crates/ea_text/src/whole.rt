@@ -1,0 +1,143 @@
+//! All bytes of a device.
+ghost use Rattle.std.specs.Prelude.{◌≡◌, ◌<◌, ◌≤◌, ◌^◌, ◌+◌, IfOk, ◌≢◌, List, ℕ, Option, IfErr, IfSome, IsOkAnd, OnErr, OnOk, vec_len, IsErrOf, length};
+ghost use Rattle.std.specs.Io.KnownBytes.{Consumes, IsAtEnd};
+ghost use Rattle.ea_text.specs.Device.{HasGivenUp, TakesAtMost};
+ghost use Rattle.ea_text.specs.Outcome.{CountsAfter, fault_name, fault_number};
+ghost use Rattle.ea_text.specs.Piece.{failures_with, interruptions_with};
+ghost use Rattle.ea_text.specs.declared.whole.ReadFault.TheVariants.{OutOfMemory};
+
+use crate::device::{ByteIn, DeviceFault};
+use std::alloc::{AllocError, Global};
+use thiserror::Error;
+
+/// Why not all bytes of a device were read.
+#[derive(Clone, Copy, Debug, PartialEq, Eq, Error)]
+pub enum ReadFault {
+    /// There are more bytes than the limit.
+    #[error("there are more bytes than are allowed (10 TooLarge)")]
+    TooLarge,
+    /// A read failed, or the interruptions were more than 1,000.
+    #[error("the input could not be read (11 ReadFailed)")]
+    ReadFailed,
+    /// Memory for the bytes was refused.
+    #[error("there is not enough memory (13 OutOfMemory)")]
+    OutOfMemory,
+}
+
+impl ReadFault {
+    /// The number by which messages name this fault.
+    pub fn number(self) -> u8
+        ensures { result ≡ fault_number self }
+    {
+        match self {
+            ReadFault::TooLarge => 10,
+            ReadFault::ReadFailed => 11,
+            ReadFault::OutOfMemory => 13,
+        }
+    }
+
+    /// The name by which messages name this fault.
+    pub fn name(self) -> &'static str
+        ensures { result.now ≡ fault_name self }
+    {
+        match self {
+            ReadFault::TooLarge => "TooLarge",
+            ReadFault::ReadFailed => "ReadFailed",
+            ReadFault::OutOfMemory => "OutOfMemory",
+        }
+    }
+}
+
+impl From<AllocError> for ReadFault {
+    ghost from_gives = { λ _ fault. fault ≡ OutOfMemory };
+
+    fn from(_refused: AllocError) -> ReadFault {
+        ReadFault::OutOfMemory
+    }
+}
+
+/// How many bytes one read asks for at most.
+const PIECE: usize = 65_536;
+
+/// How many interruptions are borne; the next one is a fault.
+const BORNE_INTERRUPTIONS: u64 = 1_000;
+
+/// Room for a piece.
+fn room(alloc: Global, len: usize) -> Result<Vec<u8>, AllocError>
+    ensures { IfOk result (λ piece. vec_len piece ≡ len) }
+{
+    vec![in alloc; 0u8; len]
+}
+
+/// What one read came to.
+enum Piece {
+    Some,
+    End,
+    Fault(DeviceFault),
+}
+
+/// Appends the bytes of one read.
+fn read_piece<R: ByteIn>(
+    reader: &mut R,
+    piece: &mut [u8],
+    bytes: &mut Vec<u8>,
+) -> Result<Piece, AllocError>
+    requires { 0 < length piece.old }
+    // What was taken before and what is taken now stay together what the device had.
+    ensures taken { IfOk result (λ _. (first : Option (List ℕ)) →
+        Consumes first (R.remaining reader.old) bytes.old.items → Consumes first (R.remaining reader.new) bytes.new.items) }
+    ensures some { IsOkAnd result (λ p. p ≡ Piece.Some) → length bytes.old.items < length bytes.new.items }
+    ensures most { length bytes.new.items ≤ length bytes.old.items + length piece.old }
+    ensures end { IsOkAnd result (λ p. p ≡ Piece.End) → IsAtEnd (R.remaining reader.new) }
+    ensures kept { IsOkAnd result (λ p. p ≢ Piece.Some) → bytes.new.items ≡ bytes.old.items }
+    ensures refused { OnErr result ((bytes.new.items ≡ bytes.old.items) × TakesAtMost (length piece.old) (R.remaining reader.old) (R.remaining reader.new)) }
+    ensures failed { IfOk result (λ p. R.Device.failed reader.new ≡ failures_with p (R.Device.failed reader.old)) }
+    ensures interrupted { IfOk result (λ p. R.Device.interrupted reader.new ≡ interruptions_with p (R.Device.interrupted reader.old)) }
+    ensures quiet { OnErr result ((R.Device.failed reader.new ≡ R.Device.failed reader.old) × (R.Device.interrupted reader.new ≡ R.Device.interrupted reader.old)) }
+{
+    match reader.read(piece) {
+        Ok(0) => Ok(Piece::End),
+        Ok(count) => {
+            bytes.extend_from_slice(&piece[..count])?;
+            Ok(Piece::Some)
+        }
+        Err(fault) => Ok(Piece::Fault(fault)),
+    }
+}
+
+/// All bytes of a device to its end.
+///
+/// `TooLarge` where there are more than `limit`, which takes `limit + 1` bytes of the device and
+/// no more; `ReadFailed` where a read failed or was interrupted for the 1,001st time;
+/// `OutOfMemory` where memory for the bytes was refused. Bytes taken before a fault are lost.
+pub fn read_all<R: ByteIn>(alloc: Global, reader: &mut R, limit: u64) -> Result<Vec<u8>, ReadFault>
+    // All bytes that the device had, and none is left.
+    ensures all { IfOk result (λ bytes. IfSome (R.remaining reader.old) (λ left. bytes.items ≡ left)) }
+    ensures end { OnOk result (IsAtEnd (R.remaining reader.new)) }
+    ensures within { IfOk result (λ bytes. length bytes.items ≤ limit) }
+
+    ensures too_large { IsErrOf result ReadFault.TooLarge → IfSome (R.remaining reader.old) (λ left. limit < length left) }
+    ensures read_failed { IsErrOf result ReadFault.ReadFailed →
+        HasGivenUp (R.Device.failed reader.old) (R.Device.failed reader.new) (R.Device.interrupted reader.old) (R.Device.interrupted reader.new) }
+
+    // What is left is the end of what there was, and at most one byte beyond the limit is taken.
+    ensures left { TakesAtMost (limit + 1) (R.remaining reader.old) (R.remaining reader.new) }
+    // A failure or the 1,001st interruption is a fault at once, and nothing else is ReadFailed.
+    ensures counts { CountsAfter result (R.Device.failed reader.old) (R.Device.failed reader.new) (R.Device.interrupted reader.old) (R.Device.interrupted reader.new) }
+{
+    let mut piece = room(alloc, PIECE)?;
+    let mut bytes = Vec::new(alloc);
+    let mut interruptions = 0;
+    while bytes.len() as u64 <= limit {
+        let wanted = (limit - bytes.len() as u64).min(PIECE as u64 - 1) as usize + 1;
+        match read_piece(reader, &mut piece.as_mut_slice()[..wanted], &mut bytes)? {
+            Piece::Some => {}
+            Piece::End => return Ok(bytes),
+            Piece::Fault(DeviceFault::Interrupted) if interruptions < BORNE_INTERRUPTIONS => {
+                interruptions += 1;
+            }
+            Piece::Fault(_) => return Err(ReadFault::ReadFailed),
+        }
+    }
+    Err(ReadFault::TooLarge)
+}

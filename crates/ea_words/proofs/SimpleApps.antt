@@ -1,0 +1,29 @@
+-- The commands are of the sort of which clap tells the matches and the kinds of error.
+use Rattle.std.proofs.Common.{◌≡◌, true, refl}
+use Rattle.clap.specs.Words.{is_simple, is_simple_and_free}
+use Rattle.clap.proofs.OnLiterals.{clap_on_literals}
+use Rattle.ea_words.specs.Grammar.{run_app, pairs_app, program}
+
+pub simple_run : is_simple run_app ≡ true
+unfolding clap_on_literals run_app
+simple_run = refl
+
+pub free_run : is_simple_and_free run_app ≡ true
+unfolding clap_on_literals run_app
+free_run = refl
+
+pub simple_pairs : is_simple pairs_app ≡ true
+unfolding clap_on_literals pairs_app
+simple_pairs = refl
+
+pub free_pairs : is_simple_and_free pairs_app ≡ true
+unfolding clap_on_literals pairs_app
+free_pairs = refl
+
+pub simple_program : is_simple program ≡ true
+unfolding clap_on_literals program run_app pairs_app
+simple_program = refl
+
+pub free_program : is_simple_and_free program ≡ true
+unfolding clap_on_literals program run_app pairs_app
+free_program = refl

@@ -1,0 +1,40 @@
+-- The arguments of each command, as clap knows them.
+use Rattle.std.specs.Prelude.{true, codes, Some}
+use Rattle.clap.specs.Words.{App, Rule, Text, new_app, new_rule, with_rule, with_subcommand}
+use Rattle.clap.specs.declared.builder.action.ArgAction.TheVariants.{Set, SetTrue}
+
+-- An option with a value, a flag, and the name of a file.
+abbrev pub valued : Text → Rule
+valued name = record (new_rule name) { long = Some name; action = Some Set; value_names = 1 }
+
+abbrev pub flag : Text → Rule
+flag name = record (new_rule name) { long = Some name; action = Some SetTrue }
+
+abbrev pub file : Text → Rule
+file name = record (new_rule name) { action = Some Set; required = true; value_names = 1 }
+
+-- The file of timetables and the departures, which each command has.
+abbrev pub with_departures : App → App
+with_departures app = with_rule (with_rule (with_rule app
+    (valued (codes "tp"))) (valued (codes "depart"))) (valued (codes "gap"))
+
+-- How the workers go.
+abbrev pub with_workers : App → App
+with_workers app = with_rule (with_rule (with_rule (with_rule app
+    (valued (codes "workers"))) (valued (codes "heaps"))) (valued (codes "turns"))) (valued (codes "seed"))
+
+unfoldable pub run_app : App
+run_app = with_rule (with_rule (with_workers (with_departures (with_rule (with_rule (new_app (codes "run"))
+    (file (codes "gr"))) (file (codes "ss"))))) (flag (codes "joint"))) (flag (codes "walks"))
+
+unfoldable pub pairs_app : App
+pairs_app = with_rule (with_workers (with_departures (with_rule (with_rule (new_app (codes "pairs"))
+    (file (codes "gr"))) (file (codes "p2p"))))) (flag (codes "walks"))
+
+-- The program, for words that begin with no command's name: they are refused, or ask for help or the version.
+abbrev pub bare_program : App
+bare_program = let app = new_app (codes "earliest") in
+    record app { top = record app.top { no_binary_name = true; has_version = true; subcommand_required = true } }
+
+unfoldable pub program : App
+program = with_subcommand (with_subcommand bare_program run_app.top) pairs_app.top

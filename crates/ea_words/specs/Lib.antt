@@ -1,0 +1,4 @@
+pub mod Grammar
+pub mod Meaning
+pub mod Refusals
+pub mod Values

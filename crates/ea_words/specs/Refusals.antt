@@ -1,0 +1,97 @@
+-- Why words ask for nothing.
+use Rattle.std.specs.Prelude.{◌≡◌, Bool, true, false, List, [], ◌∷◌, codes, Option, Some, None}
+use Rattle.clap.specs.Words.{Kinds, IsAmong, Row, Text, fault_of, matches_of}
+use Rattle.clap.specs.Words.{kind_of}
+use Rattle.clap.specs.declared.error.Error.{Error}
+use Rattle.clap.specs.declared.error.kind.ErrorKind.{ErrorKind}
+use Rattle.clap.specs.declared.error.kind.ErrorKind.TheVariants as kind
+use Rattle.clap.specs.declared.error.kind.ErrorKind.TheVariants.{DisplayHelp, DisplayVersion, InvalidSubcommand, MissingRequiredArgument}
+use Rattle.ea_words.specs.declared.fault.CommandFault.{CommandFault}
+use Rattle.ea_words.specs.declared.fault.CommandFault.TheVariants.{Words, BadOption, OutOfMemory}
+use Rattle.ea_words.specs.declared.options.Command.{Command}
+use Rattle.ea_words.specs.Grammar.{program}
+use Rattle.ea_words.specs.Meaning.{Files, Verb, stored, verb_of, app_by, second_by, files_by, meaning_by, asked, files_of, options_of}
+
+-- Whether a text of this kind was asked for.
+abbrev pub is_shown : ErrorKind → Bool
+is_shown DisplayHelp = true
+is_shown DisplayVersion = true
+is_shown _ = false
+
+-- The kinds of error that clap gives for the words, none where it takes them. Words that begin with no command's name
+-- are refused in any case.
+abbrev pub some_kind : Kinds → Kinds
+some_kind [] = InvalidSubcommand ∷ []
+some_kind (kind ∷ kinds) = kind ∷ kinds
+
+-- A command whose file's name is missing is refused in any case.
+abbrev pub named_kinds : Option Files → Kinds → Kinds
+named_kinds (Some files) kinds = kinds
+named_kinds None [] = MissingRequiredArgument ∷ []
+named_kinds None (kind ∷ kinds) = kind ∷ kinds
+
+abbrev pub kinds_by : Option Verb → List Text → Kinds
+kinds_by (Some verb) words = named_kinds (files_by verb words) (fault_of (app_by verb) words)
+kinds_by None words = some_kind (fault_of program words)
+
+-- The names are there, and some option's value is no number or out of its limits.
+abbrev pub HasBadOption : Text → List Row → Type 0
+HasBadOption second rows = (files : Files) × (files_of second rows ≡ Some files) × (options_of rows ≡ None)
+
+abbrev pub IsBadBy : Option Verb → List Text → Type 0
+IsBadBy (Some verb) words = HasBadOption (second_by verb) (matches_of (app_by verb) words)
+IsBadBy None words = ⊥
+
+-- A text has one of the kinds, and tells whether it was asked for.
+abbrev pub IsTextOf : Kinds → Bool → Type 0
+IsTextOf kinds help = (kind : ErrorKind) × IsAmong kind kinds × (help ≡ is_shown kind)
+
+-- A refusal where clap gives these kinds.
+abbrev pub IsRefusalBy : Kinds → CommandFault → Type 0
+IsRefusalBy kinds (Words help text) = IsTextOf kinds help
+IsRefusalBy kinds BadOption = ⊥
+IsRefusalBy kinds OutOfMemory = Unit {0}
+
+-- What is said of clap's error.
+abbrev pub IsFaultOf : Error → CommandFault → Type 0
+IsFaultOf error (Words help text) = ((kind_of error ≡ kind.OutOfMemory) → ⊥) × (help ≡ is_shown (kind_of error))
+IsFaultOf error BadOption = ⊥
+IsFaultOf error OutOfMemory = Unit {0}
+
+-- A text that nobody asked for, or refused memory.
+abbrev pub IsMissing : CommandFault → Type 0
+IsMissing (Words help text) = help ≡ false
+IsMissing BadOption = ⊥
+IsMissing OutOfMemory = Unit {0}
+
+-- Why rows ask for nothing: a name is missing, or an option's value is bad.
+abbrev pub IsUnasked : Text → List Row → CommandFault → Type 0
+IsUnasked second rows (Words help text) = (files_of second rows ≡ None) × (help ≡ false)
+IsUnasked second rows BadOption = HasBadOption second rows
+IsUnasked second rows OutOfMemory = Unit {0}
+
+-- Words that begin with a command's name, or with none, are refused for this. A text comes only where clap refuses the
+-- words or a name is missing, and tells whether it was asked for; BadOption comes only where clap takes them; memory may
+-- always be refused.
+abbrev pub IsRefusedBy : Option Verb → List Text → CommandFault → Type 0
+IsRefusedBy verb words (Words help text) = IsTextOf (kinds_by verb words) help
+IsRefusedBy verb words BadOption = (kinds_by verb words ≡ []) × IsBadBy verb words
+IsRefusedBy verb words OutOfMemory = Unit {0}
+
+-- Clap takes the words of a command, and they ask for this.
+pub record AsksBy (verb : Verb) (words : List Text) (command : Command) : Type 0 where
+  pub taken : kinds_by (Some verb) words ≡ []
+  pub means : meaning_by verb words ≡ Some (asked command)
+
+abbrev pub IsRefusal : List Text → CommandFault → Type 0
+IsRefusal [] fault = ⊥
+IsRefusal (word ∷ words) fault = IsRefusedBy (verb_of word) (word ∷ words) fault
+
+abbrev pub AsksAs : Option Verb → List Text → Command → Type 0
+AsksAs (Some verb) words command = AsksBy verb words command
+AsksAs None words command = ⊥
+
+-- No words ask for the stored run, others for what their command makes of them.
+abbrev pub Asks : List Text → Command → Type 0
+Asks [] command = asked command ≡ stored
+Asks (word ∷ words) command = AsksAs (verb_of word) (word ∷ words) command

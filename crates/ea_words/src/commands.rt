@@ -1,0 +1,97 @@
+//! The commands, as clap is told of them.
+ghost use Rattle.std.specs.Prelude.{◌≡◌, IfOk, false};
+ghost use Rattle.clap.specs.Words.{app_of, with_subcommand};
+ghost use Rattle.clap.specs.declared.builder.command.Command.TheViews.{out-Command as fields_of};
+ghost use Rattle.ea_words.specs.Grammar.{run_app, pairs_app, bare_program, program};
+
+use crate::arguments::{file, flag, with_arg, with_departures, with_workers};
+use clap::Command;
+use std::alloc::{AllocError, Global};
+
+const ABOUT: &str = "Computes earliest arrivals in a road network whose travel times depend on the departure";
+const MORE: &str = "Without any words the program answers a small network that is built in.";
+const RUN: &str = "Writes the earliest arrival at every node from each source";
+const RUN_MORE: &str = "Example:\n  earliest run roads.gr starts.ss --tp times.tp --depart 28800 --walks\n\nA problem is a line `s S D` (source, departure), then for each node V a line `d V A`\nwith its earliest arrival A, or `d V inf`. With --walks a line `w V k e1 .. ek` follows,\nthe arcs of a walk that attains it.";
+const PAIRS: &str = "Writes the earliest arrival at the target of each pair";
+const PAIRS_MORE: &str = "Example:\n  earliest pairs roads.gr trips.p2p --depart 28800 --gap 60\n\nA pair is a line `q S T D` (source, target, departure), then a line `d T A` with its\nearliest arrival A, or `d T inf`.";
+
+/// The command `run GR SS`.
+#[tactic(auto, unfolding(crate::specs::Grammar::run_app))]
+pub(crate) fn run_command<'a>(alloc: Global) -> Result<Command<'a>, AllocError>
+    ensures app { IfOk result (λ c. app_of c ≡ run_app) }
+    ensures local { IfOk result (λ c. (fields_of c).has_globals ≡ false) }
+{
+    let command = Command::new(alloc, "run").about(RUN).after_help(RUN_MORE);
+    let command = with_arg(command, file(alloc, "gr", "GR", "The network (.gr)"))?;
+    let command = with_arg(command, file(alloc, "ss", "SS", "The sources (.ss)"))?;
+    let command = with_departures(alloc, command)?;
+    let command = with_workers(alloc, command)?;
+    let command = with_arg(
+        command,
+        flag(alloc, "joint", "Takes all sources as one problem"),
+    )?;
+    let command = with_arg(
+        command,
+        flag(alloc, "walks", "Writes the walk to each node that is reached"),
+    )?;
+    Ok(command)
+}
+
+/// The command `pairs GR P2P`.
+#[tactic(auto, unfolding(crate::specs::Grammar::pairs_app))]
+pub(crate) fn pairs_command<'a>(alloc: Global) -> Result<Command<'a>, AllocError>
+    ensures app { IfOk result (λ c. app_of c ≡ pairs_app) }
+    ensures local { IfOk result (λ c. (fields_of c).has_globals ≡ false) }
+{
+    let command = Command::new(alloc, "pairs")
+        .about(PAIRS)
+        .after_help(PAIRS_MORE);
+    let command = with_arg(command, file(alloc, "gr", "GR", "The network (.gr)"))?;
+    let command = with_arg(
+        command,
+        file(alloc, "p2p", "P2P", "The pairs of source and target (.p2p)"),
+    )?;
+    let command = with_departures(alloc, command)?;
+    let command = with_workers(alloc, command)?;
+    let command = with_arg(
+        command,
+        flag(
+            alloc,
+            "walks",
+            "Writes the walk to each target that is reached",
+        ),
+    )?;
+    Ok(command)
+}
+
+/// The program with no command yet.
+fn bare_program<'a>(alloc: Global) -> Command<'a>
+    ensures { app_of result ≡ bare_program }
+{
+    Command::new(alloc, "earliest")
+        .version("0.1.0")
+        .about(ABOUT)
+        .after_help(MORE)
+        .no_binary_name(true)
+        .subcommand_required(true)
+}
+
+/// A command with one more command below it.
+fn with_command<'a>(
+    command: Command<'a>,
+    below: Command<'a>,
+) -> Result<Command<'a>, AllocError>
+    requires { (fields_of below).has_globals ≡ false }
+    ensures { IfOk result (λ c. app_of c ≡ with_subcommand (app_of command.entry) (app_of below.entry).top) }
+{
+    command.subcommand(below)
+}
+
+/// The program, for words that begin with no command's name.
+pub(crate) fn program<'a>(alloc: Global) -> Result<Command<'a>, AllocError>
+    ensures { IfOk result (λ c. app_of c ≡ program) }
+{
+    let command = with_command(bare_program(alloc), run_command(alloc)?)?;
+    let command = with_command(command, pairs_command(alloc)?)?;
+    Ok(command)
+}

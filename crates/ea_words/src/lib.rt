@@ -1,0 +1,16 @@
+//! The command line of `earliest`: what its words ask for, and the texts that explain them.
+#![tactic(auto)]
+
+mod arguments;
+mod commands;
+mod fault;
+mod meaning;
+mod options;
+mod values;
+
+pub use fault::CommandFault;
+pub use options::{Command, RunOptions};
+
+
+#[cfg(test)]
+mod tests;

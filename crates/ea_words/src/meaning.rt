@@ -1,0 +1,209 @@
+//! What words ask for.
+ghost use Rattle.std.specs.Prelude.{◌≡◌, IfOk, IfErr, true, map, codes, option_map, is_some, Some, None, [], ◌∷◌};
+ghost use Rattle.clap.specs.Words.{app_of, fault_of, found_of, kind_of, matches_of, rows_of, is_simple, is_simple_and_free, IsAmong};
+ghost use Rattle.ea_words.specs.Meaning.{run_verb, pairs_verb};
+ghost use Rattle.ea_words.specs.Meaning.{files, files_of, options_of};
+ghost use Rattle.ea_words.specs.Refusals.{Asks, AsksBy, IsRefusal, IsRefusedBy, IsRefusalBy, IsFaultOf, IsMissing, IsUnasked, is_shown};
+
+use crate::commands::{pairs_command, program, run_command};
+use crate::fault::CommandFault;
+use crate::options::{Command, RunOptions};
+use crate::values::{has_flag, option_number, text_of};
+use clap::error::ErrorKind;
+use clap::{ArgMatches, Error};
+use std::alloc::Global;
+use std::convert::AsStr;
+
+const LAST_TIME: u64 = 281_474_976_710_655;
+
+/// The options of a command, where each is a number within its limits.
+#[tactic(auto, unfolding(crate::specs::Meaning::options_of))]
+fn options_in(matches: &ArgMatches<'_>) -> Option<RunOptions>
+    ensures { result ≡ options_of (rows_of (found_of matches.now)) }
+{
+    let workers = option_number(matches, "workers", 4, 1, 16)?;
+    let heaps = option_number(matches, "heaps", 2, 2, 8)?;
+    let turns = option_number(matches, "turns", 1_000_000, 0, 1_000_000_000)?;
+    let seed = option_number(matches, "seed", 1, 0, u64::MAX)?;
+    let depart = option_number(matches, "depart", 0, 0, LAST_TIME)?;
+    let gap = option_number(matches, "gap", 0, 0, LAST_TIME)?;
+    Some(RunOptions {
+        joint: has_flag(matches, "joint"),
+        walks: has_flag(matches, "walks"),
+        stats: has_flag(matches, "stats"),
+        workers,
+        heaps,
+        turns,
+        seed,
+        depart,
+        gap,
+    })
+}
+
+/// Whether a text of this kind was asked for.
+fn is_asked_for(kind: ErrorKind) -> bool
+    ensures { result ≡ is_shown kind }
+{
+    matches!(kind, ErrorKind::DisplayHelp | ErrorKind::DisplayVersion)
+}
+
+/// What clap's error says.
+fn fault_of_error(alloc: Global, error: Error) -> CommandFault
+    ensures { IsFaultOf error result }
+{
+    let kind = error.kind();
+    if matches!(kind, ErrorKind::OutOfMemory) {
+        return CommandFault::OutOfMemory;
+    }
+    match format!(in alloc; "{error}") {
+        Ok(text) => CommandFault::Words {
+            help: is_asked_for(kind),
+            text,
+        },
+        Err(_) => CommandFault::OutOfMemory,
+    }
+}
+
+/// What clap makes of words.
+fn matches_in<'a, S: AsStr>(
+    alloc: Global,
+    command: clap::Command<'a>,
+    words: &'a [S],
+) -> Result<ArgMatches<'a>, CommandFault>
+    requires simple { is_simple (app_of command) ≡ true }
+    requires free { is_simple_and_free (app_of command) ≡ true }
+    ensures taken { IfOk result (λ m. fault_of (app_of command.entry) (map S.text words.entry.now) ≡ []) }
+    ensures rows { IfOk result (λ m. rows_of (found_of m) ≡ matches_of (app_of command.entry) (map S.text words.entry.now)) }
+    ensures refused { IfErr result (IsRefusalBy (fault_of (app_of command.entry) (map S.text words.entry.now))) }
+{
+    match command.try_get_matches_from(words) {
+        Ok(matches) => Ok(matches),
+        Err(error) => Err(fault_of_error(alloc, error)),
+    }
+}
+
+/// The names of a command's files.
+#[derive(Clone, Copy, Debug)]
+struct Names<'a> {
+    gr: &'a str,
+    starts: &'a str,
+    tp: Option<&'a str>,
+}
+
+/// The names of a command's files; the second is called so.
+#[tactic(auto, unfolding(crate::specs::Meaning::files_of))]
+fn names_in<'a>(matches: &ArgMatches<'a>, second: &str) -> Option<Names<'a>>
+    ensures { option_map files result ≡ files_of second.now (rows_of (found_of matches.now)) }
+{
+    let gr = text_of(matches, "gr")?;
+    let starts = text_of(matches, second)?;
+    let tp = text_of(matches, "tp");
+    Some(Names { gr, starts, tp })
+}
+
+/// What a command asks for: its files and its options.
+fn asked_in<'a>(
+    alloc: Global,
+    matches: &ArgMatches<'a>,
+    second: &str,
+) -> Result<(Names<'a>, RunOptions), CommandFault>
+    ensures ok { IfOk result (λ asked. (files_of second.now (rows_of (found_of matches.now)) ≡ Some (files asked.0)) × (options_of (rows_of (found_of matches.now)) ≡ Some asked.1)) }
+    ensures err { IfErr result (IsUnasked second.now (rows_of (found_of matches.now))) }
+{
+    let Some(names) = names_in(matches, second) else {
+        return Err(missing_name(alloc));
+    };
+    match options_in(matches) {
+        Some(options) => Ok((names, options)),
+        None => Err(CommandFault::BadOption),
+    }
+}
+
+/// What is said where a file's name is missing.
+fn missing_name(alloc: Global) -> CommandFault
+    ensures { IsMissing result }
+{
+    match String::from_str(alloc, "error: the name of a file is missing\n") {
+        Ok(text) => CommandFault::Words { help: false, text },
+        Err(_) => CommandFault::OutOfMemory,
+    }
+}
+
+/// What words that begin with `run` ask for.
+fn run_of_words<'a, S: AsStr>(
+    alloc: Global,
+    words: &'a [S],
+) -> Result<Command<'a>, CommandFault>
+    ensures ok { IfOk result (AsksBy run_verb (map S.text words.entry.now)) }
+    ensures err { IfErr result (IsRefusedBy (Some run_verb) (map S.text words.entry.now)) }
+{
+    let matches = matches_in(alloc, run_command(alloc)?, words)?;
+    let (names, options) = asked_in(alloc, &matches, "ss")?;
+    Ok(Command::Run {
+        gr: names.gr,
+        ss: names.starts,
+        tp: names.tp,
+        options,
+    })
+}
+
+/// What words that begin with `pairs` ask for.
+fn pairs_of_words<'a, S: AsStr>(
+    alloc: Global,
+    words: &'a [S],
+) -> Result<Command<'a>, CommandFault>
+    ensures ok { IfOk result (AsksBy pairs_verb (map S.text words.entry.now)) }
+    ensures err { IfErr result (IsRefusedBy (Some pairs_verb) (map S.text words.entry.now)) }
+{
+    let matches = matches_in(alloc, pairs_command(alloc)?, words)?;
+    let (names, options) = asked_in(alloc, &matches, "p2p")?;
+    Ok(Command::Pairs {
+        gr: names.gr,
+        p2p: names.starts,
+        tp: names.tp,
+        options,
+    })
+}
+
+/// Why words that begin with no command's name ask for nothing.
+fn refusal_of_words<'a, S: AsStr>(alloc: Global, words: &'a [S]) -> CommandFault
+    ensures { IsRefusedBy None (map S.text words.entry.now) result }
+{
+    let command = match program(alloc) {
+        Ok(command) => command,
+        Err(_) => return CommandFault::OutOfMemory,
+    };
+    match matches_in(alloc, command, words) {
+        Ok(_) => missing_name(alloc),
+        Err(fault) => fault,
+    }
+}
+
+impl RunOptions {
+    /// What the words of a command line, without the program's name, ask for.
+    ///
+    /// No words ask for the stored run. The first of other words is a command's name; an option's value is read as the
+    /// numbers of the input files are.
+    ///
+    /// Errors: `Words` where clap refuses the words or is asked for a text, `BadOption` where it takes them and an
+    /// option's value is no number or out of its limits, `OutOfMemory` where memory is refused.
+    pub fn of_words<'a, S: AsStr>(
+        alloc: Global,
+        words: &'a [S],
+    ) -> Result<Command<'a>, CommandFault>
+        ensures ok { IfOk result (Asks (map S.text words.entry.now)) }
+        ensures err { IfErr result (IsRefusal (map S.text words.entry.now)) }
+    {
+        let Some(first) = words.first() else {
+            return Ok(Command::Stored);
+        };
+        let verb = first.as_str();
+        if verb == "run" {
+            run_of_words(alloc, words)
+        } else if verb == "pairs" {
+            pairs_of_words(alloc, words)
+        } else {
+            Err(refusal_of_words(alloc, words))
+        }
+    }
+}

@@ -1,0 +1,45 @@
+//! What words may ask for.
+
+/// How a run is to go and what its report shows. Each number is within its limits.
+#[derive(Clone, Copy, Debug, PartialEq, Eq)]
+pub struct RunOptions {
+    /// All sources are one problem.
+    pub joint: bool,
+    /// The report shows the walk to each node that is reached.
+    pub walks: bool,
+    /// The report ends with totals of what the workers did.
+    pub stats: bool,
+    /// How many workers run at once: 1 to 16.
+    pub workers: u64,
+    /// How many heaps the queue has for each worker: 2 to 8.
+    pub heaps: u64,
+    /// How many turns a worker takes at most: 0 to 1,000,000,000.
+    pub turns: u64,
+    /// The seed of worker 0's random words; worker i's is greater by i, modulo 2^64.
+    pub seed: u64,
+    /// The departure of the first source: 0 to HORIZON.
+    pub depart: u64,
+    /// By how much the departure of each later source is greater: 0 to HORIZON.
+    pub gap: u64,
+}
+
+/// What words ask for. The names of files lie in the words.
+#[derive(Clone, Copy, Debug)]
+pub enum Command<'a> {
+    /// The run that is built in.
+    Stored,
+    /// Arrivals from the sources of the file `ss`.
+    Run {
+        gr: &'a str,
+        ss: &'a str,
+        tp: Option<&'a str>,
+        options: RunOptions,
+    },
+    /// Arrivals at the targets of the file `p2p`.
+    Pairs {
+        gr: &'a str,
+        p2p: &'a str,
+        tp: Option<&'a str>,
+        options: RunOptions,
+    },
+}

@@ -1,0 +1,1 @@
+p aux sp ss 0
