@@ -11,7 +11,7 @@ for crate in ea_text ea_input ea_road ea_finish ea_report; do
     rm -rf "$scratch/writer/crates/$crate/out"
     grep "^$crate:" "$here/../crates.txt" >> "$scratch/writer/crates.txt"
 done
-cp -r "$here/writer/src" "$scratch/writer/crates/write_times"
+mkdir -p "$scratch/writer/crates/write_times"/src && cp "$here/writer/program/main.rt.txt" "$scratch/writer/crates/write_times"/src/main.rt
 echo 'write_times: ea_input ea_road ea_finish ea_report anyhow' >> "$scratch/writer/crates.txt"
 (cd "$scratch/writer/crates/write_times" && rt run -- "$scratch/road10000.gr")
 "$scratch/writer/crates/write_times/out/write_times" "$scratch/road2500000.gr"
