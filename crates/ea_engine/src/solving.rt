@@ -51,7 +51,7 @@ struct Ended<R, T> {
     seeded: u128,
     returned: u128,
     drained: u128,
-    open: u128,
+    opened: u128,
     counters: Vec<Counters>,
     rngs: Vec<R>,
     tracers: Vec<T>,
@@ -85,7 +85,7 @@ fn run_named<
     requires tracers { All T.IsAlwaysCallable tracers.items }
     ensures finished { IfOk result (λ ended. IsFinished network.now (P.answers profiles.now) query.now ended.finished.table.items ended.finished.todo) }
     ensures walks { IfOk result (λ ended. ended.finished.todo.walks ≡ walks) }
-    ensures tally { IfOk result (λ ended. IsTally (length query.now.sources) ended.seeded ended.returned ended.drained ended.open ended.counters.items) }
+    ensures tally { IfOk result (λ ended. IsTally (length query.now.sources) ended.seeded ended.returned ended.drained ended.opened ended.counters.items) }
     ensures reports { IfOk result (λ ended. AreReports R.stream T.step settings.turns rngs.items ended.rngs.items tracers.items ended.tracers.items ended.counters.items) }
     ensures len { IfOk result (λ ended. (vec_len ended.counters ≡ settings.workers) × (vec_len ended.rngs ≡ settings.workers) × (vec_len ended.tracers ≡ settings.workers)) }
 {
@@ -111,14 +111,14 @@ fn run_named<
         gate,
         tracers,
     );
-    let open = todo.len() as u128;
+    let opened = todo.len() as u128;
     let finished = finish(network, profiles, query, table, todo);
     Ok(Ended {
         finished,
         seeded,
         returned,
         drained,
-        open,
+        opened,
         counters,
         rngs,
         tracers,
@@ -166,7 +166,7 @@ pub fn solve<
         seeded,
         returned,
         drained,
-        open,
+        opened,
         counters,
         rngs,
         tracers,
@@ -176,7 +176,7 @@ pub fn solve<
         seeded,
         returned,
         drained,
-        finish: open,
+        finish: opened,
         counters,
         rngs,
         tracers,
@@ -218,7 +218,7 @@ pub fn solve_arrivals<
         seeded,
         returned,
         drained,
-        open,
+        opened,
         counters,
         rngs,
         tracers,
@@ -228,7 +228,7 @@ pub fn solve_arrivals<
         seeded,
         returned,
         drained,
-        finish: open,
+        finish: opened,
         counters,
         rngs,
         tracers,

@@ -331,10 +331,12 @@ fn send_problem<W: ByteOut>(
 ) -> Result<u128, WriteFault>
     requires of { IsOf network.now query.now answer.now }
     requires walks { walks ≡ true → answer.now.walks ≡ true }
-    ensures ok { IfOk result (λ written. IsWhole (seen (W.contents out.old) (W.Device.failed out.old) (W.Device.interrupted out.old)) (seen (W.contents out.new) (W.Device.failed out.new) (W.Device.interrupted out.new))
-        (problem_text walks network.now.nodes query.now answer.now) written) }
-    ensures err { IfErr result (λ fault. IsCutBy (seen (W.contents out.old) (W.Device.failed out.old) (W.Device.interrupted out.old)) (seen (W.contents out.new) (W.Device.failed out.new) (W.Device.interrupted out.new))
-        (problem_text walks network.now.nodes query.now answer.now) fault) }
+    ensures ok { let before = seen (W.contents out.old) (W.Device.failed out.old) (W.Device.interrupted out.old) in
+        let after = seen (W.contents out.new) (W.Device.failed out.new) (W.Device.interrupted out.new) in
+        IfOk result (IsWhole before after (problem_text walks network.now.nodes query.now answer.now)) }
+    ensures err { let before = seen (W.contents out.old) (W.Device.failed out.old) (W.Device.interrupted out.old) in
+        let after = seen (W.contents out.new) (W.Device.failed out.new) (W.Device.interrupted out.new) in
+        IfErr result (IsCutBy before after (problem_text walks network.now.nodes query.now answer.now)) }
 {
     let mut pending = Pending::new(alloc);
     pending.put_problem(alloc, network, query, answer, walks, out)?;
@@ -358,10 +360,12 @@ pub fn write_problem<W: ByteOut>(
 ) -> Result<u128, WriteFault>
     requires of { IsOf network.now query.now answer.now }
     requires walks { options.walks ≡ true → answer.now.walks ≡ true }
-    ensures ok { IfOk result (λ written. IsWhole (seen (W.contents out.old) (W.Device.failed out.old) (W.Device.interrupted out.old)) (seen (W.contents out.new) (W.Device.failed out.new) (W.Device.interrupted out.new))
-        (problem_text options.walks network.now.nodes query.now answer.now) written) }
-    ensures err { IfErr result (λ fault. IsCutBy (seen (W.contents out.old) (W.Device.failed out.old) (W.Device.interrupted out.old)) (seen (W.contents out.new) (W.Device.failed out.new) (W.Device.interrupted out.new))
-        (problem_text options.walks network.now.nodes query.now answer.now) fault) }
+    ensures ok { let before = seen (W.contents out.old) (W.Device.failed out.old) (W.Device.interrupted out.old) in
+        let after = seen (W.contents out.new) (W.Device.failed out.new) (W.Device.interrupted out.new) in
+        IfOk result (IsWhole before after (problem_text options.walks network.now.nodes query.now answer.now)) }
+    ensures err { let before = seen (W.contents out.old) (W.Device.failed out.old) (W.Device.interrupted out.old) in
+        let after = seen (W.contents out.new) (W.Device.failed out.new) (W.Device.interrupted out.new) in
+        IfErr result (IsCutBy before after (problem_text options.walks network.now.nodes query.now answer.now)) }
     // WriteFailed comes only where the device's counts show a reason.
     ensures device { IfErr result (λ fault. fault.kind ≡ WriteFaultKind.WriteFailed →
         HasGivenUp (W.Device.failed out.old) (W.Device.failed out.new) (W.Device.interrupted out.old) (W.Device.interrupted out.new)) }

@@ -11,16 +11,24 @@ use crate::sending::send;
 use ea_input::ByteOut;
 use itoa::Buffer;
 
-/// Totals over all problems and workers.
+/// Totals over all problems and workers of a run.
 #[derive(Clone, Copy, Debug, PartialEq, Eq)]
 pub struct Totals {
+    /// Entries of sources that the heaps took.
     pub seeded: u128,
+    /// Entries that workers pushed.
     pub pushed: u128,
+    /// Entries that workers popped.
     pub popped: u128,
+    /// Popped entries whose node had an earlier arrival by then.
     pub stale: u128,
+    /// Popped entries whose node's arcs were scanned.
     pub scanned: u128,
+    /// Entries that workers or seeds had to keep since a push was refused.
     pub returned: u128,
+    /// Entries left in the heaps when the workers had ended.
     pub drained: u128,
+    /// Nodes open when the finishing pass began.
     pub finish: u128,
 }
 
@@ -135,24 +143,21 @@ impl Direct {
     }
 }
 
-/// A total and its name.
-#[derive(Clone, Copy)]
-struct Row<'a> {
-    name: &'a [u8],
-    total: u128,
-}
+/// The name of a total, and the total.
+type Row<'a> = (&'a [u8], u128);
 
 impl Direct {
+    /// Sends the lines of totals.
     fn put_totals<W: ByteOut>(&mut self, rows: &[Row<'_>], out: &mut W) -> Result<(), WriteFault>
         requires { self.old.written + length rows.now * (6 * 2 ^ 64) + 6 * 2 ^ 64 < 2 ^ 128 }
         ensures ok { OnOk result (Adds (seen (W.contents out.old) (W.Device.failed out.old) (W.Device.interrupted out.old)) [] self.old.written self.old.interruptions
-            (seen (W.contents out.new) (W.Device.failed out.new) (W.Device.interrupted out.new)) [] self.new.written self.new.interruptions (flat_map (λ row. total_line (row.name.now, row.total)) rows.now)) }
+            (seen (W.contents out.new) (W.Device.failed out.new) (W.Device.interrupted out.new)) [] self.new.written self.new.interruptions (flat_map (λ row. total_line (row.0.now, row.1)) rows.now)) }
         ensures err { IfErr result (λ fault. Stops (seen (W.contents out.old) (W.Device.failed out.old) (W.Device.interrupted out.old)) [] self.old.written self.old.interruptions
-            (seen (W.contents out.new) (W.Device.failed out.new) (W.Device.interrupted out.new)) fault (flat_map (λ row. total_line (row.name.now, row.total)) rows.now)) }
+            (seen (W.contents out.new) (W.Device.failed out.new) (W.Device.interrupted out.new)) fault (flat_map (λ row. total_line (row.0.now, row.1)) rows.now)) }
         ensures device { IfErr result (λ fault. fault.kind ≡ WriteFaultKind.WriteFailed) }
     {
         for row in rows {
-            self.put_total(row.name, row.total, out)?;
+            self.put_total(row.0, row.1, out)?;
         }
         Ok(())
     }
@@ -160,45 +165,23 @@ impl Direct {
 
 /// Sends the eight totals, and answers how many bytes it sent.
 fn send_stats<W: ByteOut>(totals: &Totals, out: &mut W) -> Result<u128, WriteFault>
-    ensures ok { IfOk result (λ written. IsWhole (seen (W.contents out.old) (W.Device.failed out.old) (W.Device.interrupted out.old)) (seen (W.contents out.new) (W.Device.failed out.new) (W.Device.interrupted out.new))
-        (stats_text totals.now) written) }
-    ensures err { IfErr result (λ fault. IsCutBy (seen (W.contents out.old) (W.Device.failed out.old) (W.Device.interrupted out.old)) (seen (W.contents out.new) (W.Device.failed out.new) (W.Device.interrupted out.new))
-        (stats_text totals.now) fault) }
+    ensures ok { let before = seen (W.contents out.old) (W.Device.failed out.old) (W.Device.interrupted out.old) in
+        let after = seen (W.contents out.new) (W.Device.failed out.new) (W.Device.interrupted out.new) in
+        IfOk result (IsWhole before after (stats_text totals.now)) }
+    ensures err { let before = seen (W.contents out.old) (W.Device.failed out.old) (W.Device.interrupted out.old) in
+        let after = seen (W.contents out.new) (W.Device.failed out.new) (W.Device.interrupted out.new) in
+        IfErr result (IsCutBy before after (stats_text totals.now)) }
     ensures kind { IfErr result (λ fault. fault.kind ≡ WriteFaultKind.WriteFailed) }
 {
     let rows = [
-        Row {
-            name: b"seeded".as_slice(),
-            total: totals.seeded,
-        },
-        Row {
-            name: b"pushed".as_slice(),
-            total: totals.pushed,
-        },
-        Row {
-            name: b"popped".as_slice(),
-            total: totals.popped,
-        },
-        Row {
-            name: b"stale".as_slice(),
-            total: totals.stale,
-        },
-        Row {
-            name: b"scanned".as_slice(),
-            total: totals.scanned,
-        },
-        Row {
-            name: b"returned".as_slice(),
-            total: totals.returned,
-        },
-        Row {
-            name: b"drained".as_slice(),
-            total: totals.drained,
-        },
-        Row {
-            name: b"finish".as_slice(),
-            total: totals.finish,
-        },
+        (b"seeded".as_slice(), totals.seeded),
+        (b"pushed".as_slice(), totals.pushed),
+        (b"popped".as_slice(), totals.popped),
+        (b"stale".as_slice(), totals.stale),
+        (b"scanned".as_slice(), totals.scanned),
+        (b"returned".as_slice(), totals.returned),
+        (b"drained".as_slice(), totals.drained),
+        (b"finish".as_slice(), totals.finish),
     ];
     let mut direct = Direct {
         written: 0,
@@ -215,10 +198,12 @@ fn send_stats<W: ByteOut>(totals: &Totals, out: &mut W) -> Result<u128, WriteFau
 /// `WriteFailed` where a write failed, took nothing of bytes that were left, or was interrupted for
 /// the 1,001st time. The bytes written before a fault are the front of the text.
 pub fn write_stats<W: ByteOut>(totals: &Totals, out: &mut W) -> Result<u128, WriteFault>
-    ensures ok { IfOk result (λ written. IsWhole (seen (W.contents out.old) (W.Device.failed out.old) (W.Device.interrupted out.old)) (seen (W.contents out.new) (W.Device.failed out.new) (W.Device.interrupted out.new))
-        (stats_text totals.now) written) }
-    ensures err { IfErr result (λ fault. IsCutBy (seen (W.contents out.old) (W.Device.failed out.old) (W.Device.interrupted out.old)) (seen (W.contents out.new) (W.Device.failed out.new) (W.Device.interrupted out.new))
-        (stats_text totals.now) fault) }
+    ensures ok { let before = seen (W.contents out.old) (W.Device.failed out.old) (W.Device.interrupted out.old) in
+        let after = seen (W.contents out.new) (W.Device.failed out.new) (W.Device.interrupted out.new) in
+        IfOk result (IsWhole before after (stats_text totals.now)) }
+    ensures err { let before = seen (W.contents out.old) (W.Device.failed out.old) (W.Device.interrupted out.old) in
+        let after = seen (W.contents out.new) (W.Device.failed out.new) (W.Device.interrupted out.new) in
+        IfErr result (IsCutBy before after (stats_text totals.now)) }
     // It takes no memory, so the device is the only cause.
     ensures kind { IfErr result (λ fault. fault.kind ≡ WriteFaultKind.WriteFailed) }
     ensures device { IfErr result (λ fault. fault.kind ≡ WriteFaultKind.WriteFailed →

@@ -8,12 +8,20 @@ use crate::arguments::{file, flag, with_arg, with_departures, with_workers};
 use clap::Command;
 use std::alloc::{AllocError, Global};
 
-const ABOUT: &str = "Computes earliest arrivals in a road network whose travel times depend on the departure";
+const ABOUT: &str =
+    "Computes earliest arrivals in a road network whose travel times depend on the departure";
+
 const MORE: &str = "Without any words the program answers a small network that is built in.";
+
 const RUN: &str = "Writes the earliest arrival at every node from each source";
-const RUN_MORE: &str = "Example:\n  earliest run roads.gr starts.ss --tp times.tp --depart 28800 --walks\n\nA problem is a line `s S D` (source, departure), then for each node V a line `d V A`\nwith its earliest arrival A, or `d V inf`. With --walks a line `w V k e1 .. ek` follows,\nthe arcs of a walk that attains it.";
+
+const RUN_MORE: &str =
+    "Example:\n  earliest run roads.gr starts.ss --tp times.tp --depart 28800 --walks\n\nA problem is a line `s S D` (source, departure), then for each node V a line `d V A`\nwith its earliest arrival A, or `d V inf`. With --walks a line `w V k e1 .. ek` follows,\nthe arcs of a walk that attains it.";
+
 const PAIRS: &str = "Writes the earliest arrival at the target of each pair";
-const PAIRS_MORE: &str = "Example:\n  earliest pairs roads.gr trips.p2p --depart 28800 --gap 60\n\nA pair is a line `q S T D` (source, target, departure), then a line `d T A` with its\nearliest arrival A, or `d T inf`.";
+
+const PAIRS_MORE: &str =
+    "Example:\n  earliest pairs roads.gr trips.p2p --depart 28800 --gap 60\n\nA pair is a line `q S T D` (source, target, departure), then a line `d T A` with its\nearliest arrival A, or `d T inf`.";
 
 /// The command `run GR SS`.
 #[tactic(auto, unfolding(crate::specs::Grammar::run_app))]
@@ -32,7 +40,11 @@ pub(crate) fn run_command<'a>(alloc: Global) -> Result<Command<'a>, AllocError>
     )?;
     let command = with_arg(
         command,
-        flag(alloc, "walks", "Writes the walk to each node that is reached"),
+        flag(
+            alloc,
+            "walks",
+            "Writes the walk to each node that is reached",
+        ),
     )?;
     Ok(command)
 }
@@ -77,10 +89,7 @@ fn bare_program<'a>(alloc: Global) -> Command<'a>
 }
 
 /// A command with one more command below it.
-fn with_command<'a>(
-    command: Command<'a>,
-    below: Command<'a>,
-) -> Result<Command<'a>, AllocError>
+fn with_command<'a>(command: Command<'a>, below: Command<'a>) -> Result<Command<'a>, AllocError>
     requires { (fields_of below).has_globals ≡ false }
     ensures { IfOk result (λ c. app_of c ≡ with_subcommand (app_of command.entry) (app_of below.entry).top) }
 {

@@ -11,6 +11,5 @@ mod values;
 pub use fault::CommandFault;
 pub use options::{Command, RunOptions};
 
-
 #[cfg(test)]
 mod tests;

@@ -130,10 +130,7 @@ fn missing_name(alloc: Global) -> CommandFault
 }
 
 /// What words that begin with `run` ask for.
-fn run_of_words<'a, S: AsStr>(
-    alloc: Global,
-    words: &'a [S],
-) -> Result<Command<'a>, CommandFault>
+fn run_of_words<'a, S: AsStr>(alloc: Global, words: &'a [S]) -> Result<Command<'a>, CommandFault>
     ensures ok { IfOk result (AsksBy run_verb (map S.text words.entry.now)) }
     ensures err { IfErr result (IsRefusedBy (Some run_verb) (map S.text words.entry.now)) }
 {
@@ -148,10 +145,7 @@ fn run_of_words<'a, S: AsStr>(
 }
 
 /// What words that begin with `pairs` ask for.
-fn pairs_of_words<'a, S: AsStr>(
-    alloc: Global,
-    words: &'a [S],
-) -> Result<Command<'a>, CommandFault>
+fn pairs_of_words<'a, S: AsStr>(alloc: Global, words: &'a [S]) -> Result<Command<'a>, CommandFault>
     ensures ok { IfOk result (AsksBy pairs_verb (map S.text words.entry.now)) }
     ensures err { IfErr result (IsRefusedBy (Some pairs_verb) (map S.text words.entry.now)) }
 {

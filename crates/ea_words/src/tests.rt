@@ -30,39 +30,55 @@ fn no_words(rt: HostRuntime) {
 #[test]
 fn a_run(rt: HostRuntime) {
     let words = ["run", "g", "s", "--joint", "--gap", "5", "--workers", "03"];
-    let Some(Command::Run {
-        gr,
-        ss,
-        tp,
-        options,
-    }) = asked(&rt, words.as_slice())
+    let Some(
+        Command::Run {
+            gr,
+            ss,
+            tp,
+            options,
+        },
+    ) = asked(&rt, words.as_slice())
     else {
         assert!(rt; false);
         return;
     };
     assert!(rt; gr == "g" && ss == "s" && tp.is_none());
-    assert!(rt; options == RunOptions {
-        joint: true,
-        walks: false,
-        stats: false,
-        workers: 3,
-        heaps: 2,
-        turns: 1_000_000,
-        seed: 1,
-        depart: 0,
-        gap: 5,
-    });
+    assert!(rt;
+        options
+            == RunOptions {
+                joint: true,
+                walks: false,
+                stats: false,
+                workers: 3,
+                heaps: 2,
+                turns: 1_000_000,
+                seed: 1,
+                depart: 0,
+                gap: 5,
+            }
+    );
 }
 
 #[test]
 fn pairs_with_timetables(rt: HostRuntime) {
-    let words = ["pairs", "g", "--tp", "t", "--walks", "q", "--seed", "18446744073709551615"];
-    let Some(Command::Pairs {
-        gr,
-        p2p,
-        tp,
-        options,
-    }) = asked(&rt, words.as_slice())
+    let words = [
+        "pairs",
+        "g",
+        "--tp",
+        "t",
+        "--walks",
+        "q",
+        "--seed",
+        "18446744073709551615",
+    ];
+    let Some(
+        Command::Pairs {
+            gr,
+            p2p,
+            tp,
+            options,
+        },
+    ) = asked(&rt, words.as_slice())
     else {
         assert!(rt; false);
         return;
@@ -77,17 +93,48 @@ fn options_out_of_their_limits(rt: HostRuntime) {
     assert!(rt; is_bad(&rt, ["run", "g", "s", "--heaps", "1"].as_slice()));
     assert!(rt; is_bad(&rt, ["run", "g", "s", "--gap", "x"].as_slice()));
     assert!(rt; is_bad(&rt, ["run", "g", "s", "--gap", ""].as_slice()));
-    assert!(rt; is_bad(&rt, ["pairs", "g", "q", "--depart", "281474976710656"].as_slice()));
-    assert!(rt; is_bad(&rt, ["run", "g", "s", "--seed", "18446744073709551616"].as_slice()));
+    assert!(rt;
+        is_bad(
+            &rt,
+            ["pairs", "g", "q", "--depart", "281474976710656"].as_slice()
+        )
+    );
+    assert!(rt;
+        is_bad(
+            &rt,
+            ["run", "g", "s", "--seed", "18446744073709551616"].as_slice()
+        )
+    );
 }
 
 #[test]
 fn words_that_are_not_understood(rt: HostRuntime) {
     assert!(rt; says(&rt, ["run", "g"].as_slice(), false, "required"));
-    assert!(rt; says(&rt, ["walk", "g", "s"].as_slice(), false, "unrecognized subcommand 'walk'"));
+    assert!(rt;
+        says(
+            &rt,
+            ["walk", "g", "s"].as_slice(),
+            false,
+            "unrecognized subcommand 'walk'"
+        )
+    );
     assert!(rt; says(&rt, ["run", "g", "s", "--fast"].as_slice(), false, "--fast"));
-    assert!(rt; says(&rt, ["run", "g", "s", "--gap", "1", "--gap", "1"].as_slice(), false, "--gap"));
-    assert!(rt; says(&rt, ["pairs", "g", "q", "--joint"].as_slice(), false, "--joint"));
+    assert!(rt;
+        says(
+            &rt,
+            ["run", "g", "s", "--gap", "1", "--gap", "1"].as_slice(),
+            false,
+            "--gap"
+        )
+    );
+    assert!(rt;
+        says(
+            &rt,
+            ["pairs", "g", "q", "--joint"].as_slice(),
+            false,
+            "--joint"
+        )
+    );
     assert!(rt; says(&rt, ["--joint"].as_slice(), false, "--joint"));
     assert!(rt; says(&rt, ["--"].as_slice(), false, "subcommand"));
 }
@@ -98,6 +145,13 @@ fn texts_that_are_asked_for(rt: HostRuntime) {
     assert!(rt; says(&rt, ["-h"].as_slice(), true, "pairs"));
     assert!(rt; says(&rt, ["--version"].as_slice(), true, "earliest 0.1.0"));
     assert!(rt; says(&rt, ["help", "run"].as_slice(), true, "--joint"));
-    assert!(rt; says(&rt, ["run", "--help"].as_slice(), true, "Usage: run [OPTIONS] <GR> <SS>"));
+    assert!(rt;
+        says(
+            &rt,
+            ["run", "--help"].as_slice(),
+            true,
+            "Usage: run [OPTIONS] <GR> <SS>"
+        )
+    );
     assert!(rt; says(&rt, ["pairs", "-h"].as_slice(), true, "281474976710655"));
 }

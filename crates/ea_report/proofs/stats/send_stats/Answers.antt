@@ -7,7 +7,7 @@ use Rattle.ea_report.proofs.stats.send_stats.Goals as goal
 
 pub returns-in-Ok-clause-ok : goal.returns-in-Ok-clause-ok
 returns-in-Ok-clause-ok g c =
-    let text : flat_map (λ row. total_line (row.name.now, row.total)) c.as_slice-9.result.now ≡ stats_text c.args.totals.now = rw (c.as_slice-9.ensures, c.as_slice.ensures, c.as_slice-2.ensures, c.as_slice-3.ensures, c.as_slice-4.ensures, c.as_slice-5.ensures, c.as_slice-6.ensures, c.as_slice-7.ensures, c.as_slice-8.ensures) refl in
+    let text : flat_map (λ row. total_line (row.0.now, row.1)) c.as_slice-9.result.now ≡ stats_text c.args.totals.now = rw (c.as_slice-9.ensures, c.as_slice.ensures, c.as_slice-2.ensures, c.as_slice-3.ensures, c.as_slice-4.ensures, c.as_slice-5.ensures, c.as_slice-6.ensures, c.as_slice-7.ensures, c.as_slice-8.ensures) refl in
     let first = (seen (g.W.ByteOut.contents c.args.out.now) (g.W.Device.failed c.args.out.now) (g.W.Device.interrupted c.args.out.now)) in
     let start = way_start first [] 0 0 refl refl refl in
     let now = (seen (g.W.ByteOut.contents c.put_totals.new.out) (g.W.Device.failed c.put_totals.new.out) (g.W.Device.interrupted c.put_totals.new.out)) in
@@ -15,7 +15,7 @@ returns-in-Ok-clause-ok g c =
 
 pub returns-in-Err-clause-err : goal.returns-in-Err-clause-err
 returns-in-Err-clause-err g c =
-    let text : flat_map (λ row. total_line (row.name.now, row.total)) c.as_slice-9.result.now ≡ stats_text c.args.totals.now = rw (c.as_slice-9.ensures, c.as_slice.ensures, c.as_slice-2.ensures, c.as_slice-3.ensures, c.as_slice-4.ensures, c.as_slice-5.ensures, c.as_slice-6.ensures, c.as_slice-7.ensures, c.as_slice-8.ensures) refl in
+    let text : flat_map (λ row. total_line (row.0.now, row.1)) c.as_slice-9.result.now ≡ stats_text c.args.totals.now = rw (c.as_slice-9.ensures, c.as_slice.ensures, c.as_slice-2.ensures, c.as_slice-3.ensures, c.as_slice-4.ensures, c.as_slice-5.ensures, c.as_slice-6.ensures, c.as_slice-7.ensures, c.as_slice-8.ensures) refl in
     let first = (seen (g.W.ByteOut.contents c.args.out.now) (g.W.Device.failed c.args.out.now) (g.W.Device.interrupted c.args.out.now)) in
     let now = (seen (g.W.ByteOut.contents c.put_totals.new.out) (g.W.Device.failed c.put_totals.new.out) (g.W.Device.interrupted c.put_totals.new.out)) in
     let start = way_start first [] 0 0 refl refl refl in
