@@ -2,7 +2,7 @@ ghost use Rattle.std.specs.Prelude.{◌≡◌, ◌≤◌, ◌<◌, ◌↔◌, If
 ghost use Rattle.ea_road.specs.Roads.{AreSideBySide, FitsNodes, IsArc, IsNetwork, IsNode, leaving, top_class};
 
 use crate::arc::Arc;
-use crate::index::{arcs_beside, ends_by_tail, place_by_tail};
+use crate::index::{ends_by_tail, place_by_tail};
 use std::alloc::{AllocError, Global};
 use std::marker::Model;
 
@@ -45,8 +45,7 @@ impl Network {
         ensures { IfOk result (λ network. network ≡ record { nodes = nodes; arcs = arcs.items }) }
     {
         let mut starts = ends_by_tail(alloc, nodes, &arcs)?;
-        let numbers = place_by_tail(alloc, nodes, &arcs, &mut starts)?;
-        let by_tail = arcs_beside(alloc, nodes, &arcs, &numbers)?;
+        let (numbers, by_tail) = place_by_tail(alloc, nodes, &arcs, &mut starts)?;
         Ok(Network {
             nodes,
             arcs,

@@ -1,0 +1,9 @@
+//! Tests of whole runs: the worked examples, and many small networks beside one thread.
+#![tactic(auto)]
+
+#[cfg(test)]
+mod constant;
+#[cfg(test)]
+mod counted;
+#[cfg(test)]
+mod given;
