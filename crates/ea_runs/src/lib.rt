@@ -7,3 +7,7 @@ mod constant;
 mod counted;
 #[cfg(test)]
 mod given;
+#[cfg(test)]
+mod met;
+#[cfg(test)]
+mod random;

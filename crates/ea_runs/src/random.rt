@@ -1,0 +1,76 @@
+//! Many small networks, solved by several workers and by one thread.
+use crate::given::{Row, pose};
+use ea_engine::{Answer, Flow, NoGate, Settings, Turn, solve, solve_alone};
+use ea_road::is_problem;
+use rand_core::{Rng, SeedableRng};
+use rand_xoshiro::Xoshiro256PlusPlus;
+use std::alloc::{AllocError, Global};
+use std::test::Fail;
+
+const NODES: u32 = 24;
+
+/// The rows of a network with three times as many arcs as nodes.
+fn rows_of(alloc: Global, seed: u64) -> Result<Vec<Row>, AllocError> {
+    let mut rng = Xoshiro256PlusPlus::seed_from_u64(seed);
+    let mut rows = Vec::new(alloc);
+    for _ in 0..3 * NODES {
+        let tail = (rng.next_u64() % u64::from(NODES)) as u32 + 1;
+        let head = (rng.next_u64() % u64::from(NODES)) as u32 + 1;
+        let weight = (rng.next_u64() % 20) as u32;
+        rows.push((tail, head, weight, 0))?;
+    }
+    Ok(rows)
+}
+
+/// Whether two answers give the same arrivals.
+fn are_same(one: &Answer, other: &Answer) -> bool {
+    let mut same = one.nodes() == other.nodes();
+    for node in 1..NODES + 1 {
+        same &= one.asks(node) && other.asks(node) && one.arrival(node) == other.arrival(node);
+    }
+    same
+}
+
+#[test]
+fn workers_answer_as_one_thread(rt: HostRuntime) -> Result<(), Fail> {
+    let alloc = rt.alloc();
+    for seed in 0..60 {
+        let rows = rows_of(alloc, seed)?;
+        let given = pose(alloc, NODES, &rows, &[(1, 3), (2, 0)])?.ok_or("rows")?;
+        if !is_problem(&given.network, given.times.classes(), &given.query) {
+            assert!(rt; false);
+            return Ok(());
+        }
+        let alone = solve_alone(alloc, &given.network, &given.times, &given.query)?;
+        for workers in 1..5u32 {
+            let mut rngs = Vec::new(alloc);
+            let mut tracers = Vec::new(alloc);
+            for worker in 0..workers {
+                rngs.push(Xoshiro256PlusPlus::seed_from_u64(u64::from(worker)))?;
+                tracers.push(|_turn: Turn| -> Flow { Flow::Go })?;
+            }
+            if rngs.len() != workers as usize || tracers.len() != workers as usize {
+                assert!(rt; false);
+                return Ok(());
+            }
+            let settings = Settings {
+                workers,
+                heaps: 2,
+                turns: 7 * (seed % 9),
+            };
+            let solved = solve(
+                alloc,
+                &rt,
+                &given.network,
+                &given.times,
+                &given.query,
+                settings,
+                rngs,
+                &NoGate,
+                tracers,
+            )?;
+            assert!(rt; are_same(&solved.answer, &alone), "seed {seed}");
+        }
+    }
+    Ok(())
+}
