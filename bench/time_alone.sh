@@ -15,7 +15,7 @@ for crate in ea_text ea_input ea_road ea_finish; do
     fi
 done
 mkdir -p "$scratch/ws/crates/alone"/src && cp "$here/alone/program/main.rt.txt" "$scratch/ws/crates/alone"/src/main.rt
-cp "$here/../crates.txt" "$scratch/ws/crates.txt"
+grep -E '^(ea_text|ea_input|ea_road|ea_finish)\b' "$here/../crates.txt" > "$scratch/ws/crates.txt"
 echo 'alone: ea_input ea_road ea_finish anyhow' >> "$scratch/ws/crates.txt"
 "$generator" 250000 "$scratch/road250000"
 "$generator" 2500000 "$scratch/road2500000"
