@@ -8,7 +8,7 @@ use Rattle.std.specs.List.{flat_map}
 use Rattle.std.specs.Io.KnownBytes.{Appends}
 use Rattle.std.proofs.KnownBytes.{Appends-trans, Appends-nil}
 use Rattle.ea_text.specs.Device.{one_more, GivesUp, HasGivenUp}
-use Rattle.ea_report.specs.Sent.{AreCounted, IsCutAt, IsCutBy, IsReason, IsUnderWay, IsWhole, Adds, Stops, Seen}
+use Rattle.ea_report.specs.Sent.{AreCounted, IsNotLess, IsCutAt, IsCutBy, IsReason, IsUnderWay, IsWhole, Adds, Stops, Seen}
 use Rattle.ea_report.specs.declared.report.WriteFault.{WriteFault}
 use Rattle.ea_report.specs.declared.report.WriteFaultKind.TheVariants.{WriteFailed}
 use native.Mathlib.Decide.{dec_le}
@@ -131,11 +131,16 @@ flat_map-next f (x ∷ xs) (suc i) d h = ap (λ t. f x ++ t) (flat_map-next f xs
 pub way_start : (now : Seen) (pending : List ℕ) (written borne : ℕ) → pending ≡ [] → written ≡ 0 → borne ≡ 0 → IsUnderWay now now pending written borne []
 way_start now pending written borne e z c = record { sent = []; appended = Appends-nil now.contents; whole = sym e; counted = z; unfailed = refl; borne = (omega arith, inl (omega arith)) }
 
+-- A count that goes on doesn't fall.
+not_less : (old new count : ℕ) → AreCounted old new count → IsNotLess old new
+not_less old new count (few, inl h) = inl (omega (arith, h))
+not_less old new count (few, inr h) = inr h
+
 -- At the end all is sent.
 pub way_end : (first now : Seen) (pending text : List ℕ) (written borne : ℕ) → pending ≡ [] → borne ≤ 1000 → IsUnderWay first now pending written borne text → IsWhole first now text written
 way_end first now pending text written borne e few way =
     let same : text ≡ way.sent = way.whole ∙ ap (λ p. way.sent ++ p) e ∙ append-nil way.sent in
-    (way.counted ∙ ap length (sym same), subst (λ t. Appends first.contents now.contents t) (sym same) way.appended, (way.unfailed, omega (arith, few, way.borne.0)))
+    (way.counted ∙ ap length (sym same), subst (λ t. Appends first.contents now.contents t) (sym same) way.appended, (way.unfailed, omega (arith, few, way.borne.0)), not_less first.interrupted now.interrupted borne way.borne)
 
 -- Bytes that were sent at once.
 pub adds_sent : (old now : Seen) (bytes : List ℕ) (written count before after : ℕ) → count ≡ length bytes → Appends old.contents now.contents bytes → now.failed ≡ old.failed

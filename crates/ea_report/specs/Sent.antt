@@ -42,9 +42,14 @@ IsReason OutOfMemory first now = BearsOn first.failed now.failed first.interrupt
 abbrev pub IsCutBy : Seen → Seen → List ℕ → WriteFault → Type 0
 IsCutBy first now text fault = IsCutAt first.contents now.contents text fault.written × IsReason fault.kind first now
 
--- A text was written whole: it was sent, so many bytes, no call failed, and the interruptions were borne.
+-- The count of interruptions didn't fall, as far as it goes.
+abbrev pub IsNotLess : ℕ → ℕ → Type 0
+IsNotLess old new = (old ≤ new) ⊎ (new ≡ 2 ^ 64 - 1)
+
+-- A text was written whole: it was sent, so many bytes, no call failed, and the interruptions were counted and borne.
 abbrev pub IsWhole : Seen → Seen → List ℕ → ℕ → Type 0
-IsWhole first now text written = (written ≡ length text) × Appends first.contents now.contents text × BearsOn first.failed now.failed first.interrupted now.interrupted
+IsWhole first now text written =
+    (written ≡ length text) × Appends first.contents now.contents text × BearsOn first.failed now.failed first.interrupted now.interrupted × IsNotLess first.interrupted now.interrupted
 
 -- More of a text was added: whatever text was under way, the text with more at its end is under way now.
 abbrev pub Adds : Seen → List ℕ → ℕ → ℕ → Seen → List ℕ → ℕ → ℕ → List ℕ → Type 0

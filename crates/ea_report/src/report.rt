@@ -80,6 +80,7 @@ impl Pending {
             IsCutBy first (seen (W.contents out.new) (W.Device.failed out.new) (W.Device.interrupted out.new)) text fault) }
         ensures empty { OnOk result (self.new.text.items ≡ []) }
         ensures bound { self.new.written ≤ self.old.written + 2 ^ 63 }
+        ensures small { IfErr result (λ fault. fault.written ≤ self.old.written + 2 ^ 63) }
     {
         match send(out, &self.text, &mut self.interruptions) {
             Ok(()) => {
@@ -104,6 +105,7 @@ impl Pending {
             IsUnderWay first (seen (W.contents out.old) (W.Device.failed out.old) (W.Device.interrupted out.old)) self.old.text.items self.old.written self.old.interruptions text →
             IsCutBy first (seen (W.contents out.new) (W.Device.failed out.new) (W.Device.interrupted out.new)) text fault) }
         ensures bound { self.new.written ≤ self.old.written + 2 ^ 63 }
+        ensures small { IfErr result (λ fault. fault.written ≤ self.old.written + 2 ^ 63) }
     {
         if self.text.len() >= PIECE {
             self.flush(out)
@@ -120,6 +122,7 @@ impl Pending {
         ensures err { IfErr result (λ fault. Stops (seen (W.contents out.old) (W.Device.failed out.old) (W.Device.interrupted out.old)) self.old.text.items self.old.written self.old.interruptions
             (seen (W.contents out.new) (W.Device.failed out.new) (W.Device.interrupted out.new)) fault (source_line source)) }
         ensures bound { self.new.written ≤ self.old.written + 2 ^ 63 }
+        ensures small { IfErr result (λ fault. fault.written ≤ self.old.written + 2 ^ 63) }
     {
         match push_source(&mut self.text, source) {
             Ok(()) => self.flush_large(out),
@@ -140,6 +143,7 @@ impl Pending {
         ensures err { IfErr result (λ fault. Stops (seen (W.contents out.old) (W.Device.failed out.old) (W.Device.interrupted out.old)) self.old.text.items self.old.written self.old.interruptions
             (seen (W.contents out.new) (W.Device.failed out.new) (W.Device.interrupted out.new)) fault (pair_line target source)) }
         ensures bound { self.new.written ≤ self.old.written + 2 ^ 63 }
+        ensures small { IfErr result (λ fault. fault.written ≤ self.old.written + 2 ^ 63) }
     {
         match push_pair(&mut self.text, source, target) {
             Ok(()) => self.flush_large(out),
@@ -165,6 +169,7 @@ impl Pending {
         ensures err { IfErr result (λ fault. Stops (seen (W.contents out.old) (W.Device.failed out.old) (W.Device.interrupted out.old)) self.old.text.items self.old.written self.old.interruptions
             (seen (W.contents out.new) (W.Device.failed out.new) (W.Device.interrupted out.new)) fault (node_text walks answer.now node)) }
         ensures bound { self.new.written ≤ self.old.written + 2 ^ 63 }
+        ensures small { IfErr result (λ fault. fault.written ≤ self.old.written + 2 ^ 63) }
     {
         match push_node(alloc, &mut self.text, answer, node, walks) {
             Ok(()) => self.flush_large(out),
@@ -180,6 +185,7 @@ impl Pending {
         ensures err { IfErr result (λ fault. Stops (seen (W.contents out.old) (W.Device.failed out.old) (W.Device.interrupted out.old)) self.old.text.items self.old.written self.old.interruptions
             (seen (W.contents out.new) (W.Device.failed out.new) (W.Device.interrupted out.new)) fault (flat_map source_line sources.now)) }
         ensures bound { self.new.written ≤ self.old.written + length sources.now * 2 ^ 63 }
+        ensures small { IfErr result (λ fault. fault.written ≤ self.old.written + length sources.now * 2 ^ 63) }
     {
         for source in sources {
             self.put_source(*source, out)?;
@@ -200,6 +206,7 @@ impl Pending {
         ensures err { IfErr result (λ fault. Stops (seen (W.contents out.old) (W.Device.failed out.old) (W.Device.interrupted out.old)) self.old.text.items self.old.written self.old.interruptions
             (seen (W.contents out.new) (W.Device.failed out.new) (W.Device.interrupted out.new)) fault (flat_map (pair_line target) sources.now)) }
         ensures bound { self.new.written ≤ self.old.written + length sources.now * 2 ^ 63 }
+        ensures small { IfErr result (λ fault. fault.written ≤ self.old.written + length sources.now * 2 ^ 63) }
     {
         for source in sources {
             self.put_pair(*source, target, out)?;
@@ -225,6 +232,7 @@ impl Pending {
         ensures err { IfErr result (λ fault. Stops (seen (W.contents out.old) (W.Device.failed out.old) (W.Device.interrupted out.old)) self.old.text.items self.old.written self.old.interruptions
             (seen (W.contents out.new) (W.Device.failed out.new) (W.Device.interrupted out.new)) fault (each_node (node_text walks answer.now) nodes)) }
         ensures bound { self.new.written ≤ self.old.written + nodes * 2 ^ 63 }
+        ensures small { IfErr result (λ fault. fault.written ≤ self.old.written + nodes * 2 ^ 63) }
     {
         for i in 0..nodes {
             self.put_node(alloc, answer, i + 1, walks, out)?;
@@ -259,7 +267,9 @@ impl Pending {
             (seen (W.contents out.new) (W.Device.failed out.new) (W.Device.interrupted out.new)) self.new.text.items self.new.written self.new.interruptions (flat_map source_line sources.now ++ each_node (node_text walks answer.now) nodes)) }
         ensures err { IfErr result (λ fault. Stops (seen (W.contents out.old) (W.Device.failed out.old) (W.Device.interrupted out.old)) self.old.text.items self.old.written self.old.interruptions
             (seen (W.contents out.new) (W.Device.failed out.new) (W.Device.interrupted out.new)) fault (flat_map source_line sources.now ++ each_node (node_text walks answer.now) nodes)) }
-        ensures bound { self.new.written < 2 ^ 127 + 2 ^ 96 }
+        ensures bound { self.new.written ≤ (length sources.now + nodes) * 2 ^ 63 }
+        ensures room { self.new.written < 2 ^ 127 + 2 ^ 96 }
+        ensures small { IfErr result (λ fault. fault.written ≤ (length sources.now + nodes) * 2 ^ 63) }
     {
         match self.put_sources(sources, out) {
             Ok(()) => self.put_nodes(alloc, answer, nodes, walks, out),
@@ -285,7 +295,9 @@ impl Pending {
             (seen (W.contents out.new) (W.Device.failed out.new) (W.Device.interrupted out.new)) self.new.text.items self.new.written self.new.interruptions (flat_map (pair_line target) sources.now ++ node_text walks answer.now target)) }
         ensures err { IfErr result (λ fault. Stops (seen (W.contents out.old) (W.Device.failed out.old) (W.Device.interrupted out.old)) self.old.text.items self.old.written self.old.interruptions
             (seen (W.contents out.new) (W.Device.failed out.new) (W.Device.interrupted out.new)) fault (flat_map (pair_line target) sources.now ++ node_text walks answer.now target)) }
-        ensures bound { self.new.written < 2 ^ 127 + 2 ^ 96 }
+        ensures bound { self.new.written ≤ (length sources.now + 1) * 2 ^ 63 }
+        ensures room { self.new.written < 2 ^ 127 + 2 ^ 96 }
+        ensures small { IfErr result (λ fault. fault.written ≤ (length sources.now + 1) * 2 ^ 63) }
     {
         match self.put_pairs(sources, target, out) {
             Ok(()) => self.put_node(alloc, answer, target, walks, out),
@@ -310,7 +322,9 @@ impl Pending {
             (seen (W.contents out.new) (W.Device.failed out.new) (W.Device.interrupted out.new)) self.new.text.items self.new.written self.new.interruptions (problem_text walks network.now.nodes query.now answer.now)) }
         ensures err { IfErr result (λ fault. Stops (seen (W.contents out.old) (W.Device.failed out.old) (W.Device.interrupted out.old)) self.old.text.items self.old.written self.old.interruptions
             (seen (W.contents out.new) (W.Device.failed out.new) (W.Device.interrupted out.new)) fault (problem_text walks network.now.nodes query.now answer.now)) }
-        ensures bound { self.new.written < 2 ^ 127 + 2 ^ 96 }
+        ensures bound { self.new.written ≤ (network.now.nodes + length query.now.sources + 1) * 2 ^ 63 }
+        ensures room { self.new.written < 2 ^ 127 + 2 ^ 96 }
+        ensures small { IfErr result (λ fault. fault.written ≤ (network.now.nodes + length query.now.sources + 1) * 2 ^ 63) }
     {
         let sources = query.sources();
         match query.target() {
@@ -337,6 +351,8 @@ fn send_problem<W: ByteOut>(
     ensures err { let before = seen (W.contents out.old) (W.Device.failed out.old) (W.Device.interrupted out.old) in
         let after = seen (W.contents out.new) (W.Device.failed out.new) (W.Device.interrupted out.new) in
         IfErr result (IsCutBy before after (problem_text walks network.now.nodes query.now answer.now)) }
+    ensures bound { IfOk result (λ written. written ≤ (network.now.nodes + length query.now.sources + 2) * 2 ^ 63) }
+    ensures small { IfErr result (λ fault. fault.written ≤ (network.now.nodes + length query.now.sources + 2) * 2 ^ 63) }
 {
     let mut pending = Pending::new(alloc);
     pending.put_problem(alloc, network, query, answer, walks, out)?;
@@ -366,6 +382,9 @@ pub fn write_problem<W: ByteOut>(
     ensures err { let before = seen (W.contents out.old) (W.Device.failed out.old) (W.Device.interrupted out.old) in
         let after = seen (W.contents out.new) (W.Device.failed out.new) (W.Device.interrupted out.new) in
         IfErr result (IsCutBy before after (problem_text options.walks network.now.nodes query.now answer.now)) }
+    // A line has fewer than 2^63 bytes, so a sum over a million problems is below 2^128.
+    ensures bound { IfOk result (λ written. written ≤ (network.now.nodes + length query.now.sources + 2) * 2 ^ 63) }
+    ensures small { IfErr result (λ fault. fault.written ≤ (network.now.nodes + length query.now.sources + 2) * 2 ^ 63) }
     // WriteFailed comes only where the device's counts show a reason.
     ensures device { IfErr result (λ fault. fault.kind ≡ WriteFaultKind.WriteFailed →
         HasGivenUp (W.Device.failed out.old) (W.Device.failed out.new) (W.Device.interrupted out.old) (W.Device.interrupted out.new)) }
