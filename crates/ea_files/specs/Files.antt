@@ -1,0 +1,63 @@
+-- What readers give, and why they give nothing.
+use Rattle.std.specs.Prelude.{◌≡◌, ℕ, ◌<◌, ◌^◌, List, length, Option, Some, None, IfSome}
+use Rattle.ea_text.specs.Device.{HasGivenUp}
+use Rattle.ea_text.specs.Text.{field_lines}
+use Rattle.ea_text.specs.declared.whole.ReadFault.{ReadFault}
+use Rattle.ea_text.specs.declared.whole.ReadFault.TheVariants.{TooLarge, ReadFailed, OutOfMemory as no_memory}
+use Rattle.ea_input.specs.Checks.{Format, IsFaultOf}
+use Rattle.ea_input.specs.Fault.{out_of_memory}
+use Rattle.ea_input.specs.declared.fault.InputFault.{InputFault}
+use Rattle.ea_files.specs.declared.fault.FileWord.{FileWord}
+use Rattle.ea_files.specs.declared.fault.FileFault.{FileFault}
+use Rattle.ea_files.specs.declared.fault.FileFault.TheVariants.{Read, Input, OutOfMemory}
+
+-- All bytes that a reader had, where it tells them.
+abbrev pub IsAll : Option (List ℕ) → List ℕ → Type 0
+IsAll had text = IfSome had (λ left. text ≡ left)
+
+-- The same of a reader that may be left out.
+abbrev pub IsAllIfThere : Option (Option (List ℕ)) → Option (List ℕ) → Type 0
+IsAllIfThere None None = Unit {0}
+IsAllIfThere (Some had) (Some text) = IsAll had text
+IsAllIfThere _ _ = ⊥
+
+-- What a reader had, and its counts of failures and interruptions before and after.
+pub record Reading : Type 0 where
+  pub had : Option (List ℕ)
+  pub failed : ℕ
+  pub failed_after : ℕ
+  pub interrupted : ℕ
+  pub interrupted_after : ℕ
+
+abbrev pub reading : Option (List ℕ) → ℕ → ℕ → ℕ → ℕ → Reading
+reading had failed failed_after interrupted interrupted_after = record { had = had; failed = failed; failed_after = failed_after; interrupted = interrupted; interrupted_after = interrupted_after }
+
+-- Why a file wasn't read: it has more than 2^33 bytes, or its device gave up.
+abbrev pub IsUnread : Reading → ReadFault → Type 0
+IsUnread reading TooLarge = IfSome reading.had (λ left. 2 ^ 33 < length left)
+IsUnread reading ReadFailed = HasGivenUp reading.failed reading.failed_after reading.interrupted reading.interrupted_after
+IsUnread reading no_memory = ⊥
+
+-- Why a file gave nothing: it wasn't read, or its text has this fault, or memory was refused.
+abbrev pub IsFaultIn : FileWord → Format → Reading → FileFault → Type 0
+IsFaultIn file format reading (Read word fault) = (word ≡ file) × IsUnread reading fault
+IsFaultIn file format reading (Input word fault) = (word ≡ file) × ((text : List ℕ) × IsAll reading.had text × IsFaultOf format (field_lines text) fault)
+IsFaultIn file format reading OutOfMemory = Unit {0}
+
+-- The same where only reading may have failed.
+abbrev pub IsUnreadBy : FileWord → Reading → FileFault → Type 0
+IsUnreadBy file reading (Read word fault) = (word ≡ file) × IsUnread reading fault
+IsUnreadBy file reading (Input word fault) = ⊥
+IsUnreadBy file reading OutOfMemory = Unit {0}
+
+-- A text's fault as one of its file; want of memory is none of the text.
+abbrev pub IsFaultAs : FileWord → InputFault → FileFault → Type 0
+IsFaultAs file found (Read word fault) = ⊥
+IsFaultAs file found (Input word fault) = (word ≡ file) × (fault ≡ found) × ((found ≡ out_of_memory) → ⊥)
+IsFaultAs file found OutOfMemory = Unit {0}
+
+-- The fault of a file that may be left out: it is that of the file, which is there.
+abbrev pub IsFaultIfThere : {R : Type 0} → (R → Option (List ℕ)) → (R → ℕ) → (R → ℕ) → FileWord → Format → Option R → Option R → FileFault → Type 0
+IsFaultIfThere had failed interrupted file format (Some old) (Some new) fault =
+    IsFaultIn file format (reading (had old) (failed old) (failed new) (interrupted old) (interrupted new)) fault
+IsFaultIfThere had failed interrupted file format _ _ fault = ⊥

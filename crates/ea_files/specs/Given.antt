@@ -1,0 +1,44 @@
+-- What the files give: a network, and when its arcs arrive.
+use Rattle.std.specs.Prelude.{◌≡◌, ℕ, ◌≤◌, List, [], ◌∷◌, length, slice_index_or, map, Option, Some, None, IsTrue}
+use Rattle.std.specs.List.{IsAmong}
+use Rattle.ea_text.specs.Text.{field_lines}
+use Rattle.ea_input.specs.Graph.{Graph, DenotesGraph}
+use Rattle.ea_input.specs.Table.{Table, DenotesTable}
+use Rattle.ea_input.specs.declared.table.RawKind.{RawKind}
+use Rattle.ea_input.specs.declared.table.RawKind.TheVariants.{Plain}
+use Rattle.ea_road.specs.Roads.{Roads}
+use Rattle.ea_road.specs.Assigned.{arcs_with}
+use Rattle.ea_road.specs.Timetables.{KindAnswers}
+use Rattle.ea_files.specs.declared.road.Road.{Road}
+
+-- A graph, and the kinds of its classes with the classes of its arcs.
+pub record Given : Type 0 where
+  pub graph : Graph
+  pub table : Table
+
+-- The network: the graph's arcs, each with the class that was assigned to it last.
+abbrev pub roads_of : Given → Roads
+roads_of given = record { nodes = given.graph.nodes; arcs = arcs_with given.table.assigned given.graph.arcs }
+
+-- When an arc of a class and a weight arrives that is left at a departure: class 0 is plain, class J is the J-th kind.
+abbrev pub times_of : List RawKind → ℕ → ℕ → ℕ → ℕ → Type 0
+times_of kinds class weight departure arrival = KindAnswers (slice_index_or (Plain ∷ kinds) class Plain) weight departure arrival
+
+-- With no file of timetables there are no kinds and no assignments.
+abbrev pub no_table : Table
+no_table = record { kinds = []; assigned = [] }
+
+-- What the text of timetables denotes for so many arcs, where there is one.
+abbrev pub IsTableOf : ℕ → Option (List ℕ) → Table → Type 0
+IsTableOf arcs None table = table ≡ no_table
+IsTableOf arcs (Some text) table = DenotesTable arcs (field_lines text) table
+
+-- The texts of a graph and of timetables denote this.
+pub record Denotes (gr : List ℕ) (tp : Option (List ℕ)) (given : Given) : Type 0 where
+  pub graph : DenotesGraph (field_lines gr) given.graph
+  pub table : IsTableOf (length given.graph.arcs) tp given.table
+
+-- A network and timetables are those that were given.
+pub record IsRoadOf (given : Given) (road : Road) : Type 0 where
+  pub network : road.network ≡ roads_of given
+  pub kinds : map (λ table. table.kind) road.times.list.items ≡ given.table.kinds

@@ -1,0 +1,4 @@
+pub mod FileNames
+pub mod Files
+pub mod Given
+pub mod Starts

@@ -1,0 +1,11 @@
+//! What the files of a run give: a network, its timetables, and where searches start.
+#![tactic(auto)]
+
+mod fault;
+mod reading;
+mod road;
+mod starts;
+
+pub use fault::{FileFault, FileWord};
+pub use road::Road;
+pub use starts::{departures_fit, pair_queries, run_queries};
