@@ -1,13 +1,16 @@
 -- What readers give, and why they give nothing.
-use Rattle.std.specs.Prelude.{◌≡◌, ℕ, ◌<◌, ◌^◌, List, length, Option, Some, None, IfSome}
+use Rattle.std.specs.Prelude.{◌≡◌, ◌⊎◌, ℕ, ◌<◌, ◌^◌, List, length, Option, Some, None, IfSome}
 use Rattle.ea_text.specs.Device.{HasGivenUp}
 use Rattle.ea_text.specs.Text.{field_lines}
 use Rattle.ea_text.specs.declared.whole.ReadFault.{ReadFault}
 use Rattle.ea_text.specs.declared.whole.ReadFault.TheVariants.{TooLarge, ReadFailed, OutOfMemory as no_memory}
 use Rattle.ea_input.specs.Checks.{Format, IsFaultOf}
+use Rattle.ea_input.specs.Formats.{graph_format}
+use Rattle.ea_input.specs.Graph.{Graph, DenotesGraph}
 use Rattle.ea_input.specs.Fault.{out_of_memory}
 use Rattle.ea_input.specs.declared.fault.InputFault.{InputFault}
 use Rattle.ea_files.specs.declared.fault.FileWord.{FileWord}
+use Rattle.ea_files.specs.declared.fault.FileWord.TheVariants.{Gr}
 use Rattle.ea_files.specs.declared.fault.FileFault.{FileFault}
 use Rattle.ea_files.specs.declared.fault.FileFault.TheVariants.{Read, Input, OutOfMemory}
 
@@ -56,8 +59,35 @@ IsFaultAs file found (Read word fault) = ⊥
 IsFaultAs file found (Input word fault) = (word ≡ file) × (fault ≡ found) × ((found ≡ out_of_memory) → ⊥)
 IsFaultAs file found OutOfMemory = Unit {0}
 
--- The fault of a file that may be left out: it is that of the file, which is there.
-abbrev pub IsFaultIfThere : {R : Type 0} → (R → Option (List ℕ)) → (R → ℕ) → (R → ℕ) → FileWord → Format → Option R → Option R → FileFault → Type 0
-IsFaultIfThere had failed interrupted file format (Some old) (Some new) fault =
+-- The fault of a file that may be left out: memory was refused, or it is that of the file, which is there.
+abbrev pub IsFaultThere : {R : Type 0} → (R → Option (List ℕ)) → (R → ℕ) → (R → ℕ) → FileWord → Format → Option R → Option R → FileFault → Type 0
+IsFaultThere had failed interrupted file format (Some old) (Some new) fault =
     IsFaultIn file format (reading (had old) (failed old) (failed new) (interrupted old) (interrupted new)) fault
-IsFaultIfThere had failed interrupted file format _ _ fault = ⊥
+IsFaultThere had failed interrupted file format _ _ fault = ⊥
+
+abbrev pub IsFaultIfThere : {R : Type 0} → (R → Option (List ℕ)) → (R → ℕ) → (R → ℕ) → FileWord → Format → Option R → Option R → FileFault → Type 0
+IsFaultIfThere had failed interrupted file format old new fault =
+    (fault ≡ OutOfMemory) ⊎ IsFaultThere had failed interrupted file format old new fault
+
+-- ---- the files of a run or of pairs, in their order: network, starts, timetables
+
+-- A text that a reader gave denotes this graph.
+abbrev pub IsGraphOf : Reading → Graph → Type 0
+IsGraphOf reading graph = (text : List ℕ) × IsAll reading.had text × DenotesGraph (field_lines text) graph
+
+-- A text that a reader gave denotes starts among so many nodes.
+abbrev pub HasStarts : {X : Type 0} → (ℕ → List (List (List ℕ)) → X → Type 0) → ℕ → Reading → Type 0
+HasStarts {X} DenotesStarts nodes reading = (text : List ℕ) × (starts : X) × IsAll reading.had text × DenotesStarts nodes (field_lines text) starts
+
+-- The first fault of the files: that of the network; or where it is sound that of the starts; or where both are that of the timetables.
+pub data IsFirstFault {X : Type 0}
+    (word : FileWord)
+    (format : ℕ → Format)
+    (DenotesStarts : ℕ → List (List (List ℕ)) → X → Type 0)
+    (gr starts : Reading)
+    (IsTableFault : ℕ → FileFault → Type 0)
+    (fault : FileFault)
+    : Type 0 where
+  in_network : IsFaultIn Gr graph_format gr fault → IsFirstFault word format DenotesStarts gr starts IsTableFault fault
+  in_starts : (graph : Graph) → IsGraphOf gr graph → IsFaultIn word (format graph.nodes) starts fault → IsFirstFault word format DenotesStarts gr starts IsTableFault fault
+  in_table : (graph : Graph) → IsGraphOf gr graph → HasStarts DenotesStarts graph.nodes starts → IsTableFault (length graph.arcs) fault → IsFirstFault word format DenotesStarts gr starts IsTableFault fault

@@ -6,15 +6,24 @@ use Rattle.ea_input.specs.Graph.{Graph, DenotesGraph}
 use Rattle.ea_input.specs.Table.{Table, DenotesTable}
 use Rattle.ea_input.specs.declared.table.RawKind.{RawKind}
 use Rattle.ea_input.specs.declared.table.RawKind.TheVariants.{Plain}
+use Rattle.ea_input.specs.Views.{graph as graph_of}
+use Rattle.ea_input.specs.TableViews.{table as table_of}
+use Rattle.ea_input.specs.declared.graph.RawGraph.{RawGraph}
+use Rattle.ea_input.specs.declared.table.RawTable.{RawTable}
 use Rattle.ea_road.specs.Roads.{Roads}
 use Rattle.ea_road.specs.Assigned.{arcs_with}
 use Rattle.ea_road.specs.Timetables.{KindAnswers}
 use Rattle.ea_files.specs.declared.road.Road.{Road}
+use Rattle.ea_files.specs.Files.{IsAll, IsAllIfThere}
 
 -- A graph, and the kinds of its classes with the classes of its arcs.
 pub record Given : Type 0 where
   pub graph : Graph
   pub table : Table
+
+-- What a graph and a table in memory are.
+abbrev pub given_by : RawGraph → RawTable → Given
+given_by graph table = record { graph = graph_of graph; table = table_of table }
 
 -- The network: the graph's arcs, each with the class that was assigned to it last.
 abbrev pub roads_of : Given → Roads
@@ -42,3 +51,22 @@ pub record Denotes (gr : List ℕ) (tp : Option (List ℕ)) (given : Given) : Ty
 pub record IsRoadOf (given : Given) (road : Road) : Type 0 where
   pub network : road.network ≡ roads_of given
   pub kinds : map (λ table. table.kind) road.times.list.items ≡ given.table.kinds
+
+-- The texts that readers gave: a graph's, that of the starts, and one of timetables where there is one.
+pub record AreGiven {X : Type 0}
+    (DenotesStarts : ℕ → List (List (List ℕ)) → X → Type 0)
+    (gr starts : Option (List ℕ))
+    (tp : Option (Option (List ℕ)))
+    (road : Road)
+    (found : X)
+    : Type 0 where
+  pub gr_text : List ℕ
+  pub starts_text : List ℕ
+  pub tp_text : Option (List ℕ)
+  pub all_gr : IsAll gr gr_text
+  pub all_starts : IsAll starts starts_text
+  pub all_tp : IsAllIfThere tp tp_text
+  pub given : Given
+  pub denoted : Denotes gr_text tp_text given
+  pub is_road : IsRoadOf given road
+  pub starts_denoted : DenotesStarts given.graph.nodes (field_lines starts_text) found

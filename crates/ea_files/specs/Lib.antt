@@ -1,4 +1,5 @@
 pub mod FileNames
 pub mod Files
 pub mod Given
+pub mod Sound
 pub mod Starts

@@ -2,10 +2,12 @@
 #![tactic(auto)]
 
 mod fault;
+mod files;
 mod reading;
 mod road;
 mod starts;
 
 pub use fault::{FileFault, FileWord};
+pub use files::{PairFiles, RunFiles, read_run, read_trips};
 pub use road::Road;
 pub use starts::{departures_fit, pair_queries, run_queries};

@@ -1,9 +1,58 @@
-//! A network and its timetables.
-use ea_road::{Network, Timetables};
+//! A network and its timetables, of what files denote.
+ghost use Rattle.std.specs.Prelude.{◌≡◌, ℕ, List, Option, IfOk, IfErr, length, option_map};
+ghost use Rattle.ea_input.specs.Formats.{table_format};
+ghost use Rattle.ea_input.specs.Graph.{DenotesGraph};
+ghost use Rattle.ea_input.specs.Table.{Table};
+ghost use Rattle.ea_input.specs.Views.{graph as graph_of};
+ghost use Rattle.ea_files.specs.Files.{IsAllIfThere, IsFaultIfThere};
+ghost use Rattle.ea_files.specs.Given.{IsRoadOf, IsTableOf, given_by, roads_of};
+ghost use Rattle.ea_files.specs.Sound.{IsSound};
+
+use crate::fault::{FileFault, FileWord};
+use crate::reading::read_table;
+use ea_input::{ByteIn, RawGraph, RawTable};
+use ea_road::{Arc, Network, Timetables, arcs_of};
+use std::alloc::{AllocError, Global};
 
 /// A network, and when its arcs arrive.
 #[derive(Drop)]
 pub struct Road {
     pub network: Network,
     pub times: Timetables,
+}
+
+/// The arcs of a graph with their classes; the graph is let go.
+fn classed_arcs(alloc: Global, graph: RawGraph, table: &RawTable) -> Result<Vec<Arc>, AllocError>
+    requires { IsSound (given_by graph table.now) }
+    ensures { IfOk result (λ arcs. arcs.items ≡ (roads_of (given_by graph table.now)).arcs) }
+{
+    arcs_of(alloc, &graph, Some(table))
+}
+
+/// The road of a graph and a table.
+fn road_of(alloc: Global, graph: RawGraph, table: RawTable) -> Result<Road, AllocError>
+    requires { IsSound (given_by graph table) }
+    ensures { IfOk result (IsRoadOf (given_by graph table)) }
+{
+    let nodes = graph.nodes;
+    let times = Timetables::of(alloc, &table.kinds)?;
+    let arcs = classed_arcs(alloc, graph, &table)?;
+    let network = Network::new(alloc, nodes, arcs)?;
+    Ok(Road { network, times })
+}
+
+/// The road of a graph and a file of timetables, which may be left out.
+pub(crate) fn read_road<T: ByteIn>(
+    alloc: Global,
+    graph: RawGraph,
+    tp: &mut Option<T>,
+) -> Result<Road, FileFault>
+    requires { (lines : List (List (List ℕ))) × DenotesGraph lines (graph_of graph) }
+    ensures road { IfOk result (λ road. (text : Option (List ℕ)) × (table : Table) × IsAllIfThere (option_map T.remaining tp.old) text
+        × IsTableOf (length graph.arcs.items) text table × IsRoadOf (record { graph = graph_of graph; table = table }) road) }
+    ensures fault { IfErr result (IsFaultIfThere T.remaining T.Device.failed T.Device.interrupted FileWord.Tp (table_format (length graph.arcs.items)) tp.old tp.new) }
+{
+    let table = read_table(alloc, tp, graph.arcs.len() as u32)?;
+    let road = road_of(alloc, graph, table)?;
+    Ok(road)
 }

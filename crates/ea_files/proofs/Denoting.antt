@@ -1,0 +1,178 @@
+-- What texts denote is within the limits of networks and timetables.
+use Rattle.std.proofs.Common.{◌≡◌, ◌⊎◌, ℕ, zero, suc, ◌+◌, ◌-◌, ◌^◌, ◌<◌, ◌≤◌, ◌==◌, max, List, [], ◌∷◌, length, get_or, cond, Bool, true, false, refl, ap, sym, ◌∙◌, arith, subst, inl, inr}
+use Rattle.std.specs.Prelude.{All, Option, Some, None, IsTrue, slice_get, unwrap_or}
+use Rattle.std.specs.List.{IsAmong}
+use Rattle.std.proofs.lemmas.Bool.Decides.{leb_tells, nat_tests}
+use Rattle.std.proofs.lemmas.Option.{none-some}
+use Rattle.ea_road.proofs.Assigning.{length-arcs_from}
+use Rattle.ea_input.specs.declared.graph.RawArc.{RawArc}
+use Rattle.ea_input.specs.declared.table.RawKind.{RawKind}
+use Rattle.ea_input.specs.declared.table.RawKind.TheVariants.{Plain, Every, Closed, Rush}
+use Rattle.ea_input.specs.Graph.{Graph, DenotesGraph, IsArcLine, AreArcLines, IsProblemLine}
+use Rattle.ea_input.specs.Table.{Table, DenotesTable, IsKind, IsKindLine, IsAssignedLine, AreTableLines, IsTableProblem}
+use Rattle.ea_road.specs.declared.arc.Arc.{Arc}
+use Rattle.ea_road.specs.Roads.{Roads, IsNode, IsArc, FitsNodes, IsNetwork, top_class}
+use Rattle.ea_road.specs.Assigned.{AreAssigned, class_after, class_of, arcs_from, arcs_with}
+use Rattle.ea_road.specs.Timetables.{is_kind}
+use Rattle.ea_files.specs.Given.{Given, roads_of, no_table, IsTableOf, Denotes}
+use Rattle.ea_files.specs.Sound.{IsSound}
+
+-- ---- arcs
+
+-- A raw arc's ends are nodes, and its weight has 32 bits.
+record FitsRaw (nodes : ℕ) (raw : RawArc) : Type 0 where
+  tail : IsNode nodes raw.tail
+  head : IsNode nodes raw.head
+  weight : raw.weight < 2 ^ 32
+
+arc_fits : (nodes : ℕ) (line : List (List ℕ)) (raw : RawArc) → IsArcLine nodes line raw → FitsRaw nodes raw
+arc_fits nodes [] raw h = absurd h
+arc_fits nodes (a ∷ []) raw h = absurd h
+arc_fits nodes (a ∷ b ∷ []) raw h = absurd h
+arc_fits nodes (a ∷ b ∷ c ∷ []) raw h = absurd h
+arc_fits nodes (a ∷ b ∷ c ∷ d ∷ e ∷ rest) raw h = absurd h
+arc_fits nodes (a ∷ u ∷ v ∷ w ∷ []) raw h = record {
+  tail = record { from_one = h.1.1; to_last = h.1.2 };
+  head = record { from_one = h.2.1; to_last = h.2.2 };
+  weight = omega (arith, h.3.2);
+}
+
+arcs_fit : (nodes : ℕ) (lines : List (List (List ℕ))) (arcs : List RawArc) → AreArcLines nodes lines arcs → (k : ℕ) (d : RawArc) → k < length arcs → FitsRaw nodes (get_or arcs k d)
+arcs_fit nodes [] [] h k d lt = absurd (omega arith)
+arcs_fit nodes [] (arc ∷ arcs) h k d lt = absurd h
+arcs_fit nodes (line ∷ lines) [] h k d lt = absurd h
+arcs_fit nodes (line ∷ lines) (arc ∷ arcs) h zero d lt = arc_fits nodes line arc h.0
+arcs_fit nodes (line ∷ lines) (arc ∷ arcs) h (suc k) d lt = arcs_fit nodes lines arcs h.1 k d (omega arith)
+
+-- The arc at a place has the ends and the weight of the raw arc there.
+arc_at : (nodes : ℕ) (assigned : List (ℕ × ℕ)) (first : ℕ) (raw : List RawArc) → ((k : ℕ) (d : RawArc) → k < length raw → FitsRaw nodes (get_or raw k d))
+    → (k : ℕ) (arc : Arc) → slice_get (arcs_from assigned first raw) k ≡ Some arc → FitsNodes nodes arc
+arc_at nodes assigned first [] fits k arc found = absurd (none-some _ found)
+arc_at nodes assigned first (r ∷ rest) fits zero arc found = subst (FitsNodes nodes) (ap (λ o. unwrap_or o arc) found) (record { tail = (fits 0 r (omega arith)).tail; head = (fits 0 r (omega arith)).head; weight = (fits 0 r (omega arith)).weight })
+arc_at nodes assigned first (r ∷ rest) fits (suc k) arc found = arc_at nodes assigned (first + 1) rest (λ j d lt. fits (suc j) d (omega arith)) k arc found
+
+arcs_within : (nodes : ℕ) (assigned : List (ℕ × ℕ)) (raw : List RawArc) → ((k : ℕ) (d : RawArc) → k < length raw → FitsRaw nodes (get_or raw k d)) → (number : ℕ) (arc : Arc) → IsArc (record { nodes = nodes; arcs = arcs_with assigned raw }) number arc → FitsNodes nodes arc
+arcs_within nodes assigned raw fits number arc is_arc = arc_at nodes assigned 1 raw fits (number - 1) arc is_arc.found
+
+nodes_in_limits : (line : List (List ℕ)) (nodes arcs : ℕ) → IsProblemLine line nodes arcs → (0 < nodes) × (nodes ≤ 67108864) × (arcs ≤ 268435456)
+nodes_in_limits [] nodes arcs h = absurd h
+nodes_in_limits (a ∷ []) nodes arcs h = absurd h
+nodes_in_limits (a ∷ b ∷ []) nodes arcs h = absurd h
+nodes_in_limits (a ∷ b ∷ c ∷ []) nodes arcs h = absurd h
+nodes_in_limits (a ∷ b ∷ c ∷ d ∷ e ∷ rest) nodes arcs h = absurd h
+nodes_in_limits (a ∷ b ∷ c ∷ d ∷ []) nodes arcs h = (omega (arith, h.2.1), h.2.2, h.3.2)
+
+pub few_arcs : (lines : List (List (List ℕ))) (graph : Graph) → DenotesGraph lines graph → length graph.arcs ≤ 268435456
+few_arcs lines graph denoted = (nodes_in_limits denoted.problem graph.nodes (length graph.arcs) denoted.announces).2
+
+is_network : (lines : List (List (List ℕ))) (graph : Graph) (assigned : List (ℕ × ℕ)) → DenotesGraph lines graph → IsNetwork (record { nodes = graph.nodes; arcs = arcs_with assigned graph.arcs })
+is_network lines graph assigned denoted =
+    let limits = nodes_in_limits denoted.problem graph.nodes (length graph.arcs) denoted.announces in
+    record {
+      has_nodes = limits.0;
+      nodes_limit = limits.1;
+      arcs_limit = rw (length-arcs_from assigned 1 graph.arcs) limits.2;
+      each_fits = arcs_within graph.nodes assigned graph.arcs (arcs_fit graph.nodes denoted.others graph.arcs denoted.lists);
+    }
+
+-- ---- kinds
+
+every_fits : (period offset : ℕ) → period ≤ 4294967296 → 1 ≤ period → offset ≤ period - 1 → IsTrue (is_kind (Every period offset))
+every_fits period offset few some below = grind (arith, nat_tests)
+
+closed_fits : (lo hi : ℕ) → lo + 1 ≤ hi → hi ≤ 281474976710655 → IsTrue (is_kind (Closed lo hi))
+closed_fits lo hi before within = grind (arith, nat_tests)
+
+rush_fits : (lo hi extra : ℕ) → lo + 1 ≤ hi → hi ≤ 281474976710655 → extra ≤ 4294967296 → IsTrue (is_kind (Rush lo hi extra))
+rush_fits lo hi extra before within few = grind (arith, nat_tests)
+
+kind_fits : (fields : List (List ℕ)) (kind : RawKind) → IsKind fields kind → IsTrue (is_kind kind)
+kind_fits fields Plain h = refl
+kind_fits (name ∷ p ∷ o ∷ []) (Every period offset) h = every_fits period offset h.1.2 h.1.1 h.2.2
+kind_fits (name ∷ b ∷ e ∷ []) (Closed lo hi) h = closed_fits lo hi h.2.1 h.2.2
+kind_fits (name ∷ b ∷ e ∷ x ∷ []) (Rush lo hi extra) h = rush_fits lo hi extra h.2.1 h.2.2 h.3.2
+kind_fits [] (Every period offset) h = absurd h
+kind_fits (a ∷ []) (Every period offset) h = absurd h
+kind_fits (a ∷ b ∷ []) (Every period offset) h = absurd h
+kind_fits (a ∷ b ∷ c ∷ d ∷ []) (Every period offset) h = absurd h
+kind_fits (a ∷ b ∷ c ∷ d ∷ e ∷ rest) (Every period offset) h = absurd h
+kind_fits [] (Closed lo hi) h = absurd h
+kind_fits (a ∷ []) (Closed lo hi) h = absurd h
+kind_fits (a ∷ b ∷ []) (Closed lo hi) h = absurd h
+kind_fits (a ∷ b ∷ c ∷ d ∷ []) (Closed lo hi) h = absurd h
+kind_fits (a ∷ b ∷ c ∷ d ∷ e ∷ rest) (Closed lo hi) h = absurd h
+kind_fits [] (Rush lo hi extra) h = absurd h
+kind_fits (a ∷ []) (Rush lo hi extra) h = absurd h
+kind_fits (a ∷ b ∷ []) (Rush lo hi extra) h = absurd h
+kind_fits (a ∷ b ∷ c ∷ []) (Rush lo hi extra) h = absurd h
+kind_fits (a ∷ b ∷ c ∷ d ∷ e ∷ rest) (Rush lo hi extra) h = absurd h
+
+kind_line_fits : (number : ℕ) (line : List (List ℕ)) (kind : RawKind) → IsKindLine number line kind → IsTrue (is_kind kind)
+kind_line_fits number [] kind h = absurd h
+kind_line_fits number (word ∷ []) kind h = absurd h
+kind_line_fits number (word ∷ j ∷ fields) kind h = kind_fits fields kind h.2
+
+entry_fits : (arcs classes : ℕ) (line : List (List ℕ)) (entry : ℕ × ℕ) → IsAssignedLine arcs classes line entry → (0 < entry.0) × (entry.0 ≤ arcs) × (entry.1 ≤ classes)
+entry_fits arcs classes [] entry h = absurd h
+entry_fits arcs classes (a ∷ []) entry h = absurd h
+entry_fits arcs classes (a ∷ b ∷ []) entry h = absurd h
+entry_fits arcs classes (a ∷ b ∷ c ∷ d ∷ rest) entry h = absurd h
+entry_fits arcs classes (a ∷ b ∷ c ∷ []) entry h = (omega (arith, h.1.1), h.1.2, h.2.2)
+
+-- Each kind, and each entry of a table.
+record AreFit (arcs classes : ℕ) (kinds : List RawKind) (assigned : List (ℕ × ℕ)) : Type 0 where
+  each_kind : (k : ℕ) (d : RawKind) → k < length kinds → IsTrue (is_kind (get_or kinds k d))
+  each_entry : (k : ℕ) (d : ℕ × ℕ) → k < length assigned → (0 < (get_or assigned k d).0) × ((get_or assigned k d).0 ≤ arcs) × ((get_or assigned k d).1 ≤ classes)
+
+one_kind : (arcs classes : ℕ) (kind : RawKind) (kinds : List RawKind) (assigned : List (ℕ × ℕ)) → IsTrue (is_kind kind) → AreFit arcs classes kinds assigned → AreFit arcs classes (kind ∷ kinds) assigned
+one_kind arcs classes kind kinds assigned fits rest = record { each_kind = each; each_entry = rest.each_entry } where
+  each : (k : ℕ) (d : RawKind) → k < length (kind ∷ kinds) → IsTrue (is_kind (get_or (kind ∷ kinds) k d))
+  each zero d lt = fits
+  each (suc k) d lt = rest.each_kind k d (omega arith)
+
+one_entry : (arcs classes : ℕ) (entry : ℕ × ℕ) (kinds : List RawKind) (assigned : List (ℕ × ℕ)) → (0 < entry.0) × (entry.0 ≤ arcs) × (entry.1 ≤ classes) → AreFit arcs classes kinds assigned → AreFit arcs classes kinds (entry ∷ assigned)
+one_entry arcs classes entry kinds assigned fits rest = record { each_kind = rest.each_kind; each_entry = each } where
+  each : (k : ℕ) (d : ℕ × ℕ) → k < length (entry ∷ assigned) → (0 < (get_or (entry ∷ assigned) k d).0) × ((get_or (entry ∷ assigned) k d).0 ≤ arcs) × ((get_or (entry ∷ assigned) k d).1 ≤ classes)
+  each zero d lt = fits
+  each (suc k) d lt = rest.each_entry k d (omega arith)
+
+none_fit : (arcs classes : ℕ) → AreFit arcs classes [] []
+none_fit arcs classes = record { each_kind = λ k d lt. absurd (omega arith); each_entry = λ k d lt. absurd (omega arith) }
+
+lines_fit : (arcs classes before : ℕ) (lines : List (List (List ℕ))) (kinds : List RawKind) (assigned : List (ℕ × ℕ)) → AreTableLines arcs classes before lines kinds assigned → AreFit arcs classes kinds assigned
+lines_fit arcs classes before [] kinds assigned h = subst (λ ks. AreFit arcs classes ks assigned) (sym h.0) (subst (λ es. AreFit arcs classes [] es) (sym h.1) (none_fit arcs classes))
+lines_fit arcs classes before (line ∷ lines) kinds assigned (inl h) =
+    subst (λ ks. AreFit arcs classes ks assigned) (sym h.2) (one_kind arcs classes h.0 h.1 assigned (kind_line_fits (before + 1) line h.0 h.3) (lines_fit arcs classes (before + 1) lines h.1 assigned h.4))
+lines_fit arcs classes before (line ∷ lines) kinds assigned (inr h) =
+    subst (λ es. AreFit arcs classes kinds es) (sym h.2) (one_entry arcs classes h.0 kinds h.1 (entry_fits arcs classes line h.0 h.3) (lines_fit arcs classes before lines kinds h.1 h.4))
+
+table_fits : (arcs : ℕ) (text : Option (List ℕ)) (table : Table) → IsTableOf arcs text table → AreFit arcs (length table.kinds) table.kinds table.assigned
+table_fits arcs None table h = subst (λ (t : Table). AreFit arcs (length t.kinds) t.kinds t.assigned) (sym h) (none_fit arcs 0)
+table_fits arcs (Some text) table h = lines_fit arcs (length table.kinds) 0 h.others table.kinds table.assigned h.lists
+
+-- ---- classes
+
+class_below : (classes number : ℕ) (assigned : List (ℕ × ℕ)) (class : ℕ) → class ≤ classes → ((k : ℕ) (d : ℕ × ℕ) → k < length assigned → (get_or assigned k d).1 ≤ classes) → class_after assigned number class ≤ classes
+class_below classes number [] class below each = below
+class_below classes number (given ∷ rest) class below each = class_below classes number rest _ (either (given.0 == number)) (λ k d lt. each (suc k) d (omega arith)) where
+  either : (b : Bool) → (cond b given.1 class) ≤ classes
+  either true = each 0 given (omega arith)
+  either false = below
+
+top_below : (classes first : ℕ) (assigned : List (ℕ × ℕ)) (raw : List RawArc) → ((k : ℕ) (d : ℕ × ℕ) → k < length assigned → (get_or assigned k d).1 ≤ classes) → top_class (arcs_from assigned first raw) ≤ classes
+top_below classes first assigned [] each = omega arith
+top_below classes first assigned (r ∷ rest) each =
+    let here = class_below classes first assigned 0 (omega arith) each in
+    let there = top_below classes (first + 1) assigned rest each in
+    omega (arith, here, there)
+
+-- What texts denote is sound.
+pub denoting_is_sound : (lines : List (List (List ℕ))) (tp : Option (List ℕ)) (given : Given) → DenotesGraph lines given.graph → IsTableOf (length given.graph.arcs) tp given.table → IsSound given
+denoting_is_sound lines tp given graph table =
+    let fits = table_fits (length given.graph.arcs) tp given.table table in
+    record {
+      network = is_network lines given.graph given.table.assigned graph;
+      assigned = λ entry among. subst (λ (e : ℕ × ℕ). (0 < e.0) × (e.0 ≤ length given.graph.arcs)) (sym among.1.1) (let e = fits.each_entry among.0 entry among.1.0 in (e.0, e.1));
+      kinds = λ kind among. subst (λ k. IsTrue (is_kind k)) (sym among.1.1) (fits.each_kind among.0 kind among.1.0);
+      classed = top_below (length given.table.kinds) 1 given.table.assigned given.graph.arcs (λ k d lt. (fits.each_entry k d lt).2);
+    }
