@@ -1,4 +1,5 @@
 pub mod Grammar
+pub mod Limits
 pub mod Meaning
 pub mod Refusals
 pub mod Values

@@ -1,0 +1,22 @@
+-- Faults of files and of writing as faults of an answer.
+use Rattle.std.specs.Prelude.{ℕ, ◌+◌}
+use Rattle.ea_files.specs.declared.fault.FileFault.{FileFault}
+use Rattle.ea_files.specs.declared.fault.FileFault.TheVariants as file
+use Rattle.earliest.specs.declared.fault.AnswerFault.{AnswerFault}
+use Rattle.earliest.specs.declared.fault.AnswerFault.TheVariants.{Read, Input, Write, OutOfMemory}
+use Rattle.ea_report.specs.declared.report.WriteFault.{WriteFault}
+use Rattle.ea_report.specs.declared.report.WriteFaultKind.{WriteFaultKind}
+use Rattle.ea_report.specs.declared.report.WriteFaultKind.TheVariants.{WriteFailed, OutOfMemory as NoMemory}
+
+-- Nothing was written.
+abbrev pub answer_fault : FileFault → AnswerFault
+answer_fault (file.Read word fault) = Read word fault
+answer_fault (file.Input word fault) = Input word fault
+answer_fault file.OutOfMemory = OutOfMemory 0
+
+-- A fault of one text, after so many bytes of those before.
+abbrev pub fault_after : ℕ → WriteFault → AnswerFault
+fault_after before fault = by_kind fault.kind where
+  by_kind : WriteFaultKind → AnswerFault
+  by_kind WriteFailed = Write (before + fault.written)
+  by_kind NoMemory = OutOfMemory (before + fault.written)

@@ -1,0 +1,4 @@
+pub mod Counted
+pub mod Faults
+pub mod Fronts
+pub mod Reported

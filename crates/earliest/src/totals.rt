@@ -1,0 +1,97 @@
+//! The totals of problems.
+ghost use Rattle.std.specs.Prelude.{◌≡◌, ◌+◌, ◌*◌, ◌^◌, ◌≤◌, ◌<◌, ℕ, length, sum_by};
+ghost use Rattle.ea_engine.specs.Tallies.{pushed_by_all, popped_by_all, returned_by_all};
+ghost use Rattle.ea_engine.specs.declared.counters.Counters.{Counters as Counted};
+ghost use Rattle.earliest.specs.Counted.{AreBalanced, AreSmall};
+
+use ea_engine::Counters;
+use ea_report::Totals;
+
+/// No problem yet.
+pub(crate) fn no_totals() -> Totals
+    ensures balanced { AreBalanced result }
+    ensures small { AreSmall 0 result }
+{
+    Totals {
+        seeded: 0,
+        pushed: 0,
+        popped: 0,
+        stale: 0,
+        scanned: 0,
+        returned: 0,
+        drained: 0,
+        finish: 0,
+    }
+}
+
+/// What all workers did.
+#[derive(Clone, Copy)]
+pub(crate) struct Work {
+    pub pushed: u128,
+    pub popped: u128,
+    pub stale: u128,
+    pub scanned: u128,
+    pub returned: u128,
+}
+
+/// Adds what a worker did.
+fn add_work(work: &mut Work, counted: &Counters)
+    requires room { (work.old.pushed < 2 ^ 100) × (work.old.popped < 2 ^ 100) × (work.old.stale < 2 ^ 100) × (work.old.scanned < 2 ^ 100) × (work.old.returned < 2 ^ 100) }
+    ensures added { work.new ≡ record { pushed = work.old.pushed + counted.now.pushed; popped = work.old.popped + counted.now.popped; stale = work.old.stale + counted.now.stale; scanned = work.old.scanned + counted.now.scanned; returned = work.old.returned + counted.now.returned } }
+    ensures few { (counted.now.pushed < 2 ^ 64) × (counted.now.popped < 2 ^ 64) × (counted.now.stale < 2 ^ 64) × (counted.now.scanned < 2 ^ 64) × (counted.now.returned < 2 ^ 64) }
+{
+    let Counters {
+        pushed,
+        popped,
+        stale,
+        scanned,
+        returned,
+        ..
+    } = *counted;
+    work.pushed += u128::from(pushed);
+    work.popped += u128::from(popped);
+    work.stale += u128::from(stale);
+    work.scanned += u128::from(scanned);
+    work.returned += u128::from(returned);
+}
+
+/// What workers did together.
+pub(crate) fn work_of(counters: &[Counters]) -> Work
+    requires few { length counters.now ≤ 16 }
+    ensures pushed { result.pushed ≡ pushed_by_all counters.now }
+    ensures popped { result.popped ≡ popped_by_all counters.now }
+    ensures stale { result.stale ≡ sum_by (λ (c : Counted). c.stale) counters.now }
+    ensures scanned { result.scanned ≡ sum_by (λ (c : Counted). c.scanned) counters.now }
+    ensures returned { result.returned ≡ returned_by_all counters.now }
+    ensures few { (result.pushed ≤ 2 ^ 70) × (result.popped ≤ 2 ^ 70) × (result.stale ≤ 2 ^ 70) × (result.scanned ≤ 2 ^ 70) × (result.returned ≤ 2 ^ 70) }
+{
+    let mut work = Work {
+        pushed: 0,
+        popped: 0,
+        stale: 0,
+        scanned: 0,
+        returned: 0,
+    };
+    for counted in counters {
+        add_work(&mut work, counted);
+    }
+    work
+}
+
+/// The totals of more problems.
+pub(crate) fn add_totals(totals: &mut Totals, more: &Totals)
+    requires few { (problems : ℕ) × (problems < 1000000) × AreSmall problems totals.old }
+    requires small { AreSmall 1 more.now }
+    requires balanced { AreBalanced totals.old × AreBalanced more.now }
+    ensures balanced { AreBalanced totals.new }
+    ensures small { (problems : ℕ) → AreSmall problems totals.old → AreSmall (problems + 1) totals.new }
+{
+    totals.seeded += more.seeded;
+    totals.pushed += more.pushed;
+    totals.popped += more.popped;
+    totals.stale += more.stale;
+    totals.scanned += more.scanned;
+    totals.returned += more.returned;
+    totals.drained += more.drained;
+    totals.finish += more.finish;
+}
