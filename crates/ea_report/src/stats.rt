@@ -50,6 +50,7 @@ impl Direct {
             (seen (W.contents out.new) (W.Device.failed out.new) (W.Device.interrupted out.new)) fault bytes.now) }
         ensures device { IfErr result (λ fault. fault.kind ≡ WriteFaultKind.WriteFailed) }
         ensures bound { self.new.written ≤ self.old.written + 2 ^ 64 }
+        ensures small { IfErr result (λ fault. fault.written ≤ self.old.written + 2 ^ 64) }
     {
         match send(out, bytes, &mut self.interruptions) {
             Ok(()) => {
@@ -74,6 +75,7 @@ impl Direct {
             (seen (W.contents out.new) (W.Device.failed out.new) (W.Device.interrupted out.new)) fault (spaced field.now)) }
         ensures device { IfErr result (λ fault. fault.kind ≡ WriteFaultKind.WriteFailed) }
         ensures bound { self.new.written ≤ self.old.written + 2 * 2 ^ 64 }
+        ensures small { IfErr result (λ fault. fault.written ≤ self.old.written + 2 * 2 ^ 64) }
     {
         match self.put(b" ".as_slice(), out) {
             Ok(()) => self.put(field, out),
@@ -97,6 +99,7 @@ impl Direct {
             (seen (W.contents out.new) (W.Device.failed out.new) (W.Device.interrupted out.new)) fault (total_line (name.now, total))) }
         ensures device { IfErr result (λ fault. fault.kind ≡ WriteFaultKind.WriteFailed) }
         ensures bound { self.new.written ≤ self.old.written + 6 * 2 ^ 64 }
+        ensures small { IfErr result (λ fault. fault.written ≤ self.old.written + 6 * 2 ^ 64) }
     {
         match self.put(b"c".as_slice(), out) {
             Ok(()) => self.put_fields(name, total, out),
@@ -118,6 +121,7 @@ impl Direct {
             (seen (W.contents out.new) (W.Device.failed out.new) (W.Device.interrupted out.new)) fault (spaced name.now ++ number_end total)) }
         ensures device { IfErr result (λ fault. fault.kind ≡ WriteFaultKind.WriteFailed) }
         ensures bound { self.new.written ≤ self.old.written + 5 * 2 ^ 64 }
+        ensures small { IfErr result (λ fault. fault.written ≤ self.old.written + 5 * 2 ^ 64) }
     {
         match self.put_field(name, out) {
             Ok(()) => self.put_number(total, out),
@@ -134,6 +138,7 @@ impl Direct {
             (seen (W.contents out.new) (W.Device.failed out.new) (W.Device.interrupted out.new)) fault (number_end number)) }
         ensures device { IfErr result (λ fault. fault.kind ≡ WriteFaultKind.WriteFailed) }
         ensures bound { self.new.written ≤ self.old.written + 3 * 2 ^ 64 }
+        ensures small { IfErr result (λ fault. fault.written ≤ self.old.written + 3 * 2 ^ 64) }
     {
         let mut buffer = Buffer::new();
         match self.put_field(buffer.format(number).as_bytes(), out) {
@@ -155,6 +160,7 @@ impl Direct {
         ensures err { IfErr result (λ fault. Stops (seen (W.contents out.old) (W.Device.failed out.old) (W.Device.interrupted out.old)) [] self.old.written self.old.interruptions
             (seen (W.contents out.new) (W.Device.failed out.new) (W.Device.interrupted out.new)) fault (flat_map (λ row. total_line (row.0.now, row.1)) rows.now)) }
         ensures device { IfErr result (λ fault. fault.kind ≡ WriteFaultKind.WriteFailed) }
+        ensures small { IfErr result (λ fault. fault.written ≤ self.old.written + length rows.now * (6 * 2 ^ 64)) }
     {
         for row in rows {
             self.put_total(row.0, row.1, out)?;
@@ -172,6 +178,7 @@ fn send_stats<W: ByteOut>(totals: &Totals, out: &mut W) -> Result<u128, WriteFau
         let after = seen (W.contents out.new) (W.Device.failed out.new) (W.Device.interrupted out.new) in
         IfErr result (IsCutBy before after (stats_text totals.now)) }
     ensures kind { IfErr result (λ fault. fault.kind ≡ WriteFaultKind.WriteFailed) }
+    ensures small { IfErr result (λ fault. fault.written ≤ 48 * 2 ^ 64) }
 {
     let rows = [
         (b"seeded".as_slice(), totals.seeded),
@@ -206,6 +213,7 @@ pub fn write_stats<W: ByteOut>(totals: &Totals, out: &mut W) -> Result<u128, Wri
         IfErr result (IsCutBy before after (stats_text totals.now)) }
     // It takes no memory, so the device is the only cause.
     ensures kind { IfErr result (λ fault. fault.kind ≡ WriteFaultKind.WriteFailed) }
+    ensures small { IfErr result (λ fault. fault.written ≤ 48 * 2 ^ 64) }
     ensures device { IfErr result (λ fault. fault.kind ≡ WriteFaultKind.WriteFailed →
         HasGivenUp (W.Device.failed out.old) (W.Device.failed out.new) (W.Device.interrupted out.old) (W.Device.interrupted out.new)) }
 {

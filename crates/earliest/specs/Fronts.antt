@@ -1,5 +1,5 @@
 -- What went out of a report, whole or cut short.
-use Rattle.std.specs.Prelude.{◌≡◌, ◌⊎◌, ℕ, ◌+◌, ◌*◌, ◌^◌, ◌≤◌, Bool, true, List, ◌++◌, Option, length, take, All}
+use Rattle.std.specs.Prelude.{◌≡◌, ◌⊎◌, ℕ, ◌+◌, ◌*◌, ◌^◌, ◌≤◌, Bool, true, List, [], ◌++◌, Option, if◌then◌else◌, length, take, All}
 use Rattle.std.specs.Io.KnownBytes.{Appends}
 use Rattle.ea_text.specs.Device.{HasGivenUp}
 use Rattle.ea_road.specs.Roads.{Roads}
@@ -9,6 +9,7 @@ use Rattle.ea_files.specs.declared.road.Road.{Road}
 use Rattle.ea_report.specs.declared.stats.Totals.{Totals}
 use Rattle.ea_report.specs.Sent.{IsCutAt, IsNotLess, Seen}
 use Rattle.ea_report.specs.Stats.{stats_text}
+use Rattle.earliest.specs.Counted.{AreBalanced}
 use Rattle.earliest.specs.Reported.{IsReportOf, AreReported}
 use Rattle.earliest.specs.declared.fault.AnswerFault.{AnswerFault}
 use Rattle.earliest.specs.declared.fault.AnswerFault.TheVariants.{Read, Input, BadOption, Write, OutOfMemory}
@@ -75,3 +76,10 @@ pub record AreSent (walks : Bool) (roads : Roads) (answers : ℕ → ℕ → ℕ
   pub counted : written ≡ length report
   pub unfailed : now.failed ≡ first.failed
   pub monotone : first.interrupted ≤ now.interrupted
+
+-- The reports of all problems went out, and with statistics the totals, which are balanced.
+pub record IsWritten (walks stats : Bool) (roads : Roads) (answers : ℕ → ℕ → ℕ → ℕ → Type 0) (problems : List Asking) (old new : Option (List ℕ)) (totals : Totals) : Type 0 where
+  pub report : List ℕ
+  pub are_reported : AreReported walks roads answers problems report
+  pub appended : Appends old new (report ++ (if stats then stats_text totals else []))
+  pub balanced : AreBalanced totals

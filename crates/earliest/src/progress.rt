@@ -1,19 +1,22 @@
 //! Reports of problems, written one after the other.
-ghost use Rattle.std.specs.Prelude.{◌≡◌, ◌≤◌, ◌<◌, ◌+◌, ◌*◌, ◌^◌, ℕ, IfOk, IfErr, OnOk, length, true};
+ghost use Rattle.std.specs.Prelude.{◌≡◌, ◌≤◌, ◌<◌, ◌+◌, ◌*◌, ◌^◌, ℕ, [], IfOk, IfErr, OnOk, if◌then◌else◌, length, true};
+ghost use Rattle.std.specs.Io.KnownBytes.{Appends};
+ghost use Rattle.ea_text.specs.Device.{HasGivenUp};
 ghost use Rattle.ea_road.specs.Queries.{IsProblem};
 ghost use Rattle.ea_finish.specs.Answers.{HasArrivals, IsAnswer};
-ghost use Rattle.ea_report.specs.Sent.{seen};
+ghost use Rattle.ea_report.specs.Sent.{IsCutAt, seen};
+ghost use Rattle.ea_report.specs.Stats.{stats_text};
 ghost use Rattle.ea_words.specs.Limits.{AreOptions};
 ghost use Rattle.earliest.specs.Counted.{AreBalanced, AreSmall};
 ghost use Rattle.earliest.specs.Faults;
-ghost use Rattle.earliest.specs.Fronts.{AreProblems, AreSent, IsCutShort, IsSent, IsStoppedBy, times_on};
+ghost use Rattle.earliest.specs.Fronts.{AreProblems, AreSent, IsCutShort, IsSent, IsStoppedBy, IsWritten, times_on};
 
 use crate::fault::AnswerFault;
 use crate::solving::{Found, find};
 use crate::totals::{add_totals, no_totals};
 use ea_files::Road;
 use ea_input::ByteOut;
-use ea_report::{ReportOptions, Totals, WriteFault, WriteFaultKind, write_problem};
+use ea_report::{ReportOptions, Totals, WriteFault, WriteFaultKind, write_problem, write_stats};
 use ea_road::Query;
 use ea_words::RunOptions;
 use std::alloc::Global;
@@ -75,5 +78,121 @@ impl Progress {
             }
             Err(fault) => Err(fault_after(self.written, fault)),
         }
+    }
+}
+
+impl Progress {
+    /// Finds the answer of a problem and writes its report.
+    fn report<H: Threads + Sync, W: ByteOut>(
+        &mut self,
+        alloc: Global,
+        rt: &H,
+        road: &Road,
+        query: &Query,
+        options: &RunOptions,
+        out: &mut W,
+    ) -> Result<(), AnswerFault>
+        requires problem { IsProblem road.now.network (length road.now.times.list.items) query.now }
+        requires few { (length query.now.sources ≤ 1000000) × (road.now.network.nodes ≤ 67108864) }
+        requires options { AreOptions options.now }
+        requires room { self.old.written ≤ 1000000 * 2 ^ 90 }
+        requires small { (problems : ℕ) × (problems < 1000000) × AreSmall problems self.old.totals }
+        requires balanced { AreBalanced self.old.totals }
+        ensures ok { OnOk result (IsSent options.now.walks road.now.network (times_on road.now) query.now (seen (W.contents out.old) (W.Device.failed out.old) (W.Device.interrupted out.old))
+            (seen (W.contents out.new) (W.Device.failed out.new) (W.Device.interrupted out.new)) self.old.written self.new.written) }
+        ensures err { IfErr result (IsStoppedBy options.now.walks road.now.network (times_on road.now) query.now (seen (W.contents out.old) (W.Device.failed out.old) (W.Device.interrupted out.old))
+            (seen (W.contents out.new) (W.Device.failed out.new) (W.Device.interrupted out.new)) self.old.written) }
+        ensures bound { OnOk result (self.new.written ≤ self.old.written + 2 ^ 90) }
+        ensures balanced { OnOk result (AreBalanced self.new.totals) }
+        ensures small { OnOk result ((problems : ℕ) → AreSmall problems self.old.totals → AreSmall (problems + 1) self.new.totals) }
+    {
+        match find(alloc, rt, road, query, options) {
+            Ok(found) => {
+                self.write(alloc, road, query, &found, options.walks, out)?;
+                add_totals(&mut self.totals, &found.totals);
+                Ok(())
+            }
+            Err(_) => Err(AnswerFault::OutOfMemory {
+                written: self.written,
+            }),
+        }
+    }
+}
+
+/// Writes the reports of problems in their order.
+fn report_each<H: Threads + Sync, W: ByteOut>(
+    alloc: Global,
+    rt: &H,
+    road: &Road,
+    queries: &[Query],
+    options: &RunOptions,
+    out: &mut W,
+) -> Result<Progress, AnswerFault>
+    requires problems { AreProblems road.now queries.now }
+    requires few { (length queries.now ≤ 1000000) × (road.now.network.nodes ≤ 67108864) }
+    requires options { AreOptions options.now }
+    ensures ok { IfOk result (λ progress. AreSent options.now.walks road.now.network (times_on road.now) queries.now (seen (W.contents out.old) (W.Device.failed out.old) (W.Device.interrupted out.old))
+        (seen (W.contents out.new) (W.Device.failed out.new) (W.Device.interrupted out.new)) progress.written) }
+    ensures err { IfErr result (IsCutShort options.now.walks options.now.stats road.now.network (times_on road.now) queries.now (seen (W.contents out.old) (W.Device.failed out.old) (W.Device.interrupted out.old))
+        (seen (W.contents out.new) (W.Device.failed out.new) (W.Device.interrupted out.new))) }
+    ensures bound { IfOk result (λ progress. progress.written ≤ 1000000 * 2 ^ 90) }
+    ensures balanced { IfOk result (λ progress. AreBalanced progress.totals) }
+{
+    let mut progress = Progress {
+        totals: no_totals(),
+        written: 0,
+    };
+    // Tells that the count is one of 64 bits.
+    let _ = out.interruptions();
+    for query in queries {
+        progress.report(alloc, rt, road, query, options, out)?;
+    }
+    Ok(progress)
+}
+
+/// Writes with statistics the totals.
+fn write_totals<W: ByteOut>(
+    progress: &Progress,
+    stats: bool,
+    out: &mut W,
+) -> Result<(), AnswerFault>
+    requires { progress.now.written ≤ 1000000 * 2 ^ 90 }
+    ensures ok { OnOk result (Appends (W.contents out.old) (W.contents out.new) (if stats then stats_text progress.now.totals else [])) }
+    ensures err { IfErr result (λ fault. (sent : ℕ) × (stats ≡ true) × (fault ≡ AnswerFault.Write (progress.now.written + sent))
+        × IsCutAt (W.contents out.old) (W.contents out.new) (stats_text progress.now.totals) sent
+        × HasGivenUp (W.Device.failed out.old) (W.Device.failed out.new) (W.Device.interrupted out.old) (W.Device.interrupted out.new)) }
+{
+    if stats {
+        match write_stats(&progress.totals, out) {
+            Ok(_) => Ok(()),
+            Err(fault) => Err(AnswerFault::Write {
+                written: progress.written + fault.written,
+            }),
+        }
+    } else {
+        Ok(())
+    }
+}
+
+/// Writes the reports of problems in their order, and then with statistics the totals.
+pub(crate) fn report_all<H: Threads + Sync, W: ByteOut>(
+    alloc: Global,
+    rt: &H,
+    road: &Road,
+    queries: &[Query],
+    options: &RunOptions,
+    out: &mut W,
+) -> Result<Totals, AnswerFault>
+    requires problems { AreProblems road.now queries.now }
+    requires few { (length queries.now ≤ 1000000) × (road.now.network.nodes ≤ 67108864) }
+    requires options { AreOptions options.now }
+    ensures ok { IfOk result (λ totals. IsWritten options.now.walks options.now.stats road.now.network (times_on road.now) queries.now (W.contents out.old) (W.contents out.new) totals) }
+    ensures err { IfErr result (IsCutShort options.now.walks options.now.stats road.now.network (times_on road.now) queries.now (seen (W.contents out.old) (W.Device.failed out.old) (W.Device.interrupted out.old))
+        (seen (W.contents out.new) (W.Device.failed out.new) (W.Device.interrupted out.new))) }
+{
+    let progress = report_each(alloc, rt, road, queries, options, out)?;
+    match write_totals(&progress, options.stats, out) {
+        Ok(()) => Ok(progress.totals),
+        Err(fault) => Err(fault),
     }
 }

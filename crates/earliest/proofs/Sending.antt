@@ -1,0 +1,105 @@
+-- Reports that went out, one after the other.
+use Rattle.std.proofs.Common.{◌≡◌, ◌⊎◌, ℕ, zero, suc, ◌+◌, ◌-◌, ◌^◌, ◌<◌, ◌≤◌, Bool, true, List, [], ◌∷◌, ◌++◌, length, take, get_or, refl, ap, ap₂, sym, ◌∙◌, arith, subst, inl, inr, append-nil, append_assoc, length-append}
+use Rattle.std.specs.Prelude.{Option, if◌then◌else◌}
+use Rattle.std.specs.Io.KnownBytes.{Appends}
+use Rattle.std.proofs.KnownBytes.{Appends-trans, Appends-nil}
+use Rattle.std.proofs.Math.Seq.{take-length, take-append-add}
+use Rattle.std.proofs.lemmas.List.{take_more, take-append-le}
+use Rattle.ea_text.specs.Device.{HasGivenUp}
+use Rattle.ea_road.specs.Roads.{Roads}
+use Rattle.ea_road.specs.Queries.{Asking}
+use Rattle.ea_report.specs.Sent.{IsCutAt, IsNotLess, Seen}
+use Rattle.ea_report.specs.declared.stats.Totals.{Totals}
+use Rattle.ea_report.specs.Stats.{stats_text}
+use Rattle.earliest.specs.Reported.{IsReportOf, AreReported}
+use Rattle.earliest.specs.Fronts.{IsFront, of_problems, of_stats, IsCutShort, IsSent, IsStopped, IsStoppedBy, IsWritten, AreSent}
+use Rattle.earliest.specs.Counted.{AreBalanced}
+use Rattle.earliest.specs.declared.fault.AnswerFault.{AnswerFault}
+use Rattle.earliest.specs.declared.fault.AnswerFault.TheVariants.{Read, Input, BadOption, Write, OutOfMemory}
+
+module _ (walks : Bool) (roads : Roads) (answers : ℕ → ℕ → ℕ → ℕ → Type 0) where
+  -- One more report.
+  pub reported_more : (front : List Asking) (query : Asking) (texts text : List ℕ) → AreReported walks roads answers front texts → IsReportOf walks roads answers query text → AreReported walks roads answers (front ++ query ∷ []) (texts ++ text)
+  reported_more [] query texts text none is_report = (text, [], is_report, refl, rw none (sym (append-nil text)))
+  reported_more (first ∷ front) query texts text some is_report =
+      (some.0, some.1 ++ text, some.2, reported_more front query some.1 text some.3 is_report, rw some.4 (append_assoc some.0 some.1 text))
+
+  -- None yet.
+  pub sent_none : (first : Seen) → AreSent walks roads answers [] first first 0
+  sent_none first = record { report = []; are_reported = refl; appended = Appends-nil first.contents; counted = refl; unfailed = refl; monotone = omega arith }
+
+  -- A count that doesn't fall.
+  goes_on : (first old now : ℕ) → first < 2 ^ 64 → first ≤ old → IsNotLess old now → first ≤ now
+  goes_on first old now fits before (inl h) = omega (arith, before, h)
+  goes_on first old now fits before (inr h) = omega (arith, fits, h)
+
+  -- One more went out.
+  pub sent_more : (front : List Asking) (query : Asking) (first old now : Seen) (before written : ℕ) → first.interrupted < 2 ^ 64 → AreSent walks roads answers front first old before → IsSent walks roads answers query old now before written → AreSent walks roads answers (front ++ query ∷ []) first now written
+  sent_more front query first old now before written fits sent more = record {
+    report = sent.report ++ more.text;
+    are_reported = reported_more front query sent.report more.text sent.are_reported more.is_report;
+    appended = Appends-trans first.contents old.contents now.contents sent.report more.text sent.appended more.appended;
+    counted = more.counted ∙ ap (λ (n : ℕ). n + length more.text) sent.counted ∙ sym (length-append sent.report more.text);
+    unfailed = more.unfailed ∙ sent.unfailed;
+    monotone = goes_on first.interrupted old.interrupted now.interrupted fits sent.monotone more.not_less;
+  }
+
+  -- A device that gave up later gave up.
+  pub gave_up : (first old now : Seen) → old.failed ≡ first.failed → first.interrupted ≤ old.interrupted → HasGivenUp old.failed now.failed old.interrupted now.interrupted → HasGivenUp first.failed now.failed first.interrupted now.interrupted
+  gave_up first old now same before (inl h) = inl (omega (arith, h, same))
+  gave_up first old now same before (inr (inl h)) = inr (inl (omega (arith, h, before)))
+  gave_up first old now same before (inr (inr (inl h))) = inr (inr (inl h))
+  gave_up first old now same before (inr (inr (inr h))) = inr (inr (inr h))
+
+  -- A front of what comes after what went out.
+  pub cut_after : (first old now : Option (List ℕ)) (report text : List ℕ) (before sent written : ℕ) → Appends first old report → before ≡ length report → written ≡ before + sent → IsCutAt old now text sent → IsCutAt first now (report ++ text) written
+  cut_after first old now report text before sent written appended counted total cut =
+      let size : written ≡ length report + sent = total ∙ ap (λ (n : ℕ). n + sent) counted in
+      let front : take written (report ++ text) ≡ report ++ take sent text = ap (λ (n : ℕ). take n (report ++ text)) size ∙ take-append-add report text sent in
+      (omega (arith, size, cut.0, length-append report text), subst (λ t. Appends first now t) (sym front) (Appends-trans first old now report (take sent text) appended cut.1))
+
+  -- The next problem of a list.
+  module _ (all : List Asking) (i : ℕ) (query : Asking) (inside : i < length all) (at : query ≡ get_or all i query) where
+    one_more : take (i + 1) all ≡ take i all ++ query ∷ []
+    one_more = take_more all i query inside ∙ ap (λ q. take i all ++ q ∷ []) (sym at)
+
+    -- Its report goes out.
+    pub sent_next : (first old now : Seen) (before written : ℕ) → first.interrupted < 2 ^ 64 → AreSent walks roads answers (take i all) first old before → IsSent walks roads answers query old now before written → AreSent walks roads answers (take (i + 1) all) first now written
+    sent_next first old now before written fits sent more = subst (λ qs. AreSent walks roads answers qs first now written) (sym one_more) (sent_more (take i all) query first old now before written fits sent more)
+
+    -- Its report stops.
+    module _ (stats : Bool) (first old now : Seen) (before : ℕ) (sent : AreSent walks roads answers (take i all) first old before) where
+      stopped : (written : ℕ) → IsStopped walks roads answers query old now before written → IsFront walks stats roads answers all first.contents now.contents written
+      stopped written stop = of_problems (i + 1) (sent.report ++ stop.text)
+          (subst (λ qs. AreReported walks roads answers qs (sent.report ++ stop.text)) (sym one_more) (reported_more (take i all) query sent.report stop.text sent.are_reported stop.is_report))
+          (cut_after first.contents old.contents now.contents sent.report stop.text before stop.sent written sent.appended sent.counted stop.counted stop.cut)
+
+      nothing : (written : ℕ) → written ≡ before → now ≡ old → IsFront walks stats roads answers all first.contents now.contents written
+      nothing written same still =
+          let size : written ≡ length sent.report = same ∙ sent.counted in
+          let whole : take written sent.report ≡ sent.report = ap (λ (n : ℕ). take n sent.report) size ∙ take-length sent.report in
+          of_problems i sent.report sent.are_reported
+          (omega (arith, size), subst (λ t. Appends first.contents now.contents t) (sym whole) (subst (λ (s : Seen). Appends first.contents s.contents sent.report) (sym still) sent.appended))
+
+      pub stops : (fault : AnswerFault) → IsStoppedBy walks roads answers query old now before fault → IsCutShort walks stats roads answers all first now fault
+      stops (Write written) stop = (stopped written stop.0, gave_up first old now sent.unfailed sent.monotone stop.1)
+      stops (OutOfMemory written) (inl still) = nothing written still.0 still.1
+      stops (OutOfMemory written) (inr stop) = stopped written stop
+      stops (Read file fault) stop = absurd stop
+      stops (Input file fault) stop = absurd stop
+      stops BadOption stop = absurd stop
+
+  -- The totals after all reports.
+  module _ (stats : Bool) (all : List Asking) (first old now : Seen) (before : ℕ) (totals : Totals) (sent : AreSent walks roads answers all first old before) where
+    pub totals_cut : (size : ℕ) → stats ≡ true → IsCutAt old.contents now.contents (stats_text totals) size → HasGivenUp old.failed now.failed old.interrupted now.interrupted → IsCutShort walks stats roads answers all first now (Write (before + size))
+    totals_cut size told cut gone =
+        (of_stats sent.report totals told sent.are_reported (cut_after first.contents old.contents now.contents sent.report (stats_text totals) before size (before + size) sent.appended sent.counted refl cut),
+        gave_up first old now sent.unfailed sent.monotone gone)
+
+    pub all_written : Appends old.contents now.contents (if stats then stats_text totals else []) → AreBalanced totals → IsWritten walks stats roads answers all first.contents now.contents totals
+    all_written more balanced = record {
+      report = sent.report;
+      are_reported = sent.are_reported;
+      appended = Appends-trans first.contents old.contents now.contents sent.report _ sent.appended more;
+      balanced = balanced;
+    }
