@@ -1,6 +1,6 @@
 -- What texts denote is within the limits of networks and timetables.
 use Rattle.std.proofs.Common.{◌≡◌, ◌⊎◌, ℕ, zero, suc, ◌+◌, ◌-◌, ◌^◌, ◌<◌, ◌≤◌, ◌==◌, max, List, [], ◌∷◌, length, get_or, cond, Bool, true, false, refl, ap, sym, ◌∙◌, arith, subst, inl, inr}
-use Rattle.std.specs.Prelude.{All, Option, Some, None, IsTrue, slice_get, unwrap_or}
+use Rattle.std.specs.Prelude.{All, codes, Option, Some, None, IsTrue, slice_get, unwrap_or}
 use Rattle.std.specs.List.{IsAmong}
 use Rattle.std.proofs.lemmas.Bool.Decides.{leb_tells, nat_tests}
 use Rattle.std.proofs.lemmas.Option.{none-some}
@@ -9,6 +9,9 @@ use Rattle.ea_input.specs.declared.graph.RawArc.{RawArc}
 use Rattle.ea_input.specs.declared.table.RawKind.{RawKind}
 use Rattle.ea_input.specs.declared.table.RawKind.TheVariants.{Plain, Every, Closed, Rush}
 use Rattle.ea_input.specs.Graph.{Graph, DenotesGraph, IsArcLine, AreArcLines, IsProblemLine}
+use Rattle.ea_input.specs.Listing.{IsCountLine, IsItemLine, AreItemLines}
+use Rattle.ea_input.specs.Sources.{IsSource, DenotesSources}
+use Rattle.ea_input.specs.Pairs.{IsPair, DenotesPairs}
 use Rattle.ea_input.specs.Table.{Table, DenotesTable, IsKind, IsKindLine, IsAssignedLine, AreTableLines, IsTableProblem}
 use Rattle.ea_road.specs.declared.arc.Arc.{Arc}
 use Rattle.ea_road.specs.Roads.{Roads, IsNode, IsArc, FitsNodes, IsNetwork, top_class}
@@ -176,3 +179,45 @@ denoting_is_sound lines tp given graph table =
       kinds = λ kind among. subst (λ k. IsTrue (is_kind k)) (sym among.1.1) (fits.each_kind among.0 kind among.1.0);
       classed = top_below (length given.table.kinds) 1 given.table.assigned given.graph.arcs (λ k d lt. (fits.each_entry k d lt).2);
     }
+
+-- ---- sources and pairs
+
+few_items : (kind : List ℕ) (line : List (List ℕ)) (count : ℕ) → IsCountLine kind line count → count ≤ 1000000
+few_items kind [] count h = absurd h
+few_items kind (a ∷ []) count h = absurd h
+few_items kind (a ∷ b ∷ []) count h = absurd h
+few_items kind (a ∷ b ∷ c ∷ []) count h = absurd h
+few_items kind (a ∷ b ∷ c ∷ d ∷ []) count h = absurd h
+few_items kind (a ∷ b ∷ c ∷ d ∷ e ∷ f ∷ rest) count h = absurd h
+few_items kind (a ∷ b ∷ c ∷ d ∷ e ∷ []) count h = h.4.2
+
+item_of : {A : Type 0} (word : List ℕ) (IsItem : List (List ℕ) → A → Type 0) (line : List (List ℕ)) (item : A) → IsItemLine word IsItem line item → (fields : List (List ℕ)) × IsItem fields item
+item_of word IsItem [] item h = absurd h
+item_of word IsItem (first ∷ fields) item h = (fields, h.1)
+
+each_item : {A : Type 0} (word : List ℕ) (IsItem : List (List ℕ) → A → Type 0) (P : A → Type 0) → ((fields : List (List ℕ)) (item : A) → IsItem fields item → P item)
+    → (lines : List (List (List ℕ))) (items : List A) → AreItemLines word IsItem lines items → All P items
+each_item word IsItem P holds [] [] h k d lt = absurd (omega arith)
+each_item word IsItem P holds [] (item ∷ items) h k d lt = absurd h
+each_item word IsItem P holds (line ∷ lines) [] h k d lt = absurd h
+each_item word IsItem P holds (line ∷ lines) (item ∷ items) h zero d lt = let fields = item_of word IsItem line item h.0 in holds fields.0 item fields.1
+each_item word IsItem P holds (line ∷ lines) (item ∷ items) h (suc k) d lt = each_item word IsItem P holds lines items h.1 k d (omega arith)
+
+source_is_node : (nodes : ℕ) (fields : List (List ℕ)) (source : ℕ) → IsSource nodes fields source → IsNode nodes source
+source_is_node nodes [] source h = absurd h
+source_is_node nodes (a ∷ b ∷ rest) source h = absurd h
+source_is_node nodes (s ∷ []) source h = record { from_one = h.1; to_last = h.2 }
+
+pair_is_nodes : (nodes : ℕ) (fields : List (List ℕ)) (pair : ℕ × ℕ) → IsPair nodes fields pair → IsNode nodes pair.0 × IsNode nodes pair.1
+pair_is_nodes nodes [] pair h = absurd h
+pair_is_nodes nodes (a ∷ []) pair h = absurd h
+pair_is_nodes nodes (a ∷ b ∷ c ∷ rest) pair h = absurd h
+pair_is_nodes nodes (s ∷ t ∷ []) pair h = (record { from_one = h.0.1; to_last = h.0.2 }, record { from_one = h.1.1; to_last = h.1.2 })
+
+pub sources_are_nodes : (nodes : ℕ) (lines : List (List (List ℕ))) (sources : List ℕ) → DenotesSources nodes lines sources → All (IsNode nodes) sources × (length sources ≤ 1000000)
+sources_are_nodes nodes lines sources denoted =
+    (each_item (codes "s") (IsSource nodes) (IsNode nodes) (source_is_node nodes) denoted.others sources denoted.lists, few_items (codes "ss") denoted.problem (length sources) denoted.announces)
+
+pub pairs_are_nodes : (nodes : ℕ) (lines : List (List (List ℕ))) (pairs : List (ℕ × ℕ)) → DenotesPairs nodes lines pairs → All (λ pair. IsNode nodes pair.0 × IsNode nodes pair.1) pairs × (length pairs ≤ 1000000)
+pairs_are_nodes nodes lines pairs denoted =
+    (each_item (codes "q") (IsPair nodes) (λ pair. IsNode nodes pair.0 × IsNode nodes pair.1) (pair_is_nodes nodes) denoted.others pairs denoted.lists, few_items (codes "p2p") denoted.problem (length pairs) denoted.announces)

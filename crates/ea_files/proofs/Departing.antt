@@ -53,3 +53,25 @@ are_sources sources all = record { each = λ source among. subst IsSource (sym a
 
 pub all_are_sources : (depart gap : ℕ) (nodes : List ℕ) → All (λ node. 0 < node) nodes → AreWithin depart gap (length nodes) → All IsSource (sources_from depart gap 0 nodes)
 all_are_sources depart gap nodes some within = each_is_source depart gap 0 nodes some (λ k inside. subst (λ (n : ℕ). departure depart gap n ≤ HORIZON) (omega arith) (within k inside))
+
+-- What holds of each node at its departure holds of each source.
+pub each_from : (P : Source → Type 0) (depart gap i : ℕ) (nodes : List ℕ) → ((k : ℕ) → k < length nodes → P (record { node = get_or nodes k 0; departure = departure depart gap (i + k) })) → All P (sources_from depart gap i nodes)
+each_from P depart gap i [] holds k d lt = absurd (omega arith)
+each_from P depart gap i (x ∷ xs) holds zero d lt = subst (λ (n : ℕ). P (record { node = x; departure = departure depart gap n })) (omega arith) (holds 0 (omega arith))
+each_from P depart gap i (x ∷ xs) holds (suc k) d lt =
+    each_from P depart gap (i + 1) xs (λ j inside. subst (λ (n : ℕ). P (record { node = get_or xs j 0; departure = departure depart gap n })) (omega arith) (holds (suc j) (omega arith))) k d (omega arith)
+
+pub length-sources_from : (depart gap i : ℕ) (nodes : List ℕ) → length (sources_from depart gap i nodes) ≡ length nodes
+length-sources_from depart gap i [] = refl
+length-sources_from depart gap i (x ∷ xs) = let more = length-sources_from depart gap (i + 1) xs in omega arith
+
+-- What holds of each pair at its departure holds of each problem.
+pub each_pair : (P : Asking → Type 0) (depart gap i : ℕ) (pairs : List (ℕ × ℕ)) → ((k : ℕ) (d : ℕ × ℕ) → k < length pairs → P (record { sources = record { node = (get_or pairs k d).0; departure = departure depart gap (i + k) } ∷ []; target = Some (get_or pairs k d).1 })) → All P (pair_problems depart gap i pairs)
+each_pair P depart gap i [] holds k d lt = absurd (omega arith)
+each_pair P depart gap i (x ∷ xs) holds zero d lt = subst (λ (n : ℕ). P (record { sources = record { node = x.0; departure = departure depart gap n } ∷ []; target = Some x.1 })) (omega arith) (holds 0 x (omega arith))
+each_pair P depart gap i (x ∷ xs) holds (suc k) d lt =
+    each_pair P depart gap (i + 1) xs (λ j e inside. subst (λ (n : ℕ). P (record { sources = record { node = (get_or xs j e).0; departure = departure depart gap n } ∷ []; target = Some (get_or xs j e).1 })) (omega arith) (holds (suc j) e (omega arith))) k d (omega arith)
+
+pub length-pair_problems : (depart gap i : ℕ) (pairs : List (ℕ × ℕ)) → length (pair_problems depart gap i pairs) ≡ length pairs
+length-pair_problems depart gap i [] = refl
+length-pair_problems depart gap i (x ∷ xs) = let more = length-pair_problems depart gap (i + 1) xs in omega arith

@@ -52,12 +52,12 @@ pub record IsRoadOf (given : Given) (road : Road) : Type 0 where
   pub network : road.network ≡ roads_of given
   pub kinds : map (λ table. table.kind) road.times.list.items ≡ given.table.kinds
 
--- The texts that readers gave: a graph's, that of the starts, and one of timetables where there is one.
+-- What readers gave denotes this: a graph with timetables, where there is a file of them, and where searches start.
 pub record AreGiven {X : Type 0}
     (DenotesStarts : ℕ → List (List (List ℕ)) → X → Type 0)
     (gr starts : Option (List ℕ))
     (tp : Option (Option (List ℕ)))
-    (road : Road)
+    (given : Given)
     (found : X)
     : Type 0 where
   pub gr_text : List ℕ
@@ -66,7 +66,5 @@ pub record AreGiven {X : Type 0}
   pub all_gr : IsAll gr gr_text
   pub all_starts : IsAll starts starts_text
   pub all_tp : IsAllIfThere tp tp_text
-  pub given : Given
   pub denoted : Denotes gr_text tp_text given
-  pub is_road : IsRoadOf given road
   pub starts_denoted : DenotesStarts given.graph.nodes (field_lines starts_text) found

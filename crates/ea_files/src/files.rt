@@ -4,7 +4,7 @@ ghost use Rattle.ea_input.specs.Formats.{source_format, pair_format, table_forma
 ghost use Rattle.ea_input.specs.Sources.{DenotesSources};
 ghost use Rattle.ea_input.specs.Pairs.{DenotesPairs};
 ghost use Rattle.ea_files.specs.Files.{IsFaultIfThere, IsFirstFault, reading};
-ghost use Rattle.ea_files.specs.Given.{AreGiven};
+ghost use Rattle.ea_files.specs.Given.{AreGiven, Given, IsRoadOf};
 
 use crate::fault::{FileFault, FileWord};
 use crate::reading::{read_graph, read_pairs, read_sources};
@@ -36,7 +36,7 @@ pub fn read_run<G: ByteIn, S: ByteIn, T: ByteIn>(
     ss: &mut S,
     tp: &mut Option<T>,
 ) -> Result<RunFiles, FileFault>
-    ensures given { IfOk result (λ files. AreGiven DenotesSources (G.remaining gr.old) (S.remaining ss.old) (option_map T.remaining tp.old) files.road files.sources.items) }
+    ensures given { IfOk result (λ files. (given : Given) × AreGiven DenotesSources (G.remaining gr.old) (S.remaining ss.old) (option_map T.remaining tp.old) given files.sources.items × IsRoadOf given files.road) }
     ensures fault { IfErr result (IsFirstFault FileWord.Ss source_format DenotesSources
         (reading (G.remaining gr.old) (G.Device.failed gr.old) (G.Device.failed gr.new) (G.Device.interrupted gr.old) (G.Device.interrupted gr.new))
         (reading (S.remaining ss.old) (S.Device.failed ss.old) (S.Device.failed ss.new) (S.Device.interrupted ss.old) (S.Device.interrupted ss.new))
@@ -55,7 +55,7 @@ pub fn read_trips<G: ByteIn, P: ByteIn, T: ByteIn>(
     p2p: &mut P,
     tp: &mut Option<T>,
 ) -> Result<PairFiles, FileFault>
-    ensures given { IfOk result (λ files. AreGiven DenotesPairs (G.remaining gr.old) (P.remaining p2p.old) (option_map T.remaining tp.old) files.road files.pairs.items) }
+    ensures given { IfOk result (λ files. (given : Given) × AreGiven DenotesPairs (G.remaining gr.old) (P.remaining p2p.old) (option_map T.remaining tp.old) given files.pairs.items × IsRoadOf given files.road) }
     ensures fault { IfErr result (IsFirstFault FileWord.P2p pair_format DenotesPairs
         (reading (G.remaining gr.old) (G.Device.failed gr.old) (G.Device.failed gr.new) (G.Device.interrupted gr.old) (G.Device.interrupted gr.new))
         (reading (P.remaining p2p.old) (P.Device.failed p2p.old) (P.Device.failed p2p.new) (P.Device.interrupted p2p.old) (P.Device.interrupted p2p.new))
