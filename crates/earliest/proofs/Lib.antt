@@ -1,2 +1,4 @@
 pub mod Copied
 pub mod Sending
+pub mod Posing
+pub mod Outcomes

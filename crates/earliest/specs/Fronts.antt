@@ -15,8 +15,11 @@ use Rattle.earliest.specs.declared.fault.AnswerFault.{AnswerFault}
 use Rattle.earliest.specs.declared.fault.AnswerFault.TheVariants.{Read, Input, BadOption, Write, OutOfMemory}
 
 -- Queries are problems of a road, each with a million sources at most.
+abbrev pub IsPosed : Road → Asking → Type 0
+IsPosed road query = IsProblem road.network (length road.times.list.items) query × (length query.sources ≤ 1000000)
+
 abbrev pub AreProblems : Road → List Asking → Type 0
-AreProblems road queries = All (λ query. IsProblem road.network (length road.times.list.items) query × (length query.sources ≤ 1000000)) queries
+AreProblems road queries = All (IsPosed road) queries
 
 -- When the arcs of a road arrive.
 abbrev pub times_on : Road → ℕ → ℕ → ℕ → ℕ → Type 0

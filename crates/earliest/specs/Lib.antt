@@ -2,3 +2,4 @@ pub mod Counted
 pub mod Faults
 pub mod Fronts
 pub mod Reported
+pub mod Runs

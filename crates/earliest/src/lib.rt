@@ -1,7 +1,14 @@
 //! Earliest arrivals from files to reports: the calls that the program `earliest` makes.
 #![tactic(auto)]
 
+mod answering;
 mod fault;
 mod progress;
 mod solving;
 mod totals;
+
+pub use answering::{answer, answer_pairs};
+pub use ea_files::{FileFault, FileWord};
+pub use ea_report::Totals;
+pub use ea_words::{Command, CommandFault, RunOptions};
+pub use fault::AnswerFault;
