@@ -5,9 +5,11 @@ mod lines;
 mod report;
 mod sending;
 mod stats;
+mod writing;
 
 pub use report::{ReportOptions, WriteFault, WriteFaultKind, write_problem};
 pub use stats::{Totals, write_stats};
+pub use writing::write_pieces;
 
 #[cfg(test)]
 mod tests;

@@ -34,15 +34,15 @@ pub struct Totals {
 
 /// A text that is under way to a device, with nothing pending.
 #[derive(Drop)]
-struct Direct {
-    written: u128,
-    interruptions: u64,
-    ghost borne: { interruptions ≤ 1000 },
+pub(crate) struct Direct {
+    pub written: u128,
+    pub interruptions: u64,
+    pub ghost borne: { interruptions ≤ 1000 },
 }
 
 impl Direct {
     /// Sends bytes.
-    fn put<W: ByteOut>(&mut self, bytes: &[u8], out: &mut W) -> Result<(), WriteFault>
+    pub(crate) fn put<W: ByteOut>(&mut self, bytes: &[u8], out: &mut W) -> Result<(), WriteFault>
         requires { self.old.written + 2 ^ 64 < 2 ^ 128 }
         ensures ok { OnOk result (Adds (seen (W.contents out.old) (W.Device.failed out.old) (W.Device.interrupted out.old)) [] self.old.written self.old.interruptions
             (seen (W.contents out.new) (W.Device.failed out.new) (W.Device.interrupted out.new)) [] self.new.written self.new.interruptions bytes.now) }

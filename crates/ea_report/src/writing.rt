@@ -1,0 +1,51 @@
+//! Texts of a few pieces.
+ghost use Rattle.std.specs.Prelude.{◌≡◌, ◌<◌, ◌≤◌, ◌+◌, ◌*◌, ◌^◌, [], IfOk, IfErr, OnOk, length};
+ghost use Rattle.std.specs.List.{flat_map};
+ghost use Rattle.ea_report.specs.Sent.{IsCutBy, IsWhole, Adds, Stops, seen};
+
+use crate::report::{WriteFault, WriteFaultKind};
+use crate::stats::Direct;
+use ea_input::ByteOut;
+
+impl Direct {
+    /// Sends pieces, one after the other.
+    fn put_pieces<W: ByteOut>(&mut self, pieces: &[&[u8]], out: &mut W) -> Result<(), WriteFault>
+        requires { self.old.written + length pieces.now * 2 ^ 64 + 2 ^ 64 < 2 ^ 128 }
+        ensures ok { OnOk result (Adds (seen (W.contents out.old) (W.Device.failed out.old) (W.Device.interrupted out.old)) [] self.old.written self.old.interruptions
+            (seen (W.contents out.new) (W.Device.failed out.new) (W.Device.interrupted out.new)) [] self.new.written self.new.interruptions (flat_map (λ piece. piece.now) pieces.now)) }
+        ensures err { IfErr result (λ fault. Stops (seen (W.contents out.old) (W.Device.failed out.old) (W.Device.interrupted out.old)) [] self.old.written self.old.interruptions
+            (seen (W.contents out.new) (W.Device.failed out.new) (W.Device.interrupted out.new)) fault (flat_map (λ piece. piece.now) pieces.now)) }
+        ensures device { IfErr result (λ fault. fault.kind ≡ WriteFaultKind.WriteFailed) }
+    {
+        for piece in pieces {
+            self.put(piece, out)?;
+        }
+        Ok(())
+    }
+}
+
+/// Writes the pieces of a text, at most a thousand, one after the other and with no memory. Answers how many bytes it
+/// wrote.
+///
+/// `WriteFailed` where a write failed, took nothing of bytes that were left, or was interrupted for
+/// the 1,001st time in this call. The bytes written before a fault are the front of the text.
+pub fn write_pieces<W: ByteOut>(pieces: &[&[u8]], out: &mut W) -> Result<u128, WriteFault>
+    requires few { length pieces.now ≤ 1000 }
+    ensures ok { let before = seen (W.contents out.old) (W.Device.failed out.old) (W.Device.interrupted out.old) in
+        let after = seen (W.contents out.new) (W.Device.failed out.new) (W.Device.interrupted out.new) in
+        IfOk result (IsWhole before after (flat_map (λ piece. piece.now) pieces.now)) }
+    ensures err { let before = seen (W.contents out.old) (W.Device.failed out.old) (W.Device.interrupted out.old) in
+        let after = seen (W.contents out.new) (W.Device.failed out.new) (W.Device.interrupted out.new) in
+        IfErr result (IsCutBy before after (flat_map (λ piece. piece.now) pieces.now)) }
+    // It takes no memory, so the device is the only cause.
+    ensures kind { IfErr result (λ fault. fault.kind ≡ WriteFaultKind.WriteFailed) }
+{
+    let mut direct = Direct {
+        written: 0,
+        interruptions: 0,
+    };
+    match direct.put_pieces(pieces, out) {
+        Ok(()) => Ok(direct.written),
+        Err(fault) => Err(fault),
+    }
+}
