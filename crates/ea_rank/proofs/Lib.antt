@@ -6,3 +6,4 @@ mod Books
 mod Recording
 mod Underways
 mod Occurring
+mod Keeping

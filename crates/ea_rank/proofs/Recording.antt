@@ -45,7 +45,7 @@ queue-append queue [] more = refl
 queue-append queue (Push key ∷ events) more = queue-append (with_key key queue) events more
 queue-append queue (Pop key ∷ events) more = queue-append (without_key key queue) events more
 
-queue-ascending : (queue : List ℕ) (events : List Event) → IsAscending queue → IsAscending (queue_after queue events)
+pub queue-ascending : (queue : List ℕ) (events : List Event) → IsAscending queue → IsAscending (queue_after queue events)
 queue-ascending queue [] up = up
 queue-ascending queue (Push key ∷ events) up = queue-ascending (with_key key queue) events (ascending-with_key key queue up)
 queue-ascending queue (Pop key ∷ events) up = queue-ascending (without_key key queue) events (ascending-without_key key queue up)

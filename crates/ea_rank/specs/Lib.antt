@@ -5,3 +5,5 @@ pub mod Places
 pub mod Records
 pub mod Runs
 pub mod States
+pub mod Summaries
+pub mod QueueLaws

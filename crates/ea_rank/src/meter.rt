@@ -3,7 +3,8 @@ ghost use Rattle.std.specs.Prelude.{◌≡◌, Ok, IfOk, IfErr};
 ghost use Rattle.ea_rank.specs.Faults.{IsRankFault};
 ghost use Rattle.ea_rank.specs.Ranks.{rank_errors};
 
-use crate::event::{Event, RankFault, Record};
+use crate::event::{Event, Record};
+use crate::fault::RankFault;
 use crate::places::places_of;
 use crate::tally::Tally;
 use std::alloc::Global;
