@@ -5,7 +5,7 @@ use Rattle.ea_lists.specs.Totals.{total}
 use Rattle.ea_rank.specs.declared.event.Event.{Event}
 use Rattle.ea_rank.specs.declared.event.Event.TheVariants.{Push, Pop}
 use Rattle.ea_rank.specs.QueueLaws.{pushed_keys, CountSmallerKeys, TellMissingKeys, KeepKeys}
-use Rattle.ea_rank.specs.Ranks.{with_key, without_key, rank_error, ranked, after_ranks, errors_from, rank_errors, queue_after, popped_keys}
+use Rattle.ea_rank.specs.Ranks.{with_key, without_key, rank_error, ranked, errors_from, queue_after, popped_keys}
 use Rattle.ea_rank.proofs.Queues.{many, total-with_key, total-without_key, rank_there, rank_none}
 use Rattle.ea_rank.proofs.Recording.{queue-ascending}
 

@@ -33,7 +33,7 @@ pub marks_more : (events : List Event) (index : ℕ) (event : Event) (key : ℕ)
 marks_more events index event key marks inside key_is so_far =
     let at_end : 0 + length (take index events) ≡ index = omega (arith, length-take-le index events (omega arith)) in
     let is : ◌≡◌ {A = Mark} (record { key = key; index = index }) (record { key = key_of (get_or events index event); index = 0 + length (take index events) }) =
-        ap (λ (k : ℕ). record { key = k; index = index }) key_is ∙ ap (λ (n : ℕ). record { key = key_of (get_or events index event); index = n }) (sym at_end) in
+    ap (λ (k : ℕ). record { key = k; index = index }) key_is ∙ ap (λ (n : ℕ). record { key = key_of (get_or events index event); index = n }) (sym at_end) in
     ap (λ (l : List Mark). l ++ record { key = key; index = index } ∷ []) so_far
     ∙ ap (λ (m : Mark). marks_from 0 (take index events) ++ m ∷ []) is
     ∙ sym (ap (marks_from 0) (take_more events index event inside) ∙ marks_push 0 (take index events) (get_or events index event))
@@ -46,7 +46,7 @@ each_there start (event ∷ events) zero inside =
 each_there start (event ∷ events) (suc place) inside =
     let e : start + 1 + place ≡ start + suc place = omega arith in
     let more : Contains (marks_from (start + 1) events) (record { key = at (map key_of events) place; index = start + suc place }) =
-        subst (λ (n : ℕ). Contains (marks_from (start + 1) events) (record { key = at (map key_of events) place; index = n })) e (each_there (start + 1) events place (omega arith)) in
+    subst (λ (n : ℕ). Contains (marks_from (start + 1) events) (record { key = at (map key_of events) place; index = n })) e (each_there (start + 1) events place (omega arith)) in
     (suc more.0, omega (arith, more.1), more.2)
 
 abbrev Told : ℕ → List Event → Mark → Type 0
@@ -71,7 +71,7 @@ pub are_marks : (events : List Event) (old new : List Mark) → old ≡ marks_fr
 are_marks events old new is moved sorted = record {
   each = λ index inside. (
       let there : Contains old (record { key = at (map key_of events) index; index = 0 + index }) =
-          subst (λ (l : List Mark). Contains l (record { key = at (map key_of events) index; index = 0 + index })) (sym is) (each_there 0 events index inside) in
+      subst (λ (l : List Mark). Contains l (record { key = at (map key_of events) index; index = 0 + index })) (sym is) (each_there 0 events index inside) in
       let e : 0 + index ≡ index = omega arith in
       Contains-permutation old new _ moved (subst (λ (n : ℕ). Contains old (record { key = at (map key_of events) index; index = n })) e there));
   only = λ mark there. (

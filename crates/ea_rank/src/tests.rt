@@ -168,6 +168,8 @@ fn a_summary(rt: HostRuntime) {
 
 const KEYS: usize = 200;
 
+const NEVER_PUSHED: u64 = 5;
+
 /// How many of the keys below the key there are.
 fn below(counts: &[u64], key: usize) -> u64 {
     let mut sum = 0u64;
@@ -177,8 +179,8 @@ fn below(counts: &[u64], key: usize) -> u64 {
     sum
 }
 
-/// A random record with as many events, its rank errors by a plain count, and a key that is left out at its end.
-fn counted(alloc: Global, events: usize, seed: u64) -> Result<(Record, Vec<u64>, u64), AllocError> {
+/// A random record with as many events, and its rank errors by a plain count.
+fn counted(alloc: Global, events: usize, seed: u64) -> Result<(Record, Vec<u64>), AllocError> {
     let mut rng = Xoshiro256PlusPlus::seed_from_u64(seed);
     let mut counts = vec![in alloc; 0u64; KEYS]?;
     let mut record = Vec::new(alloc);
@@ -189,24 +191,24 @@ fn counted(alloc: Global, events: usize, seed: u64) -> Result<(Record, Vec<u64>,
         let key = u64::MAX - (KEYS - 1 - place) as u64 * 1_000_003;
         if counts[place] > 0 && rng.next_u64() % 2 == 0 {
             expected.push(below(&counts, place))?;
-            counts[place] -= 1;
+            counts[place] = counts[place].wrapping_sub(1);
             record.push(Event::Pop(key))?;
         } else {
             counts[place] = counts[place].wrapping_add(1);
             record.push(Event::Push(key))?;
         }
     }
-    Ok((Record { events: record }, expected, 5))
+    Ok((Record { events: record }, expected))
 }
 
 #[test]
 fn a_random_record(rt: HostRuntime) -> Result<(), Fail> {
-    let (mut record, expected, missing) = counted(rt.alloc(), 100_000, 7)?;
+    let (mut record, expected) = counted(rt.alloc(), 100_000, 7)?;
     let found = ranks(rt.alloc(), &record).ok().ok_or("ranks")?;
     assert!(rt; expected.len() > 40_000);
     assert_eq!(rt; found.as_slice(), expected.as_slice());
-    record.events.push(Event::Pop(missing))?;
-    record.events.push(Event::Pop(missing))?;
+    record.events.push(Event::Pop(NEVER_PUSHED))?;
+    record.events.push(Event::Pop(NEVER_PUSHED))?;
     let fault = ranks(rt.alloc(), &record).err();
     assert!(rt; fault == Some(RankFault::NotThere(100_000)));
     Ok(())

@@ -13,11 +13,11 @@ loop-mark-init c =
     let same : c.deref.result.now ≡ marks = c.deref.ensures.value ∙ sym c.deref-mark-items.ensures.value in
     let found = rw same at c.first.ensures.value in
     let first : 0 < length marks → c.match-first.last ≡ (get_or marks 0 none).key = λ some. (
-        let there = slice_get-get_or marks 0 none some in
-        elim c.match-first.branch [
-          | in-Some w ↦ (let told = rw w.in-Some.is at found in w.last-is ∙ key_of_first _ _ (told ∙ there))
-          | in-None w ↦ (let told = rw w.in-None.is at found in absurd (none_is_not_some _ (told ∙ there)))
-        ]) in record {
+    let there = slice_get-get_or marks 0 none some in
+    elim c.match-first.branch [
+      | in-Some w ↦ (let told = rw w.in-Some.is at found in w.last-is ∙ key_of_first _ _ (told ∙ there))
+      | in-None w ↦ (let told = rw w.in-None.is at found in absurd (none_is_not_some _ (told ∙ there)))
+    ]) in record {
       numbered = numbered-none (map key_of c.args.events.now) marks c.in_ok-of_events.of_events.items c.match-first.last are (omega (arith, c.in_ok-of_events.ensures.len, length-map c.args.events.now key_of)) first;
       few = omega arith;
     }

@@ -1,4 +1,4 @@
-use Rattle.std.proofs.Common.{◌≡◌, ◌<◌, ℕ, length, get_or, ◌∙◌, arith}
+use Rattle.std.proofs.Common.{◌≡◌, get_or, arith}
 use Rattle.ea_rank.proofs.Tallying.{added-take_more, greatest-take_more, max_is}
 use Rattle.ea_rank.proofs.summary.Summary.of.Goals as goal
 
