@@ -21,4 +21,4 @@ pub use event::{Event, Record};
 pub use fault::RankFault;
 pub use meter::ranks;
 pub use summary::Summary;
-pub use turns::record_run;
+pub use turns::{record_run, record_run_by};

@@ -1,7 +1,7 @@
-ghost use Rattle.std.specs.Prelude.{◌≤◌};
+ghost use Rattle.std.specs.Prelude.{◌≡◌, ◌+◌, ◌<◌, ◌≤◌, ◌^◌};
 
 use crate::turning::Turning;
-use crate::{Event, RankFault, Record, Summary, ranks, record_run};
+use crate::{Event, RankFault, Record, Summary, ranks, record_run, record_run_by};
 use ea_pool::{Entry, Solo};
 use ea_road::{Arc, Network, Query, Source, Timetables, is_problem};
 use rand_core::{Rng, SeedableRng};
@@ -14,6 +14,22 @@ type Row = (u32, u32, u32);
 
 const FOUR_NODES: [Row; 5] = [(1, 2, 7), (1, 3, 2), (3, 2, 3), (2, 4, 1), (3, 4, 9)];
 
+fn network_of(alloc: Global, nodes: u32, rows: &[Row]) -> Result<Option<Network>, AllocError> {
+    let mut arcs = Vec::new(alloc);
+    for (tail, head, weight) in rows {
+        arcs.push(Arc {
+            tail: *tail,
+            head: *head,
+            weight: *weight,
+            class: 0,
+        })?;
+    }
+    if !Network::fits(nodes, &arcs) {
+        return Ok(None);
+    }
+    Ok(Some(Network::new(alloc, nodes, arcs)?))
+}
+
 /// The record of a run from these sources, by class 0 alone; none where the rows or the sources do not fit.
 fn recorded<R: Rng + Drop>(
     alloc: Global,
@@ -25,15 +41,9 @@ fn recorded<R: Rng + Drop>(
 ) -> Result<Option<Record>, AllocError>
     requires { (2 ≤ heaps) × (heaps ≤ 128) }
 {
-    let mut arcs = Vec::new(alloc);
-    for (tail, head, weight) in rows {
-        arcs.push(Arc {
-            tail: *tail,
-            head: *head,
-            weight: *weight,
-            class: 0,
-        })?;
-    }
+    let Some(network) = network_of(alloc, nodes, rows)? else {
+        return Ok(None);
+    };
     let mut list = Vec::new(alloc);
     for (node, departure) in sources {
         list.push(Source {
@@ -41,16 +51,40 @@ fn recorded<R: Rng + Drop>(
             departure: *departure,
         })?;
     }
-    if !Network::fits(nodes, &arcs) || !Query::fits(&list) {
+    if !Query::fits(&list) {
         return Ok(None);
     }
-    let network = Network::new(alloc, nodes, arcs)?;
     let query = Query::new(list);
     let times = Timetables::new(Vec::new(alloc));
     if !is_problem(&network, times.classes(), &query) {
         return Ok(None);
     }
     Ok(Some(record_run(alloc, &network, &times, &query, heaps, rng)?))
+}
+
+/// The same by a closure that adds the weight to the departure, from node 1 at 0 with three heaps.
+fn recorded_by(alloc: Global, network: &Network) -> Result<Option<Record>, AllocError> {
+    let source = Source {
+        node: 1,
+        departure: 0,
+    };
+    let query = Query::new(vec![in alloc; source]?);
+    if !is_problem(network, 0, &query) {
+        return Ok(None);
+    }
+    let record = record_run_by(
+        alloc,
+        network,
+        |_class: u32, weight: u64, departure: u64| -> u64
+            requires { departure + weight < 2 ^ 64 }
+            ensures { result ≡ departure + weight }
+        { departure + weight },
+        0,
+        &query,
+        3,
+        Turning(0),
+    )?;
+    Ok(Some(record))
 }
 
 #[test]
@@ -118,6 +152,15 @@ fn recorded_run(rt: HostRuntime) -> Result<(), Fail> {
     );
     let found = ranks(rt.alloc(), &record).ok().ok_or("ranks")?;
     assert_eq!(rt; found.as_slice(), [0, 1, 0, 0, 0, 0].as_slice());
+    Ok(())
+}
+
+#[test]
+fn a_closure_brings_travel_times(rt: HostRuntime) -> Result<(), Fail> {
+    let network = network_of(rt.alloc(), 4, &FOUR_NODES)?.ok_or("network")?;
+    let record = recorded_by(rt.alloc(), &network)?.ok_or("run")?;
+    let other = recorded(rt.alloc(), 4, &FOUR_NODES, &[(1, 0)], 3, Turning(0))?.ok_or("run")?;
+    assert_eq!(rt; record.events.as_slice(), other.events.as_slice());
     Ok(())
 }
 

@@ -1,6 +1,7 @@
 //! A recorded run of one thread.
 ghost use Rattle.std.specs.Prelude.{◌≡◌, ◌+◌, ◌<◌, ◌≤◌, [], None, length, IfOk};
 ghost use Rattle.ea_road.specs.declared.TheConstants.{HORIZON};
+ghost use Rattle.ea_road.specs.Answers.{IsFifoFunction};
 ghost use Rattle.ea_road.specs.Labels.{label_of};
 ghost use Rattle.ea_road.specs.Queries.{IsProblem};
 ghost use Rattle.ea_road.specs.Roads.{leaving, IsNode};
@@ -14,7 +15,7 @@ use crate::event::Record;
 use crate::run::Run;
 use ea_pool::OutOfMemory;
 use ea_road::laws::fixed_labels_are_least;
-use ea_road::{HORIZON, Network, Query, TravelTimes};
+use ea_road::{ArrivalFunction, HORIZON, Network, Profiles, Query, TravelTimes};
 use rand_core::Rng;
 use std::alloc::Global;
 
@@ -114,4 +115,28 @@ pub fn record_run<T: TravelTimes, R: Rng + Drop>(
         events,
     } = run;
     Ok(Record { events })
+}
+
+/// `record_run` by a caller's closure from class, weight and departure to the arrival, for classes up to the greatest.
+pub fn record_run_by<F: ArrivalFunction + Drop, R: Rng + Drop>(
+    alloc: Global,
+    network: &Network,
+    closure: F,
+    classes: u32,
+    query: &Query,
+    heaps: usize,
+    rng: R,
+) -> Result<Record, OutOfMemory>
+    requires heaps { (2 ≤ heaps) × (heaps ≤ 128) }
+    requires fifo { IsFifoFunction (F.may closure) (F.answers closure) classes }
+    requires problem { IsProblem network.now classes query.now }
+    requires asks_all { query.now.target ≡ None }
+    ensures ranks { IfOk result (λ recorded. HasRanks heaps recorded.events.items) }
+    ensures empty { IfOk result (λ recorded. queue_after [] recorded.events.items ≡ []) }
+    ensures least { IfOk result (λ recorded. ContainArrivals network.now
+        (λ class weight departure arrival. ∥ F.answers closure class weight departure arrival ∥₁)
+        query.now.sources (popped_keys recorded.events.items)) }
+{
+    let profiles = Profiles::new(closure, classes);
+    record_run(alloc, network, &profiles, query, heaps, rng)
 }
