@@ -1,0 +1,15 @@
+use Rattle.std.proofs.Common.{◌≡◌, ◌+◌, [], length}
+use Rattle.ea_rank.specs.Runs.{weighs, Underway}
+use Rattle.ea_rank.specs.States.{state_of}
+use Rattle.ea_rank.specs.Tallies.{added}
+use Rattle.ea_rank.proofs.turns.record_run.Given as goal
+
+abbrev pub invariant-loop-run : goal.invariant-loop-run
+invariant-loop-run g l = record {
+  underway : Underway l.network (g.T.TravelTimes.answers l.times) l.query.sources l.query.sources [] (state_of l.run);
+  heaps : length l.run.heaps ≡ l.heaps;
+}
+
+-- each turn takes an entry, and each lowering takes one from the sum at least and adds one entry
+abbrev pub decreases-loop-run : goal.decreases-loop-run
+decreases-loop-run g l = added l.run.labels.items + weighs (λ e. 1) l.run.heaps

@@ -1,0 +1,9 @@
+use Rattle.std.proofs.Common.{subst, IfOk}
+use Rattle.ea_rank.specs.Ranks.{popped_keys}
+use Rattle.ea_rank.specs.Records.{ContainArrivals}
+use Rattle.ea_rank.proofs.turns.record_run_by.Goals as goal
+
+pub returns-clause-least : goal.returns-clause-least
+returns-clause-least g c =
+    subst (λ closure. IfOk c.record_run.result (λ recorded. ContainArrivals c.args.network.now (λ class weight departure arrival. ∥ g.F.ArrivalFunction.answers closure class weight departure arrival ∥₁) c.args.query.now.sources (popped_keys recorded.events.items)))
+    c.new-profiles.ensures.closure c.record_run.ensures.least

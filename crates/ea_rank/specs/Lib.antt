@@ -1,0 +1,9 @@
+pub mod Tallies
+pub mod Ranks
+pub mod Faults
+pub mod Places
+pub mod Records
+pub mod Runs
+pub mod States
+pub mod Summaries
+pub mod QueueLaws

@@ -1,0 +1,142 @@
+//! A recorded run of one thread.
+ghost use Rattle.std.specs.Prelude.{◌≡◌, ◌+◌, ◌<◌, ◌≤◌, [], None, length, IfOk};
+ghost use Rattle.ea_road.specs.declared.TheConstants.{HORIZON};
+ghost use Rattle.ea_road.specs.Answers.{IsFifoFunction};
+ghost use Rattle.ea_road.specs.Labels.{label_of};
+ghost use Rattle.ea_road.specs.Queries.{IsProblem};
+ghost use Rattle.ea_road.specs.Roads.{leaving, IsNode};
+ghost use Rattle.ea_rank.specs.Ranks.{popped_keys, queue_after};
+ghost use Rattle.ea_rank.specs.Records.{ContainArrivals, HasRanks};
+ghost use Rattle.ea_rank.specs.Runs.{Underway, weighs};
+ghost use Rattle.ea_rank.specs.States.{state_of};
+ghost use Rattle.ea_rank.specs.Tallies.{added};
+
+use crate::event::Record;
+use crate::run::Run;
+use ea_pool::OutOfMemory;
+use ea_road::laws::fixed_labels_are_least;
+use ea_road::{ArrivalFunction, HORIZON, Network, Profiles, Query, TravelTimes};
+use rand_core::Rng;
+use std::alloc::Global;
+
+/// Offers each head the arrival along the arcs from a node, left at its label. A word is drawn for each push.
+fn scan<T: TravelTimes, R: Rng>(
+    network: &Network,
+    times: &T,
+    query: &Query,
+    node: u32,
+    departure: u64,
+    rng: &mut R,
+    run: &mut Run,
+) -> Result<(), OutOfMemory>
+    requires problem { IsProblem network.now (T.classes times.now) query.now }
+    requires node { IsNode network.now.nodes node }
+    requires departure { departure ≤ HORIZON }
+    requires label { label_of run.old.labels.items node ≡ departure }
+    requires heaps { 2 ≤ length run.old.heaps }
+    requires underway { Underway network.now (T.answers times.now) query.now.sources
+        query.now.sources (leaving network.now node) (state_of run.old) }
+    ensures underway { IfOk result (λ _. Underway network.now (T.answers times.now) query.now.sources
+        query.now.sources [] (state_of run.new)) }
+    ensures heaps { IfOk result (λ _. length run.new.heaps ≡ length run.old.heaps) }
+    ensures less { IfOk result (λ _. added run.new.labels.items + weighs (λ entry. 1) run.new.heaps
+        ≤ added run.old.labels.items + weighs (λ entry. 1) run.old.heaps) }
+{
+    let arcs = network.leaving(node).arcs;
+    for place in 0..arcs.len() {
+        let arc = arcs[place];
+        let arrival = times.arrive(arc.class, u64::from(arc.weight), departure);
+        if arrival <= HORIZON && arrival < run.label(arc.head) {
+            run.lower(rng.next_u64(), arc.head, arrival)?;
+        }
+    }
+    Ok(())
+}
+
+/// Offers each source its departure. The words of the pushes are 0, 1, 2 and so on.
+fn sow<T: TravelTimes>(
+    network: &Network,
+    times: &T,
+    query: &Query,
+    run: &mut Run,
+) -> Result<(), OutOfMemory>
+    requires problem { IsProblem network.now (T.classes times.now) query.now }
+    requires heaps { 2 ≤ length run.old.heaps }
+    requires underway { Underway network.now (T.answers times.now) query.now.sources
+        [] [] (state_of run.old) }
+    ensures underway { IfOk result (λ _. Underway network.now (T.answers times.now) query.now.sources
+        query.now.sources [] (state_of run.new)) }
+    ensures heaps { IfOk result (λ _. length run.new.heaps ≡ length run.old.heaps) }
+{
+    let _ = network.nodes();
+    let mut word = 0;
+    for source in query.sources() {
+        if source.departure < run.label(source.node) {
+            run.lower(word, source.node, source.departure)?;
+            word = word.wrapping_add(1);
+        }
+    }
+    Ok(())
+}
+
+/// What one thread pushes and pops until its heaps, 2 to 128, are empty: the sources' entries with the words 0, 1, 2
+/// and so on, and then turns as a worker makes them, with the generator's words. Where a pop finds nothing while some
+/// heap has an entry, the words after the rest of its first are tried.
+pub fn record_run<T: TravelTimes, R: Rng + Drop>(
+    alloc: Global,
+    network: &Network,
+    times: &T,
+    query: &Query,
+    heaps: usize,
+    mut rng: R,
+) -> Result<Record, OutOfMemory>
+    requires heaps { (2 ≤ heaps) × (heaps ≤ 128) }
+    requires problem { IsProblem network.now (T.classes times.now) query.now }
+    requires asks_all { query.now.target ≡ None }
+    // each key is there when it is popped, and with two heaps no smaller one is
+    ensures ranks { IfOk result (λ recorded. HasRanks heaps recorded.events.items) }
+    ensures empty { IfOk result (λ recorded. queue_after [] recorded.events.items ≡ []) }
+    ensures least { IfOk result (λ recorded. ContainArrivals network.now (T.answers times.now)
+        query.now.sources (popped_keys recorded.events.items)) }
+{
+    let mut run = Run::new(alloc, network.nodes(), heaps)?;
+    sow(network, times, query, &mut run)?;
+    while let Some(entry) = run.pop(heaps, rng.next_u64(), rng.next_u64())? {
+        if entry.key <= run.label(entry.node) {
+            scan(
+                network, times, query, entry.node, entry.key, &mut rng, &mut run,
+            )?;
+        }
+    }
+    fixed_labels_are_least(network, times, query, &run.labels);
+    let Run {
+        labels: _,
+        heaps: _,
+        events,
+    } = run;
+    Ok(Record { events })
+}
+
+/// `record_run` by a caller's closure from class, weight and departure to the arrival, for classes up to the greatest.
+pub fn record_run_by<F: ArrivalFunction + Drop, R: Rng + Drop>(
+    alloc: Global,
+    network: &Network,
+    closure: F,
+    classes: u32,
+    query: &Query,
+    heaps: usize,
+    rng: R,
+) -> Result<Record, OutOfMemory>
+    requires heaps { (2 ≤ heaps) × (heaps ≤ 128) }
+    requires fifo { IsFifoFunction (F.may closure) (F.answers closure) classes }
+    requires problem { IsProblem network.now classes query.now }
+    requires asks_all { query.now.target ≡ None }
+    ensures ranks { IfOk result (λ recorded. HasRanks heaps recorded.events.items) }
+    ensures empty { IfOk result (λ recorded. queue_after [] recorded.events.items ≡ []) }
+    ensures least { IfOk result (λ recorded. ContainArrivals network.now
+        (λ class weight departure arrival. ∥ F.answers closure class weight departure arrival ∥₁)
+        query.now.sources (popped_keys recorded.events.items)) }
+{
+    let profiles = Profiles::new(closure, classes);
+    record_run(alloc, network, &profiles, query, heaps, rng)
+}
