@@ -1,0 +1,13 @@
+pub mod Backwards
+pub mod Viewed
+pub mod Walks
+pub mod Ordering
+pub mod Right
+pub mod Firsts
+pub mod Judged
+pub mod Sourced
+pub mod OneVerdict
+pub mod Formed
+pub mod Placed
+pub mod Steps
+pub mod BadLines

@@ -1,0 +1,6 @@
+pub mod Verdicts
+pub mod Views
+pub mod Starts
+pub mod Form
+pub mod Checked
+pub mod Places
