@@ -11,3 +11,9 @@ pub mod Formed
 pub mod Placed
 pub mod Steps
 pub mod BadLines
+pub mod Matched
+pub mod Pushing
+pub mod Reading
+pub mod Keeping
+pub mod Composing
+pub mod Determined

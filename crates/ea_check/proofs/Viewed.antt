@@ -5,7 +5,7 @@ use Rattle.std.specs.Prelude.{Option, Some, None, slice_get, slice_range}
 use Rattle.ea_check.specs.declared.reported.SaidLine.{SaidLine}
 use Rattle.ea_check.specs.declared.reported.WalkLine.{WalkLine}
 use Rattle.ea_check.specs.Verdicts.{WrittenWalk, Said, IsSaid, times_of}
-use Rattle.ea_check.specs.Views.{walk_of, said_of, IsKept}
+use Rattle.ea_check.specs.Views.{walk_of, said_of, IsIn, IsKept}
 
 said_here : (arcs : List ℕ) (lines : List SaidLine) (place : ℕ) (here : SaidLine) (said : Said) → place < length lines → here ≡ get_or lines place here → slice_get (map (said_of arcs) lines) place ≡ Some said → said ≡ said_of arcs here
 said_here arcs [] place here said inside is found = absurd (omega arith)
@@ -22,7 +22,8 @@ said_walk reported arcs texts lines node here walk part view some few size is ha
     ap (λ (s : Said). s.walk) saying ∙ ap (walk_of arcs) has ∙ ap (λ (a : List ℕ). Some (record { line = walk.line; arcs = a })) (sym parts)
 
 pub walk_within : (lines : List SaidLine) (table arcs : List ℕ) (place : ℕ) (here : SaidLine) (walk : WalkLine) → IsKept lines table arcs → place < length lines → here ≡ get_or lines place here → here.walk ≡ Some walk → (walk.from ≤ walk.to) × (walk.to ≤ length arcs)
-walk_within lines table arcs place here walk kept inside is has = kept.within here walk (place, (inside, is)) has
+walk_within lines table arcs place here walk kept inside is has =
+    subst (λ (w : Option WalkLine). IsIn w (length arcs)) has (kept.within here (place, (inside, is)))
 
 -- the times of what is said are those of the table
 pub times_kept : (lines : List SaidLine) (table arcs : List ℕ) → IsKept lines table arcs → times_of (map (said_of arcs) lines) ≡ table

@@ -1,11 +1,16 @@
 -- What the checker says of a report.
-use Rattle.std.specs.Prelude.{◌≡◌, ℕ, List, [], ◌∷◌, Result, Ok, Err}
+use Rattle.std.specs.Prelude.{ℕ, List, [], ◌∷◌, map, Result, Ok, Err}
+use Rattle.ea_road.specs.Queries.{Asking}
 use Rattle.ea_road.specs.declared.source.Source.{Source}
 use Rattle.ea_road.specs.Roads.{Roads}
 use Rattle.ea_check.specs.declared.fault.CheckFault.{CheckFault}
 use Rattle.ea_check.specs.declared.fault.CheckFault.TheVariants.{BadLine, NotAttained, NotLeast, OutOfMemory, NotCanonical}
 use Rattle.ea_check.specs.Form.{Line, SaysProblems, IsBadLine}
 use Rattle.ea_check.specs.Verdicts.{Said, IsFaultless, IsRight, IsVerdict}
+
+-- The sources of each query.
+abbrev pub sources_of : List Asking → List (List Source)
+sources_of queries = map (λ query. query.sources) queries
 
 -- Each problem's report is right.
 abbrev pub AreRight : Roads → (ℕ → ℕ → ℕ → ℕ → Type 0) → List (List Source) → List (List Said) → Type 0

@@ -47,12 +47,20 @@ SaysTime _ node time = ⊥
 abbrev pub arc_number : ℕ → ℕ
 arc_number n = if nat_lt n (2 ^ 32) then n else 0
 
+abbrev pub IsArcNumber : List ℕ → ℕ → Type 0
+IsArcNumber field arc = (n : ℕ) × (number_of field ≡ Some n) × (arc ≡ arc_number n)
+
 abbrev pub AreArcNumbers : List (List ℕ) → List ℕ → Type 0
 AreArcNumbers [] [] = Unit {0}
 AreArcNumbers [] (arc ∷ arcs) = ⊥
 AreArcNumbers (field ∷ fields) [] = ⊥
 AreArcNumbers (field ∷ fields) (arc ∷ arcs) =
-    ((n : ℕ) × (number_of field ≡ Some n) × (arc ≡ arc_number n)) × AreArcNumbers fields arcs
+    IsArcNumber field arc × AreArcNumbers fields arcs
+
+-- A line that begins with `w`.
+abbrev pub IsWalkLine : List (List ℕ) → Type 0
+IsWalkLine [] = ⊥
+IsWalkLine (word ∷ others) = word ≡ codes "w"
 
 -- A line `w V k e1 .. ek`.
 abbrev pub SaysWalk : List (List ℕ) → ℕ → List ℕ → Type 0

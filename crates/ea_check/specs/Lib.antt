@@ -4,3 +4,4 @@ pub mod Starts
 pub mod Form
 pub mod Checked
 pub mod Places
+pub mod Reads

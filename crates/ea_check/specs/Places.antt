@@ -15,12 +15,6 @@ pub data Remains (nodes : ℕ) : Option ℕ → List Source → ℕ → ℕ → 
   no_walk : {walked node count : ℕ} {queries : List (List Source)} {lines : List Line} → Remains nodes None [] node count queries lines → Remains nodes (Some walked) [] node count queries lines
   walk_line : {walked node count : ℕ} {queries : List (List Source)} {line : Line} {lines : List Line} (arcs : List ℕ) → SaysWalk line.fields walked arcs → Remains nodes None [] node count queries lines → Remains nodes (Some walked) [] node count queries (line ∷ lines)
 
--- After these lines of a report of these problems there remain the walk, sources, nodes and problems given: whatever lines come,
--- they end the report exactly where they end what remains.
-pub record Leaves (nodes : ℕ) (queries : List (List Source)) (before : List Line) (walk : Option ℕ) (sources : List Source) (node count : ℕ) (more : List (List Source)) : Type 0 where
-  pub onward : (rest : List Line) → Remains nodes None [] 0 0 queries (before ++ rest) → Remains nodes walk sources node count more rest
-  pub back : (rest : List Line) → Remains nodes walk sources node count more rest → Remains nodes None [] 0 0 queries (before ++ rest)
-
 -- Sources whose numbers can be written with 64 bits.
 abbrev pub AreSmall : List Source → Type 0
 AreSmall [] = Unit {0}
@@ -29,8 +23,3 @@ AreSmall (source ∷ sources) = (source.node < 2 ^ 64) × (source.departure < 2 
 abbrev pub AreAllSmall : List (List Source) → Type 0
 AreAllSmall [] = Unit {0}
 AreAllSmall (sources ∷ queries) = AreSmall sources × AreAllSmall queries
-
--- A walk remains only where no source does.
-abbrev pub IsPlaced : Option ℕ → List Source → Type 0
-IsPlaced None sources = Unit {0}
-IsPlaced (Some walked) sources = sources ≡ []

@@ -1,5 +1,6 @@
 //! What is wrong with a report.
 
+use std::alloc::{AllocError, AllocFailed};
 use thiserror::Error;
 
 /// The first fault of a report, and its line, from 1 on; a report that ends too early has line 0.
@@ -20,4 +21,26 @@ pub enum CheckFault {
     /// The line's walk is not the canonical one.
     #[error("line {0} is not the canonical walk (5 NotCanonical)")]
     NotCanonical(u64),
+}
+
+impl<T: Drop> From<AllocFailed<T>> for CheckFault {
+    ghost use Rattle.std.specs.Prelude.{◌≡◌};
+    ghost use Rattle.ea_check.specs.declared.fault.CheckFault.TheVariants.{OutOfMemory as no_memory};
+
+    ghost from_gives = { λ _ fault. fault ≡ no_memory };
+
+    fn from(_refused: AllocFailed<T>) -> CheckFault {
+        CheckFault::OutOfMemory
+    }
+}
+
+impl From<AllocError> for CheckFault {
+    ghost use Rattle.std.specs.Prelude.{◌≡◌};
+    ghost use Rattle.ea_check.specs.declared.fault.CheckFault.TheVariants.{OutOfMemory as no_memory};
+
+    ghost from_gives = { λ _ fault. fault ≡ no_memory };
+
+    fn from(_refused: AllocError) -> CheckFault {
+        CheckFault::OutOfMemory
+    }
 }

@@ -2,10 +2,16 @@
 #![tactic(auto)]
 
 mod canonical;
+mod checking;
 mod fault;
+mod field;
 pub mod laws;
+mod line;
+mod problem;
 mod reported;
+mod says;
 mod starts;
 mod verdict;
 
+pub use checking::check;
 pub use fault::CheckFault;
