@@ -1,0 +1,19 @@
+-- Sources at the places of a list.
+use Rattle.std.proofs.Common.{◌≡◌, ℕ, ◌<◌, ◌≤◌, List, length, get_or, subst, sym}
+use Rattle.std.proofs.lemmas.List.{get_or_default}
+use Rattle.std.specs.List.{IsAmong}
+use Rattle.ea_road.specs.declared.TheConstants.{HORIZON}
+use Rattle.ea_road.specs.declared.source.Source.{Source}
+use Rattle.ea_road.specs.Roads.{IsNode}
+
+pub source_among : (sources : List Source) (place : ℕ) (default : Source) → place < length sources → IsAmong sources (get_or sources place default)
+source_among sources place default inside =
+    (place, (inside, get_or_default sources place default (get_or sources place default) inside))
+
+pub item_among : (sources items : List Source) (place : ℕ) (default : Source) → items ≡ sources → place < length items → IsAmong sources (get_or items place default)
+item_among sources items place default same inside =
+    subst (λ (xs : List Source). IsAmong xs (get_or items place default)) same (source_among items place default inside)
+
+pub source_is_node : (nodes : ℕ) (sources items : List Source) (place size : ℕ) (default : Source) → ((source : Source) → IsAmong sources source → IsNode nodes source.node × (source.departure ≤ HORIZON)) → items ≡ sources → place < length items → size ≡ nodes → IsNode size (get_or items place default).node
+source_is_node nodes sources items place size default starts same inside sized =
+    subst (λ n. IsNode n (get_or items place default).node) (sym sized) (starts (get_or items place default) (item_among sources items place default same inside)).0

@@ -1,0 +1,45 @@
+use Rattle.std.proofs.Common.{◌≡◌, ◌≢◌, ◌∙◌, ◌-◌, ◌<◌, ℕ, sym, subst, arith}
+use Rattle.std.proofs.lemmas.Bool.{false≢true}
+use Rattle.ea_finish.specs.declared.link.TheConstants.{NO_LEVEL}
+use Rattle.ea_finish.specs.Links.{link}
+use Rattle.ea_check.proofs.Backwards.{followable}
+use Rattle.ea_check.proofs.Judged.{time_within, read_level, low_level, faults_no_level, attained_alone, attained_by, attained_canonical, faults_astray}
+use Rattle.ea_check.proofs.verdict.not_attained_at.Goals as goal
+
+pub returns-then-links-node : goal.returns-then-links-node
+returns-then-links-node g c =
+    let read = read_level c.args.network.now _ (g.T.TravelTimes.classes c.args.times.now) c.args.query.now.sources c.args.reported.now c.requires.task (g.met.T.TravelTimes.fifo c.args.times.now) c.requires.formed c.args.links.now c.requires.links c.args.node c.requires.node in
+    faults_no_level c.args.network.now _ (g.T.TravelTimes.classes c.args.times.now) c.args.query.now.sources c.args.reported.now c.requires.task (g.met.T.TravelTimes.fifo c.args.times.now) c.requires.formed c.args.links.now c.requires.links c.args.node c.requires.node c.line.result (λ none. c.if-time.false (c.time-time.ensures ∙ none)) (sym read ∙ c.if-links-node.true) c.line.ensures
+
+pub returns-in_default : goal.returns-in_default
+returns-in_default g c =
+    let read = read_level c.args.network.now _ (g.T.TravelTimes.classes c.args.times.now) c.args.query.now.sources c.args.reported.now c.requires.task (g.met.T.TravelTimes.fifo c.args.times.now) c.requires.formed c.args.links.now c.requires.links c.args.node c.requires.node in
+    attained_alone c.args.network.now _ (g.T.TravelTimes.classes c.args.times.now) c.args.query.now.sources c.args.reported.now c.requires.task (g.met.T.TravelTimes.fifo c.args.times.now) c.requires.formed c.args.links.now c.requires.links c.args.node c.requires.node (λ none. c.if-links-node.false (read ∙ none)) c.in_default.ensures
+
+pub is_linked_walk-requires-clause-followable : goal.is_linked_walk-requires-clause-followable
+is_linked_walk-requires-clause-followable g c =
+    followable c.args.network.now _ c.args.query.now.sources _ c.args.links.now c.requires.task.network c.requires.links
+
+pub is_linked_walk-requires-clause-level : goal.is_linked_walk-requires-clause-level
+is_linked_walk-requires-clause-level g c =
+    let read = read_level c.args.network.now _ (g.T.TravelTimes.classes c.args.times.now) c.args.query.now.sources c.args.reported.now c.requires.task (g.met.T.TravelTimes.fifo c.args.times.now) c.requires.formed c.args.links.now c.requires.links c.args.node c.requires.node in
+    low_level c.args.network.now _ (g.T.TravelTimes.classes c.args.times.now) c.args.query.now.sources c.args.reported.now c.requires.task (g.met.T.TravelTimes.fifo c.args.times.now) c.requires.formed c.args.links.now c.requires.links c.args.node c.requires.node (λ none. c.if-links-node.false (read ∙ none))
+
+pub returns-then-is_linked_walk : goal.returns-then-is_linked_walk
+returns-then-is_linked_walk g c =
+    let read = read_level c.args.network.now _ (g.T.TravelTimes.classes c.args.times.now) c.args.query.now.sources c.args.reported.now c.requires.task (g.met.T.TravelTimes.fifo c.args.times.now) c.requires.formed c.args.links.now c.requires.links c.args.node c.requires.node in
+    attained_canonical c.args.network.now _ (g.T.TravelTimes.classes c.args.times.now) c.args.query.now.sources c.args.reported.now c.requires.task (g.met.T.TravelTimes.fifo c.args.times.now) c.requires.formed c.args.links.now c.requires.links c.args.node c.requires.node c.in-Some.line c.in-Some.arcs.now (λ none. c.if-time.false (c.time-time.ensures ∙ none)) (λ none. c.if-links-node.false (read ∙ none)) c.in-Some.ensures (c.is_linked_walk.ensures.0 c.if-is_linked_walk.true)
+
+pub attains-requires-clause-time : goal.attains-requires-clause-time
+attains-requires-clause-time g c =
+    rw c.time-time.ensures (time_within c.args.network.now _ (g.T.TravelTimes.classes c.args.times.now) c.args.query.now.sources c.args.reported.now c.requires.task (g.met.T.TravelTimes.fifo c.args.times.now) c.requires.formed c.args.node c.requires.node (λ none. c.if-time.false (c.time-time.ensures ∙ none)))
+
+pub returns-then-attains : goal.returns-then-attains
+returns-then-attains g c =
+    let read = read_level c.args.network.now _ (g.T.TravelTimes.classes c.args.times.now) c.args.query.now.sources c.args.reported.now c.requires.task (g.met.T.TravelTimes.fifo c.args.times.now) c.requires.formed c.args.links.now c.requires.links c.args.node c.requires.node in
+    attained_by c.args.network.now _ (g.T.TravelTimes.classes c.args.times.now) c.args.query.now.sources c.args.reported.now c.requires.task (g.met.T.TravelTimes.fifo c.args.times.now) c.requires.formed c.args.links.now c.requires.links c.args.node c.requires.node c.in-Some.line c.in-Some.arcs.now (λ none. c.if-links-node.false (read ∙ none)) c.in-Some.ensures (rw (sym c.time-time.ensures) (c.attains.ensures.0 c.if-attains.true))
+
+pub returns-else-attains : goal.returns-else-attains
+returns-else-attains g c =
+    let read = read_level c.args.network.now _ (g.T.TravelTimes.classes c.args.times.now) c.args.query.now.sources c.args.reported.now c.requires.task (g.met.T.TravelTimes.fifo c.args.times.now) c.requires.formed c.args.links.now c.requires.links c.args.node c.requires.node in
+    faults_astray c.args.network.now _ (g.T.TravelTimes.classes c.args.times.now) c.args.query.now.sources c.args.reported.now c.requires.task (g.met.T.TravelTimes.fifo c.args.times.now) c.requires.formed c.args.links.now c.requires.links c.args.node c.requires.node c.in-Some.line c.in-Some.arcs.now (λ none. c.if-links-node.false (read ∙ none)) c.in-Some.ensures (λ attains. false≢true (sym c.if-attains.false ∙ c.attains.ensures.1 (rw c.time-time.ensures attains)))

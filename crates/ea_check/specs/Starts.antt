@@ -1,0 +1,14 @@
+-- Sources in an order by which they are found.
+use Rattle.std.specs.Prelude.{◌≡◌, ◌⊎◌, ℕ, ◌<◌, ◌≤◌, List, length, slice_index_or}
+use Rattle.std.specs.List.{IsAmong}
+use Rattle.ea_road.specs.declared.source.Source.{Source}
+
+-- A lower node, or the same node and no later departure.
+abbrev pub Precedes : Source → Source → Type 0
+Precedes source other = (source.node < other.node) ⊎ ((source.node ≡ other.node) × (source.departure ≤ other.departure))
+
+-- The same sources, ordered by node and departure.
+pub record AreOrdered (sources ordered : List Source) : Type 0 where
+  pub in_order : (place later : ℕ) (default : Source) → place ≤ later → later < length ordered → Precedes (slice_index_or ordered place default) (slice_index_or ordered later default)
+  pub there : (source : Source) → IsAmong sources source → IsAmong ordered source
+  pub back : (source : Source) → IsAmong ordered source → IsAmong sources source

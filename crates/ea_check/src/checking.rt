@@ -1,0 +1,101 @@
+//! Whether a report is right.
+ghost use Rattle.std.specs.Prelude.{◌≡◌, ◌+◌, ◌<◌, ◌^◌, None, MatchResult, length};
+ghost use Rattle.std.specs.List.{IsAmong};
+ghost use Rattle.ea_road.specs.Queries.{Asking, IsProblem};
+ghost use Rattle.ea_road.specs.Roads.{IsNetwork};
+ghost use Rattle.ea_check.specs.Checked.{IsChecked, sources_of};
+ghost use Rattle.ea_check.specs.Form.{lines_of_report};
+ghost use Rattle.ea_check.specs.Reads.{IsWrong, ReadsReport, ReportWrong};
+ghost use Rattle.ea_check.specs.Verdicts.{IsTask, IsVerdict, IsWellFormed};
+
+use crate::fault::CheckFault;
+use crate::line::look_ahead;
+use crate::problem::read_problem;
+use crate::reported::Reported;
+use crate::starts::ordered_sources;
+use crate::verdict::judge;
+use ea_finish::{Open, find_links};
+use ea_road::{Network, Query, TravelTimes};
+use std::alloc::Global;
+
+/// Whether the form of a report is right.
+fn check_form(
+    alloc: Global,
+    nodes: u32,
+    queries: &[Query],
+    report: &[u8],
+) -> Result<(), CheckFault>
+    requires nodes { nodes + 1 < 2 ^ 32 }
+    ensures { MatchResult result
+        (λ _. ReadsReport nodes (sources_of queries.now) (lines_of_report report.now))
+        (IsWrong (ReportWrong nodes (sources_of queries.now) (lines_of_report report.now))) }
+{
+    let mut next = look_ahead(report, 0);
+    for query in queries {
+        let (_, rest) = read_problem(alloc, nodes, query.sources(), next)?;
+        next = rest;
+    }
+    match next.line {
+        None => Ok(()),
+        Some(line) => Err(CheckFault::BadLine(line.number)),
+    }
+}
+
+/// What is wrong with what a report says of a problem.
+fn check_problem<T: TravelTimes>(
+    alloc: Global,
+    network: &Network,
+    times: &T,
+    query: &Query,
+    reported: &Reported,
+) -> Result<(), CheckFault>
+    requires task { IsTask network.now (T.classes times.now) query.now.sources }
+    requires formed { IsWellFormed network.now.nodes reported.now }
+    ensures { IsVerdict network.now (T.answers times.now) query.now.sources reported.now result }
+{
+    let todo = Open::reserve(alloc, network.nodes())?;
+    let links = find_links(network, times, query.sources(), reported.table(), todo);
+    let ordered = ordered_sources(alloc, query.sources())?;
+    judge(network, times, query, &ordered, reported, &links)
+}
+
+/// What is wrong with a report whose form is right, problem by problem.
+fn check_problems<T: TravelTimes>(
+    alloc: Global,
+    network: &Network,
+    times: &T,
+    queries: &[Query],
+    report: &[u8],
+) -> Result<(), CheckFault>
+    requires network { IsNetwork network.now }
+    requires problems { (query : Asking) → IsAmong queries.now query → IsProblem network.now (T.classes times.now) query × (query.target ≡ None) }
+    requires form { ReadsReport network.now.nodes (sources_of queries.now) (lines_of_report report.now) }
+    ensures { IsChecked network.now (T.answers times.now) (sources_of queries.now) (lines_of_report report.now) result }
+{
+    let mut next = look_ahead(report, 0);
+    for query in queries {
+        let (reported, rest) = read_problem(alloc, network.nodes(), query.sources(), next)?;
+        check_problem(alloc, network, times, query, &reported)?;
+        next = rest;
+    }
+    Ok(())
+}
+
+/// Whether a report is right: its form, each `d` line's time the least arrival, or `inf` where there is none, and each
+/// `w` line the canonical walk. If not, its first fault: one of form wherever the report has any, else that of the first
+/// problem that has one. The queries ask all nodes, each query's lines stand one after another in the report.
+///
+/// It takes time in proportion to the report and to the network for each query, and memory for one problem at a time.
+pub fn check<T: TravelTimes>(
+    alloc: Global,
+    network: &Network,
+    times: &T,
+    queries: &[Query],
+    report: &[u8],
+) -> Result<(), CheckFault>
+    requires { (query : Asking) → IsAmong queries.now query → IsProblem network.now (T.classes times.now) query × (query.target ≡ None) }
+    ensures { IsChecked network.now (T.answers times.now) (sources_of queries.now) (lines_of_report report.now) result }
+{
+    check_form(alloc, network.nodes(), queries, report)?;
+    check_problems(alloc, network, times, queries, report)
+}

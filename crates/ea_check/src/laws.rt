@@ -1,0 +1,42 @@
+//! Laws of reports, as functions that do nothing.
+ghost use Rattle.std.specs.Prelude.{◌≡◌, ◌≢◌, ℕ, List, Result, Err, None};
+ghost use Rattle.ea_road.specs.Queries.{IsProblem};
+ghost use Rattle.ea_road.specs.declared.source.Source.{Source};
+ghost use Rattle.ea_check.specs.declared.fault.CheckFault.{CheckFault};
+ghost use Rattle.ea_check.specs.declared.fault.CheckFault.TheVariants.{OutOfMemory};
+ghost use Rattle.ea_check.specs.Form.{AreInOrder, Line, SaysProblem};
+ghost use Rattle.ea_check.specs.Verdicts.{IsFaultless, IsRight, IsVerdict, IsWellFormed, Said};
+
+use ea_road::{Network, Query, TravelTimes};
+
+/// A report of one problem without a fault is right, and a right one has no fault.
+pub fn faultless_reports_are_right<T: TravelTimes>(network: &Network, times: &T, query: &Query)
+    requires problem { IsProblem network.now (T.classes times.now) query.now }
+    requires all { query.now.target ≡ None }
+    ensures right { (reported : List Said) → IsWellFormed network.now.nodes reported
+        → IsFaultless network.now (T.answers times.now) query.now.sources reported
+        → IsRight network.now (T.answers times.now) query.now.sources reported }
+    ensures faultless { (reported : List Said) → IsWellFormed network.now.nodes reported
+        → IsRight network.now (T.answers times.now) query.now.sources reported
+        → IsFaultless network.now (T.answers times.now) query.now.sources reported }
+{
+    let _ = network.nodes();
+}
+
+/// What the lines of a report say of a problem is well formed, where they are in the order of their numbers.
+pub fn forms_are_well_formed()
+    ensures { (nodes : ℕ) (sources : List Source) (reported : List Said) (lines : List Line)
+        → AreInOrder lines → SaysProblem nodes sources reported lines → IsWellFormed nodes reported }
+{}
+
+/// What a report says of a problem has one verdict, want of memory aside.
+pub fn problems_have_one_verdict<T: TravelTimes>(network: &Network, times: &T, query: &Query)
+    requires problem { IsProblem network.now (T.classes times.now) query.now }
+    requires all { query.now.target ≡ None }
+    ensures { (reported : List Said) (this that : Result (Unit {0}) CheckFault) → IsWellFormed network.now.nodes reported
+        → IsVerdict network.now (T.answers times.now) query.now.sources reported this
+        → IsVerdict network.now (T.answers times.now) query.now.sources reported that
+        → this ≢ Err OutOfMemory → that ≢ Err OutOfMemory → this ≡ that }
+{
+    let _ = network.nodes();
+}

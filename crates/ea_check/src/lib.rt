@@ -1,0 +1,17 @@
+//! The checker of reports: whether a report is right, and if not, its first fault.
+#![tactic(auto)]
+
+mod canonical;
+mod checking;
+mod fault;
+mod field;
+pub mod laws;
+mod line;
+mod problem;
+mod reported;
+mod says;
+mod starts;
+mod verdict;
+
+pub use checking::check;
+pub use fault::CheckFault;

@@ -1,0 +1,157 @@
+//! The lines of a problem.
+ghost use Rattle.std.specs.Prelude.{◌≡◌, ◌+◌, ◌≤◌, ◌<◌, ◌^◌, ◌++◌, ◌∷◌, [], ℕ, IfOk, List, MatchResult, OnOk, length};
+ghost use Rattle.ea_check.specs.declared.fault.CheckFault.TheVariants.{OutOfMemory};
+ghost use Rattle.ea_check.specs.Reads.{IsWrong, NodeWrong, NodesWrong, ProblemWrong, ReadsNode, ReadsNodes, ReadsProblem, ReadsSources, ReadsWalk, SourcesWrong, WalkWrong, ahead};
+ghost use Rattle.ea_check.specs.Views.{IsIn, said_of, walk_of};
+
+use crate::fault::CheckFault;
+use crate::line::{Ahead, look_ahead};
+use crate::reported::{Reported, SaidLine, WalkLine};
+use crate::says::{is_walk_line, push_walk, says_source, time_said};
+use ea_road::{NONE, Source};
+use std::alloc::Global;
+
+/// Reads the lines of sources.
+fn read_sources<'a>(lines: Ahead<'a>, sources: &[Source]) -> Result<Ahead<'a>, CheckFault>
+    requires { lines.lines + length lines.rest.now < 2 ^ 64 }
+    ensures read { MatchResult result
+        (λ after. ReadsSources sources.now (ahead lines.entry) (ahead after))
+        (IsWrong (SourcesWrong sources.now (ahead lines.entry))) }
+    ensures few { IfOk result (λ after. after.lines + length after.rest.now ≤ lines.entry.lines + length lines.entry.rest.now) }
+{
+    let mut next = lines;
+    for source in sources {
+        let Some(line) = next.line else {
+            return Err(CheckFault::BadLine(0));
+        };
+        if !says_source(line.text, *source) {
+            return Err(CheckFault::BadLine(line.number));
+        }
+        next = look_ahead(next.rest, next.lines);
+    }
+    Ok(next)
+}
+
+/// Reads a node's `w` line, where such a line comes next, and puts its arcs behind those of the other walks.
+fn read_walk<'a>(
+    lines: Ahead<'a>,
+    node: u32,
+    arcs: &mut Vec<u32>,
+) -> Result<(Option<WalkLine>, Ahead<'a>), CheckFault>
+    requires { lines.lines + length lines.rest.now < 2 ^ 64 }
+    ensures read { MatchResult result
+        (λ read. ReadsWalk node (walk_of arcs.new.items read.0) (ahead lines.entry) (ahead read.1))
+        (IsWrong (WalkWrong node (ahead lines.entry))) }
+    ensures within { IfOk result (λ read. IsIn read.0 (length arcs.new.items)) }
+    ensures kept { OnOk result ((more : List ℕ) × (arcs.new.items ≡ arcs.old.items ++ more)) }
+    ensures few { IfOk result (λ read. read.1.lines + length read.1.rest.now ≤ lines.entry.lines + length lines.entry.rest.now) }
+{
+    let Some(line) = lines.line else {
+        return Ok((None, lines));
+    };
+    if !is_walk_line(line.text) {
+        return Ok((None, lines));
+    }
+    let from = arcs.len();
+    if !push_walk(line.text, node, arcs)? {
+        return Err(CheckFault::BadLine(line.number));
+    }
+    let walk = WalkLine {
+        line: line.number,
+        from,
+        to: arcs.len(),
+    };
+    Ok((Some(walk), look_ahead(lines.rest, lines.lines)))
+}
+
+/// Reads the lines of a node, and puts the arcs of its walk behind those of the other walks.
+fn read_node<'a>(
+    lines: Ahead<'a>,
+    node: u32,
+    arcs: &mut Vec<u32>,
+) -> Result<(SaidLine, Ahead<'a>), CheckFault>
+    requires { lines.lines + length lines.rest.now < 2 ^ 64 }
+    ensures read { MatchResult result
+        (λ read. ReadsNode node (said_of arcs.new.items read.0) (ahead lines.entry) (ahead read.1))
+        (IsWrong (NodeWrong node (ahead lines.entry))) }
+    ensures within { IfOk result (λ read. IsIn read.0.walk (length arcs.new.items)) }
+    ensures kept { OnOk result ((more : List ℕ) × (arcs.new.items ≡ arcs.old.items ++ more)) }
+    ensures few { IfOk result (λ read. read.1.lines + length read.1.rest.now ≤ lines.entry.lines + length lines.entry.rest.now) }
+{
+    let Some(line) = lines.line else {
+        return Err(CheckFault::BadLine(0));
+    };
+    let Some(time) = time_said(line.text, node) else {
+        return Err(CheckFault::BadLine(line.number));
+    };
+    let next = look_ahead(lines.rest, lines.lines);
+    let mut said = SaidLine {
+        line: line.number,
+        time,
+        walk: None,
+    };
+    if time == NONE {
+        return Ok((said, next));
+    }
+    let (walk, rest) = read_walk(next, node, arcs)?;
+    said.walk = walk;
+    Ok((said, rest))
+}
+
+/// Keeps what is said of a node, and its time once more.
+fn keep(
+    said: &mut Vec<SaidLine>,
+    table: &mut Vec<u64>,
+    line: SaidLine,
+) -> Result<(), CheckFault>
+    ensures kept { OnOk result (said.new.items ≡ said.old.items ++ line ∷ []) }
+    ensures time { OnOk result (table.new.items ≡ table.old.items ++ line.time ∷ []) }
+    ensures refused { MatchResult result (λ _. Unit {0}) (λ fault. fault ≡ OutOfMemory) }
+{
+    said.push(line)?;
+    table.push(line.time)?;
+    Ok(())
+}
+
+/// Reads the lines of all nodes.
+fn read_nodes<'a>(
+    alloc: Global,
+    nodes: u32,
+    lines: Ahead<'a>,
+) -> Result<(Reported, Ahead<'a>), CheckFault>
+    requires few { lines.lines + length lines.rest.now < 2 ^ 64 }
+    requires nodes { nodes + 1 < 2 ^ 32 }
+    ensures read { MatchResult result
+        (λ read. ReadsNodes 1 read.0 (ahead lines.entry) (ahead read.1) × (length read.0 ≡ nodes))
+        (IsWrong (NodesWrong 1 nodes (ahead lines.entry))) }
+    ensures few { IfOk result (λ read. read.1.lines + length read.1.rest.now ≤ lines.entry.lines + length lines.entry.rest.now) }
+{
+    let mut said = Vec::with_capacity(alloc, nodes as usize)?;
+    let mut table = Vec::with_capacity(alloc, nodes as usize)?;
+    let mut arcs = Vec::new(alloc);
+    let mut next = lines;
+    for node in 1..nodes + 1 {
+        let (line, rest) = read_node(next, node, &mut arcs)?;
+        keep(&mut said, &mut table, line)?;
+        next = rest;
+    }
+    Ok((Reported::of(said, table, arcs), next))
+}
+
+/// Reads the lines of a problem.
+pub(crate) fn read_problem<'a>(
+    alloc: Global,
+    nodes: u32,
+    sources: &[Source],
+    lines: Ahead<'a>,
+) -> Result<(Reported, Ahead<'a>), CheckFault>
+    requires few { lines.lines + length lines.rest.now < 2 ^ 64 }
+    requires nodes { nodes + 1 < 2 ^ 32 }
+    ensures read { MatchResult result
+        (λ read. ReadsProblem nodes sources.now read.0 (ahead lines.entry) (ahead read.1))
+        (IsWrong (ProblemWrong nodes sources.now (ahead lines.entry))) }
+    ensures few { IfOk result (λ read. read.1.lines + length read.1.rest.now ≤ lines.entry.lines + length lines.entry.rest.now) }
+{
+    let next = read_sources(lines, sources)?;
+    read_nodes(alloc, nodes, next)
+}
