@@ -2,3 +2,4 @@ pub mod Copied
 pub mod Sending
 pub mod Posing
 pub mod Outcomes
+pub mod Telling

@@ -3,3 +3,4 @@ pub mod Faults
 pub mod Fronts
 pub mod Reported
 pub mod Runs
+pub mod Said

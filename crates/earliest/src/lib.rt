@@ -4,11 +4,14 @@
 mod answering;
 mod fault;
 mod progress;
+mod saying;
 mod solving;
 mod totals;
 
 pub use answering::{answer, answer_pairs};
+pub use ea_check::CheckFault;
 pub use ea_files::{FileFault, FileWord};
 pub use ea_report::Totals;
 pub use ea_words::{Command, CommandFault, RunOptions};
 pub use fault::AnswerFault;
+pub use saying::{Outcome, say};

@@ -1,0 +1,28 @@
+-- Lines that went out.
+use Rattle.std.proofs.Common.{◌≡◌, ◌⊎◌, ℕ, ◌+◌, ◌-◌, ◌^◌, ◌≤◌, List, length, refl, sym, arith, subst, inl, inr}
+use Rattle.std.specs.Prelude.{Result, Ok, Err, IfOk, IfErr, take}
+use Rattle.std.specs.Io.KnownBytes.{Appends}
+use Rattle.std.proofs.Math.Seq.{take-length}
+use Rattle.ea_text.specs.Device.{one_more, GivesUp}
+use Rattle.ea_report.specs.Sent.{IsCutBy, IsReason, IsWhole, Seen}
+use Rattle.ea_report.specs.declared.report.WriteFault.{WriteFault}
+use Rattle.ea_report.specs.declared.report.WriteFaultKind.TheVariants.{WriteFailed}
+use Rattle.earliest.specs.Said.{IsSaid}
+use native.Mathlib.Decide.{dec_le}
+
+-- A device that gave up shows it.
+gone : (failed failed_after interrupted interrupted_after : ℕ) → GivesUp failed failed_after interrupted interrupted_after → failed_after ≤ failed → failed_after + 1 ≤ 2 ^ 64 - 1 → interrupted_after ≤ interrupted + 1000 → interrupted_after + 1 ≤ 2 ^ 64 - 1 → ⊥
+gone a b c d (inl h) few below calm fits = omega (arith, h.0)
+gone a b c d (inr h) few below calm fits = elim h.2 [ inl e ↦ omega (arith, e) | inr e ↦ omega (arith, e) ]
+
+pub told : (r : Result ℕ WriteFault) (first now : Seen) (line : List ℕ) → IfOk r (IsWhole first now line) → IfErr r (IsCutBy first now line) → IfErr r (λ fault. fault.kind ≡ WriteFailed) → IsSaid line first now
+told (Ok written) first now line whole cut kind = record {
+  sent = length line;
+  front = (omega arith, subst (λ t. Appends first.contents now.contents t) (sym (take-length line)) whole.1);
+  whole = λ few below calm fits. whole.1;
+}
+told (Err fault) first now line whole cut kind = record {
+  sent = fault.written;
+  front = cut.0;
+  whole = λ few below calm fits. absurd (gone first.failed now.failed first.interrupted now.interrupted (subst (λ k. IsReason k first now) kind cut.1) few below calm fits);
+}
