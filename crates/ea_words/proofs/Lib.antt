@@ -1,3 +1,4 @@
 pub mod Limits
 pub mod Refused
 pub mod SimpleApps
+pub mod Reported

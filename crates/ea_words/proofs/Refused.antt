@@ -7,7 +7,7 @@ use Rattle.ea_words.specs.declared.fault.CommandFault.TheVariants.{Words, BadOpt
 use Rattle.clap.specs.Words.{fault_of, matches_of}
 use Rattle.ea_words.specs.Grammar.{program}
 use Rattle.ea_words.specs.declared.options.RunOptions.{RunOptions}
-use Rattle.ea_words.specs.Meaning.{Files, Verb, app_by, second_by, ask_by, files_by, options_by, meaning_by, options_of, ◌>>=◌}
+use Rattle.ea_words.specs.Meaning.{Files, Verb, app_by, second_by, reported_by, ask_by, files_by, options_by, meaning_by, options_of, ◌>>=◌}
 use Rattle.ea_words.specs.Refusals.{IsTextOf, IsRefusalBy, IsRefusedBy, IsMissing, IsUnasked, some_kind, named_kinds, kinds_by}
 
 -- A refusal stays one where a kind is there in any case.
@@ -48,7 +48,7 @@ stray_taken words BadOption taken missing = absurd missing
 stray_taken words OutOfMemory taken missing = missing
 
 -- What clap takes is refused where a name is missing or an option's value is bad.
-pub unasked_refused : (verb : Verb) (words : List Text) (fault : CommandFault) → fault_of (app_by verb) words ≡ [] → IsUnasked (second_by verb) (matches_of (app_by verb) words) fault → IsRefusedBy (Some verb) words fault
+pub unasked_refused : (verb : Verb) (words : List Text) (fault : CommandFault) → fault_of (app_by verb) words ≡ [] → IsUnasked (second_by verb) (reported_by verb) (matches_of (app_by verb) words) fault → IsRefusedBy (Some verb) words fault
 unasked_refused verb words (Words help text) taken unasked = missing_text (files_by verb words) (fault_of (app_by verb) words) help unasked.0 taken unasked.1
 unasked_refused verb words BadOption taken unasked = (named_taken (files_by verb words) (fault_of (app_by verb) words) unasked.0 unasked.1 taken, unasked)
 unasked_refused verb words OutOfMemory taken unasked = unasked

@@ -20,16 +20,29 @@ with_departures app = with_rule (with_rule (with_rule app
 
 -- How the workers go.
 abbrev pub with_workers : App → App
-with_workers app = with_rule (with_rule (with_rule (with_rule app
-    (valued (codes "workers"))) (valued (codes "heaps"))) (valued (codes "turns"))) (valued (codes "seed"))
+with_workers app = with_rule (with_rule (with_rule app
+    (valued (codes "workers"))) (valued (codes "heaps"))) (valued (codes "seed"))
+
+-- What a report shows, and for how many turns the workers go.
+abbrev pub with_report : App → App
+with_report app = with_rule (with_rule (with_rule app
+    (valued (codes "turns"))) (flag (codes "walks"))) (flag (codes "stats"))
 
 unfoldable pub run_app : App
-run_app = with_rule (with_rule (with_workers (with_departures (with_rule (with_rule (new_app (codes "run"))
-    (file (codes "gr"))) (file (codes "ss"))))) (flag (codes "joint"))) (flag (codes "walks"))
+run_app = with_rule (with_report (with_workers (with_departures (with_rule (with_rule (new_app (codes "run"))
+    (file (codes "gr"))) (file (codes "ss")))))) (flag (codes "joint"))
 
 unfoldable pub pairs_app : App
-pairs_app = with_rule (with_workers (with_departures (with_rule (with_rule (new_app (codes "pairs"))
-    (file (codes "gr"))) (file (codes "p2p"))))) (flag (codes "walks"))
+pairs_app = with_report (with_workers (with_departures (with_rule (with_rule (new_app (codes "pairs"))
+    (file (codes "gr"))) (file (codes "p2p")))))
+
+unfoldable pub rank_app : App
+rank_app = with_workers (with_departures (with_rule (with_rule (new_app (codes "rank"))
+    (file (codes "gr"))) (file (codes "ss"))))
+
+unfoldable pub check_app : App
+check_app = with_rule (with_departures (with_rule (with_rule (with_rule (new_app (codes "check"))
+    (file (codes "gr"))) (file (codes "ss"))) (file (codes "report")))) (flag (codes "joint"))
 
 -- The program, for words that begin with no command's name: they are refused, or ask for help or the version.
 abbrev pub bare_program : App
@@ -37,4 +50,4 @@ bare_program = let app = new_app (codes "earliest") in
     record app { top = record app.top { no_binary_name = true; has_version = true; subcommand_required = true } }
 
 unfoldable pub program : App
-program = with_subcommand (with_subcommand bare_program run_app.top) pairs_app.top
+program = with_subcommand (with_subcommand (with_subcommand (with_subcommand bare_program run_app.top) pairs_app.top) rank_app.top) check_app.top

@@ -7,7 +7,7 @@ use Rattle.ea_words.specs.declared.meaning.Names.{Names}
 use Rattle.ea_words.specs.declared.options.RunOptions.{RunOptions}
 use Rattle.ea_words.specs.declared.options.Command.{Command}
 use Rattle.ea_words.specs.declared.options.Command.TheVariants as command
-use Rattle.ea_words.specs.Grammar.{run_app, pairs_app}
+use Rattle.ea_words.specs.Grammar.{run_app, pairs_app, rank_app, check_app}
 use Rattle.ea_words.specs.Values.{option_of, is_given}
 
 infixl 10 ◌>>=◌
@@ -35,56 +35,91 @@ options_of rows = do
     gap = gap;
   })
 
--- The names of a command's files.
+-- The names of a command's files; a report is checked.
 pub record Files : Type 0 where
   pub gr : Text
   pub starts : Text
   pub tp : Option Text
+  pub report : Option Text
 
 abbrev pub files : Names → Files
-files names = record { gr = names.gr.now; starts = names.starts.now; tp = option_map (λ t. t.now) names.tp }
+files names = record { gr = names.gr.now; starts = names.starts.now; tp = option_map (λ t. t.now) names.tp; report = option_map (λ t. t.now) names.report }
 
--- The files that a command's rows name; the second is called so.
-unfoldable pub files_of : Text → List Row → Option Files
-files_of second rows = do
+-- A name that may be left out where it isn't wanted.
+abbrev pub wanted : Bool → Option Text → Option (Option Text)
+wanted true None = None
+wanted true (Some name) = Some (Some name)
+wanted false name = Some name
+
+-- The files that a command's rows name; the second is called so, and a report may be wanted.
+unfoldable pub files_of : Text → Bool → List Row → Option Files
+files_of second reported rows = do
   gr ← first_of (codes "gr") rows
   starts ← first_of second rows
-  Some (record { gr = gr; starts = starts; tp = first_of (codes "tp") rows })
+  report ← wanted reported (first_of (codes "report") rows)
+  Some (record { gr = gr; starts = starts; tp = first_of (codes "tp") rows; report = report })
 
 -- What is asked: the stored run, or a command's files and options.
 pub data Asked : Type 0 where
   stored : Asked
   run : Files → RunOptions → Asked
   pairs : Files → RunOptions → Asked
+  rank : Files → RunOptions → Asked
+  check : Files → RunOptions → Asked
 
 abbrev pub asked : Command → Asked
 asked command.Stored = stored
-asked (command.Run gr ss tp options) = run (record { gr = gr.now; starts = ss.now; tp = option_map (λ t. t.now) tp }) options
-asked (command.Pairs gr p2p tp options) = pairs (record { gr = gr.now; starts = p2p.now; tp = option_map (λ t. t.now) tp }) options
+asked (command.Run gr ss tp options) = run (record { gr = gr.now; starts = ss.now; tp = option_map (λ t. t.now) tp; report = None }) options
+asked (command.Pairs gr p2p tp options) = pairs (record { gr = gr.now; starts = p2p.now; tp = option_map (λ t. t.now) tp; report = None }) options
+asked (command.Rank gr ss tp options) = rank (record { gr = gr.now; starts = ss.now; tp = option_map (λ t. t.now) tp; report = None }) options
+asked (command.Check gr ss tp report options) = check (record { gr = gr.now; starts = ss.now; tp = option_map (λ t. t.now) tp; report = Some report.now }) options
 
--- The commands, as clap knows them, and what each calls its second file.
+-- The commands, as clap knows them, what each calls its second file, and whether it wants a report.
 pub data Verb : Type 0 where
   run_verb : Verb
   pairs_verb : Verb
+  rank_verb : Verb
+  check_verb : Verb
 
 abbrev pub verb_of : Text → Option Verb
-verb_of word = if bytes_eq word (codes "run") then Some run_verb else (if bytes_eq word (codes "pairs") then Some pairs_verb else None)
+verb_of word =
+    if bytes_eq word (codes "run") then Some run_verb else
+    (if bytes_eq word (codes "pairs") then Some pairs_verb else
+    (if bytes_eq word (codes "rank") then Some rank_verb else
+    (if bytes_eq word (codes "check") then Some check_verb else None)))
 
 abbrev pub app_by : Verb → App
 app_by run_verb = run_app
 app_by pairs_verb = pairs_app
+app_by rank_verb = rank_app
+app_by check_verb = check_app
 
 abbrev pub second_by : Verb → Text
 second_by run_verb = codes "ss"
 second_by pairs_verb = codes "p2p"
+second_by rank_verb = codes "ss"
+second_by check_verb = codes "ss"
+
+abbrev pub reported_by : Verb → Bool
+reported_by run_verb = false
+reported_by pairs_verb = false
+reported_by rank_verb = false
+reported_by check_verb = true
+
+-- Only a command that wants a report names one.
+abbrev pub named_report : Verb → Files → Files
+named_report check_verb files = files
+named_report _ files = record files { report = None }
 
 abbrev pub ask_by : Verb → Files → RunOptions → Asked
-ask_by run_verb = run
-ask_by pairs_verb = pairs
+ask_by run_verb files = run (named_report run_verb files)
+ask_by pairs_verb files = pairs (named_report pairs_verb files)
+ask_by rank_verb files = rank (named_report rank_verb files)
+ask_by check_verb files = check files
 
 -- The files and the options that clap makes of a command's words.
 abbrev pub files_by : Verb → List Text → Option Files
-files_by verb words = files_of (second_by verb) (matches_of (app_by verb) words)
+files_by verb words = files_of (second_by verb) (reported_by verb) (matches_of (app_by verb) words)
 
 abbrev pub options_by : Verb → List Text → Option RunOptions
 options_by verb words = options_of (matches_of (app_by verb) words)

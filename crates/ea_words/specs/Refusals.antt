@@ -10,7 +10,7 @@ use Rattle.ea_words.specs.declared.fault.CommandFault.{CommandFault}
 use Rattle.ea_words.specs.declared.fault.CommandFault.TheVariants.{Words, BadOption, OutOfMemory}
 use Rattle.ea_words.specs.declared.options.Command.{Command}
 use Rattle.ea_words.specs.Grammar.{program}
-use Rattle.ea_words.specs.Meaning.{Files, Verb, stored, verb_of, app_by, second_by, files_by, meaning_by, asked, files_of, options_of}
+use Rattle.ea_words.specs.Meaning.{Files, Verb, stored, verb_of, app_by, second_by, reported_by, files_by, meaning_by, asked, files_of, options_of}
 
 -- Whether a text of this kind was asked for.
 abbrev pub is_shown : ErrorKind → Bool
@@ -35,11 +35,11 @@ kinds_by (Some verb) words = named_kinds (files_by verb words) (fault_of (app_by
 kinds_by None words = some_kind (fault_of program words)
 
 -- The names are there, and some option's value is no number or out of its limits.
-abbrev pub HasBadOption : Text → List Row → Type 0
-HasBadOption second rows = (files : Files) × (files_of second rows ≡ Some files) × (options_of rows ≡ None)
+abbrev pub HasBadOption : Text → Bool → List Row → Type 0
+HasBadOption second reported rows = (files : Files) × (files_of second reported rows ≡ Some files) × (options_of rows ≡ None)
 
 abbrev pub IsBadBy : Option Verb → List Text → Type 0
-IsBadBy (Some verb) words = HasBadOption (second_by verb) (matches_of (app_by verb) words)
+IsBadBy (Some verb) words = HasBadOption (second_by verb) (reported_by verb) (matches_of (app_by verb) words)
 IsBadBy None words = ⊥
 
 -- A text has one of the kinds, and tells whether it was asked for.
@@ -65,10 +65,10 @@ IsMissing BadOption = ⊥
 IsMissing OutOfMemory = Unit {0}
 
 -- Why rows ask for nothing: a name is missing, or an option's value is bad.
-abbrev pub IsUnasked : Text → List Row → CommandFault → Type 0
-IsUnasked second rows (Words help text) = (files_of second rows ≡ None) × (help ≡ false)
-IsUnasked second rows BadOption = HasBadOption second rows
-IsUnasked second rows OutOfMemory = Unit {0}
+abbrev pub IsUnasked : Text → Bool → List Row → CommandFault → Type 0
+IsUnasked second reported rows (Words help text) = (files_of second reported rows ≡ None) × (help ≡ false)
+IsUnasked second reported rows BadOption = HasBadOption second reported rows
+IsUnasked second reported rows OutOfMemory = Unit {0}
 
 -- Words that begin with a command's name, or with none, are refused for this. A text comes only where clap refuses the
 -- words or a name is missing, and tells whether it was asked for; BadOption comes only where clap takes them; memory may

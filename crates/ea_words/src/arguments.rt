@@ -2,7 +2,7 @@
 ghost use Rattle.std.specs.Prelude.{◌≡◌, IfOk, false};
 ghost use Rattle.clap.specs.Words.{app_of, rule_of, with_rule};
 ghost use Rattle.clap.specs.declared.builder.command.Command.TheViews.{out-Command as fields_of};
-ghost use Rattle.ea_words.specs.Grammar.{with_departures, with_workers};
+ghost use Rattle.ea_words.specs.Grammar.{with_departures, with_report, with_workers};
 
 use clap::{Arg, ArgAction, Command};
 use std::alloc::{AllocError, Global};
@@ -119,6 +119,23 @@ pub(crate) fn with_workers<'a>(
         command,
         valued(
             alloc,
+            "seed",
+            "X",
+            "Seed of the random choices among heaps: 0 to 18446744073709551615 [default: 1]",
+        ),
+    )?;
+    Ok(command)
+}
+
+/// The options that say what a report shows, and for how many turns the workers go.
+pub(crate) fn with_report<'a>(alloc: Global, command: Command<'a>) -> Result<Command<'a>, AllocError>
+    ensures app { IfOk result (λ c. app_of c ≡ with_report (app_of command.entry)) }
+    ensures local { IfOk result (λ c. (fields_of command.entry).has_globals ≡ false → (fields_of c).has_globals ≡ false) }
+{
+    let command = with_arg(
+        command,
+        valued(
+            alloc,
             "turns",
             "B",
             "Turns that a worker takes before one thread finishes: 0 to 1000000000 [default: 1000000]",
@@ -126,11 +143,18 @@ pub(crate) fn with_workers<'a>(
     )?;
     let command = with_arg(
         command,
-        valued(
+        flag(
             alloc,
-            "seed",
-            "X",
-            "Seed of the random choices among heaps: 0 to 18446744073709551615 [default: 1]",
+            "walks",
+            "Writes the walk to each asked node that is reached",
+        ),
+    )?;
+    let command = with_arg(
+        command,
+        flag(
+            alloc,
+            "stats",
+            "Writes totals of what the workers did, as lines that begin with c",
         ),
     )?;
     Ok(command)

@@ -2,9 +2,9 @@
 ghost use Rattle.std.specs.Prelude.{◌≡◌, IfOk, false};
 ghost use Rattle.clap.specs.Words.{app_of, with_subcommand};
 ghost use Rattle.clap.specs.declared.builder.command.Command.TheViews.{out-Command as fields_of};
-ghost use Rattle.ea_words.specs.Grammar.{run_app, pairs_app, bare_program, program};
+ghost use Rattle.ea_words.specs.Grammar.{run_app, pairs_app, rank_app, check_app, bare_program, program};
 
-use crate::arguments::{file, flag, with_arg, with_departures, with_workers};
+use crate::arguments::{file, flag, with_arg, with_departures, with_report, with_workers};
 use clap::Command;
 use std::alloc::{AllocError, Global};
 
@@ -21,7 +21,17 @@ const RUN_MORE: &str =
 const PAIRS: &str = "Writes the earliest arrival at the target of each pair";
 
 const PAIRS_MORE: &str =
-    "Example:\n  earliest pairs roads.gr trips.p2p --depart 28800 --gap 60\n\nA pair is a line `q S T D` (source, target, departure), then a line `d T A` with its\nearliest arrival A, or `d T inf`.";
+    "Example:\n  earliest pairs roads.gr trips.p2p --depart 28800 --gap 60\n\nA pair is a line `q S T D` (source, target, departure), then a line `d T A` with its\nearliest arrival A, or `d T inf`. With --walks a line `w T k e1 .. ek` follows.";
+
+const RANK: &str = "Writes how relaxed the queue was: rank errors of one thread's runs";
+
+const RANK_MORE: &str =
+    "Example:\n  earliest rank roads.gr starts.ss --workers 4 --heaps 2\n\nFor each source a line `s S D` (source, departure), then a line `r POPS MAX SUM`: how many\nentries were popped, and the greatest and the sum of their rank errors. The rank error of\na pop is the number of entries in the queue with a smaller key.";
+
+const CHECK: &str = "Says whether a report of a run is right, or its first fault";
+
+const CHECK_MORE: &str =
+    "Example:\n  earliest run roads.gr starts.ss --walks > report\n  earliest check roads.gr starts.ss report\n\nGive the options --tp, --depart, --gap and --joint with which the report was made. It\nprints `ok` where each arrival is the earliest and each walk the canonical one.";
 
 /// The command `run GR SS`.
 #[tactic(auto, unfolding(crate::specs::Grammar::run_app))]
@@ -31,20 +41,16 @@ pub(crate) fn run_command<'a>(alloc: Global) -> Result<Command<'a>, AllocError>
 {
     let command = Command::new(alloc, "run").about(RUN).after_help(RUN_MORE);
     let command = with_arg(command, file(alloc, "gr", "GR", "The network (.gr)"))?;
-    let command = with_arg(command, file(alloc, "ss", "SS", "The sources (.ss)"))?;
+    let command = with_arg(
+        command,
+        file(alloc, "ss", "SS", "The sources (.ss)"),
+    )?;
     let command = with_departures(alloc, command)?;
     let command = with_workers(alloc, command)?;
+    let command = with_report(alloc, command)?;
     let command = with_arg(
         command,
         flag(alloc, "joint", "Takes all sources as one problem"),
-    )?;
-    let command = with_arg(
-        command,
-        flag(
-            alloc,
-            "walks",
-            "Writes the walk to each node that is reached",
-        ),
     )?;
     Ok(command)
 }
@@ -55,9 +61,7 @@ pub(crate) fn pairs_command<'a>(alloc: Global) -> Result<Command<'a>, AllocError
     ensures app { IfOk result (λ c. app_of c ≡ pairs_app) }
     ensures local { IfOk result (λ c. (fields_of c).has_globals ≡ false) }
 {
-    let command = Command::new(alloc, "pairs")
-        .about(PAIRS)
-        .after_help(PAIRS_MORE);
+    let command = Command::new(alloc, "pairs").about(PAIRS).after_help(PAIRS_MORE);
     let command = with_arg(command, file(alloc, "gr", "GR", "The network (.gr)"))?;
     let command = with_arg(
         command,
@@ -65,13 +69,47 @@ pub(crate) fn pairs_command<'a>(alloc: Global) -> Result<Command<'a>, AllocError
     )?;
     let command = with_departures(alloc, command)?;
     let command = with_workers(alloc, command)?;
+    let command = with_report(alloc, command)?;
+    Ok(command)
+}
+
+/// The command `rank GR SS`.
+#[tactic(auto, unfolding(crate::specs::Grammar::rank_app))]
+pub(crate) fn rank_command<'a>(alloc: Global) -> Result<Command<'a>, AllocError>
+    ensures app { IfOk result (λ c. app_of c ≡ rank_app) }
+    ensures local { IfOk result (λ c. (fields_of c).has_globals ≡ false) }
+{
+    let command = Command::new(alloc, "rank").about(RANK).after_help(RANK_MORE);
+    let command = with_arg(command, file(alloc, "gr", "GR", "The network (.gr)"))?;
     let command = with_arg(
         command,
-        flag(
-            alloc,
-            "walks",
-            "Writes the walk to each target that is reached",
-        ),
+        file(alloc, "ss", "SS", "The sources (.ss)"),
+    )?;
+    let command = with_departures(alloc, command)?;
+    let command = with_workers(alloc, command)?;
+    Ok(command)
+}
+
+/// The command `check GR SS REPORT`.
+#[tactic(auto, unfolding(crate::specs::Grammar::check_app))]
+pub(crate) fn check_command<'a>(alloc: Global) -> Result<Command<'a>, AllocError>
+    ensures app { IfOk result (λ c. app_of c ≡ check_app) }
+    ensures local { IfOk result (λ c. (fields_of c).has_globals ≡ false) }
+{
+    let command = Command::new(alloc, "check").about(CHECK).after_help(CHECK_MORE);
+    let command = with_arg(command, file(alloc, "gr", "GR", "The network (.gr)"))?;
+    let command = with_arg(
+        command,
+        file(alloc, "ss", "SS", "The sources (.ss)"),
+    )?;
+    let command = with_arg(
+        command,
+        file(alloc, "report", "REPORT", "The report of a run on these files"),
+    )?;
+    let command = with_departures(alloc, command)?;
+    let command = with_arg(
+        command,
+        flag(alloc, "joint", "Takes all sources as one problem"),
     )?;
     Ok(command)
 }
@@ -96,11 +134,20 @@ fn with_command<'a>(command: Command<'a>, below: Command<'a>) -> Result<Command<
     command.subcommand(below)
 }
 
+/// The program with its last commands.
+fn with_last<'a>(alloc: Global, command: Command<'a>) -> Result<Command<'a>, AllocError>
+    ensures { IfOk result (λ c. app_of c ≡ with_subcommand (with_subcommand (app_of command.entry) rank_app.top) check_app.top) }
+{
+    let command = with_command(command, rank_command(alloc)?)?;
+    let command = with_command(command, check_command(alloc)?)?;
+    Ok(command)
+}
+
 /// The program, for words that begin with no command's name.
 pub(crate) fn program<'a>(alloc: Global) -> Result<Command<'a>, AllocError>
     ensures { IfOk result (λ c. app_of c ≡ program) }
 {
     let command = with_command(bare_program(alloc), run_command(alloc)?)?;
     let command = with_command(command, pairs_command(alloc)?)?;
-    Ok(command)
+    with_last(alloc, command)
 }

@@ -1,11 +1,12 @@
 //! What words ask for.
 ghost use Rattle.std.specs.Prelude.{◌≡◌, IfOk, IfErr, true, map, codes, option_map, is_some, Some, None, [], ◌∷◌};
 ghost use Rattle.clap.specs.Words.{app_of, fault_of, found_of, kind_of, matches_of, rows_of, is_simple, is_simple_and_free, IsAmong};
-ghost use Rattle.ea_words.specs.Meaning.{run_verb, pairs_verb};
+ghost use Rattle.ea_words.specs.Meaning.{run_verb, pairs_verb, rank_verb, check_verb};
+ghost use Rattle.ea_words.specs.Meaning;
 ghost use Rattle.ea_words.specs.Meaning.{files, files_of, options_of};
 ghost use Rattle.ea_words.specs.Refusals.{Asks, AsksBy, IsRefusal, IsRefusedBy, IsRefusalBy, IsFaultOf, IsMissing, IsUnasked, is_shown};
 
-use crate::commands::{pairs_command, program, run_command};
+use crate::commands::{check_command, pairs_command, program, rank_command, run_command};
 use crate::fault::CommandFault;
 use crate::options::{Command, RunOptions};
 use crate::values::{has_flag, option_number, text_of};
@@ -88,17 +89,38 @@ struct Names<'a> {
     gr: &'a str,
     starts: &'a str,
     tp: Option<&'a str>,
+    report: Option<&'a str>,
 }
 
-/// The names of a command's files; the second is called so.
+/// A name, which may be left out where it isn't wanted.
+fn wanted(is_wanted: bool, name: Option<&str>) -> Option<Option<&str>>
+    ensures { option_map (λ name. option_map (λ t. t.now) name) result ≡ Meaning.wanted is_wanted (option_map (λ t. t.now) name.entry) }
+{
+    match name {
+        None if is_wanted => None,
+        name => Some(name),
+    }
+}
+
+/// The names of a command's files; the second is called so, and a report may be wanted.
 #[tactic(auto, unfolding(crate::specs::Meaning::files_of))]
-fn names_in<'a>(matches: &ArgMatches<'a>, second: &str) -> Option<Names<'a>>
-    ensures { option_map files result ≡ files_of second.now (rows_of (found_of matches.now)) }
+fn names_in<'a>(
+    matches: &ArgMatches<'a>,
+    second: &str,
+    reported: bool,
+) -> Option<Names<'a>>
+    ensures { option_map files result ≡ files_of second.now reported (rows_of (found_of matches.now)) }
 {
     let gr = text_of(matches, "gr")?;
     let starts = text_of(matches, second)?;
+    let report = wanted(reported, text_of(matches, "report"))?;
     let tp = text_of(matches, "tp");
-    Some(Names { gr, starts, tp })
+    Some(Names {
+        gr,
+        starts,
+        tp,
+        report,
+    })
 }
 
 /// What a command asks for: its files and its options.
@@ -106,11 +128,12 @@ fn asked_in<'a>(
     alloc: Global,
     matches: &ArgMatches<'a>,
     second: &str,
+    reported: bool,
 ) -> Result<(Names<'a>, RunOptions), CommandFault>
-    ensures ok { IfOk result (λ asked. (files_of second.now (rows_of (found_of matches.now)) ≡ Some (files asked.0)) × (options_of (rows_of (found_of matches.now)) ≡ Some asked.1)) }
-    ensures err { IfErr result (IsUnasked second.now (rows_of (found_of matches.now))) }
+    ensures ok { IfOk result (λ asked. (files_of second.now reported (rows_of (found_of matches.now)) ≡ Some (files asked.0)) × (options_of (rows_of (found_of matches.now)) ≡ Some asked.1)) }
+    ensures err { IfErr result (IsUnasked second.now reported (rows_of (found_of matches.now))) }
 {
-    let Some(names) = names_in(matches, second) else {
+    let Some(names) = names_in(matches, second, reported) else {
         return Err(missing_name(alloc));
     };
     match options_in(matches) {
@@ -135,7 +158,7 @@ fn run_of_words<'a, S: AsStr>(alloc: Global, words: &'a [S]) -> Result<Command<'
     ensures err { IfErr result (IsRefusedBy (Some run_verb) (map S.text words.entry.now)) }
 {
     let matches = matches_in(alloc, run_command(alloc)?, words)?;
-    let (names, options) = asked_in(alloc, &matches, "ss")?;
+    let (names, options) = asked_in(alloc, &matches, "ss", false)?;
     Ok(Command::Run {
         gr: names.gr,
         ss: names.starts,
@@ -150,11 +173,45 @@ fn pairs_of_words<'a, S: AsStr>(alloc: Global, words: &'a [S]) -> Result<Command
     ensures err { IfErr result (IsRefusedBy (Some pairs_verb) (map S.text words.entry.now)) }
 {
     let matches = matches_in(alloc, pairs_command(alloc)?, words)?;
-    let (names, options) = asked_in(alloc, &matches, "p2p")?;
+    let (names, options) = asked_in(alloc, &matches, "p2p", false)?;
     Ok(Command::Pairs {
         gr: names.gr,
         p2p: names.starts,
         tp: names.tp,
+        options,
+    })
+}
+
+/// What words that begin with `rank` ask for.
+fn rank_of_words<'a, S: AsStr>(alloc: Global, words: &'a [S]) -> Result<Command<'a>, CommandFault>
+    ensures ok { IfOk result (AsksBy rank_verb (map S.text words.entry.now)) }
+    ensures err { IfErr result (IsRefusedBy (Some rank_verb) (map S.text words.entry.now)) }
+{
+    let matches = matches_in(alloc, rank_command(alloc)?, words)?;
+    let (names, options) = asked_in(alloc, &matches, "ss", false)?;
+    Ok(Command::Rank {
+        gr: names.gr,
+        ss: names.starts,
+        tp: names.tp,
+        options,
+    })
+}
+
+/// What words that begin with `check` ask for.
+fn check_of_words<'a, S: AsStr>(alloc: Global, words: &'a [S]) -> Result<Command<'a>, CommandFault>
+    ensures ok { IfOk result (AsksBy check_verb (map S.text words.entry.now)) }
+    ensures err { IfErr result (IsRefusedBy (Some check_verb) (map S.text words.entry.now)) }
+{
+    let matches = matches_in(alloc, check_command(alloc)?, words)?;
+    let (names, options) = asked_in(alloc, &matches, "ss", true)?;
+    let Some(report) = names.report else {
+        return Err(missing_name(alloc));
+    };
+    Ok(Command::Check {
+        gr: names.gr,
+        ss: names.starts,
+        tp: names.tp,
+        report,
         options,
     })
 }
@@ -196,6 +253,10 @@ impl RunOptions {
             run_of_words(alloc, words)
         } else if verb == "pairs" {
             pairs_of_words(alloc, words)
+        } else if verb == "rank" {
+            rank_of_words(alloc, words)
+        } else if verb == "check" {
+            check_of_words(alloc, words)
         } else {
             Err(refusal_of_words(alloc, words))
         }

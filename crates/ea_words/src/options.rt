@@ -42,4 +42,19 @@ pub enum Command<'a> {
         tp: Option<&'a str>,
         options: RunOptions,
     },
+    /// Rank errors of one thread's runs from the sources of the file `ss`.
+    Rank {
+        gr: &'a str,
+        ss: &'a str,
+        tp: Option<&'a str>,
+        options: RunOptions,
+    },
+    /// Whether a report of a run is right.
+    Check {
+        gr: &'a str,
+        ss: &'a str,
+        tp: Option<&'a str>,
+        report: &'a str,
+        options: RunOptions,
+    },
 }

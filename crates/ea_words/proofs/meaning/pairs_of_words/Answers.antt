@@ -1,7 +1,7 @@
 use Rattle.std.proofs.Common.{◌≡◌, ◌∙◌, ap, subst, map, List, []}
 use Rattle.clap.specs.Words.{App, Row, Text, app_of, fault_of, matches_of, is_simple, is_simple_and_free}
 use Rattle.clap.proofs.TakesLemmas.{passed_up}
-use Rattle.ea_words.specs.Meaning.{pairs_verb, app_by, second_by}
+use Rattle.ea_words.specs.Meaning.{pairs_verb, app_by, second_by, reported_by}
 use Rattle.ea_words.specs.Refusals.{IsRefusalBy, IsRefusedBy, IsUnasked}
 use Rattle.ea_words.proofs.Refused.{refused_by_clap, unasked_refused}
 use Rattle.ea_words.proofs.SimpleApps.{simple_pairs, free_pairs}
@@ -27,5 +27,5 @@ returns-in_err-names-clause-err g c =
     let app = c.in_ok-pairs_command.ensures.app in
     let taken : fault_of (app_by pairs_verb) words ≡ [] = subst (λ (a : App). fault_of a words ≡ []) app c.in_ok-matches.ensures.taken in
     let rows = c.in_ok-matches.ensures.rows ∙ ap (λ (a : App). matches_of a words) app in
-    let unasked = subst (λ (r : List Row). IsUnasked (second_by pairs_verb) r fault) rows c.in_err-names.ensures.err in
+    let unasked = subst (λ (r : List Row). IsUnasked (second_by pairs_verb) (reported_by pairs_verb) r fault) rows c.in_err-names.ensures.err in
     passed_up c.from_residual-in_err-names.result fault _ c.from_residual-in_err-names.ensures.1 (unasked_refused pairs_verb words fault taken unasked)
