@@ -1,7 +1,8 @@
 //! What words ask for.
-ghost use Rattle.std.specs.Prelude.{◌≡◌, IfOk, IfErr, true, map, codes, option_map, is_some, Some, None, [], ◌∷◌};
+ghost use Rattle.std.specs.Prelude.{◌≡◌, IfOk, IfErr, IfSome, true, map, codes, option_map, is_some, Some, None, [], ◌∷◌};
 ghost use Rattle.clap.specs.Words.{app_of, fault_of, found_of, kind_of, matches_of, rows_of, is_simple, is_simple_and_free, IsAmong};
 ghost use Rattle.ea_words.specs.Meaning.{run_verb, pairs_verb, rank_verb, check_verb};
+ghost use Rattle.ea_words.specs.Limits.{AreOptions, HasLimits};
 ghost use Rattle.ea_words.specs.Meaning;
 ghost use Rattle.ea_words.specs.Meaning.{files, files_of, options_of};
 ghost use Rattle.ea_words.specs.Refusals.{Asks, AsksBy, IsRefusal, IsRefusedBy, IsRefusalBy, IsFaultOf, IsMissing, IsUnasked, is_shown};
@@ -20,7 +21,8 @@ const LAST_TIME: u64 = 281_474_976_710_655;
 /// The options of a command, where each is a number within its limits.
 #[tactic(auto, unfolding(crate::specs::Meaning::options_of))]
 fn options_in(matches: &ArgMatches<'_>) -> Option<RunOptions>
-    ensures { result ≡ options_of (rows_of (found_of matches.now)) }
+    ensures options { result ≡ options_of (rows_of (found_of matches.now)) }
+    ensures limits { IfSome result AreOptions }
 {
     let workers = option_number(matches, "workers", 4, 1, 16)?;
     let heaps = option_number(matches, "heaps", 2, 2, 8)?;
@@ -131,6 +133,7 @@ fn asked_in<'a>(
     reported: bool,
 ) -> Result<(Names<'a>, RunOptions), CommandFault>
     ensures ok { IfOk result (λ asked. (files_of second.now reported (rows_of (found_of matches.now)) ≡ Some (files asked.0)) × (options_of (rows_of (found_of matches.now)) ≡ Some asked.1)) }
+    ensures limits { IfOk result (λ asked. AreOptions asked.1) }
     ensures err { IfErr result (IsUnasked second.now reported (rows_of (found_of matches.now))) }
 {
     let Some(names) = names_in(matches, second, reported) else {
@@ -155,6 +158,7 @@ fn missing_name(alloc: Global) -> CommandFault
 /// What words that begin with `run` ask for.
 fn run_of_words<'a, S: AsStr>(alloc: Global, words: &'a [S]) -> Result<Command<'a>, CommandFault>
     ensures ok { IfOk result (AsksBy run_verb (map S.text words.entry.now)) }
+    ensures limits { IfOk result HasLimits }
     ensures err { IfErr result (IsRefusedBy (Some run_verb) (map S.text words.entry.now)) }
 {
     let matches = matches_in(alloc, run_command(alloc)?, words)?;
@@ -170,6 +174,7 @@ fn run_of_words<'a, S: AsStr>(alloc: Global, words: &'a [S]) -> Result<Command<'
 /// What words that begin with `pairs` ask for.
 fn pairs_of_words<'a, S: AsStr>(alloc: Global, words: &'a [S]) -> Result<Command<'a>, CommandFault>
     ensures ok { IfOk result (AsksBy pairs_verb (map S.text words.entry.now)) }
+    ensures limits { IfOk result HasLimits }
     ensures err { IfErr result (IsRefusedBy (Some pairs_verb) (map S.text words.entry.now)) }
 {
     let matches = matches_in(alloc, pairs_command(alloc)?, words)?;
@@ -185,6 +190,7 @@ fn pairs_of_words<'a, S: AsStr>(alloc: Global, words: &'a [S]) -> Result<Command
 /// What words that begin with `rank` ask for.
 fn rank_of_words<'a, S: AsStr>(alloc: Global, words: &'a [S]) -> Result<Command<'a>, CommandFault>
     ensures ok { IfOk result (AsksBy rank_verb (map S.text words.entry.now)) }
+    ensures limits { IfOk result HasLimits }
     ensures err { IfErr result (IsRefusedBy (Some rank_verb) (map S.text words.entry.now)) }
 {
     let matches = matches_in(alloc, rank_command(alloc)?, words)?;
@@ -200,6 +206,7 @@ fn rank_of_words<'a, S: AsStr>(alloc: Global, words: &'a [S]) -> Result<Command<
 /// What words that begin with `check` ask for.
 fn check_of_words<'a, S: AsStr>(alloc: Global, words: &'a [S]) -> Result<Command<'a>, CommandFault>
     ensures ok { IfOk result (AsksBy check_verb (map S.text words.entry.now)) }
+    ensures limits { IfOk result HasLimits }
     ensures err { IfErr result (IsRefusedBy (Some check_verb) (map S.text words.entry.now)) }
 {
     let matches = matches_in(alloc, check_command(alloc)?, words)?;
@@ -243,6 +250,8 @@ impl RunOptions {
         words: &'a [S],
     ) -> Result<Command<'a>, CommandFault>
         ensures ok { IfOk result (Asks (map S.text words.entry.now)) }
+        // Each number of the options is within its limits.
+        ensures limits { IfOk result HasLimits }
         ensures err { IfErr result (IsRefusal (map S.text words.entry.now)) }
     {
         let Some(first) = words.first() else {

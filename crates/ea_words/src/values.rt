@@ -9,7 +9,8 @@ use ea_text::number;
 
 /// A number, where it is within its limits.
 fn within_limits(low: u64, high: u64, value: u128) -> Option<u64>
-    ensures { result ≡ Rattle.ea_words.specs.Values.within_limits low high value }
+    ensures value { result ≡ Rattle.ea_words.specs.Values.within_limits low high value }
+    ensures limits { IfSome result (λ n. (low ≤ n) × (n ≤ high)) }
 {
     if u128::from(low) <= value && value <= u128::from(high) {
         Some(value as u64)
@@ -20,14 +21,17 @@ fn within_limits(low: u64, high: u64, value: u128) -> Option<u64>
 
 /// The number that a text is, where it is within its limits.
 fn number_of_text(low: u64, high: u64, text: &str) -> Option<u64>
-    ensures { result ≡ option_and_then (Rattle.ea_words.specs.Values.within_limits low high) (number_of text.now) }
+    ensures value { result ≡ option_and_then (Rattle.ea_words.specs.Values.within_limits low high) (number_of text.now) }
+    ensures limits { IfSome result (λ n. (low ≤ n) × (n ≤ high)) }
 {
     within_limits(low, high, number(text.as_bytes())?)
 }
 
 /// The number of a text, or the default where there is none.
 fn number_or(default: u64, low: u64, high: u64, text: Option<&str>) -> Option<u64>
-    ensures { result ≡ number_in default low high (option_map (λ t. t.now) text.entry) }
+    requires default { (low ≤ default) × (default ≤ high) }
+    ensures value { result ≡ number_in default low high (option_map (λ t. t.now) text.entry) }
+    ensures limits { IfSome result (λ n. (low ≤ n) × (n ≤ high)) }
 {
     match text {
         None => Some(default),
@@ -50,7 +54,9 @@ pub(crate) fn option_number(
     low: u64,
     high: u64,
 ) -> Option<u64>
-    ensures { result ≡ option_of name.now default low high (rows_of (found_of matches.now)) }
+    requires default { (low ≤ default) × (default ≤ high) }
+    ensures value { result ≡ option_of name.now default low high (rows_of (found_of matches.now)) }
+    ensures limits { IfSome result (λ n. (low ≤ n) × (n ≤ high)) }
 {
     number_or(default, low, high, matches.get_str(name))
 }

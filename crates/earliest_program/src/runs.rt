@@ -1,0 +1,93 @@
+//! What each command does.
+ghost use Rattle.ea_words.specs.Limits.{AreOptions, HasLimits};
+
+use crate::files::open_all;
+use crate::stored::stored;
+use earliest::{
+    AnswerFault, Command, CommandFault, FileWord, Outcome, RunOptions, Totals, answer,
+    answer_pairs, say,
+};
+use ea_input::StdOut;
+
+/// Does what a command asks for, and answers the status.
+pub fn perform(rt: &HostRuntime, command: Command<'_>) -> u8
+    requires { HasLimits command }
+{
+    match command {
+        Command::Stored => stored(rt),
+        Command::Run {
+            gr,
+            ss,
+            tp,
+            options,
+        } => run(rt, gr, ss, tp, &options),
+        Command::Pairs {
+            gr,
+            p2p,
+            tp,
+            options,
+        } => pairs(rt, gr, p2p, tp, &options),
+        Command::Rank { .. } => 2,
+        Command::Check { .. } => 2,
+    }
+}
+
+/// The status of an answer, after its fault is told.
+pub fn finish(rt: &HostRuntime, result: Result<Totals, AnswerFault>) -> u8 {
+    match result {
+        Ok(_) => 0,
+        Err(fault) => tell(rt, Outcome::Answer(fault)),
+    }
+}
+
+/// Tells an outcome, and answers the status: what was asked for goes to standard output, the rest to standard error.
+pub fn tell(rt: &HostRuntime, outcome: Outcome) -> u8 {
+    match &outcome {
+        Outcome::Accepted | Outcome::Command(CommandFault::Words { help: true, .. }) => {
+            say(&outcome, &mut StdOut::new(rt.stdout()))
+        }
+        _ => say(&outcome, &mut StdOut::new(rt.stderr())),
+    }
+}
+
+/// Answers a run.
+fn run(rt: &HostRuntime, gr: &str, ss: &str, tp: Option<&str>, options: &RunOptions) -> u8
+    requires { AreOptions options.now }
+{
+    let mut files = match open_all(rt, gr, FileWord::Ss, ss, tp) {
+        Ok(files) => files,
+        Err(file) => return tell(rt, Outcome::Unopened(file)),
+    };
+    let mut out = StdOut::new(rt.stdout());
+    let result = answer(
+        rt.alloc(),
+        rt,
+        &mut files.gr,
+        &mut files.starts,
+        &mut files.tp,
+        options,
+        &mut out,
+    );
+    finish(rt, result)
+}
+
+/// Answers pairs.
+fn pairs(rt: &HostRuntime, gr: &str, p2p: &str, tp: Option<&str>, options: &RunOptions) -> u8
+    requires { AreOptions options.now }
+{
+    let mut files = match open_all(rt, gr, FileWord::P2p, p2p, tp) {
+        Ok(files) => files,
+        Err(file) => return tell(rt, Outcome::Unopened(file)),
+    };
+    let mut out = StdOut::new(rt.stdout());
+    let result = answer_pairs(
+        rt.alloc(),
+        rt,
+        &mut files.gr,
+        &mut files.starts,
+        &mut files.tp,
+        options,
+        &mut out,
+    );
+    finish(rt, result)
+}

@@ -1,0 +1,31 @@
+//! The run that is built in, which is done where there are no words.
+use crate::runs::finish;
+use earliest::{RunOptions, answer};
+use ea_input::{StdIn, StdOut};
+
+const GRAPH: &[u8] = b"p sp 4 5\na 1 2 7\na 1 3 2\na 3 2 3\na 2 4 1\na 3 4 9\n";
+
+const SOURCES: &[u8] = b"p aux sp ss 1\ns 1\n";
+
+/// The options by default.
+const DEFAULTS: RunOptions = RunOptions {
+    joint: false,
+    walks: false,
+    stats: false,
+    workers: 4,
+    heaps: 2,
+    turns: 1_000_000,
+    seed: 1,
+    depart: 0,
+    gap: 0,
+};
+
+/// Answers four nodes and five arcs, from node 1 at time 0.
+pub fn stored(rt: &HostRuntime) -> u8 {
+    let mut gr = StdIn::new(GRAPH);
+    let mut ss = StdIn::new(SOURCES);
+    let mut tp: Option<StdIn<&[u8]>> = None;
+    let mut out = StdOut::new(rt.stdout());
+    let result = answer(rt.alloc(), rt, &mut gr, &mut ss, &mut tp, &DEFAULTS, &mut out);
+    finish(rt, result)
+}
