@@ -30,6 +30,7 @@ pub fn open_if_named(
 }
 
 /// The files of a run or of pairs.
+#[derive(Drop)]
 pub struct Opens {
     pub gr: Opened,
     pub starts: Opened,

@@ -9,18 +9,19 @@ use crate::runs::{perform, tell};
 use earliest::{CommandFault, Outcome, RunOptions};
 use std::env;
 use std::process::ExitCode;
+use std::thread::Threads;
 
 fn main(rt: HostRuntime) -> ExitCode {
-    ExitCode::from(run(&rt))
+    ExitCode::from(run(&rt, &rt))
 }
 
 /// Does what the words ask for, and answers the status.
-fn run(rt: &HostRuntime) -> u8 {
+fn run<H: Threads + Sync>(rt: &HostRuntime, threads: &H) -> u8 {
     let Ok(words) = words_of(rt) else {
         return tell(rt, Outcome::Command(CommandFault::OutOfMemory));
     };
     match RunOptions::of_words(rt.alloc(), &words) {
-        Ok(command) => perform(rt, command),
+        Ok(command) => perform(rt, threads, command),
         Err(fault) => tell(rt, Outcome::Command(fault)),
     }
 }
@@ -32,7 +33,9 @@ fn words_of(rt: &HostRuntime) -> Result<Vec<String>, CommandFault> {
         return Ok(words);
     };
     for word in args.skip(1) {
-        words.push(word)?;
+        if words.push(word).is_err() {
+            return Err(CommandFault::OutOfMemory);
+        }
     }
     Ok(words)
 }

@@ -8,33 +8,38 @@ use earliest::{
     answer_pairs, say,
 };
 use ea_input::StdOut;
+use std::thread::Threads;
 
 /// Does what a command asks for, and answers the status.
-pub fn perform(rt: &HostRuntime, command: Command<'_>) -> u8
+pub fn perform<H: Threads + Sync>(
+    rt: &HostRuntime,
+    threads: &H,
+    command: Command<'_>,
+) -> u8
     requires { HasLimits command }
 {
     match command {
-        Command::Stored => stored(rt),
+        Command::Stored => stored(rt, threads),
         Command::Run {
             gr,
             ss,
             tp,
             options,
-        } => run(rt, gr, ss, tp, &options),
+        } => run(rt, threads, gr, ss, tp, &options),
         Command::Pairs {
             gr,
             p2p,
             tp,
             options,
-        } => pairs(rt, gr, p2p, tp, &options),
+        } => pairs(rt, threads, gr, p2p, tp, &options),
         Command::Rank { .. } => 2,
         Command::Check { .. } => 2,
     }
 }
 
 /// The status of an answer, after its fault is told.
-pub fn finish(rt: &HostRuntime, result: Result<Totals, AnswerFault>) -> u8 {
-    match result {
+pub fn finish(rt: &HostRuntime, answered: Result<Totals, AnswerFault>) -> u8 {
+    match answered {
         Ok(_) => 0,
         Err(fault) => tell(rt, Outcome::Answer(fault)),
     }
@@ -51,7 +56,14 @@ pub fn tell(rt: &HostRuntime, outcome: Outcome) -> u8 {
 }
 
 /// Answers a run.
-fn run(rt: &HostRuntime, gr: &str, ss: &str, tp: Option<&str>, options: &RunOptions) -> u8
+fn run<H: Threads + Sync>(
+    rt: &HostRuntime,
+    threads: &H,
+    gr: &str,
+    ss: &str,
+    tp: Option<&str>,
+    options: &RunOptions,
+) -> u8
     requires { AreOptions options.now }
 {
     let mut files = match open_all(rt, gr, FileWord::Ss, ss, tp) {
@@ -59,20 +71,27 @@ fn run(rt: &HostRuntime, gr: &str, ss: &str, tp: Option<&str>, options: &RunOpti
         Err(file) => return tell(rt, Outcome::Unopened(file)),
     };
     let mut out = StdOut::new(rt.stdout());
-    let result = answer(
+    let answered = answer(
         rt.alloc(),
-        rt,
+        threads,
         &mut files.gr,
         &mut files.starts,
         &mut files.tp,
         options,
         &mut out,
     );
-    finish(rt, result)
+    finish(rt, answered)
 }
 
 /// Answers pairs.
-fn pairs(rt: &HostRuntime, gr: &str, p2p: &str, tp: Option<&str>, options: &RunOptions) -> u8
+fn pairs<H: Threads + Sync>(
+    rt: &HostRuntime,
+    threads: &H,
+    gr: &str,
+    p2p: &str,
+    tp: Option<&str>,
+    options: &RunOptions,
+) -> u8
     requires { AreOptions options.now }
 {
     let mut files = match open_all(rt, gr, FileWord::P2p, p2p, tp) {
@@ -80,14 +99,14 @@ fn pairs(rt: &HostRuntime, gr: &str, p2p: &str, tp: Option<&str>, options: &RunO
         Err(file) => return tell(rt, Outcome::Unopened(file)),
     };
     let mut out = StdOut::new(rt.stdout());
-    let result = answer_pairs(
+    let answered = answer_pairs(
         rt.alloc(),
-        rt,
+        threads,
         &mut files.gr,
         &mut files.starts,
         &mut files.tp,
         options,
         &mut out,
     );
-    finish(rt, result)
+    finish(rt, answered)
 }

@@ -2,6 +2,7 @@
 use crate::runs::finish;
 use earliest::{RunOptions, answer};
 use ea_input::{StdIn, StdOut};
+use std::thread::Threads;
 
 const GRAPH: &[u8] = b"p sp 4 5\na 1 2 7\na 1 3 2\na 3 2 3\na 2 4 1\na 3 4 9\n";
 
@@ -21,11 +22,11 @@ const DEFAULTS: RunOptions = RunOptions {
 };
 
 /// Answers four nodes and five arcs, from node 1 at time 0.
-pub fn stored(rt: &HostRuntime) -> u8 {
+pub fn stored<H: Threads + Sync>(rt: &HostRuntime, threads: &H) -> u8 {
     let mut gr = StdIn::new(GRAPH);
     let mut ss = StdIn::new(SOURCES);
     let mut tp: Option<StdIn<&[u8]>> = None;
     let mut out = StdOut::new(rt.stdout());
-    let result = answer(rt.alloc(), rt, &mut gr, &mut ss, &mut tp, &DEFAULTS, &mut out);
-    finish(rt, result)
+    let answered = answer(rt.alloc(), threads, &mut gr, &mut ss, &mut tp, &DEFAULTS, &mut out);
+    finish(rt, answered)
 }
