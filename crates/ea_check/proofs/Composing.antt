@@ -70,14 +70,14 @@ as_many no_problem = refl
 as_many (next_problem here later) = ap suc (as_many later)
 
 -- a report of right form has no bad line
-no_bad_line : (nodes : ℕ) (queries : List (List Source)) (problems : List (List Said)) (lines : List Line) (number : ℕ) → SaysProblems nodes queries problems lines → IsBadLine nodes queries lines number → ⊥
+pub no_bad_line : (nodes : ℕ) (queries : List (List Source)) (problems : List (List Said)) (lines : List Line) (number : ℕ) → SaysProblems nodes queries problems lines → IsBadLine nodes queries lines number → ⊥
 no_bad_line nodes queries problems lines number says (at_line before after bad cut can none) =
     let joined : before ++ bad ∷ after ≡ (before ++ bad ∷ []) ++ after = sym (append_assoc before (bad ∷ []) after) in
     none (record { rest = after; problems = problems; whole = subst (λ (ls : List Line). SaysProblems nodes queries problems ls) (cut ∙ joined) says })
 no_bad_line nodes queries problems lines number says (at_end can none) = none problems says
 
 -- lines in the order of their numbers
-after_front : (first others : List Line) (number : ℕ) → IsAfter number (first ++ others) → IsAfter number first
+pub after_front : (first others : List Line) (number : ℕ) → IsAfter number (first ++ others) → IsAfter number first
 after_front [] others number after = tt
 after_front (line ∷ first) others number after = (after.0, after_front first others line.number after.1)
 
@@ -85,7 +85,7 @@ sooner_after : (lines : List Line) (number sooner : ℕ) → sooner ≤ number �
 sooner_after [] number sooner low after = tt
 sooner_after (line ∷ lines) number sooner low after = (omega (arith, after.0), after.1)
 
-after_behind : (first others : List Line) (number : ℕ) → IsAfter number (first ++ others) → IsAfter number others
+pub after_behind : (first others : List Line) (number : ℕ) → IsAfter number (first ++ others) → IsAfter number others
 after_behind [] others number after = after
 after_behind (line ∷ first) others number after = after_behind first others number (sooner_after (first ++ others) line.number number (omega (arith, after.0)) after.1)
 

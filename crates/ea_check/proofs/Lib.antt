@@ -17,3 +17,4 @@ pub mod Reading
 pub mod Keeping
 pub mod Composing
 pub mod Determined
+pub mod Whole

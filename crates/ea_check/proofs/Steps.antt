@@ -50,7 +50,7 @@ source_no_walk (word ∷ place ∷ field ∷ []) node departure says walk = s_is
 source_no_walk (word ∷ place ∷ field ∷ more ∷ rest) node departure says walk = says
 
 -- nor does the line of a time
-time_no_walk : (fields : List (List ℕ)) (node time : ℕ) → SaysTime fields node time → IsWalkLine fields → ⊥
+pub time_no_walk : (fields : List (List ℕ)) (node time : ℕ) → SaysTime fields node time → IsWalkLine fields → ⊥
 time_no_walk [] node time says walk = says
 time_no_walk (word ∷ []) node time says walk = says
 time_no_walk (word ∷ place ∷ []) node time says walk = says

@@ -1,10 +1,12 @@
 //! Laws of reports, as functions that do nothing.
 ghost use Rattle.std.specs.Prelude.{◌≡◌, ◌≢◌, ℕ, List, Result, Err, None};
-ghost use Rattle.ea_road.specs.Queries.{IsProblem};
+ghost use Rattle.std.specs.List.{IsAmong};
+ghost use Rattle.ea_road.specs.Queries.{Asking, IsProblem};
+ghost use Rattle.ea_check.specs.Checked.{IsChecked, sources_of};
 ghost use Rattle.ea_road.specs.declared.source.Source.{Source};
 ghost use Rattle.ea_check.specs.declared.fault.CheckFault.{CheckFault};
 ghost use Rattle.ea_check.specs.declared.fault.CheckFault.TheVariants.{OutOfMemory};
-ghost use Rattle.ea_check.specs.Form.{AreInOrder, Line, SaysProblem};
+ghost use Rattle.ea_check.specs.Form.{AreInOrder, Line, SaysProblem, lines_of_report};
 ghost use Rattle.ea_check.specs.Verdicts.{IsFaultless, IsRight, IsVerdict, IsWellFormed, Said};
 
 use ea_road::{Network, Query, TravelTimes};
@@ -36,6 +38,17 @@ pub fn problems_have_one_verdict<T: TravelTimes>(network: &Network, times: &T, q
     ensures { (reported : List Said) (this that : Result (Unit {0}) CheckFault) → IsWellFormed network.now.nodes reported
         → IsVerdict network.now (T.answers times.now) query.now.sources reported this
         → IsVerdict network.now (T.answers times.now) query.now.sources reported that
+        → this ≢ Err OutOfMemory → that ≢ Err OutOfMemory → this ≡ that }
+{
+    let _ = network.nodes();
+}
+
+/// A report has one verdict, want of memory aside: whatever is checked of its lines, it is the same.
+pub fn reports_have_one_verdict<T: TravelTimes>(network: &Network, times: &T, queries: &[Query])
+    requires { (query : Asking) → IsAmong queries.now query → IsProblem network.now (T.classes times.now) query × (query.target ≡ None) }
+    ensures { (report : List ℕ) (this that : Result (Unit {0}) CheckFault)
+        → IsChecked network.now (T.answers times.now) (sources_of queries.now) (lines_of_report report) this
+        → IsChecked network.now (T.answers times.now) (sources_of queries.now) (lines_of_report report) that
         → this ≢ Err OutOfMemory → that ≢ Err OutOfMemory → this ≡ that }
 {
     let _ = network.nodes();
