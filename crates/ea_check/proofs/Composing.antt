@@ -12,7 +12,7 @@ use Rattle.ea_check.specs.declared.line.SpokenLine.{SpokenLine}
 use Rattle.ea_check.specs.declared.fault.CheckFault.{CheckFault}
 use Rattle.ea_check.specs.declared.fault.CheckFault.TheVariants.{BadLine, NotAttained, NotLeast, OutOfMemory, NotCanonical}
 use Rattle.ea_check.specs.Verdicts.{Said, IsFaultless, IsRight, IsVerdict, IsWellFormed}
-use Rattle.ea_check.specs.Form.{Line, IsAfter, AreInOrder, spoken_from, lines_of_report, SaysNode, alone, with_walk, SaysNodes, no_node, next_node, SaysSources, SaysProblem, SaysProblems, no_problem, next_problem, IsBadLine, at_line, at_end}
+use Rattle.ea_check.specs.Form.{Line, IsAfter, AreInOrder, spoken_from, SaysNode, alone, with_walk, SaysNodes, no_node, next_node, SaysSources, SaysProblem, SaysProblems, no_problem, next_problem, IsBadLine, at_line, at_end}
 use Rattle.ea_check.specs.Checked.{AreRight, IsFirstFault, in_this, in_later, IsFaulty, IsChecked, sources_of}
 use Rattle.ea_check.specs.Places.{AreSmall, AreAllSmall}
 use Rattle.ea_check.specs.Reads.{IsWrong, ReadsSources, ReadsNode, without_walk, and_walk, ReadsNodes, no_more, one_more, ReadsProblem, ReadsReport, all_read, one_read, found_then, line_of, ReportWrong, too_long, in_problem, behind_problem, ProblemWrong}

@@ -1,11 +1,11 @@
 -- What remains after one more line.
-use Rattle.std.proofs.Common.{◌≡◌, ◌∙◌, refl, ℕ, suc, ◌+◌, List, [], ◌∷◌, inl, inr, arith, ap, sym, subst}
-use Rattle.std.specs.Prelude.{◌≢◌, Option, Some, None, codes}
+use Rattle.std.proofs.Common.{◌≡◌, ◌∙◌, ℕ, suc, ◌+◌, List, [], ◌∷◌, inl, inr, arith, ap, sym}
+use Rattle.std.specs.Prelude.{◌≢◌, Some, None, codes}
 use Rattle.ea_text.specs.Text.{number_of}
 use Rattle.ea_road.specs.declared.TheConstants.{NONE}
 use Rattle.ea_road.specs.declared.source.Source.{Source}
 use Rattle.ea_check.specs.Form.{Line, IsWalkLine, SaysSource, SaysTime, SaysWalk}
-use Rattle.ea_check.specs.Places.{Remains, ended, problem_begins, source_line, inf_line, time_line, no_walk, walk_line}
+use Rattle.ea_check.specs.Places.{Remains, problem_begins, source_line, inf_line, time_line, no_walk, walk_line}
 use Rattle.ea_check.specs.Reads.{NoWalkNext}
 
 some_some : (a b : ℕ) → Some a ≡ Some b → a ≡ b

@@ -1,5 +1,5 @@
 -- A report has one verdict.
-use Rattle.std.proofs.Common.{◌≡◌, ◌∙◌, refl, ℕ, zero, suc, ◌+◌, ◌<◌, ◌≤◌, List, [], ◌∷◌, ◌++◌, length, ◌⊎◌, inl, inr, arith, ap, sym, subst, append_assoc}
+use Rattle.std.proofs.Common.{◌≡◌, ◌∙◌, refl, ℕ, suc, List, [], ◌∷◌, ◌++◌, arith, ap, sym, subst, append_assoc}
 use Rattle.std.specs.Prelude.{◌≢◌, None, Result, Ok, Err}
 use Rattle.std.specs.List.{IsAmong}
 use Rattle.ea_road.specs.declared.source.Source.{Source}
@@ -8,8 +8,8 @@ use Rattle.ea_road.specs.Queries.{Asking, IsProblem}
 use Rattle.ea_road.specs.Roads.{Roads, IsNetwork}
 use Rattle.ea_check.specs.declared.fault.CheckFault.{CheckFault}
 use Rattle.ea_check.specs.declared.fault.CheckFault.TheVariants.{BadLine, NotAttained, NotLeast, OutOfMemory, NotCanonical}
-use Rattle.ea_check.specs.Verdicts.{Said, IsRight, IsFaultless, IsVerdict, IsWellFormed, IsTask}
-use Rattle.ea_check.specs.Form.{Line, AreInOrder, IsAfter, SaysNode, alone, with_walk, SaysNodes, no_node, next_node, SaysSources, SaysProblem, SaysProblems, no_problem, next_problem, CanGoOn, IsBadLine, at_line, at_end}
+use Rattle.ea_check.specs.Verdicts.{Said, IsWellFormed, IsTask}
+use Rattle.ea_check.specs.Form.{Line, AreInOrder, SaysNode, alone, with_walk, SaysNodes, no_node, next_node, SaysSources, SaysProblem, SaysProblems, no_problem, next_problem, CanGoOn, IsBadLine, at_line, at_end}
 use Rattle.ea_check.specs.Checked.{AreRight, IsFirstFault, in_this, in_later, IsFaulty, IsChecked, sources_of}
 use Rattle.ea_check.specs.Reads.{NoWalkNext, ReadsSources, ReadsNode, without_walk, and_walk, ReadsNodes, no_more, one_more, ReadsProblem}
 use Rattle.ea_check.proofs.Composing.{no_bad_line, after_front, after_behind}

@@ -1,8 +1,8 @@
-use Rattle.std.proofs.Common.{◌≡◌, ◌∙◌, ℕ, false, refl, sym, subst, true}
+use Rattle.std.proofs.Common.{◌≡◌, ◌∙◌, ℕ, false, refl, sym, true}
 use Rattle.std.proofs.lemmas.Bool.{false≢true}
 use Rattle.std.specs.Option.{is_some}
 use Rattle.std.specs.Prelude.{Option, Some, None}
-use Rattle.ea_road.specs.Queries.{Asking, IsProblem}
+use Rattle.ea_road.specs.Queries.{IsProblem}
 use Rattle.ea_check.proofs.Sourced.{more_queries}
 use Rattle.ea_check.proofs.checking.is_checkable.Goals.{then-is_some-via-then-is_some, then-is_some-via-else-is_some+then-not-is_problem}
 use Rattle.ea_check.proofs.checking.is_checkable.Goals as goal

@@ -1,4 +1,3 @@
-use Rattle.std.proofs.Common.{◌≡◌, refl}
 use Rattle.std.proofs.lemmas.Result.{err_from_is_err_and}
 use Rattle.ea_check.specs.Reads.{ahead}
 use Rattle.ea_check.specs.Views.{walk_of}
