@@ -438,6 +438,11 @@ fn messages(rt: HostRuntime) -> Result<(), Fail> {
     ];
     for (fault, text) in cases {
         assert_eq!(rt; format!(in rt.alloc(); "{fault}")?.as_str(), text);
+        let (number, name) = (fault.number(), fault.name());
+        let end = format!(in rt.alloc(); "({number} {name})")?;
+        assert!(rt; text.ends_with(end.as_str()), "{fault:?}");
     }
+    assert_eq!(rt; NotLeast(5).line(), Some(5));
+    assert_eq!(rt; OutOfMemory.line(), None);
     Ok(())
 }
