@@ -23,7 +23,7 @@ chosen true false value n p q e = cc
 chosen false b value n p q e = cc
 
 -- each number can be written
-number_written : (n : ℕ) → n < 2 ^ 64 → number_of (decimal n) ≡ Some n
+pub number_written : (n : ℕ) → n < 2 ^ 64 → number_of (decimal n) ≡ Some n
 number_written n small =
     let numeral = decimal_is_IsNumeral n small in
     chosen _ _ _ n (lt-ltb 0 (length (decimal n)) numeral.0.0) ((numerals_by_value (λ ds. all_ascii_digits ds ≡ true) tells_all_ascii_digits).from (decimal n) numeral.0.1) numeral.1

@@ -166,7 +166,7 @@ module _ (roads : Roads) (answers : ℕ → ℕ → ℕ → ℕ → Type 0) wher
   wrong_checked queries lines (NotLeast number) few small wrong = absurd wrong
   wrong_checked queries lines (NotCanonical number) few small wrong = absurd wrong
 
-small_sources : (nodes : ℕ) (sources : List Source) → nodes < 2 ^ 64 → ((source : Source) → IsAmong sources source → IsNode nodes source.node × (source.departure ≤ HORIZON)) → AreSmall sources
+pub small_sources : (nodes : ℕ) (sources : List Source) → nodes < 2 ^ 64 → ((source : Source) → IsAmong sources source → IsNode nodes source.node × (source.departure ≤ HORIZON)) → AreSmall sources
 small_sources nodes [] few each = tt
 small_sources nodes (source ∷ sources) few each =
     let here = each source (0, (omega arith, refl)) in

@@ -18,3 +18,4 @@ pub mod Keeping
 pub mod Composing
 pub mod Determined
 pub mod Whole
+pub mod Written

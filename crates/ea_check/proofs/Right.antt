@@ -42,7 +42,7 @@ time_of_said reported node said is_said = time_at reported (node - 1) said is_sa
 time_of_none : (label : ℕ) → label ≡ NONE → time_of label ≡ None
 time_of_none label same = rw (eq-eqb label NONE same) refl
 
-time_of_some : (label : ℕ) → label ≢ NONE → time_of label ≡ Some label
+pub time_of_some : (label : ℕ) → label ≢ NONE → time_of label ≡ Some label
 time_of_some label differs = by_test (label == NONE) refl
   where
     by_test : (none : Bool) → (label == NONE) ≡ none → time_of label ≡ Some label

@@ -35,7 +35,7 @@ one_time (word ∷ place ∷ field ∷ more ∷ rest) node time other this that 
 head_of : {a b : ℕ} {xs ys : List ℕ} → a ∷ xs ≡ b ∷ ys → a ≡ b
 head_of same = cc
 
-d_is_not_w : codes "d" ≡ codes "w" → ⊥
+pub d_is_not_w : codes "d" ≡ codes "w" → ⊥
 d_is_not_w same = let e = head_of same in omega arith
 
 s_is_not_w : codes "s" ≡ codes "w" → ⊥

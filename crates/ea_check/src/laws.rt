@@ -1,5 +1,7 @@
 //! Laws of reports, as functions that do nothing.
-ghost use Rattle.std.specs.Prelude.{◌≡◌, ◌≢◌, ℕ, List, Result, Err, None};
+ghost use Rattle.std.specs.Prelude.{◌≡◌, ◌≢◌, ◌<◌, ◌^◌, ◌∷◌, [], ℕ, List, Result, Err, Ok, None, Some, length, true, false};
+ghost use Rattle.ea_finish.specs.Answers.{Answered, HasArrivals, IsAnswer, walk_of};
+ghost use Rattle.ea_report.specs.Report.{problem_text};
 ghost use Rattle.std.specs.List.{IsAmong};
 ghost use Rattle.ea_road.specs.Queries.{Asking, IsProblem};
 ghost use Rattle.ea_check.specs.Checked.{IsChecked, sources_of};
@@ -50,6 +52,20 @@ pub fn reports_have_one_verdict<T: TravelTimes>(network: &Network, times: &T, qu
         → IsChecked network.now (T.answers times.now) (sources_of queries.now) (lines_of_report report) this
         → IsChecked network.now (T.answers times.now) (sources_of queries.now) (lines_of_report report) that
         → this ≢ Err OutOfMemory → that ≢ Err OutOfMemory → this ≡ that }
+{
+    let _ = network.nodes();
+}
+
+/// What is written of an answer is accepted: with its walks, or without.
+pub fn written_reports_are_right<T: TravelTimes>(network: &Network, times: &T, query: &Query)
+    requires problem { IsProblem network.now (T.classes times.now) query.now }
+    requires all { query.now.target ≡ None }
+    ensures arrivals { (answer : Answered) → HasArrivals network.now (T.answers times.now) query.now answer
+        → IsChecked network.now (T.answers times.now) (query.now.sources ∷ []) (lines_of_report (problem_text false network.now.nodes query.now answer)) (Ok tt) }
+    // A walk's length is that of a list in memory.
+    ensures walks { (answer : Answered) → IsAnswer network.now (T.answers times.now) query.now answer
+        → ((node : ℕ) (walk : List ℕ) → walk_of answer node ≡ Some walk → length walk < 2 ^ 64)
+        → IsChecked network.now (T.answers times.now) (query.now.sources ∷ []) (lines_of_report (problem_text true network.now.nodes query.now answer)) (Ok tt) }
 {
     let _ = network.nodes();
 }
