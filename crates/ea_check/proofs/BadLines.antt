@@ -1,5 +1,5 @@
 -- Which line is bad.
-use Rattle.std.proofs.Common.{◌≡◌, ◌≢◌, ◌∙◌, refl, ℕ, zero, suc, ◌+◌, ◌^◌, ◌&&◌, ◌<◌, List, [], ◌∷◌, ◌++◌, length, Bool, true, false, inl, inr, arith, ap, sym, subst, append_assoc}
+use Rattle.std.proofs.Common.{◌≡◌, ◌≢◌, refl, ℕ, zero, suc, ◌+◌, ◌^◌, ◌&&◌, ◌<◌, List, [], ◌∷◌, ◌++◌, length, Bool, true, false, inl, inr, arith, ap, sym, subst, append_assoc}
 use Rattle.std.proofs.lemmas.Bool.{lt-ltb}
 use Rattle.std.proofs.lemmas.Bool.Decides.{eqb_tells}
 use Rattle.std.proofs.lemmas.Fmt.{decimal_is_IsNumeral}
@@ -10,10 +10,10 @@ use Rattle.std.specs.Prelude.{Option, Some, None, codes, if◌then◌else◌}
 use Rattle.ea_text.specs.Text.{number_of}
 use Rattle.ea_road.specs.declared.TheConstants.{NONE}
 use Rattle.ea_road.specs.declared.source.Source.{Source}
-use Rattle.ea_check.specs.Form.{Line, IsWalkLine, SaysTime, SaysWalk, SaysProblems, IsBadLine, at_line, at_end}
+use Rattle.ea_check.specs.Form.{Line, SaysTime, SaysProblems, IsBadLine, at_line, at_end}
 use Rattle.ea_check.specs.Places.{Remains, ended, problem_begins, source_line, inf_line, time_line, no_walk, walk_line, AreSmall, AreAllSmall}
 use Rattle.ea_check.specs.Verdicts.{Said}
-use Rattle.ea_check.specs.Reads.{ReadsSources, SourcesWrong, NoWalkNext, ReadsNode, without_walk, and_walk, NodeWrong, no_line, no_time, no_such_walk, ReadsNodes, no_more, one_more, NodesWrong, in_node, behind_node, ReadsProblem, ProblemWrong, in_sources, in_nodes, ReportWrong, too_long, in_problem, behind_problem}
+use Rattle.ea_check.specs.Reads.{ReadsSources, SourcesWrong, NoWalkNext, ReadsNode, without_walk, and_walk, NodeWrong, no_line, no_time, no_such_walk, ReadsNodes, no_more, one_more, NodesWrong, in_node, behind_node, in_sources, in_nodes, ReportWrong, too_long, in_problem, behind_problem}
 use Rattle.ea_check.proofs.Placed.{remains, says, asks_source, asks_time, asks_end}
 use Rattle.ea_check.proofs.Steps.{after_source, after_inf, after_time, after_walk, asks_walk, walk_begins, without_walk_line}
 
@@ -23,7 +23,7 @@ chosen true false value n p q e = cc
 chosen false b value n p q e = cc
 
 -- each number can be written
-number_written : (n : ℕ) → n < 2 ^ 64 → number_of (decimal n) ≡ Some n
+pub number_written : (n : ℕ) → n < 2 ^ 64 → number_of (decimal n) ≡ Some n
 number_written n small =
     let numeral = decimal_is_IsNumeral n small in
     chosen _ _ _ n (lt-ltb 0 (length (decimal n)) numeral.0.0) ((numerals_by_value (λ ds. all_ascii_digits ds ≡ true) tells_all_ascii_digits).from (decimal n) numeral.0.1) numeral.1

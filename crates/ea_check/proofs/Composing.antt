@@ -12,7 +12,7 @@ use Rattle.ea_check.specs.declared.line.SpokenLine.{SpokenLine}
 use Rattle.ea_check.specs.declared.fault.CheckFault.{CheckFault}
 use Rattle.ea_check.specs.declared.fault.CheckFault.TheVariants.{BadLine, NotAttained, NotLeast, OutOfMemory, NotCanonical}
 use Rattle.ea_check.specs.Verdicts.{Said, IsFaultless, IsRight, IsVerdict, IsWellFormed}
-use Rattle.ea_check.specs.Form.{Line, IsAfter, AreInOrder, spoken_from, lines_of_report, SaysNode, alone, with_walk, SaysNodes, no_node, next_node, SaysSources, SaysProblem, SaysProblems, no_problem, next_problem, IsBadLine, at_line, at_end}
+use Rattle.ea_check.specs.Form.{Line, IsAfter, AreInOrder, spoken_from, SaysNode, alone, with_walk, SaysNodes, no_node, next_node, SaysSources, SaysProblem, SaysProblems, no_problem, next_problem, IsBadLine, at_line, at_end}
 use Rattle.ea_check.specs.Checked.{AreRight, IsFirstFault, in_this, in_later, IsFaulty, IsChecked, sources_of}
 use Rattle.ea_check.specs.Places.{AreSmall, AreAllSmall}
 use Rattle.ea_check.specs.Reads.{IsWrong, ReadsSources, ReadsNode, without_walk, and_walk, ReadsNodes, no_more, one_more, ReadsProblem, ReadsReport, all_read, one_read, found_then, line_of, ReportWrong, too_long, in_problem, behind_problem, ProblemWrong}
@@ -70,14 +70,14 @@ as_many no_problem = refl
 as_many (next_problem here later) = ap suc (as_many later)
 
 -- a report of right form has no bad line
-no_bad_line : (nodes : ℕ) (queries : List (List Source)) (problems : List (List Said)) (lines : List Line) (number : ℕ) → SaysProblems nodes queries problems lines → IsBadLine nodes queries lines number → ⊥
+pub no_bad_line : (nodes : ℕ) (queries : List (List Source)) (problems : List (List Said)) (lines : List Line) (number : ℕ) → SaysProblems nodes queries problems lines → IsBadLine nodes queries lines number → ⊥
 no_bad_line nodes queries problems lines number says (at_line before after bad cut can none) =
     let joined : before ++ bad ∷ after ≡ (before ++ bad ∷ []) ++ after = sym (append_assoc before (bad ∷ []) after) in
     none (record { rest = after; problems = problems; whole = subst (λ (ls : List Line). SaysProblems nodes queries problems ls) (cut ∙ joined) says })
 no_bad_line nodes queries problems lines number says (at_end can none) = none problems says
 
 -- lines in the order of their numbers
-after_front : (first others : List Line) (number : ℕ) → IsAfter number (first ++ others) → IsAfter number first
+pub after_front : (first others : List Line) (number : ℕ) → IsAfter number (first ++ others) → IsAfter number first
 after_front [] others number after = tt
 after_front (line ∷ first) others number after = (after.0, after_front first others line.number after.1)
 
@@ -85,7 +85,7 @@ sooner_after : (lines : List Line) (number sooner : ℕ) → sooner ≤ number �
 sooner_after [] number sooner low after = tt
 sooner_after (line ∷ lines) number sooner low after = (omega (arith, after.0), after.1)
 
-after_behind : (first others : List Line) (number : ℕ) → IsAfter number (first ++ others) → IsAfter number others
+pub after_behind : (first others : List Line) (number : ℕ) → IsAfter number (first ++ others) → IsAfter number others
 after_behind [] others number after = after
 after_behind (line ∷ first) others number after = after_behind first others number (sooner_after (first ++ others) line.number number (omega (arith, after.0)) after.1)
 
@@ -166,7 +166,7 @@ module _ (roads : Roads) (answers : ℕ → ℕ → ℕ → ℕ → Type 0) wher
   wrong_checked queries lines (NotLeast number) few small wrong = absurd wrong
   wrong_checked queries lines (NotCanonical number) few small wrong = absurd wrong
 
-small_sources : (nodes : ℕ) (sources : List Source) → nodes < 2 ^ 64 → ((source : Source) → IsAmong sources source → IsNode nodes source.node × (source.departure ≤ HORIZON)) → AreSmall sources
+pub small_sources : (nodes : ℕ) (sources : List Source) → nodes < 2 ^ 64 → ((source : Source) → IsAmong sources source → IsNode nodes source.node × (source.departure ≤ HORIZON)) → AreSmall sources
 small_sources nodes [] few each = tt
 small_sources nodes (source ∷ sources) few each =
     let here = each source (0, (omega arith, refl)) in

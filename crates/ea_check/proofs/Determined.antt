@@ -1,12 +1,10 @@
 -- Lines are read in one way.
-use Rattle.std.proofs.Common.{◌≡◌, ◌∙◌, refl, ℕ, suc, ◌+◌, List, [], ◌∷◌, length, arith, ap, sym, subst}
-use Rattle.std.specs.Prelude.{◌≢◌, Option, Some, None}
-use Rattle.ea_text.specs.Text.{number_of}
-use Rattle.ea_road.specs.declared.TheConstants.{NONE}
+use Rattle.std.proofs.Common.{◌≡◌, ◌∙◌, refl, ℕ, ◌+◌, List, [], ◌∷◌, length, arith, ap, sym, subst}
+use Rattle.std.specs.Prelude.{Some}
 use Rattle.ea_road.specs.declared.source.Source.{Source}
 use Rattle.ea_check.specs.Verdicts.{WrittenWalk, Said}
 use Rattle.ea_check.specs.Form.{Line, SaysWalk, IsArcNumber, AreArcNumbers, arc_number}
-use Rattle.ea_check.specs.Reads.{ReadsSources, ReadsNode, without_walk, and_walk, ReadsNodes, no_more, one_more, ReadsProblem, ReadsReport, all_read, one_read}
+use Rattle.ea_check.specs.Reads.{ReadsSources, ReadsNode, without_walk, and_walk, ReadsNodes, no_more, one_more, ReadsProblem, ReadsReport, one_read}
 use Rattle.ea_check.proofs.Steps.{one_time, walk_begins}
 
 same_number : (field : List ℕ) (arc other : ℕ) → IsArcNumber field arc → IsArcNumber field other → arc ≡ other

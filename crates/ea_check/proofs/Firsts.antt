@@ -1,13 +1,11 @@
 -- The first line with a fault.
-use Rattle.std.proofs.Common.{◌≡◌, ◌∙◌, refl, ℕ, zero, suc, ◌-◌, ◌<◌, ◌≤◌, List, ◌⊎◌, inl, inr, arith, ap, sym, subst}
+use Rattle.std.proofs.Common.{◌≡◌, ℕ, ◌<◌, ◌≤◌, List, inl, inr, arith, ap, sym, subst}
 use Rattle.std.proofs.lemmas.Bool.Decides.{eqb_tells, leb_tells}
-use Rattle.std.specs.Prelude.{◌≢◌, Option, Some, None, slice_get}
-use Rattle.ea_road.specs.declared.TheConstants.{HORIZON, NONE}
+use Rattle.std.specs.Prelude.{Some}
 use Rattle.ea_road.specs.declared.source.Source.{Source}
-use Rattle.ea_road.specs.Roads.{Roads, IsNode}
-use Rattle.ea_road.specs.Arrivals.{Attains}
-use Rattle.ea_road.specs.Levels.{HasChain, IsCanonical}
-use Rattle.ea_check.specs.Verdicts.{WrittenWalk, Said, IsSaid, reported_time, IsReported, Improves, IsNotAttained, no_level, astray, IsNotCanonical, other_walk, IsNotLeast, improved, IsAttained, IsCanonicalAt, IsLineOf, time_line, walk_line, IsWellFormed, IsFirst}
+use Rattle.ea_road.specs.Roads.{Roads}
+use Rattle.ea_road.specs.Levels.{HasChain}
+use Rattle.ea_check.specs.Verdicts.{WrittenWalk, Said, IsSaid, IsReported, IsNotAttained, no_level, astray, IsNotCanonical, other_walk, IsNotLeast, improved, IsAttained, IsCanonicalAt, IsLineOf, time_line, walk_line, IsWellFormed, IsFirst}
 
 pub one_said : (reported : List Said) (node : ℕ) (said other : Said) → IsSaid reported node said → IsSaid reported node other → said ≡ other
 one_said reported node said other this that = let a = this.1 in let b = that.1 in cc

@@ -1,10 +1,10 @@
 -- What lines of right form say is well formed.
-use Rattle.std.proofs.Common.{◌≡◌, ◌∙◌, refl, ℕ, zero, suc, ◌+◌, ◌-◌, ◌<◌, ◌≤◌, List, [], ◌∷◌, ◌++◌, length, ◌⊎◌, inl, inr, arith, ap, sym, subst}
+use Rattle.std.proofs.Common.{◌≡◌, refl, ℕ, zero, suc, ◌-◌, ◌<◌, ◌≤◌, List, [], ◌∷◌, ◌++◌, ◌⊎◌, inl, inr, arith, ap, sym, subst}
 use Rattle.std.specs.Prelude.{◌≢◌, Option, Some, None, slice_get}
 use Rattle.ea_road.specs.declared.TheConstants.{HORIZON, NONE}
 use Rattle.ea_road.specs.declared.source.Source.{Source}
-use Rattle.ea_check.specs.Verdicts.{WrittenWalk, Said, IsSaid, IsLineOf, time_line, walk_line, IsWellFormed}
-use Rattle.ea_check.specs.Form.{Line, IsTime, SaysTime, SaysNode, alone, with_walk, SaysNodes, no_node, next_node, SaysSource, SaysSources, SaysProblem, IsAfter, AreInOrder}
+use Rattle.ea_check.specs.Verdicts.{WrittenWalk, Said, IsLineOf, time_line, walk_line, IsWellFormed}
+use Rattle.ea_check.specs.Form.{Line, SaysTime, SaysNode, alone, with_walk, SaysNodes, no_node, next_node, SaysSources, SaysProblem, IsAfter, AreInOrder}
 
 time_within : (fields : List (List ℕ)) (node time : ℕ) → SaysTime fields node time → time ≢ NONE → time ≤ HORIZON
 time_within [] node time says has_time = absurd says

@@ -1,12 +1,12 @@
 -- What the links, the walks and the arcs tell of a report's lines.
-use Rattle.std.proofs.Common.{◌≡◌, ◌∙◌, refl, ℕ, zero, suc, ◌+◌, ◌-◌, ◌<◌, ◌≤◌, List, get_or, length, ◌⊎◌, inl, inr, arith, ap, sym, subst}
+use Rattle.std.proofs.Common.{◌≡◌, ◌∙◌, refl, ℕ, ◌+◌, ◌-◌, ◌<◌, ◌≤◌, List, get_or, ◌⊎◌, inl, inr, arith, ap, sym, subst}
 use Rattle.std.proofs.lemmas.Bool.Decides.{eqb_tells, leb_tells}
-use Rattle.std.specs.Prelude.{◌≢◌, Option, Some, None, slice_get}
+use Rattle.std.specs.Prelude.{◌≢◌, Option, Some, None}
 use Rattle.std.specs.List.{IsAmong}
 use Rattle.ea_road.specs.declared.TheConstants.{HORIZON, NONE}
 use Rattle.ea_road.specs.declared.arc.Arc.{Arc}
 use Rattle.ea_road.specs.declared.source.Source.{Source}
-use Rattle.ea_road.specs.Roads.{Roads, IsArc, IsNode, IsNetwork, top_class}
+use Rattle.ea_road.specs.Roads.{Roads, IsArc, IsNode}
 use Rattle.ea_road.specs.Answers.{IsFifo, IsQuestion}
 use Rattle.ea_road.specs.Arrivals.{Attains}
 use Rattle.ea_road.specs.Levels.{HasChain, IsCanonical}
@@ -18,9 +18,9 @@ use Rattle.ea_finish.specs.declared.link.Link.{Link}
 use Rattle.ea_finish.specs.declared.link.TheConstants.{NO_LEVEL}
 use Rattle.ea_finish.specs.Links.{AreLinks, link, linked_walk}
 use Rattle.ea_finish.proofs.Linkings.{link_read}
-use Rattle.ea_check.specs.Verdicts.{WrittenWalk, Said, IsSaid, reported_time, IsReported, Improves, by_source, by_arc, IsNotAttained, no_level, astray, IsNotCanonical, other_walk, IsNotLeast, improved, IsAttained, IsCanonicalAt, IsLineOf, IsWellFormed, IsFirst, IsTask, AreUnimproved, AreAttained, AreCanonical}
+use Rattle.ea_check.specs.Verdicts.{WrittenWalk, Said, IsSaid, reported_time, IsReported, Improves, by_source, by_arc, IsNotAttained, no_level, astray, IsNotCanonical, other_walk, IsNotLeast, improved, IsAttained, IsCanonicalAt, IsWellFormed, IsFirst, IsTask, AreUnimproved, AreAttained, AreCanonical}
 use Rattle.ea_check.proofs.Right.{said_of, time_of_said, node_of_said}
-use Rattle.ea_check.proofs.Firsts.{one_said, one_walk, first_at, line_not_least, line_not_attained, line_not_canonical, attained_no_fault, canonical_no_fault, first_no_level, first_astray, first_other_walk, first_not_least}
+use Rattle.ea_check.proofs.Firsts.{one_walk, first_at, line_not_least, line_not_attained, line_not_canonical, attained_no_fault, canonical_no_fault, first_no_level, first_astray, first_other_walk, first_not_least}
 
 module _
     (roads : Roads)

@@ -17,3 +17,5 @@ pub mod Reading
 pub mod Keeping
 pub mod Composing
 pub mod Determined
+pub mod Whole
+pub mod Written

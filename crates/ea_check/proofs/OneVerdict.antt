@@ -1,12 +1,12 @@
 -- A report of one problem has one verdict.
-use Rattle.std.proofs.Common.{◌≡◌, ◌∙◌, refl, ℕ, ◌<◌, ◌≤◌, List, arith, ap, sym, subst}
+use Rattle.std.proofs.Common.{◌≡◌, refl, ℕ, List, arith, ap}
 use Rattle.std.specs.Prelude.{◌≢◌, Result, Ok, Err}
 use Rattle.ea_road.specs.declared.source.Source.{Source}
 use Rattle.ea_road.specs.Answers.{IsFifo}
 use Rattle.ea_road.specs.Roads.{Roads}
 use Rattle.ea_check.specs.declared.fault.CheckFault.{CheckFault}
 use Rattle.ea_check.specs.declared.fault.CheckFault.TheVariants.{BadLine, NotAttained, NotLeast, OutOfMemory, NotCanonical}
-use Rattle.ea_check.specs.Verdicts.{Said, IsFaultless, IsVerdict, IsFirst, IsNotAttained, IsNotCanonical, IsNotLeast, improved, AreAttained, AreCanonical, AreUnimproved, IsWellFormed, IsTask}
+use Rattle.ea_check.specs.Verdicts.{Said, IsVerdict, IsFirst, IsNotAttained, IsNotCanonical, IsNotLeast, improved, AreAttained, AreCanonical, AreUnimproved, IsWellFormed, IsTask}
 use Rattle.ea_check.proofs.Firsts.{attained_no_fault, canonical_no_fault}
 use Rattle.ea_check.proofs.Judged.{improved_node}
 

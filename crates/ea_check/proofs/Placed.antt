@@ -1,11 +1,11 @@
 -- A report of right form, place by place.
-use Rattle.std.proofs.Common.{◌≡◌, ◌∙◌, refl, ℕ, zero, suc, ◌+◌, ◌-◌, ◌<◌, ◌≤◌, List, [], ◌∷◌, ◌++◌, length, inl, inr, arith, ap, sym, subst, append_assoc}
+use Rattle.std.proofs.Common.{◌≡◌, ◌∙◌, refl, ℕ, suc, ◌+◌, List, [], ◌∷◌, ◌++◌, length, inl, inr, arith, ap, sym, subst, append_assoc}
 use Rattle.std.proofs.lemmas.Bool.Decides.{eqb_tells}
-use Rattle.std.specs.Prelude.{◌≢◌, Option, Some, None}
-use Rattle.ea_road.specs.declared.TheConstants.{HORIZON, NONE}
+use Rattle.std.specs.Prelude.{Some, None}
+use Rattle.ea_road.specs.declared.TheConstants.{NONE}
 use Rattle.ea_road.specs.declared.source.Source.{Source}
 use Rattle.ea_check.specs.Verdicts.{WrittenWalk, Said}
-use Rattle.ea_check.specs.Form.{Line, SaysSource, SaysTime, SaysWalk, SaysNode, alone, with_walk, SaysNodes, no_node, next_node, SaysSources, SaysProblem, SaysProblems, no_problem, next_problem, CanGoOn}
+use Rattle.ea_check.specs.Form.{Line, SaysSource, SaysTime, SaysNode, alone, with_walk, SaysNodes, no_node, next_node, SaysSources, SaysProblem, SaysProblems, no_problem, next_problem}
 use Rattle.ea_check.specs.Places.{Remains, ended, problem_begins, source_line, inf_line, time_line, no_walk, walk_line}
 
 any_node : {nodes node : ℕ} {queries : List (List Source)} {lines : List Line} (other : ℕ) → Remains nodes None [] node 0 queries lines → Remains nodes None [] other 0 queries lines

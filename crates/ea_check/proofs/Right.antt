@@ -1,23 +1,23 @@
 -- A report of one problem without a fault is right, and a right one has no fault.
 use Rattle.std.proofs.Common.{◌≡◌, ◌∙◌, refl, ℕ, zero, suc, ◌-◌, ◌<◌, ◌≤◌, List, [], ◌∷◌, length, get_or, inl, inr, arith, ap, subst, sym, Bool, true, false, eq-eqb, eqb-true}
 use Rattle.std.proofs.lemmas.Bool.Decides.{eqb_tells, leb_tells}
-use Rattle.std.specs.Prelude.{◌≢◌, ◌==◌, Option, Some, None, slice_get}
+use Rattle.std.specs.Prelude.{◌≢◌, ◌==◌, Some, None, slice_get}
 use Rattle.std.specs.List.{IsAmong}
 use Rattle.ea_road.specs.declared.TheConstants.{HORIZON, NONE}
 use Rattle.ea_road.specs.declared.source.Source.{Source}
 use Rattle.ea_road.specs.Answers.{IsFifo}
 use Rattle.ea_road.specs.Roads.{Roads, IsNode, IsNetwork}
 use Rattle.ea_road.specs.Queries.{Asking, IsProblem}
-use Rattle.ea_road.specs.Arrivals.{Reaches, Attains, IsLeast, IsLeastAt}
+use Rattle.ea_road.specs.Arrivals.{Reaches, IsLeast, IsLeastAt}
 use Rattle.ea_road.specs.Labels.{IsFixed, IsLabel, time_of}
-use Rattle.ea_road.specs.Levels.{HasChain, begins, follows, IsCanonical}
+use Rattle.ea_road.specs.Levels.{HasChain, begins, follows}
 use Rattle.ea_road.proofs.Agree.{canonical_there}
-use Rattle.ea_road.proofs.Chains.{tight_answer, tail_within, head_within}
+use Rattle.ea_road.proofs.Chains.{tight_answer, head_within}
 use Rattle.ea_road.proofs.Fixed.{asked_labels_are_least, label_is_least, least_is_label}
 use Rattle.ea_road.proofs.Reached.{reaches_more, reaches_source}
 use Rattle.ea_road.proofs.Rooted.{chain_to}
 use Rattle.ea_road.proofs.Walked.{labels_are_times, least_are_times, least_attains, canonical_over_least}
-use Rattle.ea_check.specs.Verdicts.{WrittenWalk, Said, IsSaid, times_of, reported_time, IsReported, Improves, by_source, by_arc, AreUnimproved, IsFaultless, IsRight, IsWellFormed, IsTask}
+use Rattle.ea_check.specs.Verdicts.{Said, IsSaid, times_of, reported_time, Improves, by_source, by_arc, AreUnimproved, IsFaultless, IsRight, IsWellFormed, IsTask}
 
 said_at : (reported : List Said) (place : ℕ) → place < length reported → (said : Said) × (slice_get reported place ≡ Some said)
 said_at [] place inside = absurd (omega arith)
@@ -42,7 +42,7 @@ time_of_said reported node said is_said = time_at reported (node - 1) said is_sa
 time_of_none : (label : ℕ) → label ≡ NONE → time_of label ≡ None
 time_of_none label same = rw (eq-eqb label NONE same) refl
 
-time_of_some : (label : ℕ) → label ≢ NONE → time_of label ≡ Some label
+pub time_of_some : (label : ℕ) → label ≢ NONE → time_of label ≡ Some label
 time_of_some label differs = by_test (label == NONE) refl
   where
     by_test : (none : Bool) → (label == NONE) ≡ none → time_of label ≡ Some label

@@ -1,11 +1,11 @@
 -- What remains after one more line.
-use Rattle.std.proofs.Common.{◌≡◌, ◌∙◌, refl, ℕ, suc, ◌+◌, List, [], ◌∷◌, inl, inr, arith, ap, sym, subst}
-use Rattle.std.specs.Prelude.{◌≢◌, Option, Some, None, codes}
+use Rattle.std.proofs.Common.{◌≡◌, ◌∙◌, ℕ, suc, ◌+◌, List, [], ◌∷◌, inl, inr, arith, ap, sym}
+use Rattle.std.specs.Prelude.{◌≢◌, Some, None, codes}
 use Rattle.ea_text.specs.Text.{number_of}
 use Rattle.ea_road.specs.declared.TheConstants.{NONE}
 use Rattle.ea_road.specs.declared.source.Source.{Source}
 use Rattle.ea_check.specs.Form.{Line, IsWalkLine, SaysSource, SaysTime, SaysWalk}
-use Rattle.ea_check.specs.Places.{Remains, ended, problem_begins, source_line, inf_line, time_line, no_walk, walk_line}
+use Rattle.ea_check.specs.Places.{Remains, problem_begins, source_line, inf_line, time_line, no_walk, walk_line}
 use Rattle.ea_check.specs.Reads.{NoWalkNext}
 
 some_some : (a b : ℕ) → Some a ≡ Some b → a ≡ b
@@ -35,7 +35,7 @@ one_time (word ∷ place ∷ field ∷ more ∷ rest) node time other this that 
 head_of : {a b : ℕ} {xs ys : List ℕ} → a ∷ xs ≡ b ∷ ys → a ≡ b
 head_of same = cc
 
-d_is_not_w : codes "d" ≡ codes "w" → ⊥
+pub d_is_not_w : codes "d" ≡ codes "w" → ⊥
 d_is_not_w same = let e = head_of same in omega arith
 
 s_is_not_w : codes "s" ≡ codes "w" → ⊥
@@ -50,7 +50,7 @@ source_no_walk (word ∷ place ∷ field ∷ []) node departure says walk = s_is
 source_no_walk (word ∷ place ∷ field ∷ more ∷ rest) node departure says walk = says
 
 -- nor does the line of a time
-time_no_walk : (fields : List (List ℕ)) (node time : ℕ) → SaysTime fields node time → IsWalkLine fields → ⊥
+pub time_no_walk : (fields : List (List ℕ)) (node time : ℕ) → SaysTime fields node time → IsWalkLine fields → ⊥
 time_no_walk [] node time says walk = says
 time_no_walk (word ∷ []) node time says walk = says
 time_no_walk (word ∷ place ∷ []) node time says walk = says

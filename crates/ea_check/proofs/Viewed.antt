@@ -1,10 +1,10 @@
 -- What a report's lines that are read say.
 use Rattle.std.proofs.Common.{◌≡◌, ◌∙◌, refl, ℕ, zero, suc, ◌-◌, ◌<◌, ◌≤◌, List, [], ◌∷◌, length, map, get_or, arith, ap, sym, subst}
-use Rattle.std.proofs.lemmas.List.{get_or_default, length-map}
-use Rattle.std.specs.Prelude.{Option, Some, None, slice_get, slice_range}
+use Rattle.std.proofs.lemmas.List.{length-map}
+use Rattle.std.specs.Prelude.{Option, Some, slice_get, slice_range}
 use Rattle.ea_check.specs.declared.reported.SaidLine.{SaidLine}
 use Rattle.ea_check.specs.declared.reported.WalkLine.{WalkLine}
-use Rattle.ea_check.specs.Verdicts.{WrittenWalk, Said, IsSaid, times_of}
+use Rattle.ea_check.specs.Verdicts.{Said, IsSaid, times_of}
 use Rattle.ea_check.specs.Views.{walk_of, said_of, IsIn, IsKept}
 
 said_here : (arcs : List ℕ) (lines : List SaidLine) (place : ℕ) (here : SaidLine) (said : Said) → place < length lines → here ≡ get_or lines place here → slice_get (map (said_of arcs) lines) place ≡ Some said → said ≡ said_of arcs here

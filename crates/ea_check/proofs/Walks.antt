@@ -1,5 +1,5 @@
 -- Walks of one list of arcs, left at several departures.
-use Rattle.std.proofs.Common.{◌≡◌, ◌≢◌, ◌∙◌, refl, ℕ, zero, suc, ◌<◌, ◌≤◌, List, [], ◌∷◌, ◌++◌, length, get_or, inl, inr, ◌⊎◌, arith, ap, sym, subst, length-append}
+use Rattle.std.proofs.Common.{◌≡◌, ◌∙◌, refl, ℕ, ◌<◌, ◌≤◌, List, [], ◌∷◌, ◌++◌, length, get_or, inl, inr, ◌⊎◌, arith, ap, sym, subst, length-append}
 use Rattle.std.proofs.lemmas.List.{get_or_default}
 use Rattle.std.specs.List.{IsAmong}
 use Rattle.ea_road.specs.declared.TheConstants.{HORIZON}

@@ -1,5 +1,5 @@
 -- The form of a report: which lines it has, and what they say.
-use Rattle.std.specs.Prelude.{◌≡◌, ◌≢◌, ◌⊎◌, ℕ, zero, suc, ◌+◌, ◌<◌, ◌≤◌, ◌^◌, nat_lt, if◌then◌else◌, List, [], ◌∷◌, ◌++◌, length, codes, Option, Some, None}
+use Rattle.std.specs.Prelude.{◌≡◌, ◌≢◌, ◌⊎◌, ℕ, ◌+◌, ◌<◌, ◌≤◌, ◌^◌, nat_lt, if◌then◌else◌, List, [], ◌∷◌, ◌++◌, length, codes, Some, None}
 use Rattle.ea_text.specs.Text.{number_of, is_silent, field_lines}
 use Rattle.ea_road.specs.declared.TheConstants.{HORIZON, NONE}
 use Rattle.ea_road.specs.declared.source.Source.{Source}

@@ -5,3 +5,4 @@ pub mod Form
 pub mod Checked
 pub mod Places
 pub mod Reads
+pub mod FaultNames

@@ -1,5 +1,5 @@
 -- What is still to come of a report, place by place.
-use Rattle.std.specs.Prelude.{◌≡◌, ◌≢◌, ℕ, suc, Option, Some, None, ◌+◌, ◌^◌, ◌<◌, List, [], ◌∷◌, ◌++◌}
+use Rattle.std.specs.Prelude.{◌≢◌, ℕ, suc, Option, Some, None, ◌+◌, ◌^◌, ◌<◌, List, [], ◌∷◌}
 use Rattle.ea_road.specs.declared.TheConstants.{NONE}
 use Rattle.ea_road.specs.declared.source.Source.{Source}
 use Rattle.ea_check.specs.Form.{Line, SaysSource, SaysTime, SaysWalk}

@@ -1,5 +1,5 @@
 //! Whether a report is right.
-ghost use Rattle.std.specs.Prelude.{◌≡◌, ◌+◌, ◌<◌, ◌^◌, None, MatchResult, length};
+ghost use Rattle.std.specs.Prelude.{◌≡◌, ◌+◌, ◌<◌, ◌^◌, ◌↔◌, IsTrue, None, MatchResult};
 ghost use Rattle.std.specs.List.{IsAmong};
 ghost use Rattle.ea_road.specs.Queries.{Asking, IsProblem};
 ghost use Rattle.ea_road.specs.Roads.{IsNetwork};
@@ -15,16 +15,11 @@ use crate::reported::Reported;
 use crate::starts::ordered_sources;
 use crate::verdict::judge;
 use ea_finish::{Open, find_links};
-use ea_road::{Network, Query, TravelTimes};
+use ea_road::{Network, Query, TravelTimes, is_problem};
 use std::alloc::Global;
 
 /// Whether the form of a report is right.
-fn check_form(
-    alloc: Global,
-    nodes: u32,
-    queries: &[Query],
-    report: &[u8],
-) -> Result<(), CheckFault>
+fn check_form(alloc: Global, nodes: u32, queries: &[Query], report: &[u8]) -> Result<(), CheckFault>
     requires nodes { nodes + 1 < 2 ^ 32 }
     ensures { MatchResult result
         (λ _. ReadsReport nodes (sources_of queries.now) (lines_of_report report.now))
@@ -79,6 +74,19 @@ fn check_problems<T: TravelTimes>(
         next = rest;
     }
     Ok(())
+}
+
+/// Whether queries can be checked over a network and travel times with classes up to the greatest: each makes a problem
+/// with them, and asks all nodes.
+pub fn is_checkable(network: &Network, classes: usize, queries: &[Query]) -> bool
+    ensures { IsTrue result ↔ ((query : Asking) → IsAmong queries.now query → IsProblem network.now classes query × (query.target ≡ None)) }
+{
+    for query in queries {
+        if query.target().is_some() || !is_problem(network, classes, query) {
+            return false;
+        }
+    }
+    true
 }
 
 /// Whether a report is right: its form, each `d` line's time the least arrival, or `inf` where there is none, and each

@@ -1,5 +1,8 @@
 //! What is wrong with a report.
 
+ghost use Rattle.std.specs.Prelude.{◌≡◌};
+ghost use Rattle.ea_check.specs.FaultNames.{fault_line, fault_name, fault_number};
+
 use std::alloc::{AllocError, AllocFailed};
 use thiserror::Error;
 
@@ -21,6 +24,47 @@ pub enum CheckFault {
     /// The line's walk is not the canonical one.
     #[error("line {0} is not the canonical walk (5 NotCanonical)")]
     NotCanonical(u64),
+}
+
+impl CheckFault {
+    /// The number by which messages name this fault.
+    pub fn number(self) -> u8
+        ensures { result ≡ fault_number self }
+    {
+        match self {
+            CheckFault::BadLine(_) => 1,
+            CheckFault::NotAttained(_) => 2,
+            CheckFault::NotLeast(_) => 3,
+            CheckFault::OutOfMemory => 4,
+            CheckFault::NotCanonical(_) => 5,
+        }
+    }
+
+    /// The name by which messages name this fault.
+    pub fn name(self) -> &'static str
+        ensures { result.now ≡ fault_name self }
+    {
+        match self {
+            CheckFault::BadLine(_) => "BadLine",
+            CheckFault::NotAttained(_) => "NotAttained",
+            CheckFault::NotLeast(_) => "NotLeast",
+            CheckFault::OutOfMemory => "OutOfMemory",
+            CheckFault::NotCanonical(_) => "NotCanonical",
+        }
+    }
+
+    /// The line of this fault, 0 where the report ends too early; none for want of memory.
+    pub fn line(self) -> Option<u64>
+        ensures { result ≡ fault_line self }
+    {
+        match self {
+            CheckFault::BadLine(line)
+            | CheckFault::NotAttained(line)
+            | CheckFault::NotLeast(line)
+            | CheckFault::NotCanonical(line) => Some(line),
+            CheckFault::OutOfMemory => None,
+        }
+    }
 }
 
 impl<T: Drop> From<AllocFailed<T>> for CheckFault {

@@ -1,10 +1,14 @@
 //! Laws of reports, as functions that do nothing.
-ghost use Rattle.std.specs.Prelude.{◌≡◌, ◌≢◌, ℕ, List, Result, Err, None};
-ghost use Rattle.ea_road.specs.Queries.{IsProblem};
+ghost use Rattle.std.specs.Prelude.{◌≡◌, ◌≢◌, ◌<◌, ◌^◌, ◌∷◌, [], ℕ, List, Result, Err, Ok, None, Some, length, true, false};
+ghost use Rattle.ea_finish.specs.Answers.{Answered, HasArrivals, IsAnswer, walk_of};
+ghost use Rattle.ea_report.specs.Report.{problem_text};
+ghost use Rattle.std.specs.List.{IsAmong};
+ghost use Rattle.ea_road.specs.Queries.{Asking, IsProblem};
+ghost use Rattle.ea_check.specs.Checked.{IsChecked, sources_of};
 ghost use Rattle.ea_road.specs.declared.source.Source.{Source};
 ghost use Rattle.ea_check.specs.declared.fault.CheckFault.{CheckFault};
 ghost use Rattle.ea_check.specs.declared.fault.CheckFault.TheVariants.{OutOfMemory};
-ghost use Rattle.ea_check.specs.Form.{AreInOrder, Line, SaysProblem};
+ghost use Rattle.ea_check.specs.Form.{AreInOrder, Line, SaysProblem, lines_of_report};
 ghost use Rattle.ea_check.specs.Verdicts.{IsFaultless, IsRight, IsVerdict, IsWellFormed, Said};
 
 use ea_road::{Network, Query, TravelTimes};
@@ -37,6 +41,31 @@ pub fn problems_have_one_verdict<T: TravelTimes>(network: &Network, times: &T, q
         → IsVerdict network.now (T.answers times.now) query.now.sources reported this
         → IsVerdict network.now (T.answers times.now) query.now.sources reported that
         → this ≢ Err OutOfMemory → that ≢ Err OutOfMemory → this ≡ that }
+{
+    let _ = network.nodes();
+}
+
+/// A report has one verdict, want of memory aside: whatever is checked of its lines, it is the same.
+pub fn reports_have_one_verdict<T: TravelTimes>(network: &Network, times: &T, queries: &[Query])
+    requires { (query : Asking) → IsAmong queries.now query → IsProblem network.now (T.classes times.now) query × (query.target ≡ None) }
+    ensures { (report : List ℕ) (this that : Result (Unit {0}) CheckFault)
+        → IsChecked network.now (T.answers times.now) (sources_of queries.now) (lines_of_report report) this
+        → IsChecked network.now (T.answers times.now) (sources_of queries.now) (lines_of_report report) that
+        → this ≢ Err OutOfMemory → that ≢ Err OutOfMemory → this ≡ that }
+{
+    let _ = network.nodes();
+}
+
+/// What is written of an answer is accepted: with its walks, or without.
+pub fn written_reports_are_right<T: TravelTimes>(network: &Network, times: &T, query: &Query)
+    requires problem { IsProblem network.now (T.classes times.now) query.now }
+    requires all { query.now.target ≡ None }
+    ensures arrivals { (answer : Answered) → HasArrivals network.now (T.answers times.now) query.now answer
+        → IsChecked network.now (T.answers times.now) (query.now.sources ∷ []) (lines_of_report (problem_text false network.now.nodes query.now answer)) (Ok tt) }
+    // A walk's length is that of a list in memory.
+    ensures walks { (answer : Answered) → IsAnswer network.now (T.answers times.now) query.now answer
+        → ((node : ℕ) (walk : List ℕ) → walk_of answer node ≡ Some walk → length walk < 2 ^ 64)
+        → IsChecked network.now (T.answers times.now) (query.now.sources ∷ []) (lines_of_report (problem_text true network.now.nodes query.now answer)) (Ok tt) }
 {
     let _ = network.nodes();
 }

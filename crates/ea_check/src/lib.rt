@@ -13,5 +13,8 @@ mod says;
 mod starts;
 mod verdict;
 
-pub use checking::check;
+pub use checking::{check, is_checkable};
 pub use fault::CheckFault;
+
+#[cfg(test)]
+mod tests;

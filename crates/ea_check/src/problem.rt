@@ -99,11 +99,7 @@ fn read_node<'a>(
 }
 
 /// Keeps what is said of a node, and its time once more.
-fn keep(
-    said: &mut Vec<SaidLine>,
-    table: &mut Vec<u64>,
-    line: SaidLine,
-) -> Result<(), CheckFault>
+fn keep(said: &mut Vec<SaidLine>, table: &mut Vec<u64>, line: SaidLine) -> Result<(), CheckFault>
     ensures kept { OnOk result (said.new.items ≡ said.old.items ++ line ∷ []) }
     ensures time { OnOk result (table.new.items ≡ table.old.items ++ line.time ∷ []) }
     ensures refused { MatchResult result (λ _. Unit {0}) (λ fault. fault ≡ OutOfMemory) }

@@ -14,10 +14,7 @@ use ea_road::{Network, Query, Source, TravelTimes, run_walk};
 use std::alloc::{AllocError, Global};
 
 /// The sources of a problem, ordered by node and departure.
-pub(crate) fn ordered_sources(
-    alloc: Global,
-    sources: &[Source],
-) -> Result<Vec<Source>, AllocError>
+pub(crate) fn ordered_sources(alloc: Global, sources: &[Source]) -> Result<Vec<Source>, AllocError>
     ensures { IfOk result (λ ordered. AreOrdered sources.now ordered.items) }
 {
     let mut ordered = sources.to_vec(alloc)?;
@@ -115,7 +112,16 @@ pub(crate) fn attains<T: TravelTimes>(
     let mut high = ordered.len();
     'halves: while low < high {
         let middle = low + (high - low) / 2;
-        match beside(network, times, query, ordered[middle], start, node, time, arcs) {
+        match beside(
+            network,
+            times,
+            query,
+            ordered[middle],
+            start,
+            node,
+            time,
+            arcs,
+        ) {
             Side::Here => return true,
             Side::Before => low = middle + 1,
             Side::Beyond => high = middle,

@@ -73,9 +73,7 @@ fn first_not_attained<T: TravelTimes>(
         (λ line. IsFirst (IsNotAttained network.now (T.answers times.now) query.now.sources reported.now) line) }
 {
     for node in 1..network.nodes() + 1 {
-        if let Some(line) =
-            not_attained_at(network, times, query, ordered, reported, links, node)
-        {
+        if let Some(line) = not_attained_at(network, times, query, ordered, reported, links, node) {
             return Some(line);
         }
     }

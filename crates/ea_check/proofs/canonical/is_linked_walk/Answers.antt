@@ -1,9 +1,8 @@
-use Rattle.std.proofs.Common.{◌≡◌, ◌≢◌, ◌∙◌, sym, ap, refl, arith, get_or, ◌-◌, ◌<◌, ℕ, List, subst, length, take}
+use Rattle.std.proofs.Common.{◌≡◌, ◌∙◌, sym, ap, refl, arith, get_or, ◌-◌, ℕ, List, subst, length, take}
 use Rattle.std.proofs.lemmas.Bool.{false≢true}
-use Rattle.std.specs.Prelude.{◌↔◌}
 use Rattle.ea_road.specs.Roads.{IsNode}
 use Rattle.ea_finish.specs.declared.link.Link.{Link}
-use Rattle.ea_finish.specs.Links.{link, linked_walk, walk_along}
+use Rattle.ea_finish.specs.Links.{link, walk_along}
 use Rattle.ea_finish.proofs.Linkings.{link_read}
 use Rattle.ea_check.proofs.Backwards.{linked_length, starts, goes_back, refuses, ends}
 use Rattle.ea_check.proofs.canonical.is_linked_walk.Goals as goal

@@ -1,7 +1,7 @@
-use Rattle.std.proofs.Common.{◌≤◌, ◌+◌, ℕ, List, drop, length}
+use Rattle.std.proofs.Common.{◌≤◌, ◌+◌, ℕ, drop, length}
 use Rattle.ea_road.specs.Queries.{Asking}
 use Rattle.ea_check.specs.Checked.{sources_of}
-use Rattle.ea_check.specs.Form.{Line, lines_of_report}
+use Rattle.ea_check.specs.Form.{lines_of_report}
 use Rattle.ea_check.specs.Reads.{ReadsReport, ReportWrong, ahead}
 use Rattle.ea_check.proofs.checking.check_form.Given as goal
 

@@ -1,4 +1,3 @@
-use Rattle.std.proofs.Common.{◌≡◌, arith}
 use Rattle.ea_check.proofs.checking.check_problem.Goals as goal
 
 pub find_links-links-requires-clause-sources : goal.find_links-links-requires-clause-sources

@@ -1,4 +1,4 @@
-use Rattle.std.proofs.Common.{◌≡◌, ◌∙◌, ◌+◌, List, drop, refl, ap, sym, subst, arith}
+use Rattle.std.proofs.Common.{◌≡◌, List, drop, sym, subst, arith}
 use Rattle.std.specs.Prelude.{Ok, Err}
 use Rattle.std.proofs.lemmas.Result.{err_from_is_err_and}
 use Rattle.ea_road.specs.declared.source.Source.{Source}
@@ -68,7 +68,7 @@ loop-query-preserved g c =
     let right = faultless_right c.args.network.now (g.T.TravelTimes.answers c.args.times.now) classes c.query-item.result.sources task (g.met.T.TravelTimes.fifo c.args.times.now) c.in_ok-reported.reported formed c.in_ok-check_problem.ensures in
     record {
       onward = λ result checked. c.loop-query.invariant.onward result (subst (λ (qs : List (List Source)). IsChecked c.args.network.now (g.T.TravelTimes.answers c.args.times.now) qs lines result) (sym next)
-      (checked_behind c.args.network.now (g.T.TravelTimes.answers c.args.times.now) read later c.in_ok-check_problem.ensures right result checked));
+          (checked_behind c.args.network.now (g.T.TravelTimes.answers c.args.times.now) read later c.in_ok-check_problem.ensures right result checked));
       form = later;
       order = order_behind read c.loop-query.invariant.order;
       few = omega (arith, c.in_ok-reported.ensures.few, c.loop-query.invariant.few);

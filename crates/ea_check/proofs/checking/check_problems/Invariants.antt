@@ -1,4 +1,4 @@
-use Rattle.std.proofs.Common.{◌≤◌, ◌+◌, ℕ, List, drop, length}
+use Rattle.std.proofs.Common.{◌≤◌, ◌+◌, drop, length}
 use Rattle.std.specs.Prelude.{Result}
 use Rattle.ea_road.specs.Queries.{Asking}
 use Rattle.ea_check.specs.declared.fault.CheckFault.{CheckFault}

@@ -1,4 +1,3 @@
-use Rattle.std.proofs.Common.{◌≡◌, refl}
 use Rattle.std.proofs.lemmas.Result.{err_from_is_err_and}
 use Rattle.ea_check.specs.Reads.{ahead}
 use Rattle.ea_check.specs.Views.{walk_of}
@@ -16,7 +15,7 @@ returns-then-time-clause-read c =
     node_alone c.args.node c.args.lines.line _ c.in-Some.line c.in-Some.is c.in-Some-time_said.time c.in-Some-time_said.ensures (ahead c.look_ahead-next.result) c.if-time.true c.look_ahead-next.ensures.lines
 
 pub returns-in_err-walk-clause-read : goal.returns-in_err-walk-clause-read
-returns-in_err-walk-clause-read c = 
+returns-in_err-walk-clause-read c =
     let p = err_from_is_err_and c.from_residual.result c.from_residual.ensures.1 in
     rw (p.1, p.2) (walk_wrong c.args.node c.args.lines.line _ c.in-Some.line c.in-Some.is c.in-Some-time_said.time c.in-Some-time_said.ensures (ahead c.look_ahead-next.result) c.in_err-walk.field-0.0 c.if-time.false c.look_ahead-next.ensures.lines c.in_err-walk.ensures.read)
 

@@ -1,4 +1,4 @@
-use Rattle.std.proofs.Common.{◌≡◌, ◌∙◌, ap, sym, subst, arith, List, [], ◌∷◌, length, length-append}
+use Rattle.std.proofs.Common.{◌∙◌, ap, arith, List, [], ◌∷◌, length, length-append}
 use Rattle.std.proofs.lemmas.Result.{err_from_is_err_and}
 use Rattle.ea_check.specs.declared.reported.SaidLine.{SaidLine}
 use Rattle.ea_check.specs.Reads.{ahead, NodeWrong, NodesWrong}

@@ -1,4 +1,4 @@
-use Rattle.std.proofs.Common.{◌≡◌, ◌≤◌, ◌+◌, ℕ, List, drop, length}
+use Rattle.std.proofs.Common.{◌≤◌, ◌+◌, ℕ, List, drop, length}
 use Rattle.ea_road.specs.declared.source.Source.{Source}
 use Rattle.ea_check.specs.Form.{Line}
 use Rattle.ea_check.specs.Reads.{ReadsSources, SourcesWrong, ahead}

@@ -1,4 +1,3 @@
-use Rattle.std.proofs.Common.{◌≡◌, List, ℕ, refl}
 use Rattle.ea_text.specs.Text.{fields_of}
 use Rattle.ea_check.specs.Form.{AreArcNumbers}
 use Rattle.ea_check.proofs.Pushing.{good_more, bad_more, bad_field, good_end}

@@ -1,4 +1,4 @@
-use Rattle.std.proofs.Common.{◌≡◌, ◌∷◌, [], List, ℕ, sym, rules, tests}
+use Rattle.std.proofs.Common.{◌≡◌, ◌∷◌, [], rules, tests}
 use Rattle.std.specs.Prelude.{Some}
 use Rattle.ea_text.specs.Text.{number_of}
 use Rattle.ea_check.proofs.Matched.{match_weaker}

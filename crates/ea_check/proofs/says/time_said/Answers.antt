@@ -1,4 +1,4 @@
-use Rattle.std.proofs.Common.{sym, ◌∷◌, []}
+use Rattle.std.proofs.Common.{◌∷◌, []}
 use Rattle.ea_check.proofs.Matched.{match_fields}
 use Rattle.ea_check.proofs.says.time_said.Goals as goal
 

@@ -1,5 +1,4 @@
-use Rattle.std.proofs.Common.{◌≡◌, ◌≤◌, ◌<◌, ◌∙◌, sym, arith, inl, inr}
-use Rattle.ea_road.specs.declared.TheConstants.{HORIZON}
+use Rattle.std.proofs.Common.{◌≡◌, arith}
 use Rattle.ea_check.proofs.Walks.{too_early, too_late, never_later, no_later_than}
 use Rattle.ea_check.proofs.starts.beside.Goals.{else-end-node-via-then-end-node+else-arrival-time-2, else-end-node-via-else-end-node}
 use Rattle.ea_check.proofs.starts.beside.Goals as goal

@@ -1,4 +1,4 @@
-use Rattle.std.proofs.Common.{◌≡◌, ◌∙◌, arith, sym, subst}
+use Rattle.std.proofs.Common.{arith}
 use Rattle.ea_check.proofs.Judged.{attained_all, attained_more, first_fault_attained}
 use Rattle.ea_check.proofs.verdict.first_not_attained.Goals as goal
 

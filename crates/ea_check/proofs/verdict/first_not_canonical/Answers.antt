@@ -1,4 +1,4 @@
-use Rattle.std.proofs.Common.{◌≡◌, ◌∙◌, arith, sym, subst}
+use Rattle.std.proofs.Common.{arith}
 use Rattle.ea_check.proofs.Judged.{canonical_all, canonical_more, first_fault_canonical}
 use Rattle.ea_check.proofs.verdict.first_not_canonical.Goals as goal
 

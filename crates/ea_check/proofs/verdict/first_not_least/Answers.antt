@@ -1,4 +1,4 @@
-use Rattle.std.proofs.Common.{◌≡◌, ◌∙◌, ◌+◌, ◌≤◌, ℕ, length, arith, sym, subst}
+use Rattle.std.proofs.Common.{◌+◌, ◌≤◌, arith, sym, subst}
 use Rattle.ea_road.specs.Roads.{IsNode}
 use Rattle.ea_check.proofs.Judged.{first_fault_least, improved_node, lowest_improves}
 use Rattle.ea_check.proofs.verdict.first_not_least.Goals as goal

@@ -1,4 +1,4 @@
-use Rattle.std.proofs.Common.{◌≡◌, ◌∙◌, ◌⊎◌, inl, inr, arith, sym, subst}
+use Rattle.std.proofs.Common.{inr, arith}
 use Rattle.ea_check.proofs.Judged.{question_of, arc_improves, arc_passes}
 use Rattle.ea_check.proofs.verdict.lower_by_arc.Goals.{else-arrival-le-HORIZON-via-then-arrival-le-HORIZON+else-arrival-time, else-arrival-le-HORIZON-via-else-arrival-le-HORIZON}
 use Rattle.ea_check.proofs.verdict.lower_by_arc.Goals as goal

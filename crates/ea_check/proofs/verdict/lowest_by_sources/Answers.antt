@@ -1,4 +1,3 @@
-use Rattle.std.proofs.Common.{◌≡◌, ◌∙◌, ◌⊎◌, ◌≤◌, ◌<◌, ℕ, inl, inr, arith, sym, subst, get_or}
 use Rattle.ea_check.proofs.Sourced.{source_is_node, item_among}
 use Rattle.ea_check.proofs.verdict.lowest_by_sources.Goals as goal
 

@@ -1,7 +1,5 @@
-use Rattle.std.proofs.Common.{◌≡◌, ◌≢◌, ◌∙◌, ◌-◌, ◌<◌, ℕ, sym, subst, arith}
+use Rattle.std.proofs.Common.{◌∙◌, sym}
 use Rattle.std.proofs.lemmas.Bool.{false≢true}
-use Rattle.ea_finish.specs.declared.link.TheConstants.{NO_LEVEL}
-use Rattle.ea_finish.specs.Links.{link}
 use Rattle.ea_check.proofs.Backwards.{followable}
 use Rattle.ea_check.proofs.Judged.{time_within, read_level, low_level, faults_no_level, attained_alone, attained_by, attained_canonical, faults_astray}
 use Rattle.ea_check.proofs.verdict.not_attained_at.Goals as goal

@@ -1,4 +1,4 @@
-use Rattle.std.proofs.Common.{◌≡◌, ◌∙◌, sym, subst}
+use Rattle.std.proofs.Common.{◌∙◌, sym}
 use Rattle.std.proofs.lemmas.Bool.{false≢true}
 use Rattle.ea_check.proofs.Backwards.{followable}
 use Rattle.ea_check.proofs.Judged.{low_level, level_of_attained, faults_other_walk, linked_canonical, canonical_here}

@@ -1,6 +1,6 @@
 use Rattle.std.proofs.Common.{◌≡◌, ◌∙◌, ℕ, ◌-◌, sym, ap, List, length, get_or, arith}
-use Rattle.std.proofs.lemmas.List.{get_or_read, length-map}
-use Rattle.ea_check.specs.Verdicts.{Said, times_of, reported_time}
+use Rattle.std.proofs.lemmas.List.{get_or_read}
+use Rattle.ea_check.specs.Verdicts.{Said, times_of}
 use Rattle.ea_check.proofs.Viewed.{times_kept, lines_kept}
 use Rattle.ea_check.proofs.reported.Reported.time.Goals as goal
 

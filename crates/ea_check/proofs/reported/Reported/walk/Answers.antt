@@ -1,6 +1,5 @@
-use Rattle.std.proofs.Common.{◌≡◌, ◌∙◌, ◌-◌, ◌<◌, ℕ, length, ap, sym, arith}
+use Rattle.std.proofs.Common.{◌≡◌, ◌∙◌, ◌-◌, length, ap, sym, arith}
 use Rattle.std.proofs.lemmas.List.{length-map}
-use Rattle.ea_check.specs.Verdicts.{Said}
 use Rattle.ea_check.proofs.Viewed.{said_walk, walk_within}
 use Rattle.ea_check.proofs.reported.Reported.walk.Goals as goal
 

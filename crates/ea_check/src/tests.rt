@@ -1,0 +1,448 @@
+use super::*;
+use CheckFault::{BadLine, NotAttained, NotCanonical, NotLeast, OutOfMemory};
+use ea_road::{Arc, Network, Query, RawKind, Source, Timetables};
+use std::alloc::{AllocError, Global};
+use std::test::Fail;
+
+/// An arc by its tail, head, weight and class.
+type Row = (u32, u32, u32, u32);
+
+/// The sources of a problem, by node and departure.
+type Sources<'a> = &'a [(u32, u64)];
+
+const FOUR_NODES: [Row; 5] = [
+    (1, 2, 7, 0),
+    (1, 3, 2, 0),
+    (3, 2, 3, 0),
+    (2, 4, 1, 0),
+    (3, 4, 9, 0),
+];
+
+const REPORT: &[u8] = b"s 1 0\nd 1 0\nd 2 5\nd 3 2\nd 4 6\n";
+
+const WITH_WALKS: &[u8] =
+    b"s 1 0\nd 1 0\nw 1 0\nd 2 5\nw 2 2 2 3\nd 3 2\nw 3 1 2\nd 4 6\nw 4 3 2 3 4\n";
+
+fn network_of(alloc: Global, nodes: u32, rows: &[Row]) -> Result<Option<Network>, AllocError> {
+    let mut arcs = Vec::new(alloc);
+    for (tail, head, weight, class) in rows {
+        arcs.push(Arc {
+            tail: *tail,
+            head: *head,
+            weight: *weight,
+            class: *class,
+        })?;
+    }
+    if !Network::fits(nodes, &arcs) {
+        return Ok(None);
+    }
+    Ok(Some(Network::new(alloc, nodes, arcs)?))
+}
+
+/// Class 0 is plain, class 1 leaves every 10.
+fn timetables(alloc: Global) -> Result<Timetables, AllocError> {
+    let every_ten = [RawKind::Every {
+        period: 10,
+        offset: 0,
+    }];
+    Timetables::of(alloc, &every_ten)
+}
+
+fn query_of(alloc: Global, sources: Sources) -> Result<Option<Query>, AllocError> {
+    let mut list = Vec::new(alloc);
+    for (node, departure) in sources {
+        list.push(Source {
+            node: *node,
+            departure: *departure,
+        })?;
+    }
+    if !Query::fits(&list) {
+        return Ok(None);
+    }
+    Ok(Some(Query::new(list)))
+}
+
+/// What the checker says of a report of problems from these sources.
+fn verdict(
+    alloc: Global,
+    nodes: u32,
+    rows: &[Row],
+    problems: &[Sources],
+    report: &[u8],
+) -> Result<Result<(), CheckFault>, Fail> {
+    let Some(network) = network_of(alloc, nodes, rows)? else {
+        return Err(Fail::from("no network"));
+    };
+    let times = timetables(alloc)?;
+    let mut queries = Vec::new(alloc);
+    for sources in problems {
+        let Some(query) = query_of(alloc, sources)? else {
+            return Err(Fail::from("no sources"));
+        };
+        queries.push(query)?;
+    }
+    if !is_checkable(&network, times.classes(), &queries) {
+        return Err(Fail::from("no problems"));
+    }
+    Ok(check(alloc, &network, &times, &queries, report))
+}
+
+/// What the checker says of a report on four nodes, from node 1 at 0.
+fn of_four(alloc: Global, report: &[u8]) -> Result<Result<(), CheckFault>, Fail> {
+    verdict(alloc, 4, &FOUR_NODES, &[&[(1, 0)]], report)
+}
+
+#[test]
+fn check_verdicts(rt: HostRuntime) -> Result<(), Fail> {
+    let cases: [(&[u8], Result<(), CheckFault>); 8] = [
+        (REPORT, Ok(())),
+        (WITH_WALKS, Ok(())),
+        (b"s 1 0\nd 1 0\nd 2 5\nd 3 2\nd 4 7\n", Err(NotAttained(5))),
+        (b"s 1 0\nd 1 0\nd 2 5\nd 3 2\nd 4 5\n", Err(NotAttained(5))),
+        (b"s 1 0\nd 1 0\nd 2 7\nd 3 2\nd 4 8\n", Err(NotLeast(3))),
+        (b"s 1 0\nd 1 0\nd 2 5\nd 3 2\nd 4 inf\n", Err(NotLeast(5))),
+        (b"s 1 0\nd 1 0\nd 2 5\nd 4 6\n", Err(BadLine(4))),
+        (
+            b"s 1 0\nd 1 inf\nd 2 inf\nd 3 inf\nd 4 inf\n",
+            Err(NotLeast(2)),
+        ),
+    ];
+    for (report, wanted) in cases {
+        assert_eq!(rt; of_four(rt.alloc(), report)?, wanted);
+    }
+    Ok(())
+}
+
+#[test]
+fn check_form(rt: HostRuntime) -> Result<(), Fail> {
+    let cases: [(&[u8], Result<(), CheckFault>); 10] = [
+        (b"", Err(BadLine(0))),
+        (
+            b"s 1 0\nd 1 0\nd 2 5\nd 3 2\nd 4 6\ns 1 0\n",
+            Err(BadLine(6)),
+        ),
+        (
+            b"s 1 0\nd 1 0\nd 2 281474976710656\nd 3 2\nd 4 6\n",
+            Err(BadLine(3)),
+        ),
+        (
+            b"s 1 0\nd 1 0\nd 2 5\nd 3 2\nw 3 1 1\nd 4 6\n",
+            Err(NotAttained(5)),
+        ),
+        // The number of arcs is wrong.
+        (
+            b"s 1 0\nd 1 0\nd 2 5\nd 3 2\nw 3 2 2\nd 4 6\n",
+            Err(BadLine(5)),
+        ),
+        // A walk of another node, a walk after `inf`, and two walks.
+        (
+            b"s 1 0\nd 1 0\nd 2 5\nd 3 2\nw 2 1 2\nd 4 6\n",
+            Err(BadLine(5)),
+        ),
+        (
+            b"s 1 0\nd 1 0\nd 2 5\nd 3 2\nd 4 inf\nw 4 0\n",
+            Err(BadLine(6)),
+        ),
+        (
+            b"s 1 0\nd 1 0\nw 1 0\nw 1 0\nd 2 5\nd 3 2\nd 4 6\n",
+            Err(BadLine(4)),
+        ),
+        // Form comes before all other faults.
+        (b"s 1 0\nd 1 9\nd 2 9\nd 3 9\nd 4 9 9\n", Err(BadLine(5))),
+        (b"s 1 0\nd 1 0\nd 2 5\nd 3 2\n", Err(BadLine(0))),
+    ];
+    for (report, wanted) in cases {
+        assert_eq!(rt; of_four(rt.alloc(), report)?, wanted);
+    }
+    Ok(())
+}
+
+#[test]
+fn check_canonical(rt: HostRuntime) -> Result<(), Fail> {
+    let rows = [(1, 2, 4, 0), (1, 3, 1, 0), (3, 2, 1, 0), (2, 4, 5, 1)];
+    let cases: [(&[u8], Result<(), CheckFault>); 3] = [
+        (
+            b"s 1 1\nd 1 1\nd 2 3\nd 3 2\nd 4 15\nw 4 2 1 4\n",
+            Err(NotCanonical(6)),
+        ),
+        (b"s 1 1\nd 1 1\nd 2 3\nd 3 2\nd 4 15\nw 4 3 2 3 4\n", Ok(())),
+        (b"s 1 1\nd 1 1\nd 2 3\nd 3 2\nd 4 15\n", Ok(())),
+    ];
+    for (report, wanted) in cases {
+        assert_eq!(rt;
+            verdict(rt.alloc(), 4, &rows, &[&[(1, 1)]], report)?,
+            wanted
+        );
+    }
+    Ok(())
+}
+
+#[test]
+fn odd_reports(rt: HostRuntime) -> Result<(), Fail> {
+    let cases: [(&[u8], Result<(), CheckFault>); 4] = [
+        // White space, comments, carriage returns, leading zeros of great length, and no last line feed.
+        (
+            b"c\r\n\r\n\ts  00000000000000000000000000000000000000000000000000000000000001 0 \r\n c w\nd 1 0\nw\t1 00000000000000000000000000000000\nd 02 5\n\n\nw 2 2 0002 3\r\nd 3\t2\ncw 3 1 2\n  d 4 6\r",
+            Ok(()),
+        ),
+        // Arc numbers of forty digits, and lines counted with comments.
+        (
+            b"c\n\ns 1 0\nd 1 0\nw 1 0\nd 2 5\nd 3 2\nw 3 1 9999999999999999999999999999999999999999\nd 4 6\n",
+            Err(NotAttained(8)),
+        ),
+        (
+            b"c\ns 1 0\nc\nd 1 0\nd 2 5\nd 3 2\nw 3 1 0000000000000000000000000000000000000002\nd 4 6\n",
+            Ok(()),
+        ),
+        (
+            b"c\ns 1 0\nc\nd 1 0\nd 2 5\nd 3 2\nw 3 1 -2\nd 4 6\n",
+            Err(BadLine(7)),
+        ),
+    ];
+    for (report, wanted) in cases {
+        assert_eq!(rt; of_four(rt.alloc(), report)?, wanted);
+    }
+    Ok(())
+}
+
+#[test]
+fn several_sources(rt: HostRuntime) -> Result<(), Fail> {
+    let alloc = rt.alloc();
+    let rows = [(1, 2, 3, 0)];
+    // Joint: node 2 at 4 by its own second departure is improved by the arc, which arrives at 3.
+    let joint: [(&[u8], Result<(), CheckFault>); 5] = [
+        (b"s 1 0\ns 2 5\ns 2 4\nd 1 0\nd 2 3\nw 2 1 1\n", Ok(())),
+        (
+            b"s 1 0\ns 2 5\ns 2 4\nd 1 0\nd 2 4\nw 2 0\n",
+            Err(NotLeast(5)),
+        ),
+        (
+            b"s 1 0\ns 2 5\ns 2 4\nd 1 0\nd 2 5\nw 2 0\n",
+            Err(NotLeast(5)),
+        ),
+        // A departure of another node, or of no source, is not one of this node.
+        (
+            b"s 1 0\ns 2 5\ns 2 4\nd 1 0\nw 1 1 1\nd 2 3\n",
+            Err(NotAttained(5)),
+        ),
+        (
+            b"s 1 0\ns 2 5\ns 2 4\nd 1 0\nd 2 3\nw 2 0\n",
+            Err(NotAttained(6)),
+        ),
+    ];
+    for (report, wanted) in joint {
+        assert_eq!(rt;
+            verdict(alloc, 2, &rows, &[&[(1, 0), (2, 5), (2, 4)]], report)?,
+            wanted
+        );
+    }
+    // Problem by problem: the first problem with a fault decides, after the form of all.
+    let both: [(&[u8], Result<(), CheckFault>); 4] = [
+        (b"s 1 0\nd 1 0\nd 2 3\ns 2 5\nd 1 inf\nd 2 5\n", Ok(())),
+        (
+            b"s 1 0\nd 1 0\nd 2 4\ns 2 5\nd 1 inf\nd 2 6\n",
+            Err(NotAttained(3)),
+        ),
+        (
+            b"s 1 0\nd 1 0\nd 2 3\ns 2 5\nd 1 inf\nd 2 inf\n",
+            Err(NotLeast(6)),
+        ),
+        (b"s 1 0\nd 1 0\nd 2 4\ns 2 5\nd 1 inf\n", Err(BadLine(0))),
+    ];
+    for (report, wanted) in both {
+        assert_eq!(rt;
+            verdict(alloc, 2, &rows, &[&[(1, 0)], &[(2, 5)]], report)?,
+            wanted
+        );
+    }
+    // No problem has the empty report, and no source reaches nothing.
+    assert_eq!(rt; verdict(alloc, 2, &rows, &[], b"c\n")?, Ok(()));
+    assert_eq!(rt;
+        verdict(alloc, 2, &rows, &[], b"d 1 inf\n")?,
+        Err(BadLine(1))
+    );
+    assert_eq!(rt;
+        verdict(alloc, 2, &rows, &[&[]], b"d 1 inf\nd 2 inf\n")?,
+        Ok(())
+    );
+    Ok(())
+}
+
+#[test]
+fn faults_in_their_order(rt: HostRuntime) -> Result<(), Fail> {
+    // A cycle of time 0 is no level; a walk that is another canonical one; a time that is improved.
+    let rows = [(1, 2, 4, 0), (2, 3, 0, 0), (3, 2, 0, 0), (1, 3, 4, 0)];
+    let cases: [(&[u8], Result<(), CheckFault>); 5] = [
+        (b"s 1 0\nd 1 0\nd 2 4\nw 2 1 1\nd 3 4\nw 3 1 4\n", Ok(())),
+        (b"s 1 0\nd 1 0\nd 2 3\nd 3 3\n", Err(NotAttained(3))),
+        (
+            b"s 1 0\nd 1 0\nd 2 4\nw 2 3 1 2 3\nd 3 4\nw 3 2 1 2\n",
+            Err(NotCanonical(4)),
+        ),
+        // Both walks attain their times, and the last time is improved: the walk comes first.
+        (
+            b"s 1 0\nd 1 0\nd 2 4\nw 2 3 1 2 3\nd 3 inf\n",
+            Err(NotCanonical(4)),
+        ),
+        (b"s 1 0\nd 1 0\nd 2 4\nw 2 1 1\nd 3 inf\n", Err(NotLeast(5))),
+    ];
+    for (report, wanted) in cases {
+        assert_eq!(rt;
+            verdict(rt.alloc(), 3, &rows, &[&[(1, 0)]], report)?,
+            wanted
+        );
+    }
+    Ok(())
+}
+
+/// A report in which each byte is changed to each of these.
+const CHANGED: &[u8] = b"s 1 0\nd 1 0\nd 2 5\nw 2 2 2 3\nd 3 2\nd 4 6\n";
+
+const BYTES: &[u8] = b"0123456789 sdwcinf\t\r\n-";
+
+/// The verdicts of a plain slow checker that was written apart (bench/check/slow_check.py): for each place and each byte
+/// a letter and a line.
+const VERDICTS: [&[u8]; 40] = [
+    b"b1b1b1b1b1b1b1b1b1b1b1k0b1b1b2b1b1b1b1b1b2b1",
+    b"b1b1b1b1b1b1b1b1b1b1k0b1b1b1b1b1b1b1k0b1b1b1",
+    b"b1k0b1b1b1b1b1b1b1b1b1b1b1b1b1b1b1b1b1b1b1b1",
+    b"b1b1b1b1b1b1b1b1b1b1k0b1b1b1b1b1b1b1k0b1b1b1",
+    b"k0b1b1b1b1b1b1b1b1b1b1b1b1b1b1b1b1b1b1b1b1b1",
+    b"b1b1b1b1b1b1b1b1b1b1b1b1b1b1b1b1b1b1b1b1k0b1",
+    b"b2b2b2b2b2b2b2b2b2b2b2b2k0b2b3b2b2b2b2b2b3b2",
+    b"b2b2b2b2b2b2b2b2b2b2k0b2b2b2b2b2b2b2k0b2b2b2",
+    b"b2k0b2b2b2b2b2b2b2b2b2b2b2b2b2b2b2b2b2b2b2b2",
+    b"b2b2b2b2b2b2b2b2b2b2k0b2b2b2b2b2b2b2k0b2b2b2",
+    b"k0a2a2a2a2a2a2a2a2a2b2b2b2b2b2b2b2b2b2b2b2b2",
+    b"b2b2b2b2b2b2b2b2b2b2b2b2b2b2b2b2b2b2b2b2k0b2",
+    b"b3b3b3b3b3b3b3b3b3b3b3b3k0b3b4b3b3b3b3b3b4b3",
+    b"b3b3b3b3b3b3b3b3b3b3k0b3b3b3b3b3b3b3k0b3b3b3",
+    b"b3b3k0b3b3b3b3b3b3b3b3b3b3b3b3b3b3b3b3b3b3b3",
+    b"b3b3b3b3b3b3b3b3b3b3k0b3b3b3b3b3b3b3k0b3b3b3",
+    b"a3a3a3a3a3k0a3a4a3a3b3b3b3b3b3b3b3b3b3b3b3b3",
+    b"b3b3b3b3b3b3b3b3b3b3b3b3b3b3b3b3b3b3b3b3k0b3",
+    b"b4b4b4b4b4b4b4b4b4b4b4b4b4k0k0b4b4b4b4b4b5b4",
+    b"b4b4b4b4b4b4b4b4b4b4k0b4b4b4b4b4b4b4k0b4b4b4",
+    b"b4b4k0b4b4b4b4b4b4b4b4b4b4b4b4b4b4b4b4b4b4b4",
+    b"b4b4b4b4b4b4b4b4b4b4k0b4b4b4b4b4b4b4k0b4b4b4",
+    b"b4b4k0b4b4b4b4b4b4b4b4b4b4b4b4b4b4b4b4b4b4b4",
+    b"b4b4b4b4b4b4b4b4b4b4k0b4b4b4b4b4b4b4k0b4b4b4",
+    b"a4a4k0a4a4a4a4a4a4a4b4b4b4b4b4b4b4b4b4b4b4b4",
+    b"b4b4b4b4b4b4b4b4b4b4k0b4b4b4b4b4b4b4k0b4b4b4",
+    b"a4a4a4k0a4a4a4a4a4a4b4b4b4b4b4b4b4b4b4b4b4b4",
+    b"b4b4b4b4b4b4b4b4b4b4b4b4b4b4b4b4b4b4b4b4k0b4",
+    b"b5b5b5b5b5b5b5b5b5b5b5b5k0b5b6b5b5b5b5b5b6b5",
+    b"b5b5b5b5b5b5b5b5b5b5k0b5b5b5b5b5b5b5k0b5b5b5",
+    b"b5b5b5k0b5b5b5b5b5b5b5b5b5b5b5b5b5b5b5b5b5b5",
+    b"b5b5b5b5b5b5b5b5b5b5k0b5b5b5b5b5b5b5k0b5b5b5",
+    b"a3a3k0a3a3a3a3a3a3a3b5b5b5b5b5b5b5b5b5b5b5b5",
+    b"b5b5b5b5b5b5b5b5b5b5b5b5b5b5b5b5b5b5b5b5k0b5",
+    b"b6b6b6b6b6b6b6b6b6b6b6b6k0b6b0b6b6b6b6b6b7b6",
+    b"b6b6b6b6b6b6b6b6b6b6k0b6b6b6b6b6b6b6k0b6b6b6",
+    b"b6b6b6b6k0b6b6b6b6b6b6b6b6b6b6b6b6b6b6b6b6b6",
+    b"b6b6b6b6b6b6b6b6b6b6k0b6b6b6b6b6b6b6k0b6b6b6",
+    b"a6a6a6a6a6a6k0a6a6a6b6b6b6b6b6b6b6b6b6b6b6b6",
+    b"a6a6a6a6a6a6a6a6a6a6k0b6b6b6b6b6b6b6k0k0k0b6",
+];
+
+/// A verdict as a letter and a line.
+fn coded(verdict: Result<(), CheckFault>) -> (u8, u64) {
+    match verdict {
+        Ok(()) => (b'k', 0),
+        Err(BadLine(line)) => (b'b', line),
+        Err(NotAttained(line)) => (b'a', line),
+        Err(NotLeast(line)) => (b'l', line),
+        Err(NotCanonical(line)) => (b'c', line),
+        Err(OutOfMemory) => (b'm', 0),
+    }
+}
+
+#[test]
+fn each_change_of_one_byte(rt: HostRuntime) -> Result<(), Fail> {
+    assert_eq!(rt; of_four(rt.alloc(), CHANGED)?, Ok(()));
+    for (place, row) in VERDICTS.iter().enumerate() {
+        let mut wanted = row.iter();
+        for byte in BYTES {
+            let mut report = CHANGED.to_vec(rt.alloc())?;
+            if place < report.len() {
+                report[place] = *byte;
+            }
+            let (letter, line) = coded(of_four(rt.alloc(), &report)?);
+            assert_eq!(rt; wanted.next(), Some(&letter), "at {place}");
+            let digit = wanted.next().copied().unwrap_or(0);
+            assert_eq!(rt; line, u64::from(digit.saturating_sub(b'0')), "at {place}");
+        }
+    }
+    Ok(())
+}
+
+#[test]
+fn only_queries_of_all_nodes(rt: HostRuntime) -> Result<(), Fail> {
+    let alloc = rt.alloc();
+    let Some(network) = network_of(alloc, 4, &FOUR_NODES)? else {
+        return Err(Fail::from("no network"));
+    };
+    let Some(all) = query_of(alloc, &[(1, 0)])? else {
+        return Err(Fail::from("no sources"));
+    };
+    let Some(beyond) = query_of(alloc, &[(5, 0)])? else {
+        return Err(Fail::from("no sources"));
+    };
+    let source = Source {
+        node: 1,
+        departure: 0,
+    };
+    assert!(rt; is_checkable(&network, 0, &[all]));
+    assert!(rt; !is_checkable(&network, 0, &[beyond]));
+    assert!(rt; !is_checkable(&network, 0, &[Query::pair(source, 2)]));
+    Ok(())
+}
+
+#[test]
+fn memory_refused(rt: HostRuntime) {
+    let alloc = rt.alloc();
+    let Ok(Some(network)) = network_of(alloc, 4, &FOUR_NODES) else {
+        return;
+    };
+    let Ok(Some(query)) = query_of(alloc, &[(1, 0)]) else {
+        return;
+    };
+    let times = Timetables::new(Vec::new(alloc));
+    let queries = [query];
+    if !is_checkable(&network, times.classes(), &queries) {
+        return;
+    }
+    match check(alloc, &network, &times, &queries, WITH_WALKS) {
+        Ok(()) => {}
+        Err(fault) => {
+            assert_eq!(rt; fault, OutOfMemory);
+            assert_eq!(rt;
+                check(alloc, &network, &times, &queries, WITH_WALKS),
+                Ok(())
+            );
+        }
+    }
+}
+
+#[test]
+fn messages(rt: HostRuntime) -> Result<(), Fail> {
+    let cases = [
+        (BadLine(3), "line 3 is not what its place asks (1 BadLine)"),
+        (NotAttained(4), "line 4 is not attained (2 NotAttained)"),
+        (NotLeast(5), "line 5 is not the least arrival (3 NotLeast)"),
+        (OutOfMemory, "there is not enough memory (4 OutOfMemory)"),
+        (
+            NotCanonical(6),
+            "line 6 is not the canonical walk (5 NotCanonical)",
+        ),
+    ];
+    for (fault, text) in cases {
+        assert_eq!(rt; format!(in rt.alloc(); "{fault}")?.as_str(), text);
+        let (number, name) = (fault.number(), fault.name());
+        let end = format!(in rt.alloc(); "({number} {name})")?;
+        assert!(rt; text.ends_with(end.as_str()), "{fault:?}");
+    }
+    assert_eq!(rt; NotLeast(5).line(), Some(5));
+    assert_eq!(rt; OutOfMemory.line(), None);
+    Ok(())
+}
