@@ -3,7 +3,7 @@ ghost use Rattle.std.specs.Option.{option_to_list};
 ghost use Rattle.ea_engine.specs.Ground.{IsGround};
 ghost use Rattle.rand_core.specs.Stream.{Stream};
 ghost use Rattle.ea_labels.specs.Core.{IsNode};
-ghost use Rattle.ea_pool.specs.Seats.{account_of, IsSeatOf};
+ghost use Rattle.ea_pool.specs.Seats.{account_of, heaps_of, IsSeatOf};
 ghost use Rattle.ea_pool.specs.declared.account.Account.{Account};
 ghost use Rattle.ea_pool.specs.declared.entry.Entry.{Entry as PoolEntry};
 ghost use Rattle.ea_engine.specs.Closed.{IsClosedTurn, IsCut};
@@ -204,7 +204,7 @@ pub fn take_turn<K: Known, P: TravelTimes, R: Rng>(
     requires pool_seat { IsSeatOf pool.now means.old.pool_seat }
     ensures label_seat { means.new.label_seat.table ≡ labels.now.table }
     ensures pool_seat { IsSeatOf pool.now means.new.pool_seat }
-    ensures turn { IsTurn network.now (P.answers profiles.now) query.now.target
+    ensures turn { IsTurn network.now (P.answers profiles.now) query.now.target (heaps_of pool.now)
         (kit means.old.label_seat.history (account_of means.old.pool_seat) (R.stream means.old.rng))
         (kit means.new.label_seat.history (account_of means.new.pool_seat) (R.stream means.new.rng))
         number result.turn result.hand }
