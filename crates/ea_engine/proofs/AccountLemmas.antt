@@ -84,11 +84,11 @@ module _ (roads : Roads) (answers : ℕ → ℕ → ℕ → ℕ → Type 0) (tar
   }
 
   -- a worker's turns
-  pub closed_worked : {T : Type 0} (shows : T → Turn → Flow → T → Type 0) (from to : Kit) (budget : ℕ) (tracer tracer' : T) (counters : Counters) (hand : Hand) (back refused : List Entry)
-      → IsWork roads answers target shows from to budget tracer tracer' counters hand
+  pub closed_worked : {T : Type 0} (shows : T → Turn → Flow → T → Type 0) (heaps : ℕ) (from to : Kit) (budget : ℕ) (tracer tracer' : T) (counters : Counters) (hand : Hand) (back refused : List Entry)
+      → IsWork roads answers target shows heaps from to budget tracer tracer' counters hand
       → IsClosedAccount roads answers target from.labels from.account back refused
       → IsClosedAccount roads answers target to.labels to.account (back ++ option_to_list hand.popped) (refused ++ option_to_list hand.refused)
-  closed_worked shows from to budget tracer tracer' counters hand back refused w h =
+  closed_worked shows heaps from to budget tracer tracer' counters hand back refused w h =
       let p = w.progress in
       let none = option_to_list hand.refused in
       record {

@@ -40,7 +40,7 @@ counted_step Scanned n node key len e b st sc rf cu lo z s = counters_same (omeg
 counted_step Refused n node key len e b st sc rf cu lo z s = counters_same (omega arith) (omega arith) (omega arith) (omega arith) (omega arith) (omega arith) (omega arith) (omega arith) (omega arith) (omega arith) (omega arith)
 counted_step Cut n node key len e b st sc rf cu lo z s = counters_same (omega arith) (omega arith) (omega arith) (omega arith) (omega arith) (omega arith) (omega arith) (omega arith) (omega arith) (omega arith) (omega arith)
 
-count_push : (p : TurnKind → Bool) (ts : List Told) (t : Told) → count_kind p (ts ++ t ∷ []) ≡ count_kind p ts + cond (p t.0.kind) 1 0
+pub count_push : (p : TurnKind → Bool) (ts : List Told) (t : Told) → count_kind p (ts ++ t ∷ []) ≡ count_kind p ts + cond (p t.0.kind) 1 0
 count_push p ts t = fold-append (λ (a : ℕ) (x : Told). a + cond (p x.0.kind) 1 0) 0 ts (t ∷ [])
 
 pub lowered_push : (ts : List Told) (t : Told) → lowered_in_all (ts ++ t ∷ []) ≡ lowered_in_all ts + t.0.lowered

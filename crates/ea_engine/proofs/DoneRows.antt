@@ -1,5 +1,6 @@
 -- From the row before the workers run to the row in which they are done.
 use Rattle.std.proofs.Common.{◌≡◌, ℕ, zero, suc, ◌+◌, ◌<◌, ◌≤◌, List, [], ◌∷◌, ◌++◌, map, length, get_or, take, drop, length-drop, All, refl, sym, ◌∙◌, ap, arith, subst, length-append, Option}
+use Rattle.std.specs.Prelude.{sum_by}
 use Rattle.rand_core.specs.Stream.{Stream}
 use Rattle.ea_road.specs.declared.source.Source.{Source}
 use Rattle.ea_road.specs.Roads.{Roads}
@@ -15,9 +16,12 @@ use Rattle.ea_engine.specs.Ends.{AreFresh, IsEndPlace}
 use Rattle.ea_engine.specs.Reports.{IsReport, AreReports, IsSeatedRow}
 use Rattle.ea_engine.specs.Rowed.{all_done, IsFirstEnd, IsSeeded, AreSeated, IsDoneRow}
 use Rattle.ea_engine.specs.Rows.{IsReady, IsReadyRow, IsRun, IsRunRow}
+use Rattle.ea_pool.specs.declared.TheConstants.{SHARES}
+use Rattle.ea_engine.specs.Tallies.{busy_by_all, empty_by_all}
 use Rattle.ea_engine.specs.Turns.{popped_in_all}
 use Rattle.ea_engine.specs.Worked.{Kit, kit}
 use Rattle.ea_engine.proofs.AccountLemmas.{closed_worked}
+use Rattle.ea_engine.proofs.Multisets.{same_length}
 use Rattle.std.proofs.lemmas.List.{take_all}
 use Rattle.ea_engine.proofs.BoundLemmas.{IsReachedBy-more}
 use Rattle.ea_engine.proofs.RowedLemmas.{nothing_after}
@@ -45,9 +49,9 @@ some_of (x ∷ xs) lt = x
 
 module _ {S Q R T : Type 0} (record_of : S → SeatRecord) (account_of : Q → Account) (fits_labels : S → Type 0) (fits_pool : Q → Type 0)
     (roads : Roads) (answers : ℕ → ℕ → ℕ → ℕ → Type 0) (target : Option ℕ) (sources : List Source)
-    (shows : T → Turn → Flow → T → Type 0) (stream : R → Stream) (budget : ℕ) where
+    (shows : T → Turn → Flow → T → Type 0) (stream : R → Stream) (heaps budget : ℕ) where
   abbrev Runs : Place S Q R T → Place S Q R T → Type 0
-  Runs = IsRun roads answers target shows record_of account_of stream fits_labels fits_pool budget
+  Runs = IsRun roads answers target shows record_of account_of stream fits_labels fits_pool heaps budget
 
   abbrev place_of : Seats S Q → R → T → Place S Q R T
   place_of seats rng tracer = place.Ready (record { label_seat = seats.label_seat; pool_seat = seats.pool_seat; rng = rng; tracer = tracer })
@@ -63,7 +67,7 @@ module _ {S Q R T : Type 0} (record_of : S → SeatRecord) (account_of : Q → A
       record {
         label_fits = run.0;
         pool_fits = run.1;
-        closed = closed_worked roads answers target shows start _ budget tracer end.tracer end.counters end.hand [] [] w
+        closed = closed_worked roads answers target shows heaps start _ budget tracer end.tracer end.counters end.hand [] [] w
             (record { own = λ f. rw (fresh.lowerings, fresh.pushed) refl; closed = λ e inside. absurd (omega (arith, (rw fresh.popped at inside).1)) });
         inside = w.hand_inside;
         pushed_is = omega (arith, ap length w.progress.pushed_are, length-append w.progress.pushed (account_of seats.pool_seat).pushed, ap length fresh.pushed, w.pushed_is);
@@ -97,7 +101,7 @@ module _ {S Q R T : Type 0} (record_of : S → SeatRecord) (account_of : Q → A
           handed = record {
             back = h.back;
             refused = h.refused;
-            closed = closed_worked roads answers target shows start _ budget tracer end.tracer end.counters end.hand h.back h.refused w h.closed;
+            closed = closed_worked roads answers target shows heaps start _ budget tracer end.tracer end.counters end.hand h.back h.refused w h.closed;
             waits = h.waits;
           };
           inside = w.hand_inside;
@@ -113,7 +117,7 @@ module _ {S Q R T : Type 0} (record_of : S → SeatRecord) (account_of : Q → A
 
   -- the whole row
   module _ (main : Seats S Q) (fresh : List (Seats S Q)) (rngs : List R) (tracers : List T) (row row' : List (Place S Q R T)) (rng : R) (tracer : T)
-      (seated : IsSeatedRow (main ∷ fresh) rngs tracers row) (ran : IsRunRow roads answers target shows record_of account_of stream fits_labels fits_pool budget row row')
+      (seated : IsSeatedRow (main ∷ fresh) rngs tracers row) (ran : IsRunRow roads answers target shows record_of account_of stream fits_labels fits_pool heaps budget row row')
       (length_is : length row ≡ suc (length fresh)) (length'_is : length row' ≡ length row)
       (all_fresh : All (AreFresh record_of account_of fits_labels fits_pool) fresh) where
     runs_at : (k : ℕ) (d : Place S Q R T) → k < length row → Runs (place_of (get_or (main ∷ fresh) k main) (get_or rngs k rng) (get_or tracers k tracer)) (get_or row' k d)
@@ -148,7 +152,7 @@ module _ {S Q R T : Type 0} (record_of : S → SeatRecord) (account_of : Q → A
 
   pub seated_done : (rngs : List R) (tracers : List T) (row row' : List (Place S Q R T)) (rng : R) (tracer : T) (seeded : ℕ) (waiting : List ℕ)
       → AreSeated record_of account_of fits_labels fits_pool roads answers target sources seeded waiting rngs tracers row
-      → IsRunRow roads answers target shows record_of account_of stream fits_labels fits_pool budget row row' → length row' ≡ length row
+      → IsRunRow roads answers target shows record_of account_of stream fits_labels fits_pool heaps budget row row' → length row' ≡ length row
       → IsDoneRow record_of account_of fits_labels fits_pool roads answers target sources seeded waiting row'
   seated_done rngs tracers row row' rng tracer seeded waiting a ran same =
       done_row a.main a.fresh rngs tracers row row' rng tracer a.seated ran (omega (arith, a.length_is)) same a.all_fresh seeded waiting a.seeds a.label_shares a.pool_shares
@@ -178,7 +182,7 @@ module _ {S Q R T : Type 0} (record_of : S → SeatRecord) (account_of : Q → A
 
   pub reports_of_row : (rngs : List R) (tracers : List T) (row row' : List (Place S Q R T)) (ends : List (WorkerEnd S Q R T)) (seeded : ℕ) (waiting : List ℕ) (end : WorkerEnd S Q R T)
       → AreSeated record_of account_of fits_labels fits_pool roads answers target sources seeded waiting rngs tracers row
-      → IsRunRow roads answers target shows record_of account_of stream fits_labels fits_pool budget row row' → length row ≡ length rngs → length ends ≡ length rngs
+      → IsRunRow roads answers target shows record_of account_of stream fits_labels fits_pool heaps budget row row' → length row ≡ length rngs → length ends ≡ length rngs
       → row' ≡ all_done ends
       → AreReports stream shows budget rngs (map (λ e. e.rng) ends) tracers (map (λ e. e.tracer) ends) (map (λ e. e.counters) ends)
   reports_of_row rngs tracers row row' ends seeded waiting end a ran len count done k c r t lt =
@@ -189,3 +193,33 @@ module _ {S Q R T : Type 0} (record_of : S → SeatRecord) (account_of : Q → A
       let at : get_or row' k d ≡ place.Done (get_or ends k end) = ap (λ ps. get_or ps k d) done ∙ all_done-at ends k d end among in
       rw (get_or-map (λ (e : WorkerEnd S Q R T). e.rng) ends k end r among, get_or-map (λ (e : WorkerEnd S Q R T). e.tracer) ends k end t among, get_or-map (λ (e : WorkerEnd S Q R T). e.counters) ends k end c among)
       (report_of (get_or row' k d) (get_or ends k end) (get_or rngs k r) (get_or tracers k t) (get_or (a.main ∷ a.fresh) k a.main) at run)
+
+  -- what a worker tells that runs alone
+  pub lone_of_row : (rngs : List R) (tracers : List T) (row row' : List (Place S Q R T)) (ends : List (WorkerEnd S Q R T)) (rng : R) (tracer : T) (seeded : ℕ) (waiting : List ℕ)
+      → AreSeated record_of account_of fits_labels fits_pool roads answers target sources seeded waiting rngs tracers row
+      → IsRunRow roads answers target shows record_of account_of stream fits_labels fits_pool heaps budget row row' → length row ≡ 1 → row' ≡ all_done ends → length ends ≡ 1
+      → (busy_by_all (map (λ end. end.counters) ends) ≡ 0) × (heaps ≡ 2 → 0 < empty_by_all (map (λ end. end.counters) ends) → seeded + sum_by (λ end. end.counters.pushed) ends ≡ sum_by (λ end. end.counters.popped) ends)
+  lone_of_row rngs tracers row row' [] rng tracer seeded waiting a ran len done one = absurd (omega (arith, one))
+  lone_of_row rngs tracers row row' (end ∷ other ∷ ends) rng tracer seeded waiting a ran len done one = absurd (omega (arith, one))
+  lone_of_row rngs tracers row row' (end ∷ []) rng tracer seeded waiting a ran len done one =
+      let d : Place S Q R T = place.Running in
+      let inside : 0 < length row = omega (arith, len) in
+      let run = subst (λ p. Runs p (get_or row' 0 d)) (a.seated 0 a.main rng tracer d inside) (ran 0 d inside) in
+      let w = (subst (λ q. Runs (place_of a.main (get_or rngs 0 rng) (get_or tracers 0 tracer)) q) (ap (λ ps. get_or ps 0 d) done) run).2 in
+      let whole : (account_of a.main.pool_seat).shares ≡ SHARES = omega (arith, a.pool_shares, a.length_is, len) in
+      let account = account_of a.main.pool_seat in
+      let end_account = account_of end.pool_seat in (
+        omega (arith, w.never_busy whole),
+        λ two some. omega (
+          arith,
+          same_length end_account.pushed end_account.popped (w.empty_at_end whole two (omega (arith, some))),
+          ap length w.progress.pushed_are,
+          length-append w.progress.pushed account.pushed,
+          w.pushed_is,
+          a.seeds.pushed,
+          ap length w.progress.popped_are,
+          length-append (popped_in_all w.turns) account.popped,
+          ap length a.seeds.popped,
+          w.popped_is,
+        ),
+      )

@@ -1,5 +1,5 @@
 -- Turns that found nothing, and turns after a pop.
-use Rattle.std.proofs.Common.{◌≡◌, ℕ, ◌≤◌, ◌^◌, zero-add, true, List, [], ◌∷◌, ◌++◌, refl, sym, ◌∙◌, ap, arith, Option, None}
+use Rattle.std.proofs.Common.{◌≡◌, ℕ, ◌≤◌, ◌^◌, zero-add, true, List, [], ◌∷◌, ◌++◌, length, refl, sym, ◌∙◌, ap, subst, arith, Option, None}
 use Rattle.std.specs.Prelude.{Contains}
 use Rattle.std.specs.Option.{option_to_list}
 use Rattle.std.proofs.lemmas.Bool.{false≢true}
@@ -14,10 +14,11 @@ use Rattle.ea_engine.specs.Words.{after_words}
 use Rattle.ea_labels.specs.declared.record.Bound.{Bound}
 use Rattle.ea_labels.specs.declared.record.SeatRecord.{SeatRecord}
 use Rattle.ea_pool.specs.declared.account.Account.{Account}
-use Rattle.ea_pool.specs.Pools.{SameBooks, Pops}
+use Rattle.ea_pool.specs.declared.TheConstants.{SHARES}
+use Rattle.ea_pool.specs.Pools.{SameBooks, Pops, IsLeastLeft}
 use Rattle.ea_engine.specs.Turns.{is_idle, IsShaped, popped_as, popped_in}
-use Rattle.ea_engine.specs.Closed.{IsClosedAs, IsClosedTurn}
-use Rattle.ea_engine.specs.Worked.{kit, Progress, IsTurn, IsHandOf, IsInside}
+use Rattle.ea_engine.specs.Closed.{entry_at, IsClosedAs, IsClosedTurn}
+use Rattle.ea_engine.specs.Worked.{kit, Progress, IsTurn, IsHandOf, IsInside, IsLoneAs}
 use Rattle.ea_engine.proofs.ProgressLemmas.{Progress-then}
 
 popped_as-idle : (k : TurnKind) (x y : ℕ) → is_idle k ≡ true → popped_as k x y ≡ []
@@ -53,10 +54,25 @@ Progress-drawn r a b w u popped words shares pushed is_popped d = record {
   words_are = d;
 }
 
-two_words : (w v u : Stream) (x y : ℕ) → (x, v) ≡ next_u64 w → (y, u) ≡ next_u64 v → u ≡ after_words 2 w
+pub two_words : (w v u : Stream) (x y : ℕ) → (x, v) ≡ next_u64 w → (y, u) ≡ next_u64 v → u ≡ after_words 2 w
 two_words w v u x y e f = ap (λ (p : ℕ × Stream). p.1) f ∙ ap (λ s. (next_u64 s).1) (ap (λ (p : ℕ × Stream). p.1) e)
 
-module _ (roads : Roads) (answers : ℕ → ℕ → ℕ → ℕ → Type 0) (target : Option ℕ) where
+head_is : (x y : Entry) → x ∷ [] ≡ y ∷ [] → x ≡ y
+head_is x y e = cc
+
+nil≢cons : (e : Entry) (es : List Entry) → [] ≡ e ∷ es → ⊥
+nil≢cons e es h = absurd (omega (arith, ap length h))
+
+-- a turn that popped an entry shows what the pop tells of this entry
+IsLoneAs-popped : (k : TurnKind) (heaps key node : ℕ) (a : Account) (e : Entry) → popped_as k key node ≡ e ∷ [] → (heaps ≡ 2 → IsLeastLeft e a) → IsLoneAs heaps a k (entry_at key node)
+IsLoneAs-popped Empty heaps key node a e is left = absurd (nil≢cons e [] is)
+IsLoneAs-popped Busy heaps key node a e is left = nil≢cons e [] is
+IsLoneAs-popped Stale heaps key node a e is left = subst (λ x. heaps ≡ 2 → IsLeastLeft x a) (sym (head_is (entry_at key node) e is)) left
+IsLoneAs-popped Scanned heaps key node a e is left = subst (λ x. heaps ≡ 2 → IsLeastLeft x a) (sym (head_is (entry_at key node) e is)) left
+IsLoneAs-popped Refused heaps key node a e is left = subst (λ x. heaps ≡ 2 → IsLeastLeft x a) (sym (head_is (entry_at key node) e is)) left
+IsLoneAs-popped Cut heaps key node a e is left = subst (λ x. heaps ≡ 2 → IsLeastLeft x a) (sym (head_is (entry_at key node) e is)) left
+
+module _ (roads : Roads) (answers : ℕ → ℕ → ℕ → ℕ → Type 0) (target : Option ℕ) (heaps : ℕ) where
   IsClosedAs-idle : (bs : List Bound) (hand : List Entry) (k : TurnKind) (e : Entry) → is_idle k ≡ true → IsClosedAs roads answers target bs hand k e
   IsClosedAs-idle bs hand Empty e i = tt
   IsClosedAs-idle bs hand Busy e i = tt
@@ -65,11 +81,12 @@ module _ (roads : Roads) (answers : ℕ → ℕ → ℕ → ℕ → Type 0) (tar
   IsClosedAs-idle bs hand Refused e i = absurd (false≢true i)
   IsClosedAs-idle bs hand Cut e i = absurd (false≢true i)
 
-  pub IsTurn-idle : (r : SeatRecord) (a b : Account) (w v u : Stream) (x y n : ℕ) (t : Turn) (h : Hand)
-      → SameBooks a b → (x, v) ≡ next_u64 w → (y, u) ≡ next_u64 v
+  pub IsTurn-idle : (r : SeatRecord) (a b : Account) (w u : Stream) (n : ℕ) (t : Turn) (h : Hand)
+      → SameBooks a b → u ≡ after_words 2 w
       → t.number ≡ n → is_idle t.kind ≡ true → IsShaped t → t.lowered ≡ 0 → h.popped ≡ None → h.refused ≡ None
-      → IsTurn roads answers target (kit r a w) (kit r b u) n t h
-  IsTurn-idle r a b w v u x y n t h e d d' number idle shaped lowered hand refused = record {
+      → (a.shares ≡ SHARES → IsLoneAs heaps a t.kind (entry_at t.key t.node))
+      → IsTurn roads answers target heaps (kit r a w) (kit r b u) n t h
+  IsTurn-idle r a b w u n t h e d number idle shaped lowered hand refused lone = record {
     number_is = number;
     shaped = shaped;
     few = omega arith;
@@ -77,17 +94,19 @@ module _ (roads : Roads) (answers : ℕ → ℕ → ℕ → ℕ → Type 0) (tar
     hand_popped = λ e inside. absurd (omega (arith, (rw hand at inside).1));
     hand_inside = rw (hand, refused) (tt, tt);
     progress = rw (refused, lowered, popped_as-idle t.kind t.key t.node idle)
-        (Progress-drawn r a b w u [] 2 e.0 e.1 e.2 (two_words w v u x y d d'));
+        (Progress-drawn r a b w u [] 2 e.0 e.1 e.2 d);
     closed = IsClosedAs-idle r.bounds (option_to_list h.popped) t.kind _ idle;
+    lone = lone;
   }
 
-  pub IsTurn-popped : (r s : SeatRecord) (a b c : Account) (w v u z : Stream) (x y n : ℕ) (t : Turn) (h : Hand) (e : Entry)
-      → Pops a e b → (x, v) ≡ next_u64 w → (y, u) ≡ next_u64 v
+  pub IsTurn-popped : (r s : SeatRecord) (a b c : Account) (w u z : Stream) (n : ℕ) (t : Turn) (h : Hand) (e : Entry)
+      → Pops a e b → u ≡ after_words 2 w
       → t.number ≡ n → popped_in t ≡ e ∷ [] → IsShaped t → t.lowered ≤ 2 ^ 28 → IsHandOf t.kind h → IsInside roads h → ((x : Entry) → Contains (option_to_list h.popped) x → Contains (popped_in t) x)
       → Progress (kit r b u) (kit s c z) [] t.lowered t.lowered (option_to_list h.refused)
       → IsClosedTurn roads answers target s.bounds (option_to_list h.popped) t
-      → IsTurn roads answers target (kit r a w) (kit s c z) n t h
-  IsTurn-popped r s a b c w v u z x y n t h e is_b d d' number popped shaped few hand inside from progress closed = record {
+      → (a.shares ≡ SHARES → heaps ≡ 2 → IsLeastLeft e a)
+      → IsTurn roads answers target heaps (kit r a w) (kit s c z) n t h
+  IsTurn-popped r s a b c w u z n t h e is_b d number popped shaped few hand inside from progress closed left = record {
     number_is = number;
     shaped = shaped;
     few = few;
@@ -95,6 +114,7 @@ module _ (roads : Roads) (answers : ℕ → ℕ → ℕ → ℕ → Type 0) (tar
     hand_popped = from;
     hand_inside = inside;
     progress = Progress-then _ (kit r b u) _ (e ∷ []) [] (popped_in t) 2 t.lowered _ 0 t.lowered _ _
-        (Progress-drawn r a b w u (e ∷ []) 2 is_b.0 is_b.1 is_b.2 (two_words w v u x y d d')) progress popped refl (sym (zero-add t.lowered));
+        (Progress-drawn r a b w u (e ∷ []) 2 is_b.0 is_b.1 is_b.2 d) progress popped refl (sym (zero-add t.lowered));
     closed = closed;
+    lone = λ whole. IsLoneAs-popped t.kind heaps t.key t.node a e popped (left whole);
   }

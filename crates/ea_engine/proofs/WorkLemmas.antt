@@ -1,5 +1,5 @@
 -- A worker's turns so far: what the loop of `work` keeps.
-use Rattle.std.proofs.Common.{◌≡◌, ℕ, ◌+◌, ◌*◌, ◌^◌, ◌<◌, ◌≤◌, Bool, true, false, ◌||◌, cond, List, [], ◌∷◌, ◌++◌, length, get_or, take, refl, sym, ◌∙◌, ap, arith, length-append, append_assoc, zero-add, below_more, None, Some, Option, inl, inr, ◌⊎◌}
+use Rattle.std.proofs.Common.{◌≡◌, ℕ, ◌+◌, ◌*◌, ◌^◌, ◌<◌, ◌≤◌, Bool, true, false, ◌||◌, cond, List, [], ◌∷◌, ◌++◌, length, get_or, take, refl, sym, ◌∙◌, ap, arith, length-append, append_assoc, zero-add, below_more, subst, None, Some, Option, inl, inr, ◌⊎◌}
 use Rattle.std.specs.Prelude.{Contains, IsSome}
 use Rattle.std.specs.Option.{option_to_list}
 use Rattle.std.specs.List.{FoldsTo}
@@ -19,12 +19,17 @@ use Rattle.ea_engine.specs.declared.turn.TurnKind.{TurnKind}
 use Rattle.ea_engine.specs.declared.turn.TurnKind.TheVariants.{Empty, Busy, Stale, Scanned, Refused, Cut}
 use Rattle.ea_engine.specs.declared.counters.Counters.{Counters}
 use Rattle.ea_labels.specs.declared.record.Bound.{Bound}
-use Rattle.ea_engine.specs.Turns.{Told, IsShaped, IsOver, is_ended, idle_run, ends_worker, is_idle, is_leave, is_refused, counters_of, counted, count_kind, lowered_in_all, popped_in, popped_in_all, IsRoomy}
-use Rattle.ea_engine.specs.Closed.{entry_of, IsClosedAs, IsClosedTurn}
-use Rattle.ea_engine.specs.Worked.{Kit, Progress, IsTurn, IsWork, IsHandOf, IsInside}
+use Rattle.ea_lists.specs.Totals.{total}
+use Rattle.ea_pool.specs.declared.account.Account.{Account}
+use Rattle.ea_pool.specs.declared.TheConstants.{SHARES}
+use Rattle.ea_pool.specs.Entries.{only}
+use Rattle.ea_pool.specs.Pools.{NothingLeft, IsLeft}
+use Rattle.ea_engine.specs.Turns.{Told, IsShaped, IsShapedAs, IsOver, is_ended, idle_run, ends_worker, is_empty, is_busy, is_idle, is_leave, is_refused, counters_of, counted, count_kind, lowered_in_all, popped_as, popped_in, popped_in_all, IsRoomy}
+use Rattle.ea_engine.specs.Closed.{entry_at, entry_of, IsClosedAs, IsClosedTurn}
+use Rattle.ea_engine.specs.Worked.{Kit, Progress, IsTurn, IsWork, IsHandOf, IsInside, IsLoneAs}
 use Rattle.ea_engine.proofs.ProgressLemmas.{Progress-none, Progress-then}
 use Rattle.ea_engine.proofs.BoundLemmas.{IsStale-more, IsScanned-more, IsCut-more}
-use Rattle.ea_engine.proofs.CounterLemmas.{index_push, popped_count, popped_count_push, lowered_push, refused_push, counters_push, IsRoomy-few}
+use Rattle.ea_engine.proofs.CounterLemmas.{index_push, count_push, popped_count, popped_count_push, lowered_push, refused_push, counters_push, IsRoomy-few}
 
 some_one : (o : Option Entry) → IsSome o → length (option_to_list o) ≡ 1
 some_one None h = absurd (false≢true h)
@@ -57,6 +62,42 @@ popped_push : (ts : List Told) (t : Told) → popped_in_all (ts ++ t ∷ []) ≡
 popped_push [] t = sym (append-nil (popped_in t.0))
 popped_push (u ∷ ts) t = ap (λ xs. xs ++ popped_in u.0) (popped_push ts t) ∙ append_assoc (popped_in t.0) (popped_in_all ts) (popped_in u.0)
 
+-- a seat with all shares isn't busy
+not_busy : (k : TurnKind) (heaps : ℕ) (a : Account) (e : Entry) → IsLoneAs heaps a k e → cond {A = ℕ} (is_busy k) 1 0 ≡ 0
+not_busy Empty heaps a e lone = refl
+not_busy Busy heaps a e lone = absurd lone
+not_busy Stale heaps a e lone = refl
+not_busy Scanned heaps a e lone = refl
+not_busy Refused heaps a e lone = refl
+not_busy Cut heaps a e lone = refl
+
+-- a turn that lowered no label pushed nothing
+nothing_pushed : (a b : Kit) (popped : List Entry) (words : ℕ) (refused : List Entry) (p : Progress a b popped words 0 refused) → p.pushed ≡ []
+nothing_pushed a b popped words refused p = none p.pushed (omega (arith, p.lowered_is, ap length p.own_entries, length-map p.lowerings entry_of, length-append refused p.pushed))
+  where
+    none : (xs : List Entry) → length xs ≡ 0 → xs ≡ []
+    none [] e = refl
+    none (x ∷ xs) e = absurd (omega (arith, e))
+
+-- one that found both heaps empty leaves the account as it was
+still : (a b : Kit) (words : ℕ) (refused : List Entry) → Progress a b [] words 0 refused → NothingLeft a.account → NothingLeft b.account
+still a b words refused p nothing f =
+    omega (arith, nothing f, ap (total f) (p.pushed_are ∙ ap (λ xs. xs ++ a.account.pushed) (nothing_pushed a b [] words refused p)), ap (total f) p.popped_are)
+
+-- where nothing is left, no entry is
+none_left : (a : Account) (e : Entry) → NothingLeft a → IsLeft e a → ⊥
+none_left a e nothing left = omega (arith, left, nothing (only e))
+
+-- where a turn found two heaps empty, this one or one before it, nothing is left
+nothing_left : (k : TurnKind) (heaps n key node before : ℕ) (a b : Kit) (words : ℕ) (refused : List Entry) → IsShapedAs k node key n → Progress a b (popped_as k key node) words n refused
+    → heaps ≡ 2 → IsLoneAs heaps a.account k (entry_at key node) → (0 < before → NothingLeft a.account) → 0 < before + cond (is_empty k) 1 0 → NothingLeft b.account
+nothing_left Empty heaps n key node before a b words refused shaped p two lone known some = still a b words refused (subst (λ m. Progress a b [] words m refused) shaped.2 p) (lone two)
+nothing_left Busy heaps n key node before a b words refused shaped p two lone known some = absurd lone
+nothing_left Stale heaps n key node before a b words refused shaped p two lone known some = absurd (none_left a.account _ (known (omega (arith, some))) (lone two).0)
+nothing_left Scanned heaps n key node before a b words refused shaped p two lone known some = absurd (none_left a.account _ (known (omega (arith, some))) (lone two).0)
+nothing_left Refused heaps n key node before a b words refused shaped p two lone known some = absurd (none_left a.account _ (known (omega (arith, some))) (lone two).0)
+nothing_left Cut heaps n key node before a b words refused shaped p two lone known some = absurd (none_left a.account _ (known (omega (arith, some))) (lone two).0)
+
 module _ (roads : Roads) (answers : ℕ → ℕ → ℕ → ℕ → Type 0) (target : Option ℕ) where
   pub IsClosedAs-more : (bs cs : List Bound) (hand hand' : List Entry) (k : TurnKind) (e : Entry) → ((b : Bound) → Contains bs b → Contains cs b) → ((x : Entry) → Contains hand x → Contains hand' x)
       → IsClosedAs roads answers target bs hand k e → IsClosedAs roads answers target cs hand' k e
@@ -67,7 +108,7 @@ module _ (roads : Roads) (answers : ℕ → ℕ → ℕ → ℕ → Type 0) (tar
   IsClosedAs-more bs cs hand hand' Scanned e stays held h = IsScanned-more bs cs stays roads answers e h
   IsClosedAs-more bs cs hand hand' Refused e stays held h = held e h
 
-  module _ {T : Type 0} (shows : T → Turn → Flow → T → Type 0) where
+  module _ {T : Type 0} (shows : T → Turn → Flow → T → Type 0) (heaps : ℕ) where
     pub record SoFar (from to : Kit) (budget : ℕ) (tracer tracer' : T) (counters : Counters) (hand : Hand) (number idle : ℕ) (ended : Bool) : Type 0 where
       pub turns : List Told
       pub numbered : (i : ℕ) (d : Told) → i < length turns → (get_or turns i d).0.number ≡ i
@@ -87,6 +128,8 @@ module _ (roads : Roads) (answers : ℕ → ℕ → ℕ → ℕ → Type 0) (tar
       pub popped_is : length (popped_in_all turns) ≡ popped_count turns
       pub popped_back : length (option_to_list hand.popped) ≡ count_kind is_refused turns
       pub refused_back : length (option_to_list hand.refused) ≡ count_kind is_refused turns
+      pub never_busy : from.account.shares ≡ SHARES → count_kind is_busy turns ≡ 0
+      pub empty_so_far : from.account.shares ≡ SHARES → heaps ≡ 2 → 0 < count_kind is_empty turns → NothingLeft to.account
 
     pub SoFar-start : (k : Kit) (budget : ℕ) (tracer : T) (counters : Counters) (hand : Hand) → counters ≡ counters_of [] → hand.popped ≡ None → hand.refused ≡ None
         → SoFar k k budget tracer tracer counters hand 0 0 false
@@ -109,6 +152,8 @@ module _ (roads : Roads) (answers : ℕ → ℕ → ℕ → ℕ → Type 0) (tar
       popped_is = refl;
       popped_back = rw popped refl;
       refused_back = rw refused refl;
+      never_busy = λ whole. refl;
+      empty_so_far = λ whole two some. absurd (omega (arith, some));
     }
 
     pub SoFar-roomy : (from to : Kit) (budget : ℕ) (tracer tracer' : T) (counters : Counters) (hand : Hand) (number idle : ℕ) (ended : Bool)
@@ -129,7 +174,7 @@ module _ (roads : Roads) (answers : ℕ → ℕ → ℕ → ℕ → Type 0) (tar
     module _ (from mid to : Kit) (budget : ℕ) (tracer tracer' tracer'' : T) (counters counters' : Counters) (hand hand' : Hand) (number idle idle' : ℕ) (ended' : Bool) (turn : Turn) (flow : Flow)
         (h : SoFar from mid budget tracer tracer' counters hand number idle false)
         (low : idle < 32) (more : number < budget)
-        (one : IsTurn roads answers target mid to number turn hand')
+        (one : IsTurn roads answers target heaps mid to number turn hand')
         (told : shows tracer' turn flow tracer'')
         (counts : counters' ≡ counted counters turn)
         (idles : idle' ≡ (if is_idle turn.kind then idle + 1 else 0))
@@ -165,11 +210,14 @@ module _ (roads : Roads) (answers : ℕ → ℕ → ℕ → ℕ → Type 0) (tar
         popped_is = omega (arith, h.popped_is, popped_count_push h.turns (turn, flow), ap length (popped_push h.turns (turn, flow)), length-append (popped_in turn) (popped_in_all h.turns));
         popped_back = (hand_sizes turn.kind hand' one.hand_is).0 ∙ sym (refused_push h.turns (turn, flow) ∙ ap (λ n. n + cond (is_refused turn.kind) 1 0) none_refused ∙ zero-add _);
         refused_back = (hand_sizes turn.kind hand' one.hand_is).1 ∙ sym (refused_push h.turns (turn, flow) ∙ ap (λ n. n + cond (is_refused turn.kind) 1 0) none_refused ∙ zero-add _);
+        never_busy = λ whole. omega (arith, count_push is_busy h.turns (turn, flow), h.never_busy whole, not_busy turn.kind heaps mid.account _ (one.lone (h.progress.pool_shares ∙ whole)));
+        empty_so_far = λ whole two some. nothing_left turn.kind heaps turn.lowered turn.key turn.node (count_kind is_empty h.turns) mid to _ _ one.shaped one.progress two (one.lone (h.progress.pool_shares ∙ whole)) (h.empty_so_far whole two)
+            (omega (arith, some, count_push is_empty h.turns (turn, flow)));
       }
 
     pub SoFar-end : (from to : Kit) (budget : ℕ) (tracer tracer' : T) (counters : Counters) (hand : Hand) (number idle : ℕ) (ended : Bool)
         → SoFar from to budget tracer tracer' counters hand number idle ended → number ≤ 1000000000 → (ended ≡ true) ⊎ (32 ≤ idle) ⊎ (budget ≤ number)
-        → IsWork roads answers target shows from to budget tracer tracer' counters hand
+        → IsWork roads answers target shows heaps from to budget tracer tracer' counters hand
     SoFar-end from to budget tracer tracer' counters hand number idle ended h small why = record {
       turns = h.turns;
       lawful = record {
@@ -192,4 +240,6 @@ module _ (roads : Roads) (answers : ℕ → ℕ → ℕ → ℕ → Type 0) (tar
       popped_is = ap (λ (x : Counters). x.popped) h.counted ∙ sym h.popped_is;
       returned_is = ap (λ (x : Counters). x.returned) h.counted ∙ omega (arith, h.popped_back, h.refused_back);
       pushed_is = ap (λ (x : Counters). x.pushed) h.counted ∙ omega (arith, h.refused_back, h.progress.lowered_is, ap length h.progress.own_entries, length-map h.progress.lowerings entry_of, length-append (option_to_list hand.refused) h.progress.pushed);
+      never_busy = λ whole. ap (λ (x : Counters). x.busy) h.counted ∙ h.never_busy whole;
+      empty_at_end = λ whole two some. h.empty_so_far whole two (omega (arith, some, ap (λ (x : Counters). x.empty) h.counted));
     }

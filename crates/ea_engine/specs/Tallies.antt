@@ -1,5 +1,5 @@
 -- The counts of a run.
-use Rattle.std.specs.Prelude.{◌≡◌, ℕ, ◌+◌, ◌-◌, ◌≤◌, List, sum_by}
+use Rattle.std.specs.Prelude.{◌≡◌, ℕ, ◌+◌, ◌-◌, ◌<◌, ◌≤◌, List, length, sum_by}
 use Rattle.ea_engine.specs.declared.counters.Counters.{Counters}
 
 abbrev pub pushed_by_all : List Counters → ℕ
@@ -11,6 +11,12 @@ popped_by_all counters = sum_by (λ c. c.popped) counters
 abbrev pub returned_by_all : List Counters → ℕ
 returned_by_all counters = sum_by (λ c. c.returned) counters
 
+abbrev pub busy_by_all : List Counters → ℕ
+busy_by_all counters = sum_by (λ c. c.busy) counters
+
+abbrev pub empty_by_all : List Counters → ℕ
+empty_by_all counters = sum_by (λ c. c.empty) counters
+
 -- Of so many sources the pool took `seeded` entries. What it took was popped or drained; a finishing pass that starts with
 -- `finish` open nodes opened no more than were drained and handed back; what the workers don't account for of what was
 -- handed back are seeds.
@@ -19,3 +25,10 @@ pub record IsTally (sources seeded returned drained finish : ℕ) (counters : Li
   pub few_open : finish ≤ drained + returned
   pub hands : returned_by_all counters ≤ returned
   pub seeds : seeded + (returned - returned_by_all counters) ≤ sources
+
+-- What a run of one worker shows, on a pool of so many heaps.
+pub record IsLoneTally (heaps drained : ℕ) (counters : List Counters) : Type 0 where
+  -- one worker is never busy
+  pub never_busy : length counters ≡ 1 → busy_by_all counters ≡ 0
+  -- and finds two heaps empty only where nothing is left to drain
+  pub empty_at_end : length counters ≡ 1 → heaps ≡ 2 → 0 < empty_by_all counters → drained ≡ 0

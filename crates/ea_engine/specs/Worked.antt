@@ -16,8 +16,10 @@ use Rattle.ea_labels.specs.declared.record.Bound.{Bound}
 use Rattle.ea_labels.specs.declared.record.Lowering.{Lowering}
 use Rattle.ea_labels.specs.declared.record.SeatRecord.{SeatRecord}
 use Rattle.ea_pool.specs.declared.account.Account.{Account}
+use Rattle.ea_pool.specs.declared.TheConstants.{SHARES}
+use Rattle.ea_pool.specs.Pools.{NothingLeft, IsLeastLeft}
 use Rattle.ea_engine.specs.Turns.{Told, IsTurnList, IsShaped, popped_in, popped_in_all, lowered_in_all, counters_of}
-use Rattle.ea_engine.specs.Closed.{entry_of, IsClosedTurn}
+use Rattle.ea_engine.specs.Closed.{entry_at, entry_of, IsClosedTurn}
 
 -- what a worker has: its two seats, and its generator
 pub record Kit : Type 0 where
@@ -61,9 +63,19 @@ IsHandOf Scanned h = (h.popped ≡ None) × (h.refused ≡ None)
 IsHandOf Refused h = IsSome h.popped × IsSome h.refused
 IsHandOf Cut h = (h.popped ≡ None) × (h.refused ≡ None)
 
+-- Of a seat with all shares, and its account before a turn: no turn is busy; of two heaps, one that found both empty shows
+-- that nothing is left, and one that popped an entry, that this was left, and with the least key.
+abbrev pub IsLoneAs : ℕ → Account → TurnKind → Entry → Type 0
+IsLoneAs heaps account Empty entry = heaps ≡ 2 → NothingLeft account
+IsLoneAs heaps account Busy entry = ⊥
+IsLoneAs heaps account Stale entry = heaps ≡ 2 → IsLeastLeft entry account
+IsLoneAs heaps account Scanned entry = heaps ≡ 2 → IsLeastLeft entry account
+IsLoneAs heaps account Refused entry = heaps ≡ 2 → IsLeastLeft entry account
+IsLoneAs heaps account Cut entry = heaps ≡ 2 → IsLeastLeft entry account
+
 module _ (roads : Roads) (answers : ℕ → ℕ → ℕ → ℕ → Type 0) (target : Option ℕ) where
-  -- one turn, and the entries that it hands back
-  pub record IsTurn (from to : Kit) (number : ℕ) (turn : Turn) (hand : Hand) : Type 0 where
+  -- one turn on a pool of so many heaps, and the entries that it hands back
+  pub record IsTurn (heaps : ℕ) (from to : Kit) (number : ℕ) (turn : Turn) (hand : Hand) : Type 0 where
     pub number_is : turn.number ≡ number
     pub shaped : IsShaped turn
     pub few : turn.lowered ≤ 2 ^ 28
@@ -72,10 +84,12 @@ module _ (roads : Roads) (answers : ℕ → ℕ → ℕ → ℕ → Type 0) (tar
     pub hand_inside : IsInside roads hand
     pub progress : Progress from to (popped_in turn) (2 + turn.lowered) turn.lowered (option_to_list hand.refused)
     pub closed : IsClosedTurn roads answers target to.labels.bounds (option_to_list hand.popped) turn
+    -- what a seat with all shares learns
+    pub lone : from.account.shares ≡ SHARES → IsLoneAs heaps from.account turn.kind (entry_at turn.key turn.node)
 
   module _ {T : Type 0} (shows : T → Turn → Flow → T → Type 0) where
-    -- The worker showed the turns of one lawful turn list to its tracer, each once and in order.
-    pub record IsWork (from to : Kit) (budget : ℕ) (tracer tracer' : T) (counters : Counters) (hand : Hand) : Type 0 where
+    -- The worker showed the turns of one lawful turn list to its tracer, each once and in order. The pool has so many heaps.
+    pub record IsWork (heaps : ℕ) (from to : Kit) (budget : ℕ) (tracer tracer' : T) (counters : Counters) (hand : Hand) : Type 0 where
       pub turns : List Told
       pub lawful : IsTurnList budget turns
       pub shown : FoldsTo (λ p t q. shows p t.0 t.1 q) tracer turns tracer'
@@ -88,3 +102,7 @@ module _ (roads : Roads) (answers : ℕ → ℕ → ℕ → ℕ → Type 0) (tar
       pub pushed_is : counters.pushed ≡ length progress.pushed
       pub pushed_few : counters.pushed < 2 ^ 62
       pub popped_is : counters.popped ≡ length (popped_in_all turns)
+      -- a seat with all shares is never busy
+      pub never_busy : from.account.shares ≡ SHARES → counters.busy ≡ 0
+      -- and where a turn found two heaps empty, what it pushed is what it popped
+      pub empty_at_end : from.account.shares ≡ SHARES → heaps ≡ 2 → 0 < counters.empty → NothingLeft to.account

@@ -2,7 +2,7 @@
 ghost use Rattle.std.specs.Prelude.{◌≡◌, ◌≤◌, ◌*◌, [], IfOk};
 ghost use Rattle.std.specs.Vec.{vec_capacity};
 ghost use Rattle.ea_labels.specs.Core.{first_record};
-ghost use Rattle.ea_pool.specs.Seats.{account_of, IsSeatOf};
+ghost use Rattle.ea_pool.specs.Seats.{account_of, heaps_of, IsSeatOf};
 ghost use Rattle.ea_pool.specs.Pools.{Opened};
 ghost use Rattle.ea_pool.specs.declared.TheConstants.{SHARES};
 ghost use Rattle.ea_engine.specs.Settled.{AreSettings};
@@ -70,6 +70,7 @@ impl<K: Known, R: Drop, T: Drop> Arrays<K, R, T> {
         requires { AreSettings settings }
         ensures labels { IfOk result (λ a. (a.labels.nodes ≡ nodes) × (a.label_seat.table ≡ a.labels.table) × (a.label_seat.history ≡ first_record)) }
         ensures pool { IfOk result (λ a. IsSeatOf a.pool a.pool_seat × Opened SHARES (account_of a.pool_seat)) }
+        ensures heaps { IfOk result (λ a. heaps_of a.pool ≡ settings.workers * settings.heaps) }
         ensures todo { IfOk result (λ a. (a.todo.nodes ≡ nodes) × (a.todo.waiting ≡ []) × (a.todo.walks ≡ walks)) }
         ensures row { IfOk result (λ a. (a.seats.items ≡ []) × (settings.workers ≤ vec_capacity a.seats) × (a.row.items ≡ []) × (settings.workers ≤ vec_capacity a.row)) }
         ensures none { IfOk result (λ a. (a.results.counters.items ≡ []) × (a.results.rngs.items ≡ []) × (a.results.tracers.items ≡ [])) }

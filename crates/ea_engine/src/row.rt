@@ -1,5 +1,5 @@
 ghost use Rattle.std.specs.Prelude.{◌≡◌, ℕ, ◌+◌, ◌<◌, ◌≤◌, ◌^◌, length, slice_index_or};
-ghost use Rattle.ea_pool.specs.Seats.{account_of, IsSeatOf};
+ghost use Rattle.ea_pool.specs.Seats.{account_of, heaps_of, IsSeatOf};
 ghost use Rattle.ea_engine.specs.Ground.{IsGround};
 ghost use Rattle.ea_engine.specs.Parts.{AllFrom, AllPairsFrom};
 ghost use Rattle.ea_engine.specs.Rows.{IsReady, IsRun, IsReadyRow, IsRunRow};
@@ -47,7 +47,7 @@ pub fn run_place<K: Known, P: TravelTimes, R: Rng + Drop, G: Gate, T: FnMut(Turn
     requires ready { IsReady (λ s. s.table ≡ labels.now.table) (λ s. IsSeatOf pool.now s) T.IsAlwaysCallable place.old }
     requires budget { budget ≤ 1000000000 }
     ensures run { IsRun network.now (P.answers profiles.now) query.now.target T.step (λ s. s.history) (λ s. account_of s) R.stream
-        (λ s. s.table ≡ labels.now.table) (λ s. IsSeatOf pool.now s) budget place.old place.new }
+        (λ s. s.table ≡ labels.now.table) (λ s. IsSeatOf pool.now s) (heaps_of pool.now) budget place.old place.new }
 {
     if let Place::Ready(ready) = mem::replace(place, Place::Running) {
         let Ready {
@@ -87,13 +87,13 @@ pub fn run_workers<
     requires few { length row.old ≤ 16 }
     requires budget { budget ≤ 1000000000 }
     ensures run { IsRunRow network.now (P.answers profiles.now) query.now.target T.step (λ s. s.history) (λ s. account_of s) R.stream
-        (λ s. s.table ≡ labels.now.table) (λ s. IsSeatOf pool.now s) budget row.old row.new }
+        (λ s. s.table ≡ labels.now.table) (λ s. IsSeatOf pool.now s) (heaps_of pool.now) budget row.old row.new }
 {
     let run_one = |start: usize, part: &mut [Place<LabelSeat<K>, PoolSeat<K>, R, T>]|
         requires { (length part.now ≡ 1) × (start < 2 ^ 32) × (budget ≤ 1000000000) × IsGround K.is_known labels.now.nodes network.now (P.answers profiles.now) (P.classes profiles.now) query.now.sources query.now.target
             × AllFrom (λ _ place. IsReady (λ s. s.table ≡ labels.now.table) (λ s. IsSeatOf pool.now s) T.IsAlwaysCallable place) start part.now }
         ensures { AllPairsFrom (λ _ before after. IsRun network.entry.now (P.answers profiles.entry.now) query.entry.now.target T.step (λ s. s.history) (λ s. account_of s) R.stream
-            (λ s. s.table ≡ labels.entry.now.table) (λ s. IsSeatOf pool.entry.now s) budget before after) start part.entry.now part.exit.now }
+            (λ s. s.table ≡ labels.entry.now.table) (λ s. IsSeatOf pool.entry.now s) (heaps_of pool.entry.now) budget before after) start part.entry.now part.exit.now }
     {
         run_place(
             network,

@@ -1,5 +1,5 @@
 //! Earliest arrivals by several threads.
-ghost use Rattle.std.specs.Prelude.{◌≡◌, ℕ, ◌↔◌, true, false, All, IfOk, length, vec_len};
+ghost use Rattle.std.specs.Prelude.{◌≡◌, ℕ, ◌*◌, ◌↔◌, true, false, All, IfOk, length, vec_len};
 ghost use Rattle.ea_road.specs.Answers.{IsFifoFunction};
 ghost use Rattle.ea_road.specs.Arrivals.{Reaches};
 ghost use Rattle.ea_road.specs.Queries.{IsProblem};
@@ -7,7 +7,7 @@ ghost use Rattle.ea_finish.specs.Answers.{HasArrivals, IsAnswer};
 ghost use Rattle.ea_finish.specs.Underway.{IsFinished};
 ghost use Rattle.ea_engine.specs.Reports.{AreReports};
 ghost use Rattle.ea_engine.specs.Settled.{AreSettings};
-ghost use Rattle.ea_engine.specs.Tallies.{IsTally};
+ghost use Rattle.ea_engine.specs.Tallies.{IsTally, IsLoneTally};
 
 use crate::arrays::Arrays;
 use crate::counters::Counters;
@@ -86,6 +86,7 @@ fn run_named<
     ensures finished { IfOk result (λ ended. IsFinished network.now (P.answers profiles.now) query.now ended.finished.table.items ended.finished.todo) }
     ensures walks { IfOk result (λ ended. ended.finished.todo.walks ≡ walks) }
     ensures tally { IfOk result (λ ended. IsTally (length query.now.sources) ended.seeded ended.returned ended.drained ended.opened ended.counters.items) }
+    ensures lone { IfOk result (λ ended. IsLoneTally (settings.workers * settings.heaps) ended.drained ended.counters.items) }
     ensures reports { IfOk result (λ ended. AreReports R.stream T.step settings.turns rngs.items ended.rngs.items tracers.items ended.tracers.items ended.counters.items) }
     ensures len { IfOk result (λ ended. (vec_len ended.counters ≡ settings.workers) × (vec_len ended.rngs ≡ settings.workers) × (vec_len ended.tracers ≡ settings.workers)) }
 {
@@ -155,6 +156,7 @@ pub fn solve<
     requires tracers { All T.IsAlwaysCallable tracers.items }
     ensures answer { IfOk result (λ solved. IsAnswer network.now (P.answers profiles.now) query.now solved.answer) }
     ensures tally { IfOk result (λ solved. IsTally (length query.now.sources) solved.seeded solved.returned solved.drained solved.finish solved.counters.items) }
+    ensures lone { IfOk result (λ solved. IsLoneTally (settings.workers * settings.heaps) solved.drained solved.counters.items) }
     ensures reports { IfOk result (λ solved. AreReports R.stream T.step settings.turns rngs.items solved.rngs.items tracers.items solved.tracers.items solved.counters.items) }
     ensures len { IfOk result (λ solved. (vec_len solved.counters ≡ settings.workers) × (vec_len solved.rngs ≡ settings.workers) × (vec_len solved.tracers ≡ settings.workers)) }
 {
@@ -207,6 +209,7 @@ pub fn solve_arrivals<
     requires tracers { All T.IsAlwaysCallable tracers.items }
     ensures answer { IfOk result (λ solved. HasArrivals network.now (P.answers profiles.now) query.now solved.answer) }
     ensures tally { IfOk result (λ solved. IsTally (length query.now.sources) solved.seeded solved.returned solved.drained solved.finish solved.counters.items) }
+    ensures lone { IfOk result (λ solved. IsLoneTally (settings.workers * settings.heaps) solved.drained solved.counters.items) }
     ensures reports { IfOk result (λ solved. AreReports R.stream T.step settings.turns rngs.items solved.rngs.items tracers.items solved.tracers.items solved.counters.items) }
     ensures len { IfOk result (λ solved. (vec_len solved.counters ≡ settings.workers) × (vec_len solved.rngs ≡ settings.workers) × (vec_len solved.tracers ≡ settings.workers)) }
 {
@@ -261,6 +264,7 @@ pub fn solve_by<
     requires tracers { All T.IsAlwaysCallable tracers.items }
     ensures answer { IfOk result (λ solved. IsAnswer network.now (λ class weight departure arrival. ∥ F.answers closure class weight departure arrival ∥₁) query.now solved.answer) }
     ensures tally { IfOk result (λ solved. IsTally (length query.now.sources) solved.seeded solved.returned solved.drained solved.finish solved.counters.items) }
+    ensures lone { IfOk result (λ solved. IsLoneTally (settings.workers * settings.heaps) solved.drained solved.counters.items) }
     ensures reports { IfOk result (λ solved. AreReports R.stream T.step settings.turns rngs.items solved.rngs.items tracers.items solved.tracers.items solved.counters.items) }
     ensures len { IfOk result (λ solved. (vec_len solved.counters ≡ settings.workers) × (vec_len solved.rngs ≡ settings.workers) × (vec_len solved.tracers ≡ settings.workers)) }
 {

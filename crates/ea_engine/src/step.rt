@@ -3,8 +3,12 @@ ghost use Rattle.std.specs.Option.{option_to_list};
 ghost use Rattle.ea_engine.specs.Ground.{IsGround};
 ghost use Rattle.rand_core.specs.Stream.{Stream};
 ghost use Rattle.ea_labels.specs.Core.{IsNode};
-ghost use Rattle.ea_pool.specs.Seats.{account_of, IsSeatOf};
+ghost use Rattle.ea_pool.specs.Seats.{account_of, heaps_of, IsSeatOf};
+ghost use Rattle.ea_pool.specs.declared.TheConstants.{SHARES};
 ghost use Rattle.ea_pool.specs.declared.account.Account.{Account};
+ghost use Rattle.ea_pool.specs.Pools.{SameBooks, Pops, NothingLeft, IsLeastLeft};
+ghost use Rattle.ea_pool.specs.Replies.{MatchPopped};
+ghost use Rattle.ea_engine.specs.Words.{after_words};
 ghost use Rattle.ea_pool.specs.declared.entry.Entry.{Entry as PoolEntry};
 ghost use Rattle.ea_engine.specs.Closed.{IsClosedTurn, IsCut};
 ghost use Rattle.ea_engine.specs.Turns.{is_idle, is_refused, is_leave, IsShaped, popped_in};
@@ -187,6 +191,24 @@ pub fn visit<K: Known, P: TravelTimes, R: Rng>(
     }
 }
 
+// Draws two words and pops by them. What a pop tells a seat with all shares is told to the turn.
+fn pop_drawn<K: Known, R: Rng>(pool: &Pool<K>, pool_seat: &mut PoolSeat<K>, rng: &mut R) -> Popped
+    requires pool_seat { IsSeatOf pool.now pool_seat.old }
+    ensures pool_seat { IsSeatOf pool.now pool_seat.new }
+    ensures popped { MatchPopped result
+        (λ entry. Pops (account_of pool_seat.old) entry (account_of pool_seat.new) × K.is_known entry.node entry.key)
+        (SameBooks (account_of pool_seat.old) (account_of pool_seat.new))
+        (SameBooks (account_of pool_seat.old) (account_of pool_seat.new)) }
+    ensures alone { (account_of pool_seat.old).shares ≡ SHARES → MatchPopped result (λ _. Unit {0}) (Unit {0}) ⊥ }
+    ensures least { (account_of pool_seat.old).shares ≡ SHARES → heaps_of pool.now ≡ 2
+        → MatchPopped result (λ entry. IsLeastLeft entry (account_of pool_seat.old)) (NothingLeft (account_of pool_seat.old)) ⊥ }
+    ensures words { R.stream rng.new ≡ after_words 2 (R.stream rng.old) }
+{
+    let first = rng.next_u64();
+    let second = rng.next_u64();
+    pool.pop_as(pool_seat, first, second)
+}
+
 /// One turn of a worker.
 pub fn take_turn<K: Known, P: TravelTimes, R: Rng>(
     network: &Network,
@@ -204,14 +226,12 @@ pub fn take_turn<K: Known, P: TravelTimes, R: Rng>(
     requires pool_seat { IsSeatOf pool.now means.old.pool_seat }
     ensures label_seat { means.new.label_seat.table ≡ labels.now.table }
     ensures pool_seat { IsSeatOf pool.now means.new.pool_seat }
-    ensures turn { IsTurn network.now (P.answers profiles.now) query.now.target
+    ensures turn { IsTurn network.now (P.answers profiles.now) query.now.target (heaps_of pool.now)
         (kit means.old.label_seat.history (account_of means.old.pool_seat) (R.stream means.old.rng))
         (kit means.new.label_seat.history (account_of means.new.pool_seat) (R.stream means.new.rng))
         number result.turn result.hand }
 {
-    let first = means.rng.next_u64();
-    let second = means.rng.next_u64();
-    match pool.pop_as(&mut means.pool_seat, first, second) {
+    match pop_drawn(pool, &mut means.pool_seat, &mut means.rng) {
         Popped::Empty => idle_turn(number, TurnKind::Empty),
         Popped::Busy => idle_turn(number, TurnKind::Busy),
         Popped::Entry(entry) => visit(

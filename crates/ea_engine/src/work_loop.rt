@@ -1,6 +1,6 @@
 ghost use Rattle.std.specs.Prelude.{◌≡◌, ◌+◌, ◌<◌, ◌≤◌, ◌||◌, if◌then◌else◌};
 ghost use Rattle.ea_engine.specs.Turns.{is_idle, is_refused, is_leave};
-ghost use Rattle.ea_pool.specs.Seats.{account_of, IsSeatOf};
+ghost use Rattle.ea_pool.specs.Seats.{account_of, heaps_of, IsSeatOf};
 ghost use Rattle.ea_engine.specs.Ground.{IsGround};
 ghost use Rattle.ea_engine.specs.Worked.{kit, IsWork};
 
@@ -83,7 +83,7 @@ pub fn work<K: Known, P: TravelTimes, R: Rng, G: Gate, T: FnMut(Turn) -> Flow>(
     requires budget { budget ≤ 1000000000 }
     ensures label_seat { result.label_seat.table ≡ labels.now.table }
     ensures pool_seat { IsSeatOf pool.now result.pool_seat }
-    ensures work { IsWork network.now (P.answers profiles.now) query.now.target T.step
+    ensures work { IsWork network.now (P.answers profiles.now) query.now.target T.step (heaps_of pool.now)
         (kit label_seat.history (account_of pool_seat) (R.stream rng))
         (kit result.label_seat.history (account_of result.pool_seat) (R.stream result.rng))
         budget tracer result.tracer result.counters result.hand }

@@ -4,13 +4,13 @@ ghost use Rattle.std.specs.Vec.{vec_capacity};
 ghost use Rattle.ea_labels.specs.Core.{first_record};
 ghost use Rattle.ea_pool.specs.Pools.{Opened};
 ghost use Rattle.ea_pool.specs.declared.TheConstants.{SHARES};
-ghost use Rattle.ea_pool.specs.Seats.{account_of, IsSeatOf};
+ghost use Rattle.ea_pool.specs.Seats.{account_of, heaps_of, IsSeatOf};
 ghost use Rattle.ea_engine.specs.Gathered.{IsGathered};
 ghost use Rattle.ea_engine.specs.Ground.{IsGround};
 ghost use Rattle.ea_engine.specs.Opened.{AreOffered};
 ghost use Rattle.ea_engine.specs.Reports.{AreReports};
 ghost use Rattle.ea_engine.specs.Rowed.{AreSeated};
-ghost use Rattle.ea_engine.specs.Tallies.{IsTally};
+ghost use Rattle.ea_engine.specs.Tallies.{IsTally, IsLoneTally};
 ghost use Rattle.ea_finish.specs.Underway.{IsUnderway};
 
 use crate::arrays::Arrays;
@@ -131,6 +131,7 @@ pub fn run<
     ensures underway { IsUnderway network.now (P.answers profiles.now) query.now result.table.items result.todo.waiting }
     ensures room { (result.todo.nodes ≡ network.now.nodes) × (result.todo.walks ≡ arrays.todo.walks) }
     ensures tally { IsTally (length query.now.sources) result.seeded result.returned result.drained (length result.todo.waiting) result.counters.items }
+    ensures lone { IsLoneTally (heaps_of arrays.pool) result.drained result.counters.items }
     ensures reports { AreReports R.stream T.step turns rngs.items result.rngs.items tracers.items result.tracers.items result.counters.items }
     ensures len { (vec_len result.counters ≡ vec_len rngs) × (vec_len result.rngs ≡ vec_len rngs) × (vec_len result.tracers ≡ vec_len rngs) }
 {

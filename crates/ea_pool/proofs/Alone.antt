@@ -13,7 +13,7 @@ use Rattle.ea_pool.specs.declared.words.TheConstants.{EMPTY}
 use Rattle.ea_pool.specs.Entries.{only, times, IsKnown, face}
 use Rattle.ea_pool.specs.States.{saw}
 use Rattle.ea_pool.specs.Plays.{Surveys}
-use Rattle.ea_pool.specs.Pools.{books, SameBooks, Pops, NothingLeft, IsLeastLeft}
+use Rattle.ea_pool.specs.Pools.{books, SameBooks, Pops, NothingLeft, IsLeft, IsLeastLeft}
 use Rattle.ea_pool.specs.Replies.{MatchPopped}
 use Rattle.ea_pool.proofs.Weights.{only-same, only-one}
 
@@ -59,7 +59,7 @@ module _ (known : ℕ → ℕ → Type 0) (in_time : (node time : ℕ) → known
       let s₀ = seen.0 other in
       both i j k (λ n. s ≤ face (slice_index_or survey.contents n [])) near other apart (omega arith) (omega arith) (omega arith)
 
-  pub is_least : (e : Entry) → e.key ≤ x → e.key ≤ y → IsLeastLeft e (books v)
+  pub is_least : (e : Entry) → e.key ≤ x → e.key ≤ y → (d : Entry) → IsLeft d (books v) → e.key ≤ d.key
   is_least e a b d more = bounds_all e.key survey.contents (bounded e.key a b) d (omega (arith, left (only d)))
 
   pub is_nothing : x ≡ EMPTY → y ≡ EMPTY → NothingLeft (books v)
@@ -73,7 +73,11 @@ module _ (known : ℕ → ℕ → Type 0) (in_time : (node time : ℕ) → known
   )
 
   pub pops_least_of_two : (answer : Popped) (b : SeatState) (s : ℕ) → s ≡ min x y → MatchPopped answer (λ e. Pops (books w) e (books b) × IsKnown known e × (e.key ≡ s)) ⊥ (SameBooks (books w) (books b) × (b.seen ≡ [])) → MatchPopped answer (λ e. Unit {0}) ⊥ ⊥
+      → MatchPopped answer (λ e. IsLeft e (books w)) (Unit {0}) (Unit {0})
       → MatchPopped answer (λ e. IsLeastLeft e (books v)) (NothingLeft (books v)) ⊥
-  pops_least_of_two (reply.Entry e) b s m t busy = is_least e (omega (arith, t.2)) (omega (arith, t.2))
-  pops_least_of_two reply.Empty b s m t busy = absurd t
-  pops_least_of_two reply.Busy b s m t busy = busy
+  pops_least_of_two (reply.Entry e) b s m t busy there = (
+    omega (arith, there, ap (λ (a : SeatState). times e a.pushed) is, ap (λ (a : SeatState). times e a.popped) is),
+    is_least e (omega (arith, t.2)) (omega (arith, t.2)),
+  )
+  pops_least_of_two reply.Empty b s m t busy there = absurd t
+  pops_least_of_two reply.Busy b s m t busy there = busy

@@ -155,20 +155,18 @@ module _ (known : ℕ → ℕ → Type 0) where
   pub unheld_all : (s : Core) (o : IsLawful known s) (id : ℕ) (a : SeatState) → get_elem? s.seats id ≡ maybe.some a → a.shares ≡ SHARES → a.held ≡ None → (k : ℕ) → total (holds_heap k) s.seats ≡ 0
   unheld_all s o id a me whole rests k = total_alone (holds_heap k) (λ (b : SeatState). b.shares) s.seats id a me (omega (arith, o.shares_add_up)) (λ j b at none. ap (holds_heap k) (o.live j b at none)) ∙ ap (count_of k) rests
 
-  -- then what it pushed is what it popped and what the heaps have
+  -- what a seat with all shares pushed is what it popped and what the heaps have, at home or held
+  pub balance_whole : (s : Core) (o : IsLawful known s) (id : ℕ) (a : SeatState) → get_elem? s.seats id ≡ maybe.some a → a.shares ≡ SHARES → (f : Entry → ℕ)
+      → total f a.pushed ≡ total f a.popped + (home_weight f s.homes + total f (content_of a.held))
+  balance_whole s o id a me whole f =
+      let alone : (f : SeatState → ℕ) → f nobody ≡ 0 → total f s.seats ≡ f a = λ f z. total_alone f (λ (b : SeatState). b.shares) s.seats id a me (omega (arith, o.shares_add_up)) (λ j b at none. ap f (o.live j b at none) ∙ z) in
+      omega (arith, o.balanced f, alone (λ b. total f b.pushed) refl, alone (λ b. total f b.popped) refl, alone (λ b. total f (content_of b.held)) refl)
+
+  -- and where it holds nothing, what the heaps at home have
   pub balance_alone : (s : Core) (o : IsLawful known s) (id : ℕ) (a : SeatState) → get_elem? s.seats id ≡ maybe.some a → a.shares ≡ SHARES → a.held ≡ None → (f : Entry → ℕ)
       → total f a.pushed ≡ total f a.popped + total (total f) (map at_home s.homes)
   balance_alone s o id a me whole rests f =
-      let alone : (f : SeatState → ℕ) → f nobody ≡ 0 → total f s.seats ≡ f a = λ f z. total_alone f (λ (b : SeatState). b.shares) s.seats id a me (omega (arith, o.shares_add_up)) (λ j b at none. ap f (o.live j b at none) ∙ z) in
-      omega (
-        arith,
-        o.balanced f,
-        alone (λ b. total f b.pushed) refl,
-        alone (λ b. total f b.popped) refl,
-        alone (λ b. total f (content_of b.held)) refl,
-        ap (λ (h : Option Held). total f (content_of h)) rests,
-        total-map (total f) at_home s.homes,
-      )
+      omega (arith, balance_whole s o id a me whole f, ap (λ (h : Option Held). total f (content_of h)) rests, total-map (total f) at_home s.homes)
 
   -- what a seat with all shares knows
   pub surveys : (s : Core) (o : IsLawful known s) (id : ℕ) (a : SeatState) → get_elem? s.seats id ≡ maybe.some a → a.shares ≡ SHARES → a.held ≡ None → (pairs : List (ℕ × ℕ)) → AreWords s.words pairs

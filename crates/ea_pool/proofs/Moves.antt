@@ -25,7 +25,7 @@ use Rattle.ea_pool.specs.Events.{load, take, give_pushed, give_popped, give_back
 use Rattle.ea_pool.specs.Pools.{books, IsRunEnd}
 use Rattle.ea_pool.specs.Plays.{word_place, AreSpread, IsPoolState, Place, value_of, Surveys, Looked, Took, Taken, GavePushed, GavePopped, GaveBack}
 use Rattle.ea_pool.proofs.Weights.{only-same, added_same}
-use Rattle.ea_pool.proofs.Lawful.{Homes, board, empty_homes, unheld_all, balance_alone, surveys, word_low, known_in, unheld_home}
+use Rattle.ea_pool.proofs.Lawful.{Homes, board, empty_homes, unheld_all, balance_alone, balance_whole, surveys, word_low, known_in, unheld_home}
 use Rattle.ea_pool.proofs.Runs.{home_at, reached_lawful, reached_next, reached_take, opening_reached}
 
 abbrev Board : Type 0
@@ -216,6 +216,13 @@ module _ (known : ℕ → ℕ → Type 0) (heaps : ℕ) where
                   same (only e),
                   only-same e,
                 ))),
+                λ whole. subst (λ (x : Entry). times x v.popped < times x v.pushed) one (omega (
+                  arith,
+                  balance_whole known h.core o id v (at_core s h id v me) whole (only e),
+                  ap (λ (h : Option Held). total (only e) (content_of h)) holds,
+                  same (only e),
+                  only-same e,
+                )),
               ),
         )
 
@@ -336,11 +343,12 @@ module _ (known : ℕ → ℕ → Type 0) (heaps : ℕ) where
       account_is = refl;
     }
 
-pub told_popped : (known : ℕ → ℕ → Type 0) (m n : Place) (k : ℕ) (es es' : List Entry) (e : Entry) → m.1 ≡ (k, es') ∷ [] → m.0.held ≡ Some (held_at k es) → SameEntries es (e ∷ es') → ((d : Entry) → SameEntries (content_of m.0.held) (d ∷ value_of m.1) → (n ≡ (popped m.0 d, rest m.1)) × IsKnown known d)
-    → (n ≡ (popped m.0 e, [])) × IsKnown known e
+pub told_popped : (known : ℕ → ℕ → Type 0) (m n : Place) (k : ℕ) (es es' : List Entry) (e : Entry) → m.1 ≡ (k, es') ∷ [] → m.0.held ≡ Some (held_at k es) → SameEntries es (e ∷ es')
+    → ((d : Entry) → SameEntries (content_of m.0.held) (d ∷ value_of m.1) → (n ≡ (popped m.0 d, rest m.1)) × IsKnown known d × (m.0.shares ≡ SHARES → times d m.0.popped < times d m.0.pushed))
+    → (n ≡ (popped m.0 e, [])) × IsKnown known e × (m.0.shares ≡ SHARES → times e m.0.popped < times e m.0.pushed)
 told_popped known m n k es es' e carries holds same told =
     let t = told e (λ f. ap (λ (h : Option Held). total f (content_of h)) holds ∙ (same f ∙ ap (λ (c : List (ℕ × List Entry)). f e + total f (value_of c)) (sym carries))) in
-    (t.0 ∙ ap (λ (c : List (ℕ × List Entry)). (popped m.0 e, rest c)) carries, t.1)
+    (t.0 ∙ ap (λ (c : List (ℕ × List Entry)). (popped m.0 e, rest c)) carries, t.1, t.2)
 
 pub told_pushed : (m n : Place) (k : ℕ) (es es' : List Entry) (e : Entry) → m.1 ≡ (k, es') ∷ [] → m.0.held ≡ Some (held_at k es) → SameEntries es' (e ∷ es) → ((d : Entry) → SameEntries (value_of m.1) (d ∷ content_of m.0.held) → n ≡ (pushed m.0 d, rest m.1)) → n ≡ (pushed m.0 e, [])
 told_pushed m n k es es' e carries holds same told =

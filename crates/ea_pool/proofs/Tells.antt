@@ -10,7 +10,7 @@ use Rattle.ea_pool.specs.declared.words.TheConstants.{OUT}
 use Rattle.ea_pool.specs.Entries.{only, times, SameEntries, IsLeastOf, IsKnown, face}
 use Rattle.ea_pool.specs.States.{saw, took, popped}
 use Rattle.ea_pool.specs.Plays.{Place, value_of, Surveys, Took}
-use Rattle.ea_pool.specs.Pools.{HoldsHeap, books, Pops}
+use Rattle.ea_pool.specs.Pools.{HoldsHeap, books, Pops, IsLeft}
 use Rattle.ea_pool.proofs.Weights.{only-same}
 use Rattle.ea_pool.proofs.HeapOrder.{face_is}
 use Rattle.ea_pool.proofs.Lawful.{face_low}
@@ -32,6 +32,12 @@ module _ (known : ℕ → ℕ → Type 0) where
         is_known,
         sym (face_is e es least there (in_time e.node e.key is_known)) ∙ t.2,
       )
+
+  -- what a seat with all shares popped from a heap that it took was left before
+  pub was_left : (m m₁ m₂ : Place) (k seen : ℕ) (e : Entry) → Took known m k seen m₁ → m₂.0 ≡ m₁.0 → m.0.shares ≡ SHARES → (m₂.0.shares ≡ SHARES → IsLeft e (books m₂.0)) → IsLeft e (books m.0)
+  was_left m m₁ m₂ k seen e t view whole left =
+      let same : m₂.0 ≡ took m.0 k t.0 = view ∙ ap (λ (n : Place). n.0) t.1 in
+      subst (λ (a : SeatState). IsLeft e (books a)) same (left (ap (λ (a : SeatState). a.shares) same ∙ whole))
 
   -- with all shares no heap is out
   pub none_out : (heaps : ℕ) (v w : SeatState) (k x : ℕ) → Surveys known heaps w → w ≡ saw v k x → k < heaps → x ≡ OUT → ⊥

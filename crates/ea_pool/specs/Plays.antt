@@ -7,7 +7,7 @@ use Rattle.ea_pool.specs.declared.entry.Entry.{Entry}
 use Rattle.ea_pool.specs.declared.account.SeatState.{SeatState}
 use Rattle.ea_pool.specs.declared.TheConstants.{SHARES}
 use Rattle.ea_pool.specs.declared.words.TheConstants.{OUT, WORDS_APART}
-use Rattle.ea_pool.specs.Entries.{SameEntries, IsKnown, AreKnown, face}
+use Rattle.ea_pool.specs.Entries.{times, SameEntries, IsKnown, AreKnown, face}
 use Rattle.ea_pool.specs.States.{content_of, saw, forgot, took, pushed, popped, gave}
 use Rattle.ea_pool.specs.Core.{Core}
 use Rattle.ea_pool.specs.Events.{IsReached}
@@ -62,8 +62,10 @@ module _ (known : ℕ → ℕ → Type 0) where
       × (r ≢ st.first → n ≡ (forgot m.0, m.1))
       × (m.0.shares ≡ SHARES → AllByRecursion (λ p. st.word ≡ word_place p.0 → r ≡ p.1) m.0.seen)
 
+  -- an entry that a seat with all shares takes out is one that was pushed and not popped yet
   abbrev pub GavePopped : Step (List Entry) → Place → ℕ → Place → Type 0
-  GavePopped st m r n = (e : Entry) → SameEntries (content_of m.0.held) (e ∷ value_of m.1) → (n ≡ (popped m.0 e, rest m.1)) × IsKnown known e
+  GavePopped st m r n = (e : Entry) → SameEntries (content_of m.0.held) (e ∷ value_of m.1)
+      → (n ≡ (popped m.0 e, rest m.1)) × IsKnown known e × (m.0.shares ≡ SHARES → times e m.0.popped < times e m.0.pushed)
 
 abbrev pub GavePushed : Step (List Entry) → Place → ℕ → Place → Type 0
 GavePushed st m r n = (e : Entry) → SameEntries (value_of m.1) (e ∷ content_of m.0.held) → n ≡ (pushed m.0 e, rest m.1)

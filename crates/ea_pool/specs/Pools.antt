@@ -31,9 +31,13 @@ Opened shares a = (a.shares ≡ shares) × (a.pushed ≡ []) × (a.popped ≡ []
 abbrev pub NothingLeft : Account → Type 0
 NothingLeft a = SameEntries a.pushed a.popped
 
--- or entries with no key below this one's
+-- or entries, of which this is one
+abbrev pub IsLeft : Entry → Account → Type 0
+IsLeft e a = times e a.popped < times e a.pushed
+
+-- and none has a key below this one's
 abbrev pub IsLeastLeft : Entry → Account → Type 0
-IsLeastLeft e a = (d : Entry) → times d a.popped < times d a.pushed → e.key ≤ d.key
+IsLeastLeft e a = IsLeft e a × ((d : Entry) → IsLeft d a → e.key ≤ d.key)
 
 -- WITHIN A CALL
 

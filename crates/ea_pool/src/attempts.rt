@@ -1,7 +1,7 @@
 //! Attempts: a heap is taken, used and put back.
 ghost use Rattle.std.specs.Prelude.{◌≡◌, ◌≢◌, ◌*◌, ◌<◌, false, [], IfErr, OnOk};
 ghost use Rattle.std.specs.List.{AllByRecursion};
-ghost use Rattle.ea_pool.specs.Pools.{Rests, books, SameBooks, Pushes, Pops, IsLeastLeft, NothingLeft};
+ghost use Rattle.ea_pool.specs.Pools.{Rests, books, SameBooks, Pushes, Pops, IsLeft, IsLeastLeft, NothingLeft};
 ghost use Rattle.ea_pool.specs.Replies.{handed_back, is_busy, OnBusy, MatchPopped};
 ghost use Rattle.ea_pool.specs.Tries.{LookedAt, WasBusy, MissedHeap, Missed};
 
@@ -65,6 +65,8 @@ impl<K: Known, A: Allocator> Pool<K, A> {
             (SameBooks (books seat.old.me.0) (books seat.new.me.0) × (seat.new.me.0.seen ≡ [])) }
         ensures alone { seat.old.me.0.shares ≡ SHARES → AllByRecursion
             (λ p. heap ≡ p.0 → seen ≡ p.1 → MatchPopped result (λ _. Unit {0}) ⊥ ⊥) seat.old.me.0.seen }
+        ensures left { seat.old.me.0.shares ≡ SHARES
+            → MatchPopped result (λ entry. IsLeft entry (books seat.old.me.0)) (Unit {0}) (Unit {0}) }
     {
         if !self.take(seat, heap, seen) {
             return Popped::Busy;

@@ -17,7 +17,9 @@ pub fn draw_second(heaps: usize, first: u64, second: u64) -> usize
     ensures other { result ≢ first_draw heaps first }
 {
     let heaps = heaps as u64;
-    ((first % heaps + 1 + second % (heaps - 1)) % heaps) as usize
+    // Less than twice round: a comparison takes the place of a division.
+    let place = first % heaps + 1 + second % (heaps - 1);
+    (if place < heaps { place } else { place - heaps }) as usize
 }
 
 // The heap of a push's attempt, from 0: from the first draw on, in turn.
@@ -26,7 +28,9 @@ pub fn draw_try(heaps: usize, word: u64, attempt: usize) -> usize
     ensures draw { result ≡ try_draw heaps word attempt }
     ensures near { result < heaps }
 {
-    (draw_first(heaps, word) + attempt) % heaps
+    // The first attempt, often the only one, needs no second division.
+    let place = draw_first(heaps, word) + attempt;
+    if place < heaps { place } else { place % heaps }
 }
 
 // The lesser word with its heap, and on equal words the heap with the lower number.

@@ -4,7 +4,7 @@ ghost use Rattle.std.specs.List.{AllByRecursion};
 ghost use Rattle.ea_pool.specs.Entries.{SameEntries, IsLeastOf, face};
 ghost use Rattle.ea_pool.specs.Plays.{Surveys, Took};
 ghost use Rattle.ea_pool.specs.States.{saw, forgot, pushed, popped, gave};
-ghost use Rattle.ea_pool.specs.Pools.{Rests, HoldsHeap, IsHeld, AreInTime};
+ghost use Rattle.ea_pool.specs.Pools.{Rests, books, HoldsHeap, IsHeld, IsLeft, AreInTime};
 
 use crate::SHARES;
 use crate::entry::Entry;
@@ -120,6 +120,7 @@ impl<K: Known, A: Allocator> Pool<K, A> {
         ensures table { seat.new.table_id ≡ seat.old.table_id }
         ensures popped { seat.new.me ≡ (popped seat.old.me.0 entry, []) }
         ensures known { K.is_known entry.node entry.key }
+        ensures alone { seat.old.me.0.shares ≡ SHARES → IsLeft entry (books seat.old.me.0) }
     {
         // The entry is for the contract alone.
         let _ = entry;

@@ -1,5 +1,5 @@
 //! What the runs are given.
-use ea_road::{Arc, Network, Query, Source, Timetables};
+use ea_road::{Arc, Network, Query, RawKind, Source, Timetable, Timetables};
 use std::alloc::{AllocError, Global};
 
 /// An arc by its tail, head, weight and class.
@@ -48,6 +48,17 @@ pub fn with_query(
     rows: &[Row],
     query: Query,
 ) -> Result<Option<Given>, AllocError> {
+    with_period(alloc, nodes, rows, 0, query)
+}
+
+/// Makes them of rows, a query, and the period of class 1: it leaves at each multiple. None is 0.
+pub fn with_period(
+    alloc: Global,
+    nodes: u32,
+    rows: &[Row],
+    period: u32,
+    query: Query,
+) -> Result<Option<Given>, AllocError> {
     let mut arcs = Vec::new(alloc);
     for (tail, head, weight, class) in rows {
         arcs.push(Arc {
@@ -61,10 +72,22 @@ pub fn with_query(
         return Ok(None);
     }
     let network = Network::new(alloc, nodes, arcs)?;
-    let times = Timetables::of(alloc, &[])?;
+    let times = times_of(alloc, period)?;
     Ok(Some(Given {
         network,
         times,
         query,
     }))
+}
+
+/// Travel times without classes, or with class 1 that leaves at each multiple of the period.
+fn times_of(alloc: Global, period: u32) -> Result<Timetables, AllocError> {
+    let mut list = Vec::new(alloc);
+    if period > 0 {
+        list.push(Timetable::of(RawKind::Every {
+            period: u64::from(period),
+            offset: 0,
+        }))?;
+    }
+    Ok(Timetables::new(list))
 }

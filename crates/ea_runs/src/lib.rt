@@ -8,6 +8,14 @@ mod counted;
 #[cfg(test)]
 mod given;
 #[cfg(test)]
+mod left;
+#[cfg(test)]
 mod met;
 #[cfg(test)]
+mod pairs;
+#[cfg(test)]
+mod ran;
+#[cfg(test)]
 mod random;
+#[cfg(test)]
+mod same;

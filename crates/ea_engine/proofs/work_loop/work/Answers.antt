@@ -9,7 +9,7 @@ turns-init g c = record {
   pool_seat = c.requires.pool_seat;
   tracer = c.requires.tracer;
   small = omega arith;
-  so_far = SoFar-start _ _ _ _ _ _ _ _ _ c.new-counters.ensures c.empty-hand.ensures.popped c.empty-hand.ensures.refused;
+  so_far = SoFar-start _ _ _ _ _ _ _ _ _ _ c.new-counters.ensures c.empty-hand.ensures.popped c.empty-hand.ensures.refused;
 }
 
 pub turns-preserved : goal.turns-preserved
@@ -18,12 +18,12 @@ turns-preserved g c = record {
   pool_seat = c.take_turn-end.ensures.pool_seat;
   tracer = search (rules, of_calls);
   small = omega (arith, c.if-number-budget.true);
-  so_far = SoFar-more _ _ _ _ _ _ _ _ _ _ _ _ _ _ _ _ _ _ _ _ _ (rw c.turns-test.true at c.turns.invariant.so_far) c.if-idle-lt32.true c.if-number-budget.true
+  so_far = SoFar-more _ _ _ _ _ _ _ _ _ _ _ _ _ _ _ _ _ _ _ _ _ _ (rw c.turns-test.true at c.turns.invariant.so_far) c.if-idle-lt32.true c.if-number-budget.true
       c.take_turn-end.ensures.turn c.tracer-flow.ensures c.count.ensures c.idle_after-idle.ensures c.is_last-ended.ensures;
 }
 
 pub returns-clause-work : goal.returns-clause-work
-returns-clause-work g c = SoFar-end _ _ _ _ _ _ _ _ _ _ _ _ _ _ c.turns.invariant.so_far (omega (arith, c.turns.invariant.small, c.requires.budget)) (elim c.turns-test.branch [
+returns-clause-work g c = SoFar-end _ _ _ _ _ _ _ _ _ _ _ _ _ _ _ c.turns.invariant.so_far (omega (arith, c.turns.invariant.small, c.requires.budget)) (elim c.turns-test.branch [
   | then-turns-test+then-idle-lt32+else-number-budget w ↦ inr (inr w.if-number-budget.false)
   | then-turns-test+else-idle-lt32 w ↦ inr (inl w.if-idle-lt32.false)
   | else-turns-test w ↦ inl w.turns-test.false

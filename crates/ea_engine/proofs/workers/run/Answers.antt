@@ -1,8 +1,9 @@
 use Rattle.std.proofs.Common.{◌≡◌, length, sym, ◌∙◌, ap, arith, subst}
 use Rattle.std.proofs.lemmas.List.{length-map}
-use Rattle.ea_pool.specs.Seats.{account_of, IsSeatOf}
+use Rattle.ea_pool.specs.Seats.{account_of, heaps_of, IsSeatOf}
 use Rattle.ea_engine.specs.Rowed.{all_done, IsDoneRow}
-use Rattle.ea_engine.proofs.DoneRows.{some_of, written, ready_row, seated_done, reports_of_row}
+use Rattle.ea_engine.specs.Tallies.{busy_by_all, empty_by_all}
+use Rattle.ea_engine.proofs.DoneRows.{some_of, written, ready_row, seated_done, reports_of_row, lone_of_row}
 use Rattle.ea_engine.proofs.RowedLemmas.{all_done-length}
 use Rattle.ea_engine.proofs.Settling.{gathered_start}
 use Rattle.ea_engine.proofs.workers.run.Given as given
@@ -16,7 +17,7 @@ pub run_workers-requires-clause-ready : goal.run_workers-requires-clause-ready
 run_workers-requires-clause-ready g c κs within =
     let rng = some_of c.args.rngs.items (omega (arith, c.requires.workers, c.args.rngs.ok)) in
     let tracer = some_of c.args.tracers.items (omega (arith, c.requires.workers, c.args.tracers.ok, c.args.rngs.ok)) in
-    rw c.deref_mut.ensures.value (ready_row (λ s. s.history) (λ s. account_of s) (λ s. s.table ≡ c.args.arrays.labels.table) (λ s. IsSeatOf c.args.arrays.pool s) c.args.network.now (g.P.TravelTimes.answers c.args.profiles.now) c.args.query.now.target c.args.query.now.sources (given.T-step g) g.R.Rng.stream c.args.turns
+    rw c.deref_mut.ensures.value (ready_row (λ s. s.history) (λ s. account_of s) (λ s. s.table ≡ c.args.arrays.labels.table) (λ s. IsSeatOf c.args.arrays.pool s) c.args.network.now (g.P.TravelTimes.answers c.args.profiles.now) c.args.query.now.target c.args.query.now.sources (given.T-step g) g.R.Rng.stream (heaps_of c.args.arrays.pool) c.args.turns
     (given.T-IsAlwaysCallable g) c.args.rngs.items c.args.tracers.items c.seat_workers.new.row.items rng tracer c.seed_all-seeds.result.seeded c.seed_all-seeds.new.todo.waiting c.seat_workers.ensures.seated c.requires.tracers (omega (arith, c.seat_workers.ensures.len, c.requires.workers)))
 
 pub gather_row-label_seat-requires-clause-row : goal.gather_row-label_seat-requires-clause-row
@@ -27,7 +28,7 @@ gather_row-label_seat-requires-clause-row g c κs within =
     let same : length row ≡ length c.seat_workers.new.row.items = omega (arith, c.run_workers.auto.row, ap length c.deref_mut.ensures.value) in
     subst (λ places. IsDoneRow (λ s. s.history) (λ s. account_of s) (λ s. s.table ≡ c.args.arrays.labels.table) (λ s. IsSeatOf c.args.arrays.pool s) c.args.network.now (g.P.TravelTimes.answers c.args.profiles.now) c.args.query.now.target c.args.query.now.sources c.seed_all-seeds.result.seeded c.seed_all-seeds.new.todo.waiting places)
     (sym (written c.seat_workers.new.row.len c.seat_workers.new.row.items row (c.seat_workers.new.row.ok.0) same))
-    (seated_done (λ s. s.history) (λ s. account_of s) (λ s. s.table ≡ c.args.arrays.labels.table) (λ s. IsSeatOf c.args.arrays.pool s) c.args.network.now (g.P.TravelTimes.answers c.args.profiles.now) c.args.query.now.target c.args.query.now.sources (given.T-step g) g.R.Rng.stream c.args.turns
+    (seated_done (λ s. s.history) (λ s. account_of s) (λ s. s.table ≡ c.args.arrays.labels.table) (λ s. IsSeatOf c.args.arrays.pool s) c.args.network.now (g.P.TravelTimes.answers c.args.profiles.now) c.args.query.now.target c.args.query.now.sources (given.T-step g) g.R.Rng.stream (heaps_of c.args.arrays.pool) c.args.turns
     c.args.rngs.items c.args.tracers.items c.seat_workers.new.row.items c.run_workers.new.row rng tracer c.seed_all-seeds.result.seeded c.seed_all-seeds.new.todo.waiting c.seat_workers.ensures.seated (rw c.deref_mut.ensures.value at c.run_workers.ensures.run) same)
 
 -- the row after the run, and how many workers left it
@@ -39,6 +40,29 @@ ends_of_row g c =
     let is : row ≡ all_done ends = sym (written c.seat_workers.new.row.len c.seat_workers.new.row.items row (c.seat_workers.new.row.ok.0) same) ∙ c.gather_row-label_seat.ensures.gathered.row_is in
     (is, omega (arith, ap length is, all_done-length ends, same, c.seat_workers.ensures.len, c.args.rngs.ok, c.seat_workers.new.row.ok))
 
+pub returns-clause-lone : goal.returns-clause-lone
+returns-clause-lone g c =
+    let all = c.gather_row-label_seat.ensures.gathered.all in
+    let ends = c.gather_row-label_seat.ensures.gathered.ends in
+    let is = ends_of_row g (goal.at.returns-clause-lone g c).After-settle-table in
+    let rng = some_of c.args.rngs.items (omega (arith, c.requires.workers, c.args.rngs.ok)) in
+    let tracer = some_of c.args.tracers.items (omega (arith, c.requires.workers, c.args.tracers.ok, c.args.rngs.ok)) in
+    let counters = c.gather_row-label_seat.result.counters.items in
+    let few : length counters ≡ 1 → length ends ≡ 1 = λ one. omega (arith, one, ap length all.counters_are, length-map ends (λ e. e.counters)) in
+    let lone = λ (one : length counters ≡ 1). lone_of_row (λ s. s.history) (λ s. account_of s) (λ s. s.table ≡ c.args.arrays.labels.table) (λ s. IsSeatOf c.args.arrays.pool s) c.args.network.now (g.P.TravelTimes.answers c.args.profiles.now) c.args.query.now.target c.args.query.now.sources (given.T-step g) g.R.Rng.stream (heaps_of c.args.arrays.pool) c.args.turns
+    c.args.rngs.items c.args.tracers.items c.seat_workers.new.row.items c.run_workers.new.row ends rng tracer c.seed_all-seeds.result.seeded c.seed_all-seeds.new.todo.waiting c.seat_workers.ensures.seated (rw c.deref_mut.ensures.value at c.run_workers.ensures.run)
+    (omega (arith, few one, is.1, c.seat_workers.ensures.len, c.args.rngs.ok, c.seat_workers.new.row.ok)) is.0 (few one) in
+    record {
+      never_busy = λ one. ap busy_by_all all.counters_are ∙ (lone one).0;
+      empty_at_end = λ one two some. omega (
+        arith,
+        (lone one).1 two (omega (arith, some, ap empty_by_all all.counters_are)),
+        all.pushed_is,
+        all.popped_is,
+        c.settle-table.ensures.drained,
+      );
+    }
+
 pub returns-clause-reports : goal.returns-clause-reports
 returns-clause-reports g c =
     let gathered = c.gather_row-label_seat.ensures.gathered in
@@ -46,7 +70,7 @@ returns-clause-reports g c =
     let is = ends_of_row g (goal.at.returns-clause-reports g c).After-settle-table in
     let end = some_of ends (omega (arith, is.1, c.requires.workers, c.args.rngs.ok)) in
     rw (gathered.all.rngs_are, gathered.all.tracers_are, gathered.all.counters_are)
-    (reports_of_row (λ s. s.history) (λ s. account_of s) (λ s. s.table ≡ c.args.arrays.labels.table) (λ s. IsSeatOf c.args.arrays.pool s) c.args.network.now (g.P.TravelTimes.answers c.args.profiles.now) c.args.query.now.target c.args.query.now.sources (given.T-step g) g.R.Rng.stream c.args.turns
+    (reports_of_row (λ s. s.history) (λ s. account_of s) (λ s. s.table ≡ c.args.arrays.labels.table) (λ s. IsSeatOf c.args.arrays.pool s) c.args.network.now (g.P.TravelTimes.answers c.args.profiles.now) c.args.query.now.target c.args.query.now.sources (given.T-step g) g.R.Rng.stream (heaps_of c.args.arrays.pool) c.args.turns
     c.args.rngs.items c.args.tracers.items c.seat_workers.new.row.items c.run_workers.new.row ends c.seed_all-seeds.result.seeded c.seed_all-seeds.new.todo.waiting end c.seat_workers.ensures.seated (rw c.deref_mut.ensures.value at c.run_workers.ensures.run) (omega (arith, c.seat_workers.ensures.len, c.args.rngs.ok, c.seat_workers.new.row.ok)) is.1 is.0)
 
 pub returns-clause-len : goal.returns-clause-len

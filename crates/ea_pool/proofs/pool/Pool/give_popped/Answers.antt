@@ -11,3 +11,6 @@ returns-clause-popped g c = let t = c.requires.held in let h = t.2 in (told_popp
 
 pub returns-clause-known : goal.returns-clause-known
 returns-clause-known g c = let t = c.requires.held in let h = t.2 in (told_popped g.K.Known.is_known c.args.seat.now.me c.store.new.seat.me c.args.heap h.0 t.0 c.args.entry t.1 h.1 h.2.0 c.store.ensures.2).1
+
+pub returns-clause-alone : goal.returns-clause-alone
+returns-clause-alone g c = let t = c.requires.held in let h = t.2 in (told_popped g.K.Known.is_known c.args.seat.now.me c.store.new.seat.me c.args.heap h.0 t.0 c.args.entry t.1 h.1 h.2.0 c.store.ensures.2).2

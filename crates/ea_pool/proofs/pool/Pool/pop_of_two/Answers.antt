@@ -45,3 +45,4 @@ returns-clause-least g c = λ whole two.
     (answered c.args.seat.now.me.0 c.look-y.new.seat.me.0 c.args.i c.look-x.result c.args.j c.look-y.result c.pick-heap.result c.pop_at.result
     (saw-y ∙ ap (λ (a : SeatState). saw a c.args.j c.look-y.result) saw-x) c.pick-heap.ensures.one
     (c.pop_at.ensures.alone (ap (λ (a : SeatState). a.shares) saw-y ∙ (ap (λ (a : SeatState). a.shares) saw-x ∙ whole))))
+    (c.pop_at.ensures.left (ap (λ (a : SeatState). a.shares) saw-y ∙ (ap (λ (a : SeatState). a.shares) saw-x ∙ whole)))
