@@ -1,0 +1,13 @@
+//! Tests of answers: the worked examples from files to reports.
+#![tactic(auto)]
+
+#[cfg(test)]
+mod asked;
+#[cfg(test)]
+mod devices;
+#[cfg(test)]
+mod reports;
+#[cfg(test)]
+mod said;
+#[cfg(test)]
+mod settings;
