@@ -97,7 +97,7 @@ pub fn pair_queries(
         let (node, target) = pairs[i];
         let source = Source {
             node,
-            departure: depart + gap * i as u64,
+            departure: depart + i as u64 * gap,
         };
         queries.push(Query::pair(source, target))?;
     }
