@@ -120,3 +120,11 @@ pub(crate) fn read_table<R: ByteIn>(
         Some(tp) => read_timetables(alloc, tp, arcs),
     }
 }
+
+/// All bytes of a report, at most 2^33. What they say is not looked at.
+pub fn read_report<R: ByteIn>(alloc: Global, report: &mut R) -> Result<Vec<u8>, FileFault>
+    ensures all { IfOk result (λ bytes. IsAll (R.remaining report.old) bytes.items) }
+    ensures fault { IfErr result (IsUnreadBy FileWord.Report (reading (R.remaining report.old) (R.Device.failed report.old) (R.Device.failed report.new) (R.Device.interrupted report.old) (R.Device.interrupted report.new))) }
+{
+    text_of(alloc, FileWord::Report, report)
+}

@@ -3,3 +3,5 @@ pub mod Sending
 pub mod Posing
 pub mod Outcomes
 pub mod Telling
+pub mod Asking
+pub mod Verdicts

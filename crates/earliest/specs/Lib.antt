@@ -1,3 +1,4 @@
+pub mod Checks
 pub mod Counted
 pub mod Faults
 pub mod Fronts

@@ -2,6 +2,7 @@
 #![tactic(auto)]
 
 mod answering;
+mod checking;
 mod fault;
 mod progress;
 mod saying;
@@ -9,6 +10,7 @@ mod solving;
 mod totals;
 
 pub use answering::{answer, answer_pairs};
+pub use checking::check_report;
 pub use ea_check::CheckFault;
 pub use ea_files::{FileFault, FileWord};
 pub use ea_report::Totals;

@@ -1,0 +1,55 @@
+//! Reports, checked.
+ghost use Rattle.std.specs.Prelude.{◌≡◌, ◌≤◌, IfOk, IfErr, option_map};
+ghost use Rattle.ea_input.specs.Formats.{table_format};
+ghost use Rattle.ea_files.specs.Files.{IsFaultIfThere, reading};
+ghost use Rattle.ea_words.specs.Limits.{AreOptions};
+ghost use Rattle.earliest.specs.Checks.{IsJudged, IsUnjudged};
+
+use crate::fault::AnswerFault;
+use ea_check::{CheckFault, check};
+use ea_files::{FileWord, departures_fit, read_report, read_run, run_queries};
+use ea_input::ByteIn;
+use ea_words::RunOptions;
+use std::alloc::Global;
+
+/// Checks a report of a run: reads the network, the sources and, where there are any, the timetables, and then the report,
+/// and answers whether it is right: its form, each time the least arrival, and each walk the canonical one. If not, its
+/// first fault.
+///
+/// Source i, from 0, departs at `depart + i * gap`. Files are read in this order, each to its end and at most 2^33 bytes;
+/// with `joint` the sources are one problem, of the other options none has an effect.
+///
+/// `Read` and `Input` tell the first fault of the files in their order, `BadOption` a departure above 2^48 - 1, with all
+/// files sound. `OutOfMemory` says that memory was refused before the check began; during the check it is a `CheckFault`.
+pub fn check_report<G: ByteIn, S: ByteIn, T: ByteIn, R: ByteIn>(
+    alloc: Global,
+    gr: &mut G,
+    ss: &mut S,
+    tp: &mut Option<T>,
+    options: &RunOptions,
+    report: &mut R,
+) -> Result<Result<(), CheckFault>, AnswerFault>
+    requires options { AreOptions options.now }
+    ensures judged { IfOk result (IsJudged options.now.joint options.now.depart options.now.gap
+        (option_map T.remaining tp.old) (G.remaining gr.old) (S.remaining ss.old) (R.remaining report.old)) }
+    ensures unjudged { IfErr result (IsUnjudged options.now.joint options.now.depart options.now.gap (option_map T.remaining tp.old)
+        (reading (G.remaining gr.old) (G.Device.failed gr.old) (G.Device.failed gr.new) (G.Device.interrupted gr.old) (G.Device.interrupted gr.new))
+        (reading (S.remaining ss.old) (S.Device.failed ss.old) (S.Device.failed ss.new) (S.Device.interrupted ss.old) (S.Device.interrupted ss.new))
+        (reading (R.remaining report.old) (R.Device.failed report.old) (R.Device.failed report.new) (R.Device.interrupted report.old) (R.Device.interrupted report.new))
+        (λ arcs. IsFaultIfThere T.remaining T.Device.failed T.Device.interrupted FileWord.Tp (table_format arcs) tp.old tp.new)) }
+{
+    let files = read_run(alloc, gr, ss, tp)?;
+    let text = read_report(alloc, report)?;
+    if !departures_fit(files.sources.len(), options.depart, options.gap) {
+        return Err(AnswerFault::BadOption);
+    }
+    let queries = run_queries(
+        alloc,
+        &files.sources,
+        options.joint,
+        options.depart,
+        options.gap,
+    )?;
+    let road = &files.road;
+    Ok(check(alloc, &road.network, &road.times, &queries, &text))
+}
