@@ -5,3 +5,4 @@ pub mod Fronts
 pub mod Reported
 pub mod Runs
 pub mod Said
+pub mod SameBytes

@@ -4,6 +4,7 @@
 mod answering;
 mod checking;
 mod fault;
+pub mod laws;
 mod progress;
 mod saying;
 mod solving;

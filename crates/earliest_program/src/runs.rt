@@ -1,11 +1,11 @@
 //! What each command does.
 ghost use Rattle.ea_words.specs.Limits.{AreOptions, HasLimits};
 
-use crate::files::open_all;
+use crate::files::{open, open_all};
 use crate::stored::stored;
 use earliest::{
     AnswerFault, Command, CommandFault, FileWord, Outcome, RunOptions, Totals, answer,
-    answer_pairs, say,
+    answer_pairs, check_report, say,
 };
 use ea_input::StdOut;
 use std::thread::Threads;
@@ -33,7 +33,13 @@ pub fn perform<H: Threads + Sync>(
             options,
         } => pairs(rt, threads, gr, p2p, tp, &options),
         Command::Rank { .. } => 2,
-        Command::Check { .. } => 2,
+        Command::Check {
+            gr,
+            ss,
+            tp,
+            report,
+            options,
+        } => check(rt, gr, ss, tp, report, &options),
     }
 }
 
@@ -109,4 +115,38 @@ fn pairs<H: Threads + Sync>(
         &mut out,
     );
     finish(rt, answered)
+}
+
+/// Checks a report.
+fn check(
+    rt: &HostRuntime,
+    gr: &str,
+    ss: &str,
+    tp: Option<&str>,
+    report: &str,
+    options: &RunOptions,
+) -> u8
+    requires { AreOptions options.now }
+{
+    let mut files = match open_all(rt, gr, FileWord::Ss, ss, tp) {
+        Ok(files) => files,
+        Err(file) => return tell(rt, Outcome::Unopened(file)),
+    };
+    let mut report = match open(rt, FileWord::Report, report) {
+        Ok(report) => report,
+        Err(file) => return tell(rt, Outcome::Unopened(file)),
+    };
+    let checked = check_report(
+        rt.alloc(),
+        &mut files.gr,
+        &mut files.starts,
+        &mut files.tp,
+        options,
+        &mut report,
+    );
+    match checked {
+        Ok(Ok(())) => tell(rt, Outcome::Accepted),
+        Ok(Err(fault)) => tell(rt, Outcome::Check(fault)),
+        Err(fault) => tell(rt, Outcome::Answer(fault)),
+    }
 }
