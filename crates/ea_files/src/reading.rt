@@ -21,11 +21,7 @@ use std::alloc::Global;
 const LARGEST: u64 = 8_589_934_592;
 
 /// All bytes of a file.
-fn text_of<R: ByteIn>(
-    alloc: Global,
-    file: FileWord,
-    reader: &mut R,
-) -> Result<Vec<u8>, FileFault>
+fn text_of<R: ByteIn>(alloc: Global, file: FileWord, reader: &mut R) -> Result<Vec<u8>, FileFault>
     ensures all { IfOk result (λ bytes. IsAll (R.remaining reader.old) bytes.items) }
     ensures fault { IfErr result (IsUnreadBy file (reading (R.remaining reader.old) (R.Device.failed reader.old) (R.Device.failed reader.new) (R.Device.interrupted reader.old) (R.Device.interrupted reader.new))) }
 {

@@ -128,7 +128,10 @@ pub(crate) fn with_workers<'a>(
 }
 
 /// The options that say what a report shows, and for how many turns the workers go.
-pub(crate) fn with_report<'a>(alloc: Global, command: Command<'a>) -> Result<Command<'a>, AllocError>
+pub(crate) fn with_report<'a>(
+    alloc: Global,
+    command: Command<'a>,
+) -> Result<Command<'a>, AllocError>
     ensures app { IfOk result (λ c. app_of c ≡ with_report (app_of command.entry)) }
     ensures local { IfOk result (λ c. (fields_of command.entry).has_globals ≡ false → (fields_of c).has_globals ≡ false) }
 {

@@ -41,10 +41,7 @@ pub(crate) fn run_command<'a>(alloc: Global) -> Result<Command<'a>, AllocError>
 {
     let command = Command::new(alloc, "run").about(RUN).after_help(RUN_MORE);
     let command = with_arg(command, file(alloc, "gr", "GR", "The network (.gr)"))?;
-    let command = with_arg(
-        command,
-        file(alloc, "ss", "SS", "The sources (.ss)"),
-    )?;
+    let command = with_arg(command, file(alloc, "ss", "SS", "The sources (.ss)"))?;
     let command = with_departures(alloc, command)?;
     let command = with_workers(alloc, command)?;
     let command = with_report(alloc, command)?;
@@ -61,7 +58,9 @@ pub(crate) fn pairs_command<'a>(alloc: Global) -> Result<Command<'a>, AllocError
     ensures app { IfOk result (λ c. app_of c ≡ pairs_app) }
     ensures local { IfOk result (λ c. (fields_of c).has_globals ≡ false) }
 {
-    let command = Command::new(alloc, "pairs").about(PAIRS).after_help(PAIRS_MORE);
+    let command = Command::new(alloc, "pairs")
+        .about(PAIRS)
+        .after_help(PAIRS_MORE);
     let command = with_arg(command, file(alloc, "gr", "GR", "The network (.gr)"))?;
     let command = with_arg(
         command,
@@ -79,12 +78,11 @@ pub(crate) fn rank_command<'a>(alloc: Global) -> Result<Command<'a>, AllocError>
     ensures app { IfOk result (λ c. app_of c ≡ rank_app) }
     ensures local { IfOk result (λ c. (fields_of c).has_globals ≡ false) }
 {
-    let command = Command::new(alloc, "rank").about(RANK).after_help(RANK_MORE);
+    let command = Command::new(alloc, "rank")
+        .about(RANK)
+        .after_help(RANK_MORE);
     let command = with_arg(command, file(alloc, "gr", "GR", "The network (.gr)"))?;
-    let command = with_arg(
-        command,
-        file(alloc, "ss", "SS", "The sources (.ss)"),
-    )?;
+    let command = with_arg(command, file(alloc, "ss", "SS", "The sources (.ss)"))?;
     let command = with_departures(alloc, command)?;
     let command = with_workers(alloc, command)?;
     Ok(command)
@@ -96,15 +94,19 @@ pub(crate) fn check_command<'a>(alloc: Global) -> Result<Command<'a>, AllocError
     ensures app { IfOk result (λ c. app_of c ≡ check_app) }
     ensures local { IfOk result (λ c. (fields_of c).has_globals ≡ false) }
 {
-    let command = Command::new(alloc, "check").about(CHECK).after_help(CHECK_MORE);
+    let command = Command::new(alloc, "check")
+        .about(CHECK)
+        .after_help(CHECK_MORE);
     let command = with_arg(command, file(alloc, "gr", "GR", "The network (.gr)"))?;
+    let command = with_arg(command, file(alloc, "ss", "SS", "The sources (.ss)"))?;
     let command = with_arg(
         command,
-        file(alloc, "ss", "SS", "The sources (.ss)"),
-    )?;
-    let command = with_arg(
-        command,
-        file(alloc, "report", "REPORT", "The report of a run on these files"),
+        file(
+            alloc,
+            "report",
+            "REPORT",
+            "The report of a run on these files",
+        ),
     )?;
     let command = with_departures(alloc, command)?;
     let command = with_arg(

@@ -106,11 +106,7 @@ fn wanted(is_wanted: bool, name: Option<&str>) -> Option<Option<&str>>
 
 /// The names of a command's files; the second is called so, and a report may be wanted.
 #[tactic(auto, unfolding(crate::specs::Meaning::files_of))]
-fn names_in<'a>(
-    matches: &ArgMatches<'a>,
-    second: &str,
-    reported: bool,
-) -> Option<Names<'a>>
+fn names_in<'a>(matches: &ArgMatches<'a>, second: &str, reported: bool) -> Option<Names<'a>>
     ensures { option_map files result ≡ files_of second.now reported (rows_of (found_of matches.now)) }
 {
     let gr = text_of(matches, "gr")?;

@@ -22,6 +22,7 @@ none_aimed false depart gap nodes = each_mapped (λ (query : Asking). query.targ
 
 -- Each of them is a problem of the road that asks all nodes.
 pub each_asked : (road : Road) (queries : List Asking) → AreProblems road queries → All (λ (query : Asking). query.target ≡ None) queries → (query : Asking) → IsAmong queries query → IsProblem road.network (length road.times.list.items) query × (query.target ≡ None)
-each_asked road queries problems none query among =
-    (subst (λ (q : Asking). IsProblem road.network (length road.times.list.items) q) (sym among.1.1) (problems among.0 query among.1.0).0,
-    subst (λ (q : Asking). q.target ≡ None) (sym among.1.1) (none among.0 query among.1.0))
+each_asked road queries problems none query among = (
+  subst (λ (q : Asking). IsProblem road.network (length road.times.list.items) q) (sym among.1.1) (problems among.0 query among.1.0).0,
+  subst (λ (q : Asking). q.target ≡ None) (sym among.1.1) (none among.0 query among.1.0),
+)

@@ -71,6 +71,7 @@ one_problem : (walks : Bool) (roads : Roads) (answers : ℕ → ℕ → ℕ → 
 one_problem walks roads answers query inside first second this that = this.says ∙ asked query.target refl ∙ sym that.says where
   node_is : (node : ℕ) → IsNode roads.nodes node → IsAskedBy query.target node → node_text walks this.answer node ≡ node_text walks that.answer node
   node_is = same_node roads answers query this.answer that.answer this.least that.least walks this.canonical that.canonical
+
   asked : (target : Option ℕ) → query.target ≡ target → problem_text walks roads.nodes query this.answer ≡ problem_text walks roads.nodes query that.answer
   asked None none =
       sym (all_text walks roads.nodes query this.answer none)

@@ -92,9 +92,10 @@ module _ (walks : Bool) (roads : Roads) (answers : ℕ → ℕ → ℕ → ℕ �
   -- The totals after all reports.
   module _ (stats : Bool) (all : List Asking) (first old now : Seen) (before : ℕ) (totals : Totals) (sent : AreSent walks roads answers all first old before) where
     pub totals_cut : (size : ℕ) → stats ≡ true → IsCutAt old.contents now.contents (stats_text totals) size → HasGivenUp old.failed now.failed old.interrupted now.interrupted → IsCutShort walks stats roads answers all first now (Write (before + size))
-    totals_cut size told cut gone =
-        (of_stats sent.report totals told sent.are_reported (cut_after first.contents old.contents now.contents sent.report (stats_text totals) before size (before + size) sent.appended sent.counted refl cut),
-        gave_up first old now sent.unfailed sent.monotone gone)
+    totals_cut size told cut gone = (
+      of_stats sent.report totals told sent.are_reported (cut_after first.contents old.contents now.contents sent.report (stats_text totals) before size (before + size) sent.appended sent.counted refl cut),
+      gave_up first old now sent.unfailed sent.monotone gone,
+    )
 
     pub all_written : Appends old.contents now.contents (if stats then stats_text totals else []) → AreBalanced totals → IsWritten walks stats roads answers all first.contents now.contents totals
     all_written more balanced = record {

@@ -40,11 +40,7 @@ fn settings_of(options: &RunOptions) -> Settings
 }
 
 /// The generators of workers: worker i's is seeded with `seed + i`, modulo 2^64.
-fn generators(
-    alloc: Global,
-    seed: u64,
-    workers: u32,
-) -> Result<Vec<Xoshiro256PlusPlus>, AllocError>
+fn generators(alloc: Global, seed: u64, workers: u32) -> Result<Vec<Xoshiro256PlusPlus>, AllocError>
     ensures { IfOk result (λ rngs. vec_len rngs ≡ workers) }
 {
     let mut rngs = Vec::with_capacity(alloc, workers as usize)?;

@@ -1,6 +1,6 @@
 //! Files, opened by their names.
-use earliest::FileWord;
 use ea_input::StdIn;
+use earliest::FileWord;
 use std::fs::File;
 
 /// A file that is open for reading.

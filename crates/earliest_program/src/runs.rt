@@ -3,19 +3,15 @@ ghost use Rattle.ea_words.specs.Limits.{AreOptions, HasLimits};
 
 use crate::files::{open, open_all};
 use crate::stored::stored;
+use ea_input::StdOut;
 use earliest::{
     AnswerFault, Command, CommandFault, FileWord, Outcome, RunOptions, Totals, answer,
     answer_pairs, check_report, say,
 };
-use ea_input::StdOut;
 use std::thread::Threads;
 
 /// Does what a command asks for, and answers the status.
-pub fn perform<H: Threads + Sync>(
-    rt: &HostRuntime,
-    threads: &H,
-    command: Command<'_>,
-) -> u8
+pub fn perform<H: Threads + Sync>(rt: &HostRuntime, threads: &H, command: Command<'_>) -> u8
     requires { HasLimits command }
 {
     match command {

@@ -1,7 +1,7 @@
 //! The run that is built in, which is done where there are no words.
 use crate::runs::finish;
-use earliest::{RunOptions, answer};
 use ea_input::{StdIn, StdOut};
+use earliest::{RunOptions, answer};
 use std::thread::Threads;
 
 const GRAPH: &[u8] = b"p sp 4 5\na 1 2 7\na 1 3 2\na 3 2 3\na 2 4 1\na 3 4 9\n";
@@ -27,6 +27,14 @@ pub fn stored<H: Threads + Sync>(rt: &HostRuntime, threads: &H) -> u8 {
     let mut ss = StdIn::new(SOURCES);
     let mut tp: Option<StdIn<&[u8]>> = None;
     let mut out = StdOut::new(rt.stdout());
-    let answered = answer(rt.alloc(), threads, &mut gr, &mut ss, &mut tp, &DEFAULTS, &mut out);
+    let answered = answer(
+        rt.alloc(),
+        threads,
+        &mut gr,
+        &mut ss,
+        &mut tp,
+        &DEFAULTS,
+        &mut out,
+    );
     finish(rt, answered)
 }

@@ -1,8 +1,8 @@
 //! Answers over texts in memory.
 ghost use Rattle.ea_words.specs.Limits.{AreOptions};
 
-use earliest::{AnswerFault, RunOptions, Totals, answer, answer_pairs};
 use ea_input::{StdIn, StdOut};
+use earliest::{AnswerFault, RunOptions, Totals, answer, answer_pairs};
 use std::thread::Threads;
 
 /// The options by default.
@@ -58,7 +58,15 @@ pub fn run<H: Threads + Sync>(
     let mut ss = StdIn::new(texts.starts);
     let mut tp = texts.tp.map(StdIn::new);
     let mut out = StdOut::new(room);
-    answer(rt.alloc(), threads, &mut gr, &mut ss, &mut tp, options, &mut out)
+    answer(
+        rt.alloc(),
+        threads,
+        &mut gr,
+        &mut ss,
+        &mut tp,
+        options,
+        &mut out,
+    )
 }
 
 /// What pairs write into room for it.
@@ -75,7 +83,15 @@ pub fn run_pairs<H: Threads + Sync>(
     let mut p2p = StdIn::new(texts.starts);
     let mut tp = texts.tp.map(StdIn::new);
     let mut out = StdOut::new(room);
-    answer_pairs(rt.alloc(), threads, &mut gr, &mut p2p, &mut tp, options, &mut out)
+    answer_pairs(
+        rt.alloc(),
+        threads,
+        &mut gr,
+        &mut p2p,
+        &mut tp,
+        options,
+        &mut out,
+    )
 }
 
 /// Whether room has this text and nothing after it.

@@ -1,7 +1,7 @@
 //! Devices that fail, and faults in their order.
 use crate::asked::{DEFAULTS, FROM_ONE, GRAPH, Texts, from_one, holds, run, run_pairs};
-use earliest::{AnswerFault, FileWord, RunOptions, Totals, answer};
 use ea_input::{FaultKind, InputFault, ReadFault, StdIn, StdOut};
+use earliest::{AnswerFault, FileWord, RunOptions, Totals, answer};
 use std::io::{self, Error, ErrorKind, Read};
 
 const REPORT: &[u8] = b"s 1 0\nd 1 0\nd 2 5\nd 3 2\nd 4 6\n";
@@ -62,7 +62,15 @@ fn failing_readers(rt: HostRuntime) {
         let mut tp: Option<StdIn<&[u8]>> = None;
         let mut room = [0u8; 64];
         let mut out = StdOut::new(room.as_mut_slice());
-        let answered = answer(rt.alloc(), &rt, &mut gr, &mut ss, &mut tp, &DEFAULTS, &mut out);
+        let answered = answer(
+            rt.alloc(),
+            &rt,
+            &mut gr,
+            &mut ss,
+            &mut tp,
+            &DEFAULTS,
+            &mut out,
+        );
         let fault = AnswerFault::Read {
             file: FileWord::Gr,
             fault: ReadFault::ReadFailed,
@@ -73,7 +81,12 @@ fn failing_readers(rt: HostRuntime) {
 }
 
 /// Whether a run of these texts has this fault and writes nothing.
-fn fails(rt: &HostRuntime, answered: Result<Totals, AnswerFault>, room: &[u8], fault: AnswerFault) -> bool {
+fn fails(
+    rt: &HostRuntime,
+    answered: Result<Totals, AnswerFault>,
+    room: &[u8],
+    fault: AnswerFault,
+) -> bool {
     let _ = rt;
     answered == Err(fault) && holds(room, b"")
 }

@@ -1,15 +1,12 @@
 //! Arrivals, walks and reports.
-use crate::asked::{
-    DEFAULTS, FROM_ONE, GRAPH, Texts, WALKS, from_one, reports, reports_pairs,
-};
+use crate::asked::{DEFAULTS, FROM_ONE, GRAPH, Texts, WALKS, from_one, reports, reports_pairs};
 use earliest::RunOptions;
 
 #[test]
 fn four_nodes(rt: HostRuntime) {
     let report = b"s 1 0\nd 1 0\nd 2 5\nd 3 2\nd 4 6\n";
     assert!(rt; reports(&rt, &rt, from_one(GRAPH), &DEFAULTS, report));
-    let with_walks =
-        b"s 1 0\nd 1 0\nw 1 0\nd 2 5\nw 2 2 2 3\nd 3 2\nw 3 1 2\nd 4 6\nw 4 3 2 3 4\n";
+    let with_walks = b"s 1 0\nd 1 0\nw 1 0\nd 2 5\nw 2 2 2 3\nd 3 2\nw 3 1 2\nd 4 6\nw 4 3 2 3 4\n";
     assert!(rt; reports(&rt, &rt, from_one(GRAPH), &WALKS, with_walks));
 }
 
@@ -33,7 +30,15 @@ fn no_sources(rt: HostRuntime) {
         joint: true,
         ..DEFAULTS
     };
-    assert!(rt; reports(&rt, &rt, texts, &joint, b"d 1 inf\nd 2 inf\nd 3 inf\nd 4 inf\n"));
+    assert!(rt;
+        reports(
+            &rt,
+            &rt,
+            texts,
+            &joint,
+            b"d 1 inf\nd 2 inf\nd 3 inf\nd 4 inf\n"
+        )
+    );
 }
 
 #[test]
@@ -64,8 +69,7 @@ fn two_ways_to_fifteen(rt: HostRuntime) {
         tp: Some(b"p tp 1 1\nk 1 every 10 0\nt 4 1\n"),
     };
     let options = RunOptions { depart: 1, ..WALKS };
-    let report =
-        b"s 1 1\nd 1 1\nw 1 0\nd 2 3\nw 2 2 2 3\nd 3 2\nw 3 1 2\nd 4 15\nw 4 3 2 3 4\n";
+    let report = b"s 1 1\nd 1 1\nw 1 0\nd 2 3\nw 2 2 2 3\nd 3 2\nw 3 1 2\nd 4 15\nw 4 3 2 3 4\n";
     assert!(rt; reports(&rt, &rt, texts, &options, report));
 }
 
@@ -77,7 +81,15 @@ fn parallel_arcs(rt: HostRuntime) {
         tp: Some(b"p tp 1 1\nk 1 every 100 0\nt 1 1\n"),
     };
     let at_one = RunOptions { depart: 1, ..WALKS };
-    assert!(rt; reports(&rt, &rt, texts, &at_one, b"s 1 1\nd 1 1\nw 1 0\nd 2 51\nw 2 1 2\n"));
+    assert!(rt;
+        reports(
+            &rt,
+            &rt,
+            texts,
+            &at_one,
+            b"s 1 1\nd 1 1\nw 1 0\nd 2 51\nw 2 1 2\n"
+        )
+    );
     let at_hundred = RunOptions {
         depart: 100,
         ..WALKS
@@ -92,7 +104,15 @@ fn cycles_and_loops(rt: HostRuntime) {
     let report = b"s 1 0\nd 1 0\nw 1 0\nd 2 4\nw 2 1 1\nd 3 4\nw 3 1 4\n";
     assert!(rt; reports(&rt, &rt, from_one(cycle), &WALKS, report));
     let round = b"p sp 2 1\na 1 1 0\n";
-    assert!(rt; reports(&rt, &rt, from_one(round), &DEFAULTS, b"s 1 0\nd 1 0\nd 2 inf\n"));
+    assert!(rt;
+        reports(
+            &rt,
+            &rt,
+            from_one(round),
+            &DEFAULTS,
+            b"s 1 0\nd 1 0\nd 2 inf\n"
+        )
+    );
 }
 
 #[test]

@@ -1,7 +1,7 @@
 //! The lines and statuses of outcomes.
 use crate::asked::holds;
-use earliest::{AnswerFault, CheckFault, CommandFault, FileWord, Outcome, say};
 use ea_input::{FaultKind, InputFault, ReadFault, StdOut};
+use earliest::{AnswerFault, CheckFault, CommandFault, FileWord, Outcome, say};
 
 /// Whether an outcome is told by this line and this status.
 fn says(outcome: Outcome, line: &[u8], status: u8) -> bool {
@@ -30,16 +30,40 @@ fn say_lines(rt: HostRuntime) {
         fault: ReadFault::ReadFailed,
     };
     assert!(rt; says(Outcome::Answer(unread), b"earliest: tp: 11 ReadFailed\n", 4));
-    assert!(rt; says(Outcome::Unopened(FileWord::Gr), b"earliest: gr: 15 OpenFailed\n", 4));
+    assert!(rt;
+        says(
+            Outcome::Unopened(FileWord::Gr),
+            b"earliest: gr: 15 OpenFailed\n",
+            4
+        )
+    );
     let written = Outcome::Answer(AnswerFault::Write { written: 7 });
     assert!(rt; says(written, b"earliest: 12 WriteFailed after 7 bytes\n", 4));
-    assert!(rt; says(Outcome::Answer(AnswerFault::BadOption), b"earliest: 14 BadOption\n", 2));
-    assert!(rt; says(Outcome::Command(CommandFault::BadOption), b"earliest: 14 BadOption\n", 2));
+    assert!(rt;
+        says(
+            Outcome::Answer(AnswerFault::BadOption),
+            b"earliest: 14 BadOption\n",
+            2
+        )
+    );
+    assert!(rt;
+        says(
+            Outcome::Command(CommandFault::BadOption),
+            b"earliest: 14 BadOption\n",
+            2
+        )
+    );
     let memory = Outcome::Answer(AnswerFault::OutOfMemory { written: 9 });
     assert!(rt; says(memory, b"earliest: 13 OutOfMemory\n", 3));
     let not_least = Outcome::Check(CheckFault::NotLeast(3));
     assert!(rt; says(not_least, b"earliest: check 3 NotLeast line 3\n", 5));
-    assert!(rt; says(Outcome::Check(CheckFault::OutOfMemory), b"earliest: 13 OutOfMemory\n", 3));
+    assert!(rt;
+        says(
+            Outcome::Check(CheckFault::OutOfMemory),
+            b"earliest: 13 OutOfMemory\n",
+            3
+        )
+    );
     assert!(rt; says(Outcome::Accepted, b"ok\n", 0));
 }
 
