@@ -1,11 +1,12 @@
 -- What the problems of a run ask.
-use Rattle.std.proofs.Common.{◌≡◌, ℕ, zero, suc, Bool, true, false, List, [], ◌∷◌, length, map, refl, sym, arith, subst}
-use Rattle.std.specs.Prelude.{All, None}
+use Rattle.std.proofs.Common.{◌≡◌, ℕ, zero, suc, Bool, true, false, List, [], ◌∷◌, length, get_or, map, refl, ap, sym, ◌∙◌, arith, subst}
+use Rattle.std.specs.Prelude.{All, Some, None}
 use Rattle.std.specs.List.{IsAmong}
 use Rattle.ea_road.specs.Queries.{Asking, IsProblem}
 use Rattle.ea_files.specs.declared.road.Road.{Road}
 use Rattle.ea_files.specs.Starts.{asks_all, sources_from, run_problems}
 use Rattle.earliest.specs.Fronts.{AreProblems}
+use Rattle.earliest.specs.Ranks.{HasOneSource}
 
 each_mapped : {X Y : Type 0} (P : Y → Type 0) (f : X → Y) → ((x : X) → P (f x)) → (xs : List X) → All P (map f xs)
 each_mapped P f holds [] k d lt = absurd (omega arith)
@@ -22,6 +23,11 @@ none_aimed false depart gap nodes = each_mapped (λ (query : Asking). query.targ
 
 -- Each of them is a problem of the road that asks all nodes.
 pub each_asked : (road : Road) (queries : List Asking) → AreProblems road queries → All (λ (query : Asking). query.target ≡ None) queries → (query : Asking) → IsAmong queries query → IsProblem road.network (length road.times.list.items) query × (query.target ≡ None)
-each_asked road queries problems none query among =
-    (subst (λ (q : Asking). IsProblem road.network (length road.times.list.items) q) (sym among.1.1) (problems among.0 query among.1.0).0,
-    subst (λ (q : Asking). q.target ≡ None) (sym among.1.1) (none among.0 query among.1.0))
+each_asked road queries problems none query among = (
+  subst (λ (q : Asking). IsProblem road.network (length road.times.list.items) q) (sym among.1.1) (problems among.0 query among.1.0).0,
+  subst (λ (q : Asking). q.target ≡ None) (sym among.1.1) (none among.0 query among.1.0),
+)
+
+-- By themselves, they have one source each.
+pub each_alone : (depart gap : ℕ) (nodes : List ℕ) → All HasOneSource (run_problems false depart gap nodes)
+each_alone depart gap nodes = each_mapped HasOneSource (λ source. asks_all (source ∷ [])) (λ source. record { one = refl; all = refl }) (sources_from depart gap 0 nodes)

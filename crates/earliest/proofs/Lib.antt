@@ -5,3 +5,4 @@ pub mod Outcomes
 pub mod Telling
 pub mod Asking
 pub mod Verdicts
+pub mod Ranked

@@ -5,6 +5,9 @@ mod answering;
 mod checking;
 mod fault;
 mod progress;
+mod ranking;
+#[cfg(test)]
+mod reports_tests;
 mod saying;
 mod solving;
 mod totals;
@@ -16,4 +19,5 @@ pub use ea_files::{FileFault, FileWord};
 pub use ea_report::Totals;
 pub use ea_words::{Command, CommandFault, RunOptions};
 pub use fault::AnswerFault;
+pub use ranking::rank_report;
 pub use saying::{Outcome, say};
