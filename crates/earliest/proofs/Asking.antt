@@ -1,6 +1,6 @@
 -- What the problems of a run ask.
-use Rattle.std.proofs.Common.{◌≡◌, ℕ, zero, suc, Bool, true, false, List, [], ◌∷◌, length, get_or, map, refl, ap, sym, ◌∙◌, arith, subst}
-use Rattle.std.specs.Prelude.{All, Some, None}
+use Rattle.std.proofs.Common.{◌≡◌, ℕ, zero, suc, Bool, true, false, List, [], ◌∷◌, length, map, refl, sym, arith, subst}
+use Rattle.std.specs.Prelude.{All, None}
 use Rattle.std.specs.List.{IsAmong}
 use Rattle.ea_road.specs.Queries.{Asking, IsProblem}
 use Rattle.ea_files.specs.declared.road.Road.{Road}

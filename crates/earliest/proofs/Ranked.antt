@@ -1,9 +1,8 @@
 -- Lines of rank errors that went out, one problem after the other.
-use Rattle.std.proofs.Common.{◌≡◌, ◌⊎◌, ℕ, zero, suc, ◌+◌, ◌*◌, ◌≤◌, ◌<◌, false, List, [], ◌∷◌, ◌++◌, length, take, get_or, map, refl, ap, ap₂, sym, ◌∙◌, arith, subst, inl, inr, append-nil, append_assoc}
-use Rattle.std.specs.Prelude.{All, Option, Result, Ok, Err, IfErr, OnOk, codes, decimal}
+use Rattle.std.proofs.Common.{◌≡◌, ℕ, ◌+◌, ◌*◌, ◌≤◌, ◌<◌, false, List, [], ◌∷◌, ◌++◌, length, take, get_or, refl, ap, ap₂, sym, ◌∙◌, arith, subst, inl, inr, append-nil, append_assoc}
+use Rattle.std.specs.Prelude.{Option, Result, Ok, Err, IfErr, OnOk, codes}
 use Rattle.std.specs.List.{flat_map}
 use Rattle.std.specs.Io.KnownBytes.{Appends}
-use Rattle.std.proofs.KnownBytes.{Appends-nil}
 use Rattle.std.proofs.Math.Seq.{take-length}
 use Rattle.std.proofs.lemmas.List.{take_more}
 use native.Mathlib.Nat.{mul-le-mul}
@@ -26,10 +25,9 @@ use Rattle.ea_report.specs.Report.{line, source_line}
 use Rattle.ea_report.specs.Sent.{IsCutBy, IsReason, Seen, Stops}
 use Rattle.ea_report.specs.declared.report.WriteFault.{WriteFault}
 use Rattle.ea_report.specs.declared.report.WriteFaultKind.TheVariants.{WriteFailed}
-use Rattle.ea_report.proofs.Pieces.{given_up, way_start}
 use Rattle.earliest.specs.Faults.{answer_fault}
 use Rattle.earliest.specs.Fronts.{times_on}
-use Rattle.earliest.specs.Ranks.{AddsRanks, AreRanks, AreRankTexts, AreUnderWay, HasOneSource, IsFrontOfRanks, IsRanked, IsRankFront, IsRanking, IsRankingCut, IsRankText, IsUnranked, StopsRanks, rank_line}
+use Rattle.earliest.specs.Ranks.{AddsRanks, AreRanks, AreRankTexts, AreUnderWay, IsFrontOfRanks, IsRanked, IsRankFront, IsRanking, IsRankingCut, IsRankText, IsUnranked, StopsRanks, rank_line}
 use Rattle.earliest.specs.declared.fault.AnswerFault.{AnswerFault}
 use Rattle.earliest.specs.declared.fault.AnswerFault.TheVariants.{Read, Input, BadOption, Write, OutOfMemory}
 
@@ -80,10 +78,6 @@ module _ (heaps : ℕ) (roads : Roads) (answers : ℕ → ℕ → ℕ → ℕ �
   texts_more (first ∷ front) query texts text some is_text =
       (some.0, some.1 ++ text, some.2, texts_more front query some.1 text some.3 is_text, rw some.4 (append_assoc some.0 some.1 text))
 
-  -- None yet.
-  pub none_under_way : (first : Seen) → AreUnderWay heaps roads answers [] first first 0 0
-  none_under_way first = ([], refl, way_start first [] 0 0 refl refl refl)
-
   module _ (all : List Asking) (i : ℕ) (query : Asking) (inside : i < length all) (at : query ≡ get_or all i query) where
     one_more : take (i + 1) all ≡ take i all ++ query ∷ []
     one_more = take_more all i query inside ∙ ap (λ q. take i all ++ q ∷ []) (sym at)
@@ -118,18 +112,12 @@ module _ (heaps : ℕ) (roads : Roads) (answers : ℕ → ℕ → ℕ → ℕ �
               are_texts = subst (λ qs. AreRankTexts heaps roads answers qs text) (sym one_more) (texts_more (take i all) query way.0 stop.0 way.1 stop.1);
               cut = cut.0;
             },
-            given_up {T = ℕ} (Err (record { written = written; kind = WriteFailed })) first now text cut refl,
+            cut.1,
           )
       ranks_stop (OutOfMemory written) still = nothing written still.0 still.1
       ranks_stop (Read word fault) stop = absurd stop
       ranks_stop (Input word fault) stop = absurd stop
       ranks_stop BadOption stop = absurd stop
-
-  -- All went out.
-  pub all_ranked : (all : List Asking) (first now : Seen) (written interruptions : ℕ) → AreUnderWay heaps roads answers all first now written interruptions → IsRanking heaps roads answers all first.contents now.contents
-  all_ranked all first now written interruptions way =
-      let whole : way.0 ≡ way.2.sent = way.2.whole ∙ append-nil way.2.sent in
-      (way.0, way.1, subst (λ t. Appends first.contents now.contents t) (sym whole) way.2.appended)
 
 -- What is true of a road's network and kinds is true of what was given.
 on_files : (P : Roads → (ℕ → ℕ → ℕ → ℕ → Type 0) → Type 0) (given : Given) (road : Road) → IsRoadOf given road → P road.network (times_on road) → P (roads_of given) (times_of given.table.kinds)
@@ -144,14 +132,14 @@ module _ (heaps depart gap : ℕ) (tp : Option (Option (List ℕ))) where
 
   module _ (given : Given) (found : List ℕ) (within : AreWithin depart gap (length found)) (road : Road) (is_road : IsRoadOf given road) (queries : List Asking) (are : queries ≡ run_problems false depart gap found) where
     -- The lines went out.
-    pub ranked : (gr ss old new : Option (List ℕ)) → AreGiven DenotesSources gr ss tp given found → (r : Result (Unit {0}) AnswerFault) → OnOk r (IsRanking heaps road.network (times_on road) queries old new) → OnOk r (IsRanked heaps depart gap tp gr ss old new)
-    ranked gr ss old new read (Err fault) ranking = tt
-    ranked gr ss old new read (Ok done) ranking = record {
+    pub ranked : (gr ss : Option (List ℕ)) (first now : Seen) → AreGiven DenotesSources gr ss tp given found → (r : Result (Unit {0}) AnswerFault) → OnOk r (IsRanking heaps road.network (times_on road) queries first now) → OnOk r (IsRanked heaps depart gap tp gr ss first now)
+    ranked gr ss first now read (Err fault) ranking = tt
+    ranked gr ss first now read (Ok done) ranking = record {
       given = given;
       found = found;
       read = read;
       within = within;
-      ranking = on_files (λ roads answers. IsRanking heaps roads answers (run_problems false depart gap found) old new) given road is_road (subst (λ qs. IsRanking heaps road.network (times_on road) qs old new) are ranking);
+      ranking = on_files (λ roads answers. IsRanking heaps roads answers (run_problems false depart gap found) first now) given road is_road (subst (λ qs. IsRanking heaps road.network (times_on road) qs first now) are ranking);
     }
 
     front : (gr ss old new : Option (List ℕ)) (written : ℕ) → AreGiven DenotesSources gr ss tp given found → IsRankFront heaps road.network (times_on road) queries old new written → IsFrontOfRanks heaps depart gap tp gr ss old new written

@@ -2,7 +2,7 @@
 use Rattle.std.specs.Prelude.{◌≡◌, ◌⊎◌, ℕ, ◌*◌, List, [], ◌∷◌, ◌++◌, false, Option, Ok, codes, decimal, length, take, None}
 use Rattle.std.specs.List.{flat_map}
 use Rattle.std.specs.Io.KnownBytes.{Appends}
-use Rattle.ea_text.specs.Device.{HasGivenUp}
+use Rattle.ea_text.specs.Device.{BearsOn, GivesUp}
 use Rattle.ea_input.specs.Formats.{source_format}
 use Rattle.ea_input.specs.Sources.{DenotesSources}
 use Rattle.ea_road.specs.Roads.{Roads}
@@ -61,9 +61,12 @@ module _ (heaps : ℕ) (roads : Roads) (answers : ℕ → ℕ → ℕ → ℕ �
   AreRankTexts (query ∷ queries) text =
       (first : List ℕ) × (others : List ℕ) × IsRankText query first × AreRankTexts queries others × (text ≡ first ++ others)
 
-  -- The lines of all problems went out.
-  abbrev pub IsRanking : List Asking → Option (List ℕ) → Option (List ℕ) → Type 0
-  IsRanking queries old new = (text : List ℕ) × AreRankTexts queries text × Appends old new text
+  -- The lines of all problems went out; over all of them no call failed, and the interruptions were borne.
+  pub record IsRanking (queries : List Asking) (first now : Seen) : Type 0 where
+    pub text : List ℕ
+    pub are_texts : AreRankTexts queries text
+    pub appended : Appends first.contents now.contents text
+    pub borne : BearsOn first.failed now.failed first.interrupted now.interrupted
 
   -- The bytes that went out are the front of the lines of so many problems.
   pub record IsRankFront (queries : List Asking) (old new : Option (List ℕ)) (written : ℕ) : Type 0 where
@@ -72,10 +75,11 @@ module _ (heaps : ℕ) (roads : Roads) (answers : ℕ → ℕ → ℕ → ℕ �
     pub are_texts : AreRankTexts (take count queries) text
     pub cut : IsCutAt old new text written
 
-  -- The lines were cut short: a front of them went out. The device gave up where writing was the cause.
+  -- The lines were cut short: a front of them went out. Where writing was the cause a call failed, or the interruptions over all
+  -- lines were more than are borne.
   abbrev pub IsRankingCut : List Asking → Seen → Seen → AnswerFault → Type 0
   IsRankingCut queries first now (Write written) =
-      IsRankFront queries first.contents now.contents written × HasGivenUp first.failed now.failed first.interrupted now.interrupted
+      IsRankFront queries first.contents now.contents written × GivesUp first.failed now.failed first.interrupted now.interrupted
   IsRankingCut queries first now (OutOfMemory written) = IsRankFront queries first.contents now.contents written
   IsRankingCut queries first now _ = ⊥
 
@@ -102,12 +106,12 @@ module _ (heaps : ℕ) (roads : Roads) (answers : ℕ → ℕ → ℕ → ℕ �
 
 module _ (heaps depart gap : ℕ) (tp : Option (Option (List ℕ))) where
   -- What went out are the lines of the sources that the files denote, each by itself.
-  pub record IsRanked (gr ss old new : Option (List ℕ)) : Type 0 where
+  pub record IsRanked (gr ss : Option (List ℕ)) (first now : Seen) : Type 0 where
     pub given : Given
     pub found : List ℕ
     pub read : AreGiven DenotesSources gr ss tp given found
     pub within : AreWithin depart gap (length found)
-    pub ranking : IsRanking heaps (roads_of given) (times_of given.table.kinds) (run_problems false depart gap found) old new
+    pub ranking : IsRanking heaps (roads_of given) (times_of given.table.kinds) (run_problems false depart gap found) first now
 
   -- The files denote such lines, and what went out is their front.
   pub record IsFrontOfRanks (gr ss old new : Option (List ℕ)) (written : ℕ) : Type 0 where
@@ -130,5 +134,5 @@ module _ (heaps depart gap : ℕ) (tp : Option (Option (List ℕ))) where
   IsUnranked gr ss IsTableFault first now (Read word fault) = IsFirstFault Ss source_format DenotesSources gr ss IsTableFault (file.Read word fault) × (now ≡ first)
   IsUnranked gr ss IsTableFault first now (Input word fault) = IsFirstFault Ss source_format DenotesSources gr ss IsTableFault (file.Input word fault) × (now ≡ first)
   IsUnranked gr ss IsTableFault first now BadOption = HasLateSource gr.had ss.had × (now ≡ first)
-  IsUnranked gr ss IsTableFault first now (Write written) = IsFrontOfRanks gr.had ss.had first.contents now.contents written × HasGivenUp first.failed now.failed first.interrupted now.interrupted
+  IsUnranked gr ss IsTableFault first now (Write written) = IsFrontOfRanks gr.had ss.had first.contents now.contents written × GivesUp first.failed now.failed first.interrupted now.interrupted
   IsUnranked gr ss IsTableFault first now (OutOfMemory written) = ((written ≡ 0) × (now ≡ first)) ⊎ IsFrontOfRanks gr.had ss.had first.contents now.contents written

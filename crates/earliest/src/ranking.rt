@@ -139,7 +139,9 @@ fn rank_each<W: ByteOut>(
     requires one { All HasOneSource queries.now }
     requires few { length queries.now ≤ 1000000 }
     requires heaps { (2 ≤ heaps) × (heaps ≤ 128) }
-    ensures ok { OnOk result (IsRanking heaps road.now.network (times_on road.now) queries.now (W.contents out.old) (W.contents out.new)) }
+    ensures ok { OnOk result (IsRanking heaps road.now.network (times_on road.now) queries.now
+        (seen (W.contents out.old) (W.Device.failed out.old) (W.Device.interrupted out.old))
+        (seen (W.contents out.new) (W.Device.failed out.new) (W.Device.interrupted out.new))) }
     ensures err { IfErr result (IsRankingCut heaps road.now.network (times_on road.now) queries.now
         (seen (W.contents out.old) (W.Device.failed out.old) (W.Device.interrupted out.old))
         (seen (W.contents out.new) (W.Device.failed out.new) (W.Device.interrupted out.new))) }
@@ -173,7 +175,8 @@ pub fn rank_report<G: ByteIn, S: ByteIn, T: ByteIn, W: ByteOut>(
 ) -> Result<(), AnswerFault>
     requires options { AreOptions options.now }
     ensures ranked { OnOk result (IsRanked (heaps_of options.now) options.now.depart options.now.gap
-        (option_map T.remaining tp.old) (G.remaining gr.old) (S.remaining ss.old) (W.contents out.old) (W.contents out.new)) }
+        (option_map T.remaining tp.old) (G.remaining gr.old) (S.remaining ss.old)
+        (seen (W.contents out.old) (W.Device.failed out.old) (W.Device.interrupted out.old)) (seen (W.contents out.new) (W.Device.failed out.new) (W.Device.interrupted out.new))) }
     ensures unranked { IfErr result (IsUnranked (heaps_of options.now) options.now.depart options.now.gap (option_map T.remaining tp.old)
         (reading (G.remaining gr.old) (G.Device.failed gr.old) (G.Device.failed gr.new) (G.Device.interrupted gr.old) (G.Device.interrupted gr.new))
         (reading (S.remaining ss.old) (S.Device.failed ss.old) (S.Device.failed ss.new) (S.Device.interrupted ss.old) (S.Device.interrupted ss.new))

@@ -1,4 +1,4 @@
-use Rattle.std.proofs.Common.{rules, ℕ, ◌≤◌, ◌≡◌, ◌<◌, false, length, sym, ◌∙◌, subst, refl, ap, arith}
+use Rattle.std.proofs.Common.{rules, ℕ, ◌≤◌, ◌<◌, false, length, sym, ◌∙◌, subst, ap, arith}
 use Rattle.std.specs.Prelude.{All, IfErr, IsTrue, OnOk, option_map}
 use Rattle.std.proofs.lemmas.Result.{err_from_is_err_and}
 use Rattle.ea_input.specs.Sources.{DenotesSources}
@@ -64,9 +64,11 @@ returns-clause-ranked g c =
     let fits : IsTrue c.departures_fit.result = search rules in
     let within : AreWithin o.depart o.gap (length files.sources.items) = λ i inside. c.departures_fit.ensures.0 fits i (omega (arith, inside, files.sources.ok.0)) in
     let queries = c.deref-2.ensures.value ∙ c.in_ok-queries.ensures ∙ ap (run_problems false o.depart o.gap) c.deref.ensures.value in
-    let ok = subst (λ (h : ℕ). OnOk c.rank_each.result (IsRanking h files.road.network (times_on files.road) c.deref-2.result.now (g.W.ByteOut.contents c.args.out.now) (g.W.ByteOut.contents c.rank_each.new.out))) c.heaps_of_run-heaps.ensures.heaps c.rank_each.ensures.ok in
+    let first = seen (g.W.ByteOut.contents c.args.out.now) (g.W.Device.failed c.args.out.now) (g.W.Device.interrupted c.args.out.now) in
+    let now = seen (g.W.ByteOut.contents c.rank_each.new.out) (g.W.Device.failed c.rank_each.new.out) (g.W.Device.interrupted c.rank_each.new.out) in
+    let ok = subst (λ (h : ℕ). OnOk c.rank_each.result (IsRanking h files.road.network (times_on files.road) c.deref-2.result.now first now)) c.heaps_of_run-heaps.ensures.heaps c.rank_each.ensures.ok in
     ranked (heaps_of o) o.depart o.gap (option_map g.T.ByteIn.remaining c.args.tp.now) given.0 files.sources.items within files.road given.2 c.deref-2.result.now queries
-    (g.G.ByteIn.remaining c.args.gr.now) (g.S.ByteIn.remaining c.args.ss.now) (g.W.ByteOut.contents c.args.out.now) (g.W.ByteOut.contents c.rank_each.new.out) given.1 c.rank_each.result ok
+    (g.G.ByteIn.remaining c.args.gr.now) (g.S.ByteIn.remaining c.args.ss.now) first now given.1 c.rank_each.result ok
 
 pub returns-clause-unranked : goal.returns-clause-unranked
 returns-clause-unranked g c =
