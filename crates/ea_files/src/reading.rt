@@ -1,5 +1,6 @@
 //! Files, read and understood.
-ghost use Rattle.std.specs.Prelude.{◌≡◌, ◌≤◌, ℕ, List, IfOk, IfErr, length, option_map};
+ghost use Rattle.std.specs.Prelude.{◌≡◌, ◌≤◌, ◌^◌, ℕ, List, IfOk, IfErr, OnOk, length, option_map};
+ghost use Rattle.std.specs.Io.KnownBytes.{IsAtEnd};
 ghost use Rattle.ea_text.specs.Text.{field_lines};
 ghost use Rattle.ea_input.specs.Formats.{graph_format, source_format, pair_format, table_format};
 ghost use Rattle.ea_input.specs.Graph.{DenotesGraph};
@@ -23,6 +24,8 @@ const LARGEST: u64 = 8_589_934_592;
 /// All bytes of a file.
 fn text_of<R: ByteIn>(alloc: Global, file: FileWord, reader: &mut R) -> Result<Vec<u8>, FileFault>
     ensures all { IfOk result (λ bytes. IsAll (R.remaining reader.old) bytes.items) }
+    ensures end { OnOk result (IsAtEnd (R.remaining reader.new)) }
+    ensures few { IfOk result (λ bytes. length bytes.items ≤ 2 ^ 33) }
     ensures fault { IfErr result (IsUnreadBy file (reading (R.remaining reader.old) (R.Device.failed reader.old) (R.Device.failed reader.new) (R.Device.interrupted reader.old) (R.Device.interrupted reader.new))) }
 {
     match read_all(alloc, reader, LARGEST) {
@@ -120,6 +123,8 @@ pub(crate) fn read_table<R: ByteIn>(
 /// All bytes of a report, at most 2^33. What they say is not looked at.
 pub fn read_report<R: ByteIn>(alloc: Global, report: &mut R) -> Result<Vec<u8>, FileFault>
     ensures all { IfOk result (λ bytes. IsAll (R.remaining report.old) bytes.items) }
+    ensures end { OnOk result (IsAtEnd (R.remaining report.new)) }
+    ensures few { IfOk result (λ bytes. length bytes.items ≤ 2 ^ 33) }
     ensures fault { IfErr result (IsUnreadBy FileWord.Report (reading (R.remaining report.old) (R.Device.failed report.old) (R.Device.failed report.new) (R.Device.interrupted report.old) (R.Device.interrupted report.new))) }
 {
     text_of(alloc, FileWord::Report, report)

@@ -8,7 +8,7 @@ mod stats;
 mod writing;
 
 pub use report::{ReportOptions, WriteFault, WriteFaultKind, write_problem};
-pub use stats::{Totals, write_stats};
+pub use stats::{Direct, Totals, write_stats};
 pub use writing::write_pieces;
 
 #[cfg(test)]

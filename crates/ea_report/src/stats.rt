@@ -32,10 +32,13 @@ pub struct Totals {
     pub finish: u128,
 }
 
-/// A text that is under way to a device, with nothing pending.
+/// A text that is sent to a device piece by piece, with one count of interruptions over all of it. It begins with both
+/// numbers 0, and keeps nothing back.
 #[derive(Drop)]
-pub(crate) struct Direct {
+pub struct Direct {
+    /// How many bytes were sent.
     pub written: u128,
+    /// How many calls were interrupted: 1,000 are borne.
     pub interruptions: u64,
     pub ghost borne: { interruptions ≤ 1000 },
 }

@@ -8,14 +8,22 @@ use crate::stats::Direct;
 use ea_input::ByteOut;
 
 impl Direct {
-    /// Sends pieces, one after the other.
-    fn put_pieces<W: ByteOut>(&mut self, pieces: &[&[u8]], out: &mut W) -> Result<(), WriteFault>
+    /// Sends more pieces of the text, one after the other and with no memory.
+    ///
+    /// `WriteFailed` where a write failed, took nothing of bytes that were left, or was interrupted for the 1,001st time
+    /// over the whole text. The bytes written before a fault are the front of the text.
+    pub fn put_pieces<W: ByteOut>(
+        &mut self,
+        pieces: &[&[u8]],
+        out: &mut W,
+    ) -> Result<(), WriteFault>
         requires { self.old.written + length pieces.now * 2 ^ 64 + 2 ^ 64 < 2 ^ 128 }
         ensures ok { OnOk result (Adds (seen (W.contents out.old) (W.Device.failed out.old) (W.Device.interrupted out.old)) [] self.old.written self.old.interruptions
             (seen (W.contents out.new) (W.Device.failed out.new) (W.Device.interrupted out.new)) [] self.new.written self.new.interruptions (flat_map (λ piece. piece.now) pieces.now)) }
         ensures err { IfErr result (λ fault. Stops (seen (W.contents out.old) (W.Device.failed out.old) (W.Device.interrupted out.old)) [] self.old.written self.old.interruptions
             (seen (W.contents out.new) (W.Device.failed out.new) (W.Device.interrupted out.new)) fault (flat_map (λ piece. piece.now) pieces.now)) }
         ensures device { IfErr result (λ fault. fault.kind ≡ WriteFaultKind.WriteFailed) }
+        ensures bound { OnOk result (self.new.written ≤ self.old.written + length pieces.now * 2 ^ 64) }
     {
         for piece in pieces {
             self.put(piece, out)?;

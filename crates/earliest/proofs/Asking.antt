@@ -6,6 +6,7 @@ use Rattle.ea_road.specs.Queries.{Asking, IsProblem}
 use Rattle.ea_files.specs.declared.road.Road.{Road}
 use Rattle.ea_files.specs.Starts.{asks_all, sources_from, run_problems}
 use Rattle.earliest.specs.Fronts.{AreProblems}
+use Rattle.earliest.specs.Ranks.{HasOneSource}
 
 each_mapped : {X Y : Type 0} (P : Y → Type 0) (f : X → Y) → ((x : X) → P (f x)) → (xs : List X) → All P (map f xs)
 each_mapped P f holds [] k d lt = absurd (omega arith)
@@ -26,3 +27,7 @@ each_asked road queries problems none query among = (
   subst (λ (q : Asking). IsProblem road.network (length road.times.list.items) q) (sym among.1.1) (problems among.0 query among.1.0).0,
   subst (λ (q : Asking). q.target ≡ None) (sym among.1.1) (none among.0 query among.1.0),
 )
+
+-- By themselves, they have one source each.
+pub each_alone : (depart gap : ℕ) (nodes : List ℕ) → All HasOneSource (run_problems false depart gap nodes)
+each_alone depart gap nodes = each_mapped HasOneSource (λ source. asks_all (source ∷ [])) (λ source. record { one = refl; all = refl }) (sources_from depart gap 0 nodes)

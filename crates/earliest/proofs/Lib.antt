@@ -6,3 +6,4 @@ pub mod Telling
 pub mod Asking
 pub mod Verdicts
 pub mod OneReport
+pub mod Ranked

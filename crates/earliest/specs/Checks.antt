@@ -1,5 +1,6 @@
 -- What a checked report comes to, with the network and the sources that its files denote.
-use Rattle.std.specs.Prelude.{◌≡◌, ℕ, Bool, List, Option, Result, length}
+use Rattle.std.specs.Prelude.{◌≡◌, ℕ, ◌^◌, ◌≤◌, Bool, List, Option, Result, length}
+use Rattle.std.specs.Io.KnownBytes.{IsAtEnd}
 use Rattle.ea_input.specs.Formats.{source_format}
 use Rattle.ea_input.specs.Sources.{DenotesSources}
 use Rattle.ea_files.specs.declared.fault.FileWord.TheVariants.{Ss, Report}
@@ -14,28 +15,34 @@ use Rattle.ea_check.specs.declared.fault.CheckFault.{CheckFault}
 use Rattle.earliest.specs.declared.fault.AnswerFault.{AnswerFault}
 use Rattle.earliest.specs.declared.fault.AnswerFault.TheVariants.{Read, Input, BadOption, Write, OutOfMemory}
 
+-- All bytes of a report were read, at most 2^33, and none is left.
+pub record IsReadWhole (had left : Option (List ℕ)) (text : List ℕ) : Type 0 where
+  pub all : IsAll had text
+  pub end : IsAtEnd left
+  pub few : length text ≤ 2 ^ 33
+
 -- The files of a run denote something.
 abbrev pub AreSound : Option (Option (List ℕ)) → Option (List ℕ) → Option (List ℕ) → Type 0
 AreSound tp gr ss = (given : Given) × (found : List ℕ) × AreGiven DenotesSources gr ss tp given found
 
 module _ (joint : Bool) (depart gap : ℕ) (tp : Option (Option (List ℕ))) where
   -- All files were read, all departures are within the horizon, and this is said of the report's text.
-  pub record IsJudged (gr ss report : Option (List ℕ)) (verdict : Result (Unit {0}) CheckFault) : Type 0 where
+  pub record IsJudged (gr ss report left : Option (List ℕ)) (verdict : Result (Unit {0}) CheckFault) : Type 0 where
     pub given : Given
     pub found : List ℕ
     pub text : List ℕ
     pub read : AreGiven DenotesSources gr ss tp given found
-    pub all : IsAll report text
+    pub whole : IsReadWhole report left text
     pub within : AreWithin depart gap (length found)
     pub checked : IsChecked (roads_of given) (times_of given.table.kinds) (sources_of (run_problems joint depart gap found)) (lines_of_report text) verdict
 
   -- All files were read, and some departure is beyond the horizon.
-  pub record IsLate (gr ss report : Option (List ℕ)) : Type 0 where
+  pub record IsLate (gr ss report left : Option (List ℕ)) : Type 0 where
     pub given : Given
     pub found : List ℕ
     pub text : List ℕ
     pub read : AreGiven DenotesSources gr ss tp given found
-    pub all : IsAll report text
+    pub whole : IsReadWhole report left text
     pub late : AreWithin depart gap (length found) → ⊥
 
   -- The first fault of the files in their order: that of a file of the run; or where these are sound, the report wasn't read.
@@ -44,9 +51,9 @@ module _ (joint : Bool) (depart gap : ℕ) (tp : Option (Option (List ℕ))) whe
     in_report : AreSound tp gr.had ss.had → IsUnreadBy Report report fault → IsFirstAtFault gr ss report IsTableFault fault
 
   -- Why nothing is said of a report: the first fault of the files; or a late departure; or memory. Nothing is ever written.
-  abbrev pub IsUnjudged : Reading → Reading → Reading → (ℕ → FileFault → Type 0) → AnswerFault → Type 0
-  IsUnjudged gr ss report IsTableFault (Read word fault) = IsFirstAtFault gr ss report IsTableFault (file.Read word fault)
-  IsUnjudged gr ss report IsTableFault (Input word fault) = IsFirstAtFault gr ss report IsTableFault (file.Input word fault)
-  IsUnjudged gr ss report IsTableFault BadOption = IsLate gr.had ss.had report.had
-  IsUnjudged gr ss report IsTableFault (Write written) = ⊥
-  IsUnjudged gr ss report IsTableFault (OutOfMemory written) = written ≡ 0
+  abbrev pub IsUnjudged : Reading → Reading → Reading → Option (List ℕ) → (ℕ → FileFault → Type 0) → AnswerFault → Type 0
+  IsUnjudged gr ss report left IsTableFault (Read word fault) = IsFirstAtFault gr ss report IsTableFault (file.Read word fault)
+  IsUnjudged gr ss report left IsTableFault (Input word fault) = IsFirstAtFault gr ss report IsTableFault (file.Input word fault)
+  IsUnjudged gr ss report left IsTableFault BadOption = IsLate gr.had ss.had report.had left
+  IsUnjudged gr ss report left IsTableFault (Write written) = ⊥
+  IsUnjudged gr ss report left IsTableFault (OutOfMemory written) = written ≡ 0

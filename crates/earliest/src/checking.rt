@@ -31,11 +31,12 @@ pub fn check_report<G: ByteIn, S: ByteIn, T: ByteIn, R: ByteIn>(
 ) -> Result<Result<(), CheckFault>, AnswerFault>
     requires options { AreOptions options.now }
     ensures judged { IfOk result (IsJudged options.now.joint options.now.depart options.now.gap
-        (option_map T.remaining tp.old) (G.remaining gr.old) (S.remaining ss.old) (R.remaining report.old)) }
+        (option_map T.remaining tp.old) (G.remaining gr.old) (S.remaining ss.old) (R.remaining report.old) (R.remaining report.new)) }
     ensures unjudged { IfErr result (IsUnjudged options.now.joint options.now.depart options.now.gap (option_map T.remaining tp.old)
         (reading (G.remaining gr.old) (G.Device.failed gr.old) (G.Device.failed gr.new) (G.Device.interrupted gr.old) (G.Device.interrupted gr.new))
         (reading (S.remaining ss.old) (S.Device.failed ss.old) (S.Device.failed ss.new) (S.Device.interrupted ss.old) (S.Device.interrupted ss.new))
         (reading (R.remaining report.old) (R.Device.failed report.old) (R.Device.failed report.new) (R.Device.interrupted report.old) (R.Device.interrupted report.new))
+        (R.remaining report.new)
         (λ arcs. IsFaultIfThere T.remaining T.Device.failed T.Device.interrupted FileWord.Tp (table_format arcs) tp.old tp.new)) }
 {
     let files = read_run(alloc, gr, ss, tp)?;

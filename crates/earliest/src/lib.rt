@@ -6,6 +6,9 @@ mod checking;
 mod fault;
 pub mod laws;
 mod progress;
+mod ranking;
+#[cfg(test)]
+mod reports_tests;
 mod saying;
 mod solving;
 mod totals;
@@ -17,4 +20,5 @@ pub use ea_files::{FileFault, FileWord};
 pub use ea_report::Totals;
 pub use ea_words::{Command, CommandFault, RunOptions};
 pub use fault::AnswerFault;
+pub use ranking::rank_report;
 pub use saying::{Outcome, say};

@@ -6,7 +6,8 @@ use crate::stored::stored;
 use ea_input::StdOut;
 use earliest::{
     AnswerFault, Command, CommandFault, FileWord, Outcome, RunOptions, Totals, answer,
-    answer_pairs, check_report, say,
+    answer_pairs, check_report, rank_report,
+    say,
 };
 use std::thread::Threads;
 
@@ -28,7 +29,12 @@ pub fn perform<H: Threads + Sync>(rt: &HostRuntime, threads: &H, command: Comman
             tp,
             options,
         } => pairs(rt, threads, gr, p2p, tp, &options),
-        Command::Rank { .. } => 2,
+        Command::Rank {
+            gr,
+            ss,
+            tp,
+            options,
+        } => rank(rt, gr, ss, tp, &options),
         Command::Check {
             gr,
             ss,
@@ -111,6 +117,29 @@ fn pairs<H: Threads + Sync>(
         &mut out,
     );
     finish(rt, answered)
+}
+
+/// Writes rank errors.
+fn rank(rt: &HostRuntime, gr: &str, ss: &str, tp: Option<&str>, options: &RunOptions) -> u8
+    requires { AreOptions options.now }
+{
+    let mut files = match open_all(rt, gr, FileWord::Ss, ss, tp) {
+        Ok(files) => files,
+        Err(file) => return tell(rt, Outcome::Unopened(file)),
+    };
+    let mut out = StdOut::new(rt.stdout());
+    let ranked = rank_report(
+        rt.alloc(),
+        &mut files.gr,
+        &mut files.starts,
+        &mut files.tp,
+        options,
+        &mut out,
+    );
+    match ranked {
+        Ok(()) => 0,
+        Err(fault) => tell(rt, Outcome::Answer(fault)),
+    }
 }
 
 /// Checks a report.

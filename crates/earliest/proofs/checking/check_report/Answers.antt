@@ -16,7 +16,7 @@ pub returns-in_err-files-clause-unjudged : goal.returns-in_err-files-clause-unju
 returns-in_err-files-clause-unjudged g c =
     let p = err_from_is_err_and c.from_residual.result c.from_residual.ensures.1 in
     let o = c.args.options.now in
-    rw (p.1, p.2) (run_failed o.joint o.depart o.gap (option_map g.T.ByteIn.remaining c.args.tp.now) _ _ _ _ _ c.in_err-files.ensures.fault)
+    rw (p.1, p.2) (run_failed o.joint o.depart o.gap (option_map g.T.ByteIn.remaining c.args.tp.now) _ _ _ _ _ _ c.in_err-files.ensures.fault)
 
 pub run_queries-requires-clause-nodes : goal.run_queries-requires-clause-nodes
 run_queries-requires-clause-nodes g c =
@@ -44,5 +44,5 @@ returns-clause-judged g c =
     let o = c.args.options.now in
     let within : AreWithin o.depart o.gap (length files.sources.items) = search rules in
     let queries = c.deref-2.ensures.value ∙ c.in_ok-queries.ensures ∙ ap (run_problems o.joint o.depart o.gap) c.deref.ensures.value in
-    judged o.joint o.depart o.gap (option_map g.T.ByteIn.remaining c.args.tp.now) (g.G.ByteIn.remaining c.args.gr.now) (g.S.ByteIn.remaining c.args.ss.now) (g.R.ByteIn.remaining c.args.report.now) given.0 files.sources.items c.in_ok-text.text.items given.1 c.in_ok-text.ensures.all within files.road given.2
+    judged o.joint o.depart o.gap (option_map g.T.ByteIn.remaining c.args.tp.now) (g.G.ByteIn.remaining c.args.gr.now) (g.S.ByteIn.remaining c.args.ss.now) (g.R.ByteIn.remaining c.args.report.now) (g.R.ByteIn.remaining c.read_report.new.report) given.0 files.sources.items c.in_ok-text.text.items given.1 (record { all = c.in_ok-text.ensures.all; end = c.in_ok-text.ensures.end; few = c.in_ok-text.ensures.few }) within files.road given.2
     c.deref-2.result.now queries c.deref-3.result.now c.deref-3.ensures.value c.check.result c.check.ensures

@@ -1,0 +1,161 @@
+-- Lines of rank errors that went out, one problem after the other.
+use Rattle.std.proofs.Common.{◌≡◌, ℕ, ◌+◌, ◌*◌, ◌≤◌, ◌<◌, false, List, [], ◌∷◌, ◌++◌, length, take, get_or, refl, ap, ap₂, sym, ◌∙◌, arith, subst, inl, inr, append-nil, append_assoc}
+use Rattle.std.specs.Prelude.{Option, Result, Ok, Err, IfErr, OnOk, codes}
+use Rattle.std.specs.List.{flat_map}
+use Rattle.std.specs.Io.KnownBytes.{Appends}
+use Rattle.std.proofs.Math.Seq.{take-length}
+use Rattle.std.proofs.lemmas.List.{take_more}
+use native.Mathlib.Nat.{mul-le-mul}
+use Rattle.ea_input.specs.Formats.{source_format}
+use Rattle.ea_input.specs.Sources.{DenotesSources}
+use Rattle.ea_input.specs.declared.table.RawKind.{RawKind}
+use Rattle.ea_road.specs.Roads.{Roads}
+use Rattle.ea_road.specs.Queries.{Asking}
+use Rattle.ea_road.specs.declared.source.Source.{Source}
+use Rattle.ea_files.specs.declared.road.Road.{Road}
+use Rattle.ea_files.specs.declared.fault.FileWord.TheVariants.{Ss}
+use Rattle.ea_files.specs.declared.fault.FileFault.{FileFault}
+use Rattle.ea_files.specs.declared.fault.FileFault.TheVariants as file
+use Rattle.ea_files.specs.Files.{IsFirstFault, Reading}
+use Rattle.ea_files.specs.Given.{AreGiven, Given, IsRoadOf, roads_of, times_of}
+use Rattle.ea_files.specs.Starts.{AreWithin, run_problems}
+use Rattle.ea_rank.specs.declared.summary.Summary.{Summary}
+use Rattle.ea_rank.specs.Summaries.{summary_of}
+use Rattle.ea_report.specs.Report.{line, source_line}
+use Rattle.ea_report.specs.Sent.{IsCutBy, IsReason, Seen, Stops}
+use Rattle.ea_report.specs.declared.report.WriteFault.{WriteFault}
+use Rattle.ea_report.specs.declared.report.WriteFaultKind.TheVariants.{WriteFailed}
+use Rattle.earliest.specs.Faults.{answer_fault}
+use Rattle.earliest.specs.Fronts.{times_on}
+use Rattle.earliest.specs.Ranks.{AddsRanks, AreRanks, AreRankTexts, AreUnderWay, IsFrontOfRanks, IsRanked, IsRankFront, IsRanking, IsRankingCut, IsRankText, IsUnranked, StopsRanks, rank_line}
+use Rattle.earliest.specs.declared.fault.AnswerFault.{AnswerFault}
+use Rattle.earliest.specs.declared.fault.AnswerFault.TheVariants.{Read, Input, BadOption, Write, OutOfMemory}
+
+-- Some workers with some heaps each have some heaps.
+pub few_heaps : (workers heaps : ℕ) → 1 ≤ workers → workers ≤ 16 → 2 ≤ heaps → heaps ≤ 8 → (2 ≤ workers * heaps) × (workers * heaps ≤ 128)
+few_heaps workers heaps some few two eight = (mul-le-mul some two, mul-le-mul few eight)
+
+-- The parts of a line of two fields that others follow, and of one of three fields.
+two_fields : (a b rest : List ℕ) → ((a ++ 32 ∷ (b ++ [])) ++ 10 ∷ []) ++ rest ≡ a ++ 32 ∷ (b ++ 10 ∷ rest)
+two_fields a b rest = append_assoc (a ++ 32 ∷ (b ++ [])) (10 ∷ []) rest ∙ append_assoc a (32 ∷ (b ++ [])) (10 ∷ rest) ∙ ap (λ (t : List ℕ). a ++ 32 ∷ (t ++ 10 ∷ rest)) (append-nil b)
+
+three_fields : (a b c : List ℕ) → (a ++ 32 ∷ (b ++ 32 ∷ (c ++ []))) ++ 10 ∷ [] ≡ a ++ 32 ∷ (b ++ 32 ∷ (c ++ 10 ∷ []))
+three_fields a b c =
+    append_assoc a (32 ∷ (b ++ 32 ∷ (c ++ []))) (10 ∷ [])
+    ∙ ap (λ (t : List ℕ). a ++ 32 ∷ t) (append_assoc b (32 ∷ (c ++ [])) (10 ∷ []) ∙ ap (λ (t : List ℕ). b ++ 32 ∷ (t ++ 10 ∷ [])) (append-nil c))
+
+pub two_lines : (node departure pops greatest sum : List ℕ)
+    → 115 ∷ 32 ∷ (node ++ 32 ∷ (departure ++ 10 ∷ 114 ∷ 32 ∷ (pops ++ 32 ∷ (greatest ++ 32 ∷ (sum ++ 10 ∷ []))))) ≡ line (codes "s") (node ∷ departure ∷ []) ++ line (codes "r") (pops ∷ greatest ∷ sum ∷ [])
+two_lines node departure pops greatest sum =
+    sym (ap (λ (t : List ℕ). 115 ∷ 32 ∷ t) (two_fields node departure (line (codes "r") (pops ∷ greatest ∷ sum ∷ [])))
+    ∙ ap (λ (t : List ℕ). 115 ∷ 32 ∷ (node ++ 32 ∷ (departure ++ 10 ∷ 114 ∷ 32 ∷ t))) (three_fields pops greatest sum))
+
+-- The line of the only source.
+pub only_line : (sources : List Source) (d : Source) → length sources ≡ 1 → flat_map source_line sources ≡ source_line (get_or sources 0 d)
+only_line [] d one = absurd (omega (arith, one))
+only_line (source ∷ []) d one = append-nil (source_line source)
+only_line (source ∷ other ∷ sources) d one = absurd (omega (arith, one))
+
+-- A text that stopped for the device alone.
+pub stops_for_device : (old new : Seen) (text : List ℕ) (written borne : ℕ) (fault : WriteFault) → fault.kind ≡ WriteFailed → Stops old [] written borne new fault text → Stops old [] written borne new (record { written = fault.written; kind = WriteFailed }) text
+stops_for_device old new text written borne fault device stops = λ first before way.
+    let cut = stops first before way in
+    (cut.0, subst (λ kind. IsReason kind first new) device cut.1)
+
+module _ (heaps : ℕ) (roads : Roads) (answers : ℕ → ℕ → ℕ → ℕ → Type 0) where
+  -- The lines of a problem with one source.
+  pub rank_text : (query : Asking) (sources : List Source) (d : Source) (found ranks : List ℕ) (summary : Summary) → sources ≡ query.sources → length query.sources ≡ 1 → AreRanks heaps roads answers query.sources found → ranks ≡ found → summary ≡ summary_of ranks
+      → IsRankText heaps roads answers query (source_line (get_or sources 0 d) ++ rank_line summary)
+  rank_text query sources d found ranks summary same one are_ranks same_ranks is = record {
+    ranks = found;
+    are_ranks = are_ranks;
+    says = ap₂ (λ (front : List ℕ) (s : Summary). front ++ rank_line s) (ap (λ xs. source_line (get_or xs 0 d)) same ∙ sym (only_line query.sources d one)) (is ∙ ap summary_of same_ranks);
+  }
+
+  -- One more problem.
+  texts_more : (front : List Asking) (query : Asking) (texts text : List ℕ) → AreRankTexts heaps roads answers front texts → IsRankText heaps roads answers query text → AreRankTexts heaps roads answers (front ++ query ∷ []) (texts ++ text)
+  texts_more [] query texts text none is_text = (text, [], is_text, refl, rw none (sym (append-nil text)))
+  texts_more (first ∷ front) query texts text some is_text =
+      (some.0, some.1 ++ text, some.2, texts_more front query some.1 text some.3 is_text, rw some.4 (append_assoc some.0 some.1 text))
+
+  module _ (all : List Asking) (i : ℕ) (query : Asking) (inside : i < length all) (at : query ≡ get_or all i query) where
+    one_more : take (i + 1) all ≡ take i all ++ query ∷ []
+    one_more = take_more all i query inside ∙ ap (λ q. take i all ++ q ∷ []) (sym at)
+
+    -- The next problem's lines go out.
+    pub next_under_way : (first old now : Seen) (before interruptions written borne : ℕ) → AreUnderWay heaps roads answers (take i all) first old before interruptions → AddsRanks heaps roads answers query old before interruptions now written borne → AreUnderWay heaps roads answers (take (i + 1) all) first now written borne
+    next_under_way first old now before interruptions written borne way more =
+        (way.0 ++ more.0, subst (λ qs. AreRankTexts heaps roads answers qs (way.0 ++ more.0)) (sym one_more) (texts_more (take i all) query way.0 more.0 way.1 more.1), more.2 first way.0 way.2)
+
+    -- They stop.
+    module _ (first old now : Seen) (before interruptions : ℕ) (way : AreUnderWay heaps roads answers (take i all) first old before interruptions) where
+      -- Nothing of them was sent.
+      nothing : (written : ℕ) → written ≡ before → now ≡ old → IsRankFront heaps roads answers all first.contents now.contents written
+      nothing written same still =
+          let whole : way.0 ≡ way.2.sent = way.2.whole ∙ append-nil way.2.sent in
+          let size : written ≡ length way.0 = same ∙ way.2.counted ∙ ap length (sym whole) in
+          let front : take written way.0 ≡ way.2.sent = ap (λ (n : ℕ). take n way.0) size ∙ take-length way.0 ∙ whole in
+          record {
+            count = i;
+            text = way.0;
+            are_texts = way.1;
+            cut = (omega (arith, size), subst (λ t. Appends first.contents now.contents t) (sym front) (subst (λ (s : Seen). Appends first.contents s.contents way.2.sent) (sym still) way.2.appended));
+          }
+
+      pub ranks_stop : (fault : AnswerFault) → StopsRanks heaps roads answers query old before interruptions now fault → IsRankingCut heaps roads answers all first now fault
+      ranks_stop (Write written) stop =
+          let text : List ℕ = way.0 ++ stop.0 in
+          let cut : IsCutBy first now text (record { written = written; kind = WriteFailed }) = stop.2 first way.0 way.2 in (
+            record {
+              count = i + 1;
+              text = text;
+              are_texts = subst (λ qs. AreRankTexts heaps roads answers qs text) (sym one_more) (texts_more (take i all) query way.0 stop.0 way.1 stop.1);
+              cut = cut.0;
+            },
+            cut.1,
+          )
+      ranks_stop (OutOfMemory written) still = nothing written still.0 still.1
+      ranks_stop (Read word fault) stop = absurd stop
+      ranks_stop (Input word fault) stop = absurd stop
+      ranks_stop BadOption stop = absurd stop
+
+-- What is true of a road's network and kinds is true of what was given.
+on_files : (P : Roads → (ℕ → ℕ → ℕ → ℕ → Type 0) → Type 0) (given : Given) (road : Road) → IsRoadOf given road → P road.network (times_on road) → P (roads_of given) (times_of given.table.kinds)
+on_files P given road is_road holds = subst (λ (r : Roads). P r (times_of given.table.kinds)) is_road.network (subst (λ (kinds : List RawKind). P road.network (times_of kinds)) is_road.kinds holds)
+
+module _ (heaps depart gap : ℕ) (tp : Option (Option (List ℕ))) where
+  -- The files were at fault.
+  pub files_at_fault : (gr ss : Reading) (IsTableFault : ℕ → FileFault → Type 0) (first : Seen) (fault : FileFault) → IsFirstFault Ss source_format DenotesSources gr ss IsTableFault fault → IsUnranked heaps depart gap tp gr ss IsTableFault first first (answer_fault fault)
+  files_at_fault gr ss IsTableFault first (file.Read word fault) is = (is, refl)
+  files_at_fault gr ss IsTableFault first (file.Input word fault) is = (is, refl)
+  files_at_fault gr ss IsTableFault first file.OutOfMemory is = inl (refl, refl)
+
+  module _ (given : Given) (found : List ℕ) (within : AreWithin depart gap (length found)) (road : Road) (is_road : IsRoadOf given road) (queries : List Asking) (are : queries ≡ run_problems false depart gap found) where
+    -- The lines went out.
+    pub ranked : (gr ss : Option (List ℕ)) (first now : Seen) → AreGiven DenotesSources gr ss tp given found → (r : Result (Unit {0}) AnswerFault) → OnOk r (IsRanking heaps road.network (times_on road) queries first now) → OnOk r (IsRanked heaps depart gap tp gr ss first now)
+    ranked gr ss first now read (Err fault) ranking = tt
+    ranked gr ss first now read (Ok done) ranking = record {
+      given = given;
+      found = found;
+      read = read;
+      within = within;
+      ranking = on_files (λ roads answers. IsRanking heaps roads answers (run_problems false depart gap found) first now) given road is_road (subst (λ qs. IsRanking heaps road.network (times_on road) qs first now) are ranking);
+    }
+
+    front : (gr ss old new : Option (List ℕ)) (written : ℕ) → AreGiven DenotesSources gr ss tp given found → IsRankFront heaps road.network (times_on road) queries old new written → IsFrontOfRanks heaps depart gap tp gr ss old new written
+    front gr ss old new written read part = record {
+      given = given;
+      found = found;
+      read = read;
+      within = within;
+      front = on_files (λ roads answers. IsRankFront heaps roads answers (run_problems false depart gap found) old new written) given road is_road (subst (λ qs. IsRankFront heaps road.network (times_on road) qs old new written) are part);
+    }
+
+    -- They were cut short.
+    pub unranked : (gr ss : Reading) (IsTableFault : ℕ → FileFault → Type 0) (first now : Seen) → AreGiven DenotesSources gr.had ss.had tp given found → (r : Result (Unit {0}) AnswerFault) → IfErr r (IsRankingCut heaps road.network (times_on road) queries first now) → IfErr r (IsUnranked heaps depart gap tp gr ss IsTableFault first now)
+    unranked gr ss IsTableFault first now read (Ok done) cut = tt
+    unranked gr ss IsTableFault first now read (Err (Write written)) cut = (front gr.had ss.had first.contents now.contents written read cut.0, cut.1)
+    unranked gr ss IsTableFault first now read (Err (OutOfMemory written)) cut = inr (front gr.had ss.had first.contents now.contents written read cut)
+    unranked gr ss IsTableFault first now read (Err (Read word fault)) cut = absurd cut
+    unranked gr ss IsTableFault first now read (Err (Input word fault)) cut = absurd cut
+    unranked gr ss IsTableFault first now read (Err BadOption) cut = absurd cut
