@@ -6,8 +6,7 @@ use crate::stored::stored;
 use ea_input::StdOut;
 use earliest::{
     AnswerFault, Command, CommandFault, FileWord, Outcome, RunOptions, Totals, answer,
-    answer_pairs, check_report, rank_report,
-    say,
+    answer_pairs, check_report, rank_report, say,
 };
 use std::thread::Threads;
 
