@@ -2,13 +2,10 @@
 .PHONY: all run test clean
 
 all:
-	@test -d crates/earliest || { echo "the program earliest isn't there yet"; exit 1; }
-	cd crates/earliest && rt lib
-	mkdir -p bin && cp crates/earliest/out/earliest bin/earliest
+	cd crates/earliest_program && rt run > /dev/null
+	mkdir -p bin && cp crates/earliest_program/out/earliest_program bin/earliest
 
-run:
-	@test -d crates/earliest || { echo "the program earliest isn't there yet"; exit 1; }
-	$(MAKE) all
+run: all
 	bin/earliest run examples/four-nodes.gr examples/four-nodes.ss --walks
 
 test:
