@@ -1,5 +1,6 @@
-# `make` builds the program, `make run` runs its main job, `make test` runs the whole gate.
-.PHONY: all run test clean
+# `make` builds the program, `make run` runs its main job, `make test` runs the whole gate, and `make cases` runs the built
+# program on the table of tests/.
+.PHONY: all run test cases clean
 
 all:
 	cd crates/earliest_program && rt run > /dev/null
@@ -10,6 +11,9 @@ run: all
 
 test:
 	rt ci
+
+cases: all
+	python3 tests/run.py bin/earliest
 
 clean:
 	rm -rf bin crates/*/out
