@@ -19,3 +19,4 @@ pub mod Composing
 pub mod Determined
 pub mod Whole
 pub mod Written
+pub mod Leading

@@ -4,7 +4,6 @@
 mod canonical;
 mod checking;
 mod fault;
-mod field;
 pub mod laws;
 mod line;
 mod problem;

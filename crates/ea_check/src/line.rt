@@ -4,8 +4,7 @@ ghost use Rattle.ea_text.specs.Text.{field_lines, fields_of, is_silent};
 ghost use Rattle.ea_check.specs.Form.{spoken_from};
 ghost use Rattle.ea_check.specs.Reads.{ahead};
 
-use crate::field::first_field;
-use ea_text::{first_line, is_comment, without_return};
+use ea_text::{first_field, first_line, is_comment, without_return};
 
 /// A line that says something, and its number.
 #[derive(Clone, Copy)]

@@ -1,12 +1,11 @@
 //! What a line of a report says.
-ghost use Rattle.std.specs.Prelude.{◌≡◌, ◌∷◌, ◌++◌, ◌↔◌, [], ℕ, IfOk, IsTrue, List, MatchBool, MatchOption, Some, true, false, length};
+ghost use Rattle.std.specs.Prelude.{◌≡◌, ◌<◌, ◌∷◌, ◌++◌, ◌↔◌, [], ℕ, IfOk, IfSome, IsTrue, List, MatchBool, MatchOption, Some, true, false, length};
 ghost use Rattle.ea_text.specs.Text.{fields_of, number_of};
 ghost use Rattle.ea_check.specs.Form.{AreArcNumbers, IsArcNumber, IsTime, IsWalkLine, SaysSource, SaysTime, SaysWalk};
-ghost use Rattle.ea_check.specs.Reads.{Pushes};
+ghost use Rattle.ea_check.specs.Reads.{BeginsWith, BeginsWithArc, Pushes};
 
-use crate::field::first_field;
 use ea_road::{HORIZON, NONE, Source};
-use ea_text::number;
+use ea_text::{first_field, is_blank, number};
 use std::alloc::AllocError;
 
 /// The fields of a line of three fields.
@@ -128,6 +127,40 @@ fn arc_number(field: &[u8]) -> Option<u32>
     }
 }
 
+/// The arc number that is the first field of a line, and the bytes after it and its blank, where the line begins with a
+/// digit and the number is not very large.
+fn leading_arc(text: &[u8]) -> Option<(u32, &[u8])>
+    ensures first { IfSome result (λ x. BeginsWithArc text.entry.now x.0 x.1.now) }
+    ensures shorter { IfSome result (λ x. length x.1.now < length text.entry.now) }
+{
+    let mut value: u64 = 0;
+    for (i, b) in text.iter().enumerate() {
+        if !b.is_ascii_digit() {
+            if i == 0 || value > 4_294_967_295 || !is_blank(*b) {
+                return None;
+            }
+            return Some((value as u32, &text[i + 1..]));
+        }
+        if value > 4_294_967_295 {
+            return None;
+        }
+        value = value * 10 + u64::from(*b - b'0');
+    }
+    None
+}
+
+/// The first field of a line as an arc number, where it is one, and the bytes after it.
+fn first_arc(text: &[u8]) -> Option<(Option<u32>, &[u8])>
+    ensures first { MatchOption result (fields_of text.entry.now ≡ []) (λ x. BeginsWith text.entry.now x.0 x.1.now) }
+    ensures shorter { IfSome result (λ x. length x.1.now < length text.entry.now) }
+{
+    if let Some((arc, rest)) = leading_arc(text) {
+        return Some((Some(arc), rest));
+    }
+    let (field, rest) = first_field(text)?;
+    Some((arc_number(field), rest))
+}
+
 /// Appends the arc numbers that the rest of a line writes; whether all its fields are numbers.
 fn push_arcs(text: &[u8], arcs: &mut Vec<u32>) -> Result<bool, AllocError>
     ensures { IfOk result (λ good. MatchBool good
@@ -135,8 +168,8 @@ fn push_arcs(text: &[u8], arcs: &mut Vec<u32>) -> Result<bool, AllocError>
         ((numbers : List ℕ) → AreArcNumbers (fields_of text.now) numbers → ⊥)) }
 {
     let mut rest = text;
-    while let Some((field, after)) = first_field(rest) {
-        let Some(arc) = arc_number(field) else {
+    while let Some((first, after)) = first_arc(rest) {
+        let Some(arc) = first else {
             return Ok(false);
         };
         arcs.push(arc)?;

@@ -6,7 +6,15 @@ use Rattle.std.proofs.Math.ListN.{length-take}
 use Rattle.std.proofs.Math.Seq.{take-append_seam}
 use Rattle.std.proofs.lemmas.Bool.{lt-ltb, false≢true}
 use Rattle.std.proofs.lemmas.List.Splits.{slice_split-cons_yes, slice_split-cons_no}
+use Rattle.memchr.specs.Find.{Passes, is_byte}
 use Rattle.ea_text.specs.Text.{lines_of, fields_of, is_blank}
+
+-- Whether a byte is a line feed, as the search for it says.
+pub feed_at : (text : List ℕ) (i : ℕ) → Passes (is_byte 10) text i → get_or text i 0 ≡ 10
+feed_at text i found = grind (arith, tests)
+
+pub no_feed : (text : List ℕ) (i : ℕ) → ¬ Passes (is_byte 10) text i → get_or text i 0 ≢ 10
+no_feed text i none = λ is. none (grind (arith, tests))
 
 -- What holds at each place but the first holds at each place of the tail.
 tail_places : (b : ℕ) (bs : List ℕ) (i : ℕ) → ((k : ℕ) → k < suc i → get_or (b ∷ bs) k 0 ≢ 10) → (k : ℕ) → k < i → get_or bs k 0 ≢ 10

@@ -6,7 +6,8 @@ ghost use Rattle.ea_text.specs.Text as spec;
 use smallvec::SmallVec;
 use std::alloc::Global;
 
-fn is_blank(b: u8) -> bool
+/// Whether a byte is a space or a tab.
+pub fn is_blank(b: u8) -> bool
     ensures { result ≡ spec.is_blank b }
 {
     b == b' ' || b == b'\t'
@@ -41,8 +42,8 @@ fn split_field(line: &[u8]) -> (&[u8], &[u8])
     (line, &line[line.len()..])
 }
 
-/// The first field of a line, and the bytes after it.
-fn first_field(line: &[u8]) -> Option<(&[u8], &[u8])>
+/// The first field of a line, and the bytes after it and its blank; none where the line has no field.
+pub fn first_field(line: &[u8]) -> Option<(&[u8], &[u8])>
     ensures cut { MatchOption result (fields_of line.now ≡ []) (λ x. fields_of line.now ≡ x.0.now ∷ fields_of x.1.now) }
     ensures shorter { IfSome result (λ x. length x.1.now < length line.now) }
 {
