@@ -18,8 +18,8 @@ pub struct Finished {
     pub todo: Open,
 }
 
-/// Offers a time to a node: a label above it falls to it, and the node is opened.
-pub(crate) fn lower<W: Opens>(table: &mut [u64], todo: &mut W, node: u32, time: u64)
+/// Offers a time to a node, by an arc to a level: a label above it falls to it, and the node is opened.
+pub(crate) fn lower<W: Opens>(table: &mut [u64], todo: &mut W, node: u32, time: u64, level: u32)
     requires node { (0 < node) × (node ≤ (W.room todo.old).nodes) }
     requires places { length table.old ≡ (W.room todo.old).nodes }
     ensures lowers { Lowers node time table.old (W.waits todo.old (entry table.old)) table.new (W.waits todo.new (entry table.new)) }
@@ -29,7 +29,9 @@ pub(crate) fn lower<W: Opens>(table: &mut [u64], todo: &mut W, node: u32, time: 
     let place = node as usize - 1;
     if time < table[place] {
         table[place] = time;
-        todo.open(node, time);
+        todo.open(node, time, level);
+    } else if time == table[place] {
+        todo.reach(node, level);
     }
 }
 
@@ -40,6 +42,7 @@ fn follow<T: TravelTimes, W: Opens>(
     number: u32,
     arc: Arc,
     departure: u64,
+    level: u32,
     table: &mut [u64],
     todo: &mut W,
 )
@@ -60,7 +63,7 @@ fn follow<T: TravelTimes, W: Opens>(
     }
     let arrival = times.arrive(arc.class, u64::from(arc.weight), departure);
     if arrival <= HORIZON {
-        lower(table, todo, arc.head, arrival);
+        lower(table, todo, arc.head, arrival, level);
     }
 }
 
@@ -82,6 +85,7 @@ pub(crate) fn scan<T: TravelTimes, W: Opens>(
     ensures spent { sum table.new + W.size todo.new ≤ sum table.old + W.size todo.old }
     ensures room { W.room todo.new ≡ W.room todo.old }
 {
+    let level = todo.above(node);
     let leaving = network.leaving(node);
     let numbers = leaving.numbers;
     let arcs = leaving.arcs;
@@ -92,6 +96,7 @@ pub(crate) fn scan<T: TravelTimes, W: Opens>(
             numbers[place],
             arcs[place],
             departure,
+            level,
             table,
             todo,
         );

@@ -2,6 +2,7 @@
 ghost use Rattle.std.specs.Prelude.{◌≡◌, [], MatchOption};
 ghost use Rattle.ea_finish.specs.Frontiers.{Takes};
 
+use crate::levels::Notes;
 use crate::open::Open;
 use crate::opens::Opens;
 use std::alloc::Global;
@@ -10,14 +11,15 @@ use std::collections::BinaryHeap;
 use std::marker::Model;
 
 /// Nodes whose labels fell, with their labels, of which it gives the least first. A node for which the heap finds no
-/// memory waits in the list.
+/// memory waits in the list. Beside them are notes of levels, which change nothing else.
 #[derive(Drop)]
-pub(crate) struct Frontier {
+pub(crate) struct Frontier<N: Notes + Drop> {
     heap: BinaryHeap<Reverse<(u64, u32)>>,
     todo: Open,
+    notes: N,
 }
 
-impl Model for Frontier {
+impl<N: Notes + Drop> Model for Frontier<N> {
     ghost use Rattle.std.specs.Prelude.{map};
     ghost use Rattle.std.specs.BinaryHeap.{heap_items};
     ghost use Rattle.ea_finish.specs.Frontiers.{AreEntries, Frontage};
@@ -29,14 +31,15 @@ impl Model for Frontier {
     ghost invariant = { λ f. AreEntries f.todo.nodes (map (λ r. r.0) (heap_items f.heap)) };
 }
 
-impl Frontier {
+impl<N: Notes + Drop> Frontier<N> {
     /// No entry yet, and a list.
-    pub(crate) fn new(alloc: Global, todo: Open) -> Frontier
+    pub(crate) fn new(alloc: Global, todo: Open, notes: N) -> Frontier<N>
         ensures { result ≡ record { entries = []; todo = todo } }
     {
         Frontier {
             heap: BinaryHeap::new(alloc),
             todo,
+            notes,
         }
     }
 
@@ -48,15 +51,16 @@ impl Frontier {
         Some(entry)
     }
 
-    /// The list.
-    pub(crate) fn into_todo(self) -> Open
-        ensures { result ≡ self.todo }
+    /// The list, and what was noted.
+    pub(crate) fn into_parts(self) -> (Open, N)
+        ensures { result.0 ≡ self.todo }
     {
-        self.todo
+        let Frontier { todo, notes, .. } = self;
+        (todo, notes)
     }
 }
 
-impl Opens for Frontier {
+impl<N: Notes + Drop> Opens for Frontier<N> {
     ghost use Rattle.std.specs.Prelude.{length};
     ghost use Rattle.ea_finish.specs.Frontiers.{WaitsAt};
 
@@ -66,10 +70,19 @@ impl Opens for Frontier {
 
     ghost size = { λ frontier. length frontier.entries };
 
-    fn open(&mut self, node: u32, time: u64) {
+    fn above(&self, node: u32) -> u32 {
+        self.notes.above(node)
+    }
+
+    fn open(&mut self, node: u32, time: u64, level: u32) {
+        self.notes.note(node, level);
         match self.heap.push(Reverse((time, node))) {
             Ok(()) => {}
             Err(_) => self.todo.add(node),
         }
+    }
+
+    fn reach(&mut self, node: u32, level: u32) {
+        self.notes.note_lower(node, level);
     }
 }

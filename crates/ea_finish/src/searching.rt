@@ -7,17 +7,18 @@ ghost use Rattle.ea_finish.specs.Underway.{IsUnderway, entry};
 
 use crate::finishing::{latest, lower, scan};
 use crate::frontier::Frontier;
+use crate::levels::Notes;
 use crate::open::Open;
 use ea_road::{HORIZON, NONE, Network, Query, TravelTimes};
 use std::alloc::{AllocError, Global};
 
 /// The table in which each source's label is at most its departure, with the sources on the frontier.
-fn begin<T: TravelTimes>(
+fn begin<T: TravelTimes, N: Notes + Drop>(
     alloc: Global,
     network: &Network,
     times: &T,
     query: &Query,
-    frontier: &mut Frontier,
+    frontier: &mut Frontier<N>,
 ) -> Result<Vec<u64>, AllocError>
     requires problem { IsProblem network.now (T.classes times.now) query.now }
     requires room { frontier.old.todo.nodes ≡ network.now.nodes }
@@ -27,18 +28,18 @@ fn begin<T: TravelTimes>(
 {
     let mut table = vec![in alloc; NONE; network.nodes() as usize]?;
     for source in query.sources() {
-        lower(&mut table, frontier, source.node, source.departure);
+        lower(&mut table, frontier, source.node, source.departure, 0);
     }
     Ok(table)
 }
 
 /// Scans the nodes of the frontier at their labels, the least first, until it has no entry.
-fn exhaust<T: TravelTimes>(
+fn exhaust<T: TravelTimes, N: Notes + Drop>(
     network: &Network,
     times: &T,
     query: &Query,
     table: &mut Vec<u64>,
-    frontier: &mut Frontier,
+    frontier: &mut Frontier<N>,
 )
     requires problem { IsProblem network.now (T.classes times.now) query.now }
     requires room { frontier.old.todo.nodes ≡ network.now.nodes }
@@ -58,14 +59,15 @@ fn exhaust<T: TravelTimes>(
     }
 }
 
-/// A table after a search from the sources. Only nodes for which the heap found no memory still wait.
-pub(crate) fn search<T: TravelTimes>(
+/// A table after a search from the sources, and what was noted on the way. Only nodes for which the heap found no memory still wait.
+pub(crate) fn search<T: TravelTimes, N: Notes + Drop>(
     alloc: Global,
     network: &Network,
     times: &T,
     query: &Query,
     todo: Open,
-) -> Result<(Vec<u64>, Open), AllocError>
+    notes: N,
+) -> Result<(Vec<u64>, Open, N), AllocError>
     requires problem { IsProblem network.now (T.classes times.now) query.now }
     requires room { todo.nodes ≡ network.now.nodes }
     ensures underway { IfOk result (λ found. IsUnderway network.now (T.answers times.now) query.now found.0.items found.1.waiting) }
@@ -73,8 +75,9 @@ pub(crate) fn search<T: TravelTimes>(
     ensures walks { IfOk result (λ found. found.1.walks ≡ todo.walks) }
 {
     let _ = network.nodes();
-    let mut frontier = Frontier::new(alloc, todo);
+    let mut frontier = Frontier::new(alloc, todo, notes);
     let mut table = begin(alloc, network, times, query, &mut frontier)?;
     exhaust(network, times, query, &mut table, &mut frontier);
-    Ok((table, frontier.into_todo()))
+    let (todo, notes) = frontier.into_parts();
+    Ok((table, todo, notes))
 }

@@ -29,8 +29,14 @@ returns-then-time-table-clause-spent g c =
     let less = sum-falls c.args.table.now c.args.node c.args.time (omega arith) (omega arith) (omega arith) in
     omega (arith, less, c.open.ensures.size)
 
-pub returns-else-time-table-clause-lowers : goal.returns-else-time-table-clause-lowers
-returns-else-time-table-clause-lowers g c =
+pub returns-then-time-table-2-clause-lowers : goal.returns-then-time-table-2-clause-lowers
+returns-then-time-table-2-clause-lowers g c =
+    let at = entry-at c.args.table.now c.args.node (omega arith) in
+    let same = get_or_default c.args.table.now (c.args.node - 1) 0 NONE (omega arith) in
+    rw c.reach.ensures (Lowers-stays _ _ _ _ (omega arith))
+
+pub returns-else-time-table-2-clause-lowers : goal.returns-else-time-table-2-clause-lowers
+returns-else-time-table-2-clause-lowers g c =
     let at = entry-at c.args.table.now c.args.node (omega arith) in
     let same = get_or_default c.args.table.now (c.args.node - 1) 0 NONE (omega arith) in
     Lowers-stays _ _ _ _ (omega arith)
