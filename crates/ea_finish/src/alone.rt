@@ -6,7 +6,7 @@ ghost use Rattle.ea_finish.specs.Answers.{HasArrivals, IsAnswer};
 use crate::answer::Answer;
 use crate::confirming::unwind_noted;
 use crate::finishing::finish;
-use crate::levels::{Levels, NoNotes};
+use crate::levels::Levels;
 use crate::open::Open;
 use crate::searching::search;
 use crate::unwinding::without_walks;
@@ -41,7 +41,8 @@ pub fn arrivals_alone<T: TravelTimes>(
     ensures { IfOk result (HasArrivals network.now (T.answers times.now) query.now) }
 {
     let todo = Open::reserve_without_walks(alloc, network.nodes())?;
-    let (table, todo, _) = search(alloc, network, times, query, todo, NoNotes)?;
+    let none = Levels::none(alloc);
+    let (table, todo, _) = search(alloc, network, times, query, todo, none)?;
     let finished = finish(network, times, query, table, todo);
     Ok(without_walks(network, times, query, finished))
 }

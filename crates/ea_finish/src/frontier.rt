@@ -2,7 +2,7 @@
 ghost use Rattle.std.specs.Prelude.{◌≡◌, [], MatchOption};
 ghost use Rattle.ea_finish.specs.Frontiers.{Takes};
 
-use crate::levels::Notes;
+use crate::levels::Levels;
 use crate::open::Open;
 use crate::opens::Opens;
 use std::alloc::Global;
@@ -11,15 +11,15 @@ use std::collections::BinaryHeap;
 use std::marker::Model;
 
 /// Nodes whose labels fell, with their labels, of which it gives the least first. A node for which the heap finds no
-/// memory waits in the list. Beside them are notes of levels, which change nothing else.
+/// memory waits in the list. Beside them are levels, which change nothing else.
 #[derive(Drop)]
-pub(crate) struct Frontier<N: Notes + Drop> {
+pub(crate) struct Frontier {
     heap: BinaryHeap<Reverse<(u64, u32)>>,
     todo: Open,
-    notes: N,
+    levels: Levels,
 }
 
-impl<N: Notes + Drop> Model for Frontier<N> {
+impl Model for Frontier {
     ghost use Rattle.std.specs.Prelude.{map};
     ghost use Rattle.std.specs.BinaryHeap.{heap_items};
     ghost use Rattle.ea_finish.specs.Frontiers.{AreEntries, Frontage};
@@ -31,15 +31,15 @@ impl<N: Notes + Drop> Model for Frontier<N> {
     ghost invariant = { λ f. AreEntries f.todo.nodes (map (λ r. r.0) (heap_items f.heap)) };
 }
 
-impl<N: Notes + Drop> Frontier<N> {
+impl Frontier {
     /// No entry yet, and a list.
-    pub(crate) fn new(alloc: Global, todo: Open, notes: N) -> Frontier<N>
+    pub(crate) fn new(alloc: Global, todo: Open, levels: Levels) -> Frontier
         ensures { result ≡ record { entries = []; todo = todo } }
     {
         Frontier {
             heap: BinaryHeap::new(alloc),
             todo,
-            notes,
+            levels,
         }
     }
 
@@ -51,16 +51,21 @@ impl<N: Notes + Drop> Frontier<N> {
         Some(entry)
     }
 
-    /// The list, and what was noted.
-    pub(crate) fn into_parts(self) -> (Open, N)
+    /// The level to which the arcs from a node lead; none where no levels are noted.
+    pub(crate) fn above(&self, node: u32) -> Option<u32> {
+        self.levels.above(node)
+    }
+
+    /// The list, and the levels.
+    pub(crate) fn into_parts(self) -> (Open, Levels)
         ensures { result.0 ≡ self.todo }
     {
-        let Frontier { todo, notes, .. } = self;
-        (todo, notes)
+        let Frontier { todo, levels, .. } = self;
+        (todo, levels)
     }
 }
 
-impl<N: Notes + Drop> Opens for Frontier<N> {
+impl Opens for Frontier {
     ghost use Rattle.std.specs.Prelude.{length};
     ghost use Rattle.ea_finish.specs.Frontiers.{WaitsAt};
 
@@ -70,19 +75,18 @@ impl<N: Notes + Drop> Opens for Frontier<N> {
 
     ghost size = { λ frontier. length frontier.entries };
 
-    fn above(&self, node: u32) -> u32 {
-        self.notes.above(node)
-    }
-
-    fn open(&mut self, node: u32, time: u64, level: u32) {
-        self.notes.note(node, level);
+    fn open(&mut self, node: u32, time: u64) {
         match self.heap.push(Reverse((time, node))) {
             Ok(()) => {}
             Err(_) => self.todo.add(node),
         }
     }
 
-    fn reach(&mut self, node: u32, level: u32) {
-        self.notes.note_lower(node, level);
+    fn note(&mut self, node: u32, level: u32) {
+        self.levels.note(node, level);
+    }
+
+    fn note_lower(&mut self, node: u32, level: u32) {
+        self.levels.note_lower(node, level);
     }
 }

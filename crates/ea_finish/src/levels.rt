@@ -3,70 +3,75 @@
 use crate::link::NO_LEVEL;
 use std::alloc::{AllocError, Global};
 
-/// What a search notes of how many arcs lead to the nodes.
-pub(crate) trait Notes {
-    /// The level to which an arc from a node leads.
-    fn above(&self, node: u32) -> u32;
-
-    /// Notes the level of a node whose label fell.
-    fn note(&mut self, node: u32, level: u32);
-
-    /// Notes the level of a node where it is lower than what was noted.
-    fn note_lower(&mut self, node: u32, level: u32);
+/// Whether a scan notes levels, which is known where it is compiled.
+pub(crate) trait Track {
+    /// The level to which the arcs lead that are followed.
+    fn level(&self) -> Option<u32>;
 }
 
-/// Notes nothing.
+/// No levels are noted.
 #[derive(Drop)]
-pub(crate) struct NoNotes;
+pub(crate) struct Untracked;
 
-impl Notes for NoNotes {
-    fn above(&self, _node: u32) -> u32 {
-        0
+impl Track for Untracked {
+    fn level(&self) -> Option<u32> {
+        None
     }
-
-    fn note(&mut self, _node: u32, _level: u32) {}
-
-    fn note_lower(&mut self, _node: u32, _level: u32) {}
 }
 
-/// A level for each node.
+/// The heads come to this level.
+#[derive(Drop)]
+pub(crate) struct Tracked {
+    pub(crate) level: u32,
+}
+
+impl Track for Tracked {
+    fn level(&self) -> Option<u32> {
+        Some(self.level)
+    }
+}
+
+/// A level for each node, or nothing where no walks are asked for.
 #[derive(Drop)]
 pub(crate) struct Levels {
-    levels: Vec<u32>,
+    noted: Vec<u32>,
 }
 
 impl Levels {
-    /// No level for so many nodes.
+    /// Room for the levels of so many nodes.
     pub(crate) fn reserve(alloc: Global, nodes: u32) -> Result<Levels, AllocError> {
-        let levels = vec![in alloc; NO_LEVEL; nodes as usize]?;
-        Ok(Levels { levels })
+        let noted = vec![in alloc; NO_LEVEL; nodes as usize]?;
+        Ok(Levels { noted })
+    }
+
+    /// No room, so nothing is noted.
+    pub(crate) fn none(alloc: Global) -> Levels {
+        Levels {
+            noted: Vec::new(alloc),
+        }
     }
 
     /// The levels, that of node 1 first.
     pub(crate) fn as_slice(&self) -> &[u32] {
-        &self.levels
-    }
-}
-
-impl Notes for Levels {
-    fn above(&self, node: u32) -> u32 {
-        let place = (node as usize).wrapping_sub(1);
-        match self.levels.get(place) {
-            Some(level) => level.saturating_add(1),
-            None => NO_LEVEL,
-        }
+        &self.noted
     }
 
-    fn note(&mut self, node: u32, level: u32) {
-        let place = (node as usize).wrapping_sub(1);
-        if let Some(noted) = self.levels.get_mut(place) {
+    /// The level to which the arcs from a node lead.
+    pub(crate) fn above(&self, node: u32) -> Option<u32> {
+        let level = self.noted.get((node as usize).wrapping_sub(1))?;
+        Some(level.saturating_add(1))
+    }
+
+    /// Notes the level of a node whose label fell.
+    pub(crate) fn note(&mut self, node: u32, level: u32) {
+        if let Some(noted) = self.noted.get_mut((node as usize).wrapping_sub(1)) {
             *noted = level;
         }
     }
 
-    fn note_lower(&mut self, node: u32, level: u32) {
-        let place = (node as usize).wrapping_sub(1);
-        if let Some(noted) = self.levels.get_mut(place) {
+    /// Notes another level of a node, where it is lower.
+    pub(crate) fn note_lower(&mut self, node: u32, level: u32) {
+        if let Some(noted) = self.noted.get_mut((node as usize).wrapping_sub(1)) {
             *noted = level.min(*noted);
         }
     }

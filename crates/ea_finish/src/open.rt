@@ -132,13 +132,11 @@ impl Opens for Open {
 
     ghost size = { λ todo. length todo.waiting };
 
-    fn above(&self, _node: u32) -> u32 {
-        0
-    }
-
-    fn open(&mut self, node: u32, _time: u64, _level: u32) {
+    fn open(&mut self, node: u32, _time: u64) {
         self.add(node);
     }
 
-    fn reach(&mut self, _node: u32, _level: u32) {}
+    fn note(&mut self, _node: u32, _level: u32) {}
+
+    fn note_lower(&mut self, _node: u32, _level: u32) {}
 }

@@ -13,18 +13,19 @@ pub(crate) trait Opens {
     /// How much is still to be looked at.
     ghost size: { Self → ℕ };
 
-    /// The level to which an arc from a node leads, as a guess for the walks.
-    fn above(&self, node: u32) -> u32;
-
-    /// Opens a node whose label fell to a time, by an arc to a level.
-    fn open(&mut self, node: u32, time: u64, level: u32)
+    /// Opens a node whose label fell to a time.
+    fn open(&mut self, node: u32, time: u64)
         requires { (0 < node) × (node ≤ (room self.old).nodes) }
         ensures room { room self.new ≡ room self.old }
         ensures size { size self.new ≤ size self.old + 1 }
         ensures opened { (label : ℕ → ℕ) → label node ≡ time → waits self.new label node }
         ensures kept { (before after : ℕ → ℕ) (other : ℕ) → after other ≡ before other → waits self.old before other → waits self.new after other };
 
-    /// A node's label is reached again, by an arc to a level.
-    fn reach(&mut self, node: u32, level: u32)
+    /// Notes the level of a node whose label fell.
+    fn note(&mut self, node: u32, level: u32)
+        ensures { self.new ≡ self.old };
+
+    /// Notes another level of a node, where it is lower.
+    fn note_lower(&mut self, node: u32, level: u32)
         ensures { self.new ≡ self.old };
 }
