@@ -3,6 +3,7 @@ pub mod Entries
 pub mod Boundary
 pub mod Linkings
 pub mod Linked
+pub mod Confirmings
 pub mod Followed
 pub mod Answered
 pub mod Fronts

@@ -1,5 +1,5 @@
 -- Where nobody waits, the links give the levels of nodes and their canonical walks, over the labels of the table.
-use Rattle.std.proofs.Common.{◌≡◌, ◌≢◌, ℕ, zero, suc, ◌+◌, ◌-◌, ◌<◌, ◌≤◌, List, [], length, refl, sym, ◌∙◌, ap, subst, inl, inr, arith}
+use Rattle.std.proofs.Common.{◌≡◌, ◌≢◌, ℕ, zero, suc, ◌+◌, ◌-◌, ◌<◌, ◌≤◌, List, [], length, refl, sym, ◌∙◌, ap, subst, ◌⊎◌, inl, inr, arith}
 use Rattle.std.specs.List.{IsAmong}
 use Rattle.std.proofs.lemmas.Bool.{cases_lt}
 use Rattle.ea_road.specs.declared.TheConstants.{HORIZON}
@@ -15,6 +15,30 @@ use Rattle.ea_finish.specs.Underway.{entry}
 use Rattle.ea_finish.specs.Links.{AreLinks, IsLinked, link, linked_walk, walk_along}
 use Rattle.ea_finish.specs.Offers.{Tight, IsSeed, Precedes, IsSpent, Linking, AreSown}
 use Rattle.ea_finish.proofs.Entries.{entry_label}
+
+-- Each link begins a walk or follows a tight arc from a lower level, none can be better, and there is room for a level more.
+pub record Settled
+    (roads : Roads)
+    (answers : ℕ → ℕ → ℕ → ℕ → Type 0)
+    (sources : List Source)
+    (table : List ℕ)
+    (links : List Link)
+    : Type 0 where
+  pub places : length links ≡ roads.nodes
+  pub linked : (v : ℕ) → (link links v).level < NO_LEVEL → (((link links v).level ≡ 0) × IsSeed sources table v) ⊎ (Tight roads answers table (link links v).from (link links v).arc v × ((link links (link links v).from).level < (link links v).level))
+  pub spent : (u : ℕ) → (link links u).level < NO_LEVEL → IsSpent roads answers table links u ((link links u).level + 1)
+  pub room : (v : ℕ) → (link links v).level < NO_LEVEL → (link links v).level + 1 < NO_LEVEL
+  pub low : (v : ℕ) → (link links v).level ≤ NO_LEVEL
+
+-- so it is where nobody waits
+pub Settled-linking : (roads : Roads) (answers : ℕ → ℕ → ℕ → ℕ → Type 0) (sources : List Source) (table : List ℕ) (links : List Link) → roads.nodes < NO_LEVEL → Linking roads answers sources table links [] → Settled roads answers sources table links
+Settled-linking roads answers sources table links few linking = record {
+  places = linking.places;
+  linked = linking.linked;
+  spent = λ u there. elim (linking.spent u there) [ inl done ↦ done | inr waits ↦ absurd (omega (arith, waits.1)) ];
+  room = λ v there. (let bound = linking.bounded v there in omega arith);
+  low = linking.low;
+}
 
 -- what a link does not precede is no higher
 not_above : (a b : Link) → (Precedes a b → ⊥) → b.level ≤ a.level
@@ -80,7 +104,7 @@ module _
           from_within = omega arith;
         }
 
-    module _ (links : List Link) (linking : Linking roads answers sources table links []) (sown : AreSown sources table links (length sources)) where
+    module _ (links : List Link) (settled : Settled roads answers sources table links) (sown : AreSown sources table links (length sources)) where
       abbrev Chain : ℕ → ℕ → Type 0
       Chain node count = HasChain roads answers sources (IsLabel label) node count
 
@@ -92,13 +116,9 @@ module _
           let P : Source → Type 0 = λ x. x.departure ≡ entry table x.node → (link links x.node).level ≡ 0 in
           subst P (sym among.1.1) (sown among.0 source among.1.0)
 
-      -- nobody has a link left to offer
-      all_spent : (node : ℕ) → (link links node).level < NO_LEVEL → IsSpent roads answers table links node ((link links node).level + 1)
-      all_spent node there = elim (linking.spent node there) [ inl done ↦ done | inr waits ↦ absurd (omega (arith, waits.1)) ]
-
       -- a tight arc leads at most one level up
       next_level : (tail number head : ℕ) → (link links tail).level < NO_LEVEL → Tight roads answers table tail number head → (link links head).level ≤ (link links tail).level + 1
-      next_level tail number head there tight = not_above (record { level = (link links tail).level + 1; arc = number; from = tail }) (link links head) (all_spent tail there number head tight)
+      next_level tail number head there tight = not_above (record { level = (link links tail).level + 1; arc = number; from = tail }) (link links head) (settled.spent tail there number head tight)
 
       -- a node to which a chain leads has a level that is no higher
       record Linked (node count : ℕ) : Type 0 where
@@ -113,8 +133,7 @@ module _
       chain_linked (follows {tail} {head} {number} {count} chain tight) =
           let before = chain_linked chain in
           let next = next_level tail number head before.there (of_tight number tail head tight) in
-          let bound = linking.bounded tail before.there in
-          let few = network.nodes_limit in
+          let room = settled.room tail before.there in
           let low = before.low in
           record { there = omega arith; low = omega arith }
 
@@ -124,7 +143,7 @@ module _
         below : (link links (link links node).from).level ≡ level
 
       above : (level node : ℕ) → (link links node).level ≡ suc level → suc level < NO_LEVEL → Above level node
-      above level node at small = elim (linking.linked node (omega arith)) [
+      above level node at small = elim (settled.linked node (omega arith)) [
         | inl seed ↦ absurd (omega (arith, seed.0))
         | inr tight ↦ (
             let lower : (link links (link links node).from).level < (link links node).level = tight.1 in
@@ -141,7 +160,7 @@ module _
           subst (λ n. Chain n 0) seed.is_node (begins seed.among (at, seed.within))
 
       level_chain : (level node : ℕ) → (link links node).level ≡ level → level < NO_LEVEL → Chain node level
-      level_chain zero node at small = elim (linking.linked node (omega arith)) [
+      level_chain zero node at small = elim (settled.linked node (omega arith)) [
         | inl seed ↦ seed_chain node seed.1
         | inr tight ↦ absurd (omega (arith, tight.1))
       ]
@@ -168,7 +187,7 @@ module _
       lowest level node at small other from tight is =
           let same = link_level level from is in
           elim (cases_lt other (link links node).arc) [
-            | inl less ↦ absurd (all_spent from (omega arith) other node (of_tight other from node tight) (inr (omega arith, less)))
+            | inl less ↦ absurd (settled.spent from (omega arith) other node (of_tight other from node tight) (inr (omega arith, less)))
             | inr high ↦ high
           ]
 
@@ -187,7 +206,7 @@ module _
       pub is_linked : (node : ℕ) → IsLinked roads answers sources (IsLabel label) links node
       unfolding linked_walk
       is_linked node = record {
-        low = linking.low node;
+        low = settled.low node;
         without = λ none count chain. (let found = chain_linked chain in let there = found.there in omega arith);
         level = λ some. is_level (link links node).level node refl (there some);
         tight = λ some high. (let up = above ((link links node).level - 1) node (omega arith) (before some high) in tight_of (link links node).arc (link links node).from node up.tight);
@@ -197,13 +216,13 @@ module _
       }
         where
           there : (link links node).level ≢ NO_LEVEL → (link links node).level < NO_LEVEL
-          there some = let low = linking.low node in omega arith
+          there some = let low = settled.low node in omega arith
 
           before : (link links node).level ≢ NO_LEVEL → 0 < (link links node).level → suc ((link links node).level - 1) < NO_LEVEL
           before some high = let low = there some in omega arith
 
       pub are_links : AreLinks roads answers sources (IsLabel label) links
       are_links = record {
-        places = linking.places;
+        places = settled.places;
         each = λ node is_node. is_linked node;
       }

@@ -3,6 +3,7 @@ pub mod Underway
 pub mod Scans
 pub mod Links
 pub mod Offers
+pub mod Confirmed
 pub mod Answers
 pub mod Stored
 pub mod Frontiers

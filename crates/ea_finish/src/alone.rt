@@ -4,10 +4,12 @@ ghost use Rattle.ea_road.specs.Queries.{IsProblem};
 ghost use Rattle.ea_finish.specs.Answers.{HasArrivals, IsAnswer};
 
 use crate::answer::Answer;
+use crate::confirming::unwind_noted;
 use crate::finishing::finish;
+use crate::levels::Levels;
 use crate::open::Open;
 use crate::searching::search;
-use crate::unwinding::{unwind, without_walks};
+use crate::unwinding::without_walks;
 use ea_road::{ArrivalFunction, Network, Profiles, Query, TravelTimes};
 use std::alloc::{AllocError, Global};
 
@@ -22,9 +24,10 @@ pub fn solve_alone<T: TravelTimes>(
     ensures { IfOk result (IsAnswer network.now (T.answers times.now) query.now) }
 {
     let todo = Open::reserve(alloc, network.nodes())?;
-    let (table, todo) = search(alloc, network, times, query, todo)?;
+    let levels = Levels::reserve(alloc, network.nodes())?;
+    let (table, todo, levels) = search(alloc, network, times, query, todo, levels)?;
     let finished = finish(network, times, query, table, todo);
-    Ok(unwind(network, times, query, finished))
+    Ok(unwind_noted(network, times, query, finished, levels.as_slice()))
 }
 
 /// The earliest arrivals without walks, found by one thread.
@@ -38,7 +41,8 @@ pub fn arrivals_alone<T: TravelTimes>(
     ensures { IfOk result (HasArrivals network.now (T.answers times.now) query.now) }
 {
     let todo = Open::reserve_without_walks(alloc, network.nodes())?;
-    let (table, todo) = search(alloc, network, times, query, todo)?;
+    let none = Levels::none(alloc);
+    let (table, todo, _) = search(alloc, network, times, query, todo, none)?;
     let finished = finish(network, times, query, table, todo);
     Ok(without_walks(network, times, query, finished))
 }

@@ -7,6 +7,7 @@ ghost use Rattle.ea_road.specs.Roads.{IsArc, IsNode, leaving, top_class};
 ghost use Rattle.ea_finish.specs.Scans.{Lowers, Scanned};
 ghost use Rattle.ea_finish.specs.Underway.{IsFinished, IsUnderway, entry};
 
+use crate::levels::{Track, Untracked};
 use crate::open::Open;
 use crate::opens::Opens;
 use ea_road::{Arc, HORIZON, NONE, Network, Query, TravelTimes};
@@ -18,8 +19,32 @@ pub struct Finished {
     pub todo: Open,
 }
 
+/// Notes the level of a node whose label fell.
+fn note<K: Track, W: Opens>(track: &K, todo: &mut W, node: u32)
+    ensures { todo.new ≡ todo.old }
+{
+    if let Some(level) = track.level() {
+        todo.note(node, level);
+    }
+}
+
+/// Notes the level of a node whose label is reached again.
+fn note_again<K: Track, W: Opens>(track: &K, todo: &mut W, node: u32)
+    ensures { todo.new ≡ todo.old }
+{
+    if let Some(level) = track.level() {
+        todo.note_lower(node, level);
+    }
+}
+
 /// Offers a time to a node: a label above it falls to it, and the node is opened.
-pub(crate) fn lower<W: Opens>(table: &mut [u64], todo: &mut W, node: u32, time: u64)
+pub(crate) fn lower<K: Track, W: Opens>(
+    track: &K,
+    table: &mut [u64],
+    todo: &mut W,
+    node: u32,
+    time: u64,
+)
     requires node { (0 < node) × (node ≤ (W.room todo.old).nodes) }
     requires places { length table.old ≡ (W.room todo.old).nodes }
     ensures lowers { Lowers node time table.old (W.waits todo.old (entry table.old)) table.new (W.waits todo.new (entry table.new)) }
@@ -30,16 +55,20 @@ pub(crate) fn lower<W: Opens>(table: &mut [u64], todo: &mut W, node: u32, time: 
     if time < table[place] {
         table[place] = time;
         todo.open(node, time);
+        note(track, todo, node);
+    } else if time == table[place] {
+        note_again(track, todo, node);
     }
 }
 
 /// Offers its head the arrival along one arc.
-fn follow<T: TravelTimes, W: Opens>(
+fn follow<T: TravelTimes, K: Track, W: Opens>(
     network: &Network,
     times: &T,
     number: u32,
     arc: Arc,
     departure: u64,
+    track: &K,
     table: &mut [u64],
     todo: &mut W,
 )
@@ -60,16 +89,17 @@ fn follow<T: TravelTimes, W: Opens>(
     }
     let arrival = times.arrive(arc.class, u64::from(arc.weight), departure);
     if arrival <= HORIZON {
-        lower(table, todo, arc.head, arrival);
+        lower(track, table, todo, arc.head, arrival);
     }
 }
 
 /// Offers each head the arrival along the arcs from a node, left at its label. The arcs are read as they lie by tail.
-pub(crate) fn scan<T: TravelTimes, W: Opens>(
+pub(crate) fn scan<T: TravelTimes, K: Track, W: Opens>(
     network: &Network,
     times: &T,
     node: u32,
     departure: u64,
+    track: &K,
     table: &mut [u64],
     todo: &mut W,
 )
@@ -92,6 +122,7 @@ pub(crate) fn scan<T: TravelTimes, W: Opens>(
             numbers[place],
             arcs[place],
             departure,
+            track,
             table,
             todo,
         );
@@ -136,7 +167,9 @@ pub fn finish<T: TravelTimes>(
         let departure = table[node as usize - 1];
         let last = latest(target, &table).min(HORIZON);
         if departure <= last {
-            scan(network, times, node, departure, &mut table, &mut todo);
+            scan(
+                network, times, node, departure, &Untracked, &mut table, &mut todo,
+            );
         }
     }
     Finished { table, todo }

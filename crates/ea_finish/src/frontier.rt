@@ -2,6 +2,7 @@
 ghost use Rattle.std.specs.Prelude.{◌≡◌, [], MatchOption};
 ghost use Rattle.ea_finish.specs.Frontiers.{Takes};
 
+use crate::levels::Levels;
 use crate::open::Open;
 use crate::opens::Opens;
 use std::alloc::Global;
@@ -10,11 +11,12 @@ use std::collections::BinaryHeap;
 use std::marker::Model;
 
 /// Nodes whose labels fell, with their labels, of which it gives the least first. A node for which the heap finds no
-/// memory waits in the list.
+/// memory waits in the list. Beside them are levels, which change nothing else.
 #[derive(Drop)]
 pub(crate) struct Frontier {
     heap: BinaryHeap<Reverse<(u64, u32)>>,
     todo: Open,
+    levels: Levels,
 }
 
 impl Model for Frontier {
@@ -31,12 +33,13 @@ impl Model for Frontier {
 
 impl Frontier {
     /// No entry yet, and a list.
-    pub(crate) fn new(alloc: Global, todo: Open) -> Frontier
+    pub(crate) fn new(alloc: Global, todo: Open, levels: Levels) -> Frontier
         ensures { result ≡ record { entries = []; todo = todo } }
     {
         Frontier {
             heap: BinaryHeap::new(alloc),
             todo,
+            levels,
         }
     }
 
@@ -48,11 +51,17 @@ impl Frontier {
         Some(entry)
     }
 
-    /// The list.
-    pub(crate) fn into_todo(self) -> Open
-        ensures { result ≡ self.todo }
+    /// The level to which the arcs from a node lead; none where no levels are noted.
+    pub(crate) fn above(&self, node: u32) -> Option<u32> {
+        self.levels.above(node)
+    }
+
+    /// The list, and the levels.
+    pub(crate) fn into_parts(self) -> (Open, Levels)
+        ensures { result.0 ≡ self.todo }
     {
-        self.todo
+        let Frontier { todo, levels, .. } = self;
+        (todo, levels)
     }
 }
 
@@ -71,5 +80,13 @@ impl Opens for Frontier {
             Ok(()) => {}
             Err(_) => self.todo.add(node),
         }
+    }
+
+    fn note(&mut self, node: u32, level: u32) {
+        self.levels.note(node, level);
+    }
+
+    fn note_lower(&mut self, node: u32, level: u32) {
+        self.levels.note_lower(node, level);
     }
 }

@@ -3,8 +3,10 @@
 
 mod alone;
 mod answer;
+mod confirming;
 mod finishing;
 mod frontier;
+mod levels;
 mod link;
 mod open;
 mod opens;

@@ -98,6 +98,25 @@ impl Open {
         (waiting, links)
     }
 
+    /// The list of nodes emptied, with the storage for links as it was at first.
+    pub(crate) fn again(mut waiting: Waiting, mut links: Vec<Link>) -> Open
+        requires { length links.items ≡ waiting.nodes }
+        ensures { result ≡ record { nodes = waiting.nodes; waiting = []; walks = true } }
+    {
+        let none = Link {
+            level: NO_LEVEL,
+            arc: 0,
+            from: 0,
+        };
+        links.fill(none);
+        waiting.clear();
+        Open {
+            waiting,
+            links,
+            walks: true,
+        }
+    }
+
     /// The storage for links, whatever it holds.
     pub(crate) fn into_links(self) -> Vec<Link> {
         self.links
@@ -116,4 +135,8 @@ impl Opens for Open {
     fn open(&mut self, node: u32, _time: u64) {
         self.add(node);
     }
+
+    fn note(&mut self, _node: u32, _level: u32) {}
+
+    fn note_lower(&mut self, _node: u32, _level: u32) {}
 }

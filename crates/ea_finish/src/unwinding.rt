@@ -37,7 +37,7 @@ fn relink(links: &mut [Link], waiting: &mut Waiting, node: u32, new: Link)
 }
 
 /// Offers its head a link by one arc, where that arc is tight.
-fn pass<T: TravelTimes>(
+pub(crate) fn pass<T: TravelTimes>(
     network: &Network,
     times: &T,
     table: &[u64],
@@ -114,7 +114,7 @@ fn spread<T: TravelTimes>(
 }
 
 /// Links a source that departs at its node's label.
-fn sow(table: &[u64], source: Source, links: &mut [Link], waiting: &mut Waiting)
+pub(crate) fn sow(table: &[u64], source: Source, links: &mut [Link], waiting: &mut Waiting)
     requires node { (0 < source.node) × (source.node ≤ waiting.old.nodes) }
     requires places { (length table.now ≡ waiting.old.nodes) × (length links.old ≡ waiting.old.nodes) }
     ensures seeds { source.departure ≡ entry table.now source.node

@@ -68,4 +68,12 @@ impl Waiting {
         self.marked[node as usize - 1] = false;
         Some(node)
     }
+
+    /// Takes all nodes out.
+    pub(crate) fn clear(&mut self)
+        ensures waiting { self.new.waiting ≡ [] }
+        ensures nodes { self.new.nodes ≡ self.old.nodes }
+    {
+        while let Some(_) = self.take() {}
+    }
 }

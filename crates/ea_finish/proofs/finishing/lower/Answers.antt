@@ -14,23 +14,29 @@ returns-then-time-table-clause-lowers g c =
     let at = entry-at table node (omega arith) in
     let same = get_or_default table (node - 1) 0 NONE (omega arith) in
     let here : entry after node ≡ c.args.time = entry-set_same table node c.args.time (omega arith) (omega arith) in
-    Lowers-falls _ _ _ _ _ (omega arith) (omega arith) (omega arith) (c.open.ensures.opened (entry after) here)
+    rw c.note.ensures (Lowers-falls _ _ _ _ _ (omega arith) (omega arith) (omega arith) (c.open.ensures.opened (entry after) here)
     (λ other before. elim (cases_eq other node) [
       | inl is ↦ (
           let P : ℕ → Type 0 = λ v. g.W.Opens.waits c.open.new.self (entry after) v in
           subst P (sym is) (c.open.ensures.opened (entry after) here))
       | inr differs ↦ c.open.ensures.kept (entry table) (entry after) other (entry-set_other table node other c.args.time (omega arith) differs) before
-    ])
+    ]))
 
 pub returns-then-time-table-clause-spent : goal.returns-then-time-table-clause-spent
 returns-then-time-table-clause-spent g c =
     let at = entry-at c.args.table.now c.args.node (omega arith) in
     let same = get_or_default c.args.table.now (c.args.node - 1) 0 NONE (omega arith) in
     let less = sum-falls c.args.table.now c.args.node c.args.time (omega arith) (omega arith) (omega arith) in
-    omega (arith, less, c.open.ensures.size)
+    rw c.note.ensures (omega (arith, less, c.open.ensures.size))
 
-pub returns-else-time-table-clause-lowers : goal.returns-else-time-table-clause-lowers
-returns-else-time-table-clause-lowers g c =
+pub returns-then-time-table-2-clause-lowers : goal.returns-then-time-table-2-clause-lowers
+returns-then-time-table-2-clause-lowers g c =
+    let at = entry-at c.args.table.now c.args.node (omega arith) in
+    let same = get_or_default c.args.table.now (c.args.node - 1) 0 NONE (omega arith) in
+    rw c.note_again.ensures (Lowers-stays _ _ _ _ (omega arith))
+
+pub returns-else-time-table-2-clause-lowers : goal.returns-else-time-table-2-clause-lowers
+returns-else-time-table-2-clause-lowers g c =
     let at = entry-at c.args.table.now c.args.node (omega arith) in
     let same = get_or_default c.args.table.now (c.args.node - 1) 0 NONE (omega arith) in
     Lowers-stays _ _ _ _ (omega arith)

@@ -5,7 +5,6 @@ use Rattle.ea_road.specs.Labels.{limit}
 use Rattle.ea_road.specs.declared.TheConstants.{NONE}
 use Rattle.ea_road.proofs.ByTail.{leaving_has}
 use Rattle.ea_finish.specs.Underway.{entry}
-use Rattle.ea_finish.specs.Worklist.{Room}
 use Rattle.ea_finish.proofs.Boundary.{same_limit}
 use Rattle.ea_finish.proofs.Entries.{entry-at, Underway-scanned, Underway-unlabelled, Underway-above, Underway-moved}
 use Rattle.ea_finish.proofs.Fronts.{taken_or_waits, stale_or_waits}
@@ -19,13 +18,13 @@ loop-key-preserved-then-key-last g c =
     let taken = c.in-Some.ensures in
     let places = before.places in
     let at_label : c.index.result.now ≡ entry table node = get_or_read table (node - 1) c.index.result.now (omega (arith, taken.node, places, c.loop-key.invariant.nodes, c.requires.room)) c.index.ensures NONE ∙ sym (entry-at table node taken.node.0) in
-    let scanned = rw c.deref_mut.ensures.value at c.scan.ensures.scanned in
-    let filled : length c.scan.new.table ≡ c.loop-key.table.len = omega (arith, scanned.places, c.loop-key.table.ok.0) in
+    let scanned = rw c.deref_mut.ensures.value at c.scan_noting.ensures.scanned in
+    let filled : length c.scan_noting.new.table ≡ c.loop-key.table.len = omega (arith, scanned.places, c.loop-key.table.ok.0) in
     let key_is = c.if-key-index.true ∙ at_label in
     record {
-      underway = rw (with_items_is c.loop-key.table c.scan.new.table filled) (Underway-scanned _ _ _ _ node _ _ _ _ _ _ _ before (taken_or_waits (entry table) c.in-Some.key node _ _ taken) key_is (omega arith) (λ n arc is_arc tail. leaving_has c.args.network.now node n arc is_arc tail) scanned);
-      nodes = ap (λ (r : Room). r.nodes) c.scan.ensures.room ∙ ap (λ w. w.nodes) taken.todo ∙ c.loop-key.invariant.nodes;
-      walks = ap (λ (r : Room). r.walks) c.scan.ensures.room ∙ ap (λ w. w.walks) taken.todo ∙ c.loop-key.invariant.walks;
+      underway = rw (with_items_is c.loop-key.table c.scan_noting.new.table filled) (Underway-scanned _ _ _ _ node _ _ _ _ _ _ _ before (taken_or_waits (entry table) c.in-Some.key node _ _ taken) key_is (omega arith) (λ n arc is_arc tail. leaving_has c.args.network.now node n arc is_arc tail) scanned);
+      nodes = c.scan_noting.ensures.nodes ∙ ap (λ w. w.nodes) taken.todo ∙ c.loop-key.invariant.nodes;
+      walks = c.scan_noting.ensures.walks ∙ ap (λ w. w.walks) taken.todo ∙ c.loop-key.invariant.walks;
     }
 
 pub loop-key-preserved : goal.loop-key-preserved

@@ -12,7 +12,7 @@ nothing entries entry none inside =
 pub returns-clause-underway : goal.returns-clause-underway
 returns-clause-underway g c =
     let under = c.exhaust.ensures.underway in
-    rw c.into_todo.ensures (public_of c.args.network.now _ _ c.args.query.now c.nodes.ensures.network c.requires.problem c.exhaust.new.table.items under.places c.exhaust.new.frontier.todo.waiting
+    rw c.into_parts-todo.ensures (public_of c.args.network.now _ _ c.args.query.now c.nodes.ensures.network c.requires.problem c.exhaust.new.table.items under.places c.exhaust.new.frontier.todo.waiting
     (Underway-moved _ _ _ _ c.exhaust.new.table.items _ _ under (λ v waits. elim waits [
       | inl inside ↦ inside
       | inr entry ↦ absurd (nothing _ _ c.exhaust.ensures.none entry)

@@ -2,7 +2,7 @@ use Rattle.std.proofs.Common.{◌≡◌, ℕ, ◌<◌, List, length, get_or, ref
 use Rattle.std.specs.List.{IsAmong}
 use Rattle.std.proofs.lemmas.List.{with_items_is, get_or_default}
 use Rattle.ea_road.specs.declared.source.Source.{Source}
-use Rattle.ea_finish.proofs.Linked.{are_links}
+use Rattle.ea_finish.proofs.Linked.{are_links, Settled-linking}
 use Rattle.ea_finish.proofs.Linkings.{Linking-none, Linking-spread, Linking-time, AreSown-more, AreSown-lower, Offers-lower, sow_step}
 use Rattle.ea_finish.proofs.unwinding.find_links.Goals as goal
 
@@ -70,4 +70,5 @@ loop-node-preserved g c =
 pub returns : goal.returns
 returns g c =
     let linking = rw c.in_default.ensures.taken.0 at c.loop-node.invariant.linking in
-    are_links c.args.network.now _ _ c.args.sources.now c.nodes.ensures.network c.requires.classes (g.met.T.TravelTimes.fifo c.args.times.now) c.requires.sources c.args.table.now c.requires.places c.loop-node.links.items linking c.loop-node.invariant.sown
+    let few = c.nodes.ensures.network.nodes_limit in
+    are_links c.args.network.now _ _ c.args.sources.now c.nodes.ensures.network c.requires.classes (g.met.T.TravelTimes.fifo c.args.times.now) c.requires.sources c.args.table.now c.requires.places c.loop-node.links.items (Settled-linking _ _ _ _ _ (omega arith) linking) c.loop-node.invariant.sown

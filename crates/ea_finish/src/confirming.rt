@@ -1,0 +1,230 @@
+//! Walks from levels that a search noted: one look at each arc confirms the levels, or the walks are found anew.
+ghost use Rattle.std.specs.Prelude.{◌≡◌, ◌≢◌, ◌↔◌, ℕ, ◌+◌, ◌<◌, ◌≤◌, [], true, List, length, IsTrue};
+ghost use Rattle.std.specs.List.{IsAmong};
+ghost use Rattle.ea_road.specs.declared.TheConstants.{HORIZON};
+ghost use Rattle.ea_road.specs.declared.source.Source.{Source};
+ghost use Rattle.ea_road.specs.Labels.{IsLabel, label_of};
+ghost use Rattle.ea_road.specs.Queries.{IsProblem};
+ghost use Rattle.ea_road.specs.Roads.{IsArc, IsNode, top_class};
+ghost use Rattle.ea_finish.specs.Answers.{IsAnswer};
+ghost use Rattle.ea_finish.specs.Confirmed.{AreBegun, AreConfirmed, ArePreset, AreReady, IsReady};
+ghost use Rattle.ea_finish.specs.Links.{AreLinks, link};
+ghost use Rattle.ea_finish.specs.Offers.{IsSpread, Offers, Precedes, Tight};
+ghost use Rattle.ea_finish.specs.Underway.{IsFinished, entry};
+
+use crate::answer::Answer;
+use crate::finishing::Finished;
+use crate::link::{Link, NO_ARC, NO_LEVEL};
+use crate::open::Open;
+use crate::unwinding::{find_links, pass, sow};
+use crate::waiting::Waiting;
+use ea_road::{Arc, HORIZON, Network, Query, Source, TravelTimes};
+
+/// Gives each node its noted level, and no arc yet.
+fn preset(levels: &[u32], links: &mut [Link])
+    ensures places { length links.new ≡ length links.old }
+    ensures preset { ArePreset links.new }
+{
+    for place in 0..links.len() {
+        let level = match levels.get(place) {
+            Some(level) => *level,
+            None => NO_LEVEL,
+        };
+        links[place] = Link {
+            level,
+            arc: NO_ARC,
+            from: 0,
+        };
+    }
+}
+
+/// Links the sources that depart at their nodes' labels; false where the level of one falls.
+fn confirm_sources(
+    table: &[u64],
+    sources: &[Source],
+    links: &mut [Link],
+    waiting: &mut Waiting,
+) -> bool
+    requires sources { (source : Source) → IsAmong sources.now source → IsNode waiting.old.nodes source.node × (source.departure ≤ HORIZON) }
+    requires places { (length table.now ≡ waiting.old.nodes) × (length links.old ≡ waiting.old.nodes) }
+    requires preset { ArePreset links.old }
+    requires nobody { waiting.old.waiting ≡ [] }
+    ensures places { length links.new ≡ length links.old }
+    ensures nodes { waiting.new.nodes ≡ waiting.old.nodes }
+    ensures begun { IsTrue result → AreBegun sources.now table.now links.new (length sources.now) }
+    ensures exact { IsTrue result ↔ (length waiting.new.waiting ≡ 0) }
+{
+    for source in sources {
+        sow(table, *source, links, waiting);
+        if waiting.len() > 0 {
+            return false;
+        }
+    }
+    true
+}
+
+/// Offers the head of an arc a link by it, one level above its tail.
+fn confirm<T: TravelTimes>(
+    network: &Network,
+    times: &T,
+    table: &[u64],
+    number: u32,
+    arc: Arc,
+    links: &mut [Link],
+    waiting: &mut Waiting,
+)
+    requires arc { IsArc network.now number arc }
+    requires classes { top_class network.now.arcs ≤ T.classes times.now }
+    requires places { (length table.now ≡ network.now.nodes) × (length links.old ≡ network.now.nodes) }
+    requires nodes { waiting.old.nodes ≡ network.now.nodes }
+    ensures offers { Offers network.now.nodes (IsSpread network.now (T.answers times.now) table.now arc.tail ((link links.old arc.tail).level + 1)) links.old waiting.old.waiting links.new waiting.new.waiting }
+    ensures passed { (link links.old arc.tail).level + 1 < NO_LEVEL → (v : ℕ) → Tight network.now (T.answers times.now) table.now arc.tail number v → Precedes (record { level = (link links.old arc.tail).level + 1; arc = number; from = arc.tail }) (link links.new v) → ⊥ }
+    ensures nodes { waiting.new.nodes ≡ waiting.old.nodes }
+{
+    let _ = network.nodes();
+    let departure = table[arc.tail as usize - 1];
+    let level = links[arc.tail as usize - 1].level;
+    if departure <= HORIZON && level < NO_LEVEL - 1 {
+        let new = Link {
+            level: level + 1,
+            arc: number,
+            from: arc.tail,
+        };
+        pass(network, times, table, arc, departure, new, links, waiting);
+    }
+}
+
+/// Offers links by all arcs, in the order of their numbers; false where the level of a node falls.
+fn confirm_arcs<T: TravelTimes>(
+    network: &Network,
+    times: &T,
+    table: &[u64],
+    links: &mut [Link],
+    waiting: &mut Waiting,
+) -> bool
+    requires classes { top_class network.now.arcs ≤ T.classes times.now }
+    requires places { (length table.now ≡ network.now.nodes) × (length links.old ≡ network.now.nodes) }
+    requires nodes { waiting.old.nodes ≡ network.now.nodes }
+    requires nobody { waiting.old.waiting ≡ [] }
+    ensures places { length links.new ≡ length links.old }
+    ensures nodes { waiting.new.nodes ≡ waiting.old.nodes }
+    ensures confirmed { IsTrue result → (sources : List Source) → AreConfirmed network.now (T.answers times.now) sources table.now links.old 0 → AreConfirmed network.now (T.answers times.now) sources table.now links.new (length network.now.arcs) }
+    ensures levels { IsTrue result → (v : ℕ) → (link links.new v).level ≡ (link links.old v).level }
+    ensures exact { IsTrue result ↔ (length waiting.new.waiting ≡ 0) }
+{
+    let arcs = network.arcs();
+    for place in 0..arcs.len() {
+        confirm(
+            network,
+            times,
+            table,
+            place as u32 + 1,
+            arcs[place],
+            links,
+            waiting,
+        );
+        if waiting.len() > 0 {
+            return false;
+        }
+    }
+    true
+}
+
+/// Whether a link has its arc, if it needs one.
+fn is_ready(link: Link) -> bool
+    ensures { IsTrue result ↔ IsReady link }
+{
+    link.level == NO_LEVEL || (link.arc != NO_ARC && link.level < NO_LEVEL - 1)
+}
+
+/// Whether each link has its arc.
+fn are_ready(links: &[Link]) -> bool
+    ensures { IsTrue result ↔ AreReady links.now }
+{
+    for link in links {
+        if !is_ready(*link) {
+            return false;
+        }
+    }
+    true
+}
+
+/// Whether the noted levels are right. Then the links are found.
+fn confirm_levels<T: TravelTimes>(
+    network: &Network,
+    times: &T,
+    sources: &[Source],
+    table: &[u64],
+    levels: &[u32],
+    links: &mut [Link],
+    waiting: &mut Waiting,
+) -> bool
+    requires classes { top_class network.now.arcs ≤ T.classes times.now }
+    requires sources { (source : Source) → IsAmong sources.now source → IsNode network.now.nodes source.node × (source.departure ≤ HORIZON) }
+    requires places { (length table.now ≡ network.now.nodes) × (length links.old ≡ network.now.nodes) }
+    requires nodes { waiting.old.nodes ≡ network.now.nodes }
+    requires nobody { waiting.old.waiting ≡ [] }
+    ensures places { length links.new ≡ length links.old }
+    ensures nodes { waiting.new.nodes ≡ waiting.old.nodes }
+    ensures links { IsTrue result → AreLinks network.now (T.answers times.now) sources.now (IsLabel (label_of table.now)) links.new }
+{
+    let _ = network.nodes();
+    preset(levels, links);
+    if !confirm_sources(table, sources, links, waiting) {
+        return false;
+    }
+    if !confirm_arcs(network, times, table, links, waiting) {
+        return false;
+    }
+    are_ready(links)
+}
+
+/// What `find_links` finds, sooner where the noted levels are right.
+fn find_noted<T: TravelTimes>(
+    network: &Network,
+    times: &T,
+    sources: &[Source],
+    table: &[u64],
+    levels: &[u32],
+    todo: Open,
+) -> Vec<Link>
+    requires classes { top_class network.now.arcs ≤ T.classes times.now }
+    requires sources { (source : Source) → IsAmong sources.now source → IsNode network.now.nodes source.node × (source.departure ≤ HORIZON) }
+    requires places { length table.now ≡ network.now.nodes }
+    requires nobody { todo.waiting ≡ [] }
+    requires room { (todo.nodes ≡ network.now.nodes) × (todo.walks ≡ true) }
+    ensures { AreLinks network.now (T.answers times.now) sources.now (IsLabel (label_of table.now)) result.items }
+{
+    let (mut waiting, mut links) = todo.into_parts();
+    if confirm_levels(
+        network,
+        times,
+        sources,
+        table,
+        levels,
+        &mut links,
+        &mut waiting,
+    ) {
+        return links;
+    }
+    find_links(network, times, sources, table, Open::again(waiting, links))
+}
+
+/// What `unwind` gives, sooner where the noted levels are right.
+pub(crate) fn unwind_noted<T: TravelTimes>(
+    network: &Network,
+    times: &T,
+    query: &Query,
+    finished: Finished,
+    levels: &[u32],
+) -> Answer
+    requires problem { IsProblem network.now (T.classes times.now) query.now }
+    requires finished { IsFinished network.now (T.answers times.now) query.now finished.table.items finished.todo }
+    requires walks { finished.todo.walks ≡ true }
+    ensures { IsAnswer network.now (T.answers times.now) query.now result }
+{
+    let nodes = network.nodes();
+    let Finished { table, todo } = finished;
+    let links = find_noted(network, times, query.sources(), &table, levels, todo);
+    Answer::new(nodes, query.target(), table, links, true)
+}
