@@ -18,3 +18,5 @@ mod road;
 mod scarce;
 #[cfg(test)]
 mod solving;
+#[cfg(test)]
+mod travel_times;

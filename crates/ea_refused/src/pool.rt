@@ -166,3 +166,27 @@ fn solo_hands_the_entry_back(rt: HostRuntime) -> Result<(), Fail> {
     assert_eq!(rt; solo.pop_at(0, 0), Some(entry(5, 1)));
     Ok(())
 }
+
+#[test]
+fn solo_is_refused_or_whole(rt: HostRuntime) -> Result<(), Fail> {
+    let mut refused: u32 = 0;
+    let mut made: u32 = 0;
+    for step in 0..40 {
+        let memory = LocalHeap::new(rt.alloc(), 24 + 16 * step)?;
+        match Solo::<&LocalHeap>::new(&memory, 4) {
+            Err(_) => refused = refused.wrapping_add(1),
+            Ok(mut solo) => {
+                made = made.wrapping_add(1);
+                assert_eq!(rt; solo.len(), 0);
+                match solo.push_at(3, entry(1, 4)) {
+                    Ok(()) => assert_eq!(rt; solo.pop_at(3, 0), Some(entry(1, 4))),
+                    Err(back) => assert_eq!(rt; back, entry(1, 4)),
+                }
+                assert_eq!(rt; solo.pop_at(3, 0), None);
+            }
+        }
+        assert_eq!(rt; memory.used(), 0);
+    }
+    assert!(rt; 2 <= refused && 2 <= made, "{refused} refused, {made} made");
+    Ok(())
+}

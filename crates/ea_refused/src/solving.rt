@@ -1,9 +1,13 @@
 // Runs whose growths are refused.
+ghost use Rattle.std.specs.Prelude.{◌≡◌, ◌<◌, ◌+◌, ◌^◌};
+
 use crate::finishing::has_four;
 use crate::given::{four_nodes, from_first};
 use crate::greedy::Greedy;
 use crate::scarce::{Held, pieces};
-use ea_engine::{Answer, Flow, Gate, NoGate, Settings, Turn, TurnKind, solve};
+use ea_engine::{
+    Answer, Flow, Gate, NoGate, Settings, Turn, TurnKind, solve, solve_arrivals, solve_by,
+};
 use ea_road::{Network, Query, Timetables, is_problem};
 use std::alloc::{AllocError, Global};
 use std::sync::atomic::{AtomicU64, Ordering};
@@ -88,6 +92,14 @@ fn refused_push(rt: HostRuntime) -> Result<(), Fail> {
     Ok(())
 }
 
+/// The calls that answer a query by several threads.
+#[derive(Clone, Copy, PartialEq, Eq)]
+enum Call {
+    Walks,
+    Arrivals,
+    Closure,
+}
+
 /// What a run with little memory came to.
 #[derive(Clone, Copy, PartialEq, Eq)]
 enum Came {
@@ -100,6 +112,7 @@ enum Came {
 fn run_with<H: Threads + Sync>(
     alloc: Global,
     rt: &H,
+    call: Call,
     network: &Network,
     times: &Timetables,
     query: &Query,
@@ -118,6 +131,7 @@ fn run_with<H: Threads + Sync>(
         || rngs.len() != workers as usize
         || tracers.len() != workers as usize
         || !is_problem(network, times.classes(), query)
+        || !is_problem(network, 0, query)
     {
         return Ok(Came::Wrong);
     }
@@ -132,9 +146,29 @@ fn run_with<H: Threads + Sync>(
     if let Some(piece) = piece {
         small.leave(piece);
     }
-    let answer = solve(
-        alloc, rt, network, times, query, settings, rngs, &gate, tracers,
-    );
+    let answer = match call {
+        Call::Walks => solve(
+            alloc, rt, network, times, query, settings, rngs, &gate, tracers,
+        ),
+        Call::Arrivals => solve_arrivals(
+            alloc, rt, network, times, query, settings, rngs, &gate, tracers,
+        ),
+        Call::Closure => solve_by(
+            alloc,
+            rt,
+            network,
+            |_class: u32, weight: u64, departure: u64| -> u64
+                requires { departure + weight < 2 ^ 64 }
+                ensures { result ≡ departure + weight }
+            { departure + weight },
+            0,
+            query,
+            settings,
+            rngs,
+            &gate,
+            tracers,
+        ),
+    };
     small.release();
     Ok(match answer {
         Err(_) => if gate.calls.load(Ordering::SeqCst) == 0 {
@@ -154,45 +188,61 @@ fn came_of(answer: &Answer) -> Came {
     }
 }
 
-#[test]
-fn each_growth_refused(rt: HostRuntime) -> Result<(), Fail> {
-    let alloc = rt.alloc();
-    let network = four_nodes(alloc)?.ok_or("arcs")?;
+/// Gives a call less memory than it needs, ever a little more, and after each refusal all that there is.
+fn each_growth<H: Threads + Sync>(
+    alloc: Global,
+    rt: &H,
+    call: Call,
+    workers: u32,
+) -> Result<(u32, u32, u32), AllocError> {
+    let (mut refused, mut right, mut wrong): (u32, u32, u32) = (0, 0, 0);
+    let Some(network) = four_nodes(alloc)? else {
+        return Ok((0, 0, 1));
+    };
     let times = Timetables::new(Vec::new(alloc));
     let query = from_first(alloc)?;
-    for workers in 1..3u32 {
-        let mut small = Held::new(alloc, 20_000)?;
-        let pieces = pieces(alloc, 200, 48)?;
-        let mut large = Held::of_large(alloc)?;
-        let mut refused: u32 = 0;
-        let mut right: u32 = 0;
-        for piece in pieces {
-            let came = run_with(
-                alloc,
-                &rt,
-                &network,
-                &times,
-                &query,
-                workers,
-                &mut small,
-                Some(piece),
+    let mut small = Held::new(alloc, 20_000)?;
+    let pieces = pieces(alloc, 200, 48)?;
+    let mut large = Held::of_large(alloc)?;
+    for piece in pieces {
+        let mut came = run_with(
+            alloc,
+            rt,
+            call,
+            &network,
+            &times,
+            &query,
+            workers,
+            &mut small,
+            Some(piece),
+        )?;
+        if came == Came::Refused {
+            refused = refused.wrapping_add(1);
+            came = run_with(
+                alloc, rt, call, &network, &times, &query, workers, &mut small, None,
             )?;
-            assert!(rt; came != Came::Wrong);
-            if came == Came::Right {
-                right = right.wrapping_add(1);
-            } else {
-                refused = refused.wrapping_add(1);
-                let again = run_with(
-                    alloc, &rt, &network, &times, &query, workers, &mut small, None,
-                )?;
-                assert!(rt; again == Came::Right);
-            }
+        } else {
+            right = right.wrapping_add(1);
         }
-        large.release();
-        assert!(rt;
-            10 <= refused && 2 <= right,
-            "{refused} refused, {right} right"
-        );
+        if came != Came::Right {
+            wrong = wrong.wrapping_add(1);
+        }
+    }
+    large.release();
+    Ok((refused, right, wrong))
+}
+
+#[test]
+fn each_growth_refused(rt: HostRuntime) -> Result<(), Fail> {
+    for call in [Call::Walks, Call::Arrivals, Call::Closure] {
+        for workers in 1..3u32 {
+            let (refused, right, wrong) = each_growth(rt.alloc(), &rt, call, workers)?;
+            assert_eq!(rt; wrong, 0);
+            assert!(rt;
+                10 <= refused && 2 <= right,
+                "{refused} refused, {right} right"
+            );
+        }
     }
     Ok(())
 }

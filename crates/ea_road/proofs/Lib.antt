@@ -6,10 +6,12 @@ pub mod Same
 pub mod WalkLaws
 pub mod Counting
 pub mod Beside
+pub mod Ascending
 pub mod Placing
 pub mod Decide
 pub mod Chains
 pub mod Canonical
+pub mod LastArcs
 pub mod Agree
 pub mod Fixed
 pub mod Rooted

@@ -1,19 +1,28 @@
 //! Laws of networks, travel times and walks, as functions that do nothing.
-ghost use Rattle.std.specs.Prelude.{◌≡◌, ◌≤◌, ℕ, List, Option};
+ghost use Rattle.std.specs.Prelude.{◌≡◌, ◌<◌, ◌≤◌, ◌+◌, ◌↔◌, ◌∷◌, ◌++◌, [], ℕ, Contains, List, Option, length, slice_index};
 ghost use Rattle.ea_road.specs.Answers.{IsFifo};
 ghost use Rattle.ea_road.specs.Arrivals.{Attains, IsLeast, IsLeastAt};
 ghost use Rattle.ea_road.specs.Labels.{IsFixed, label_of, limit, time_of};
-ghost use Rattle.ea_road.specs.Levels.{IsCanonical, IsLevel};
+ghost use Rattle.ea_road.specs.Levels.{IsCanonical, IsLevel, IsTight};
 ghost use Rattle.ea_road.specs.Queries.{IsAsked, IsProblem};
-ghost use Rattle.ea_road.specs.Roads.{IsNode};
+ghost use Rattle.ea_road.specs.Roads.{IsArc, IsNode, leaving};
 ghost use Rattle.ea_road.specs.TimetableLists.{TimetablesAnswer};
 ghost use Rattle.ea_road.specs.Timetables.{KindAnswers};
 
+use crate::arc::Arc;
 use crate::network::Network;
 use crate::query::Query;
 use crate::timetable::Timetable;
 use crate::timetables::Timetables;
 use crate::travel_times::TravelTimes;
+
+/// The numbers of the arcs that leave a node are those of all arcs with that tail, and no others, and they ascend.
+pub fn leaving_arcs_ascend(network: &Network)
+    ensures members { (node number : ℕ) → Contains (leaving network.now node) number
+        ↔ ((arc : Arc) × IsArc network.now number arc × (arc.tail ≡ node)) }
+    ensures ascend { (node place later : ℕ) → place < later → later < length (leaving network.now node)
+        → slice_index (leaving network.now node) place < slice_index (leaving network.now node) later }
+{}
 
 /// A node has at most one least arrival, be it a time or none.
 pub fn least_arrivals_are_one<T: TravelTimes>(network: &Network, times: &T, query: &Query)
@@ -94,6 +103,21 @@ pub fn reached_nodes_have_one_canonical_walk<T: TravelTimes>(
 {
     let _ = network.nodes();
 }
+
+/// The last arc of a canonical walk has the lowest number of the tight arcs that lead to its node from a node one level
+/// below.
+pub fn last_arcs_are_lowest<T: TravelTimes>(network: &Network, times: &T, query: &Query)
+    ensures { (node level from number other : ℕ) (walk : List ℕ)
+        → IsCanonical network.now (T.answers times.now) query.now.sources
+        (IsLeastAt network.now (T.answers times.now) query.now.sources) node (walk ++ number ∷ [])
+        → IsLevel network.now (T.answers times.now) query.now.sources
+        (IsLeastAt network.now (T.answers times.now) query.now.sources) node (level + 1)
+        → IsLevel network.now (T.answers times.now) query.now.sources
+        (IsLeastAt network.now (T.answers times.now) query.now.sources) from level
+        → IsTight network.now (T.answers times.now)
+        (IsLeastAt network.now (T.answers times.now) query.now.sources) other from node
+        → number ≤ other }
+{}
 
 /// Travel times by one timetable, of whichever kind, are first in, first out.
 pub fn timetable_is_fifo(table: &Timetable)
