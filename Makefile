@@ -1,5 +1,5 @@
-# `make` builds the program, `make run` runs its main job, `make test` runs the whole gate, and `make cases` runs the built
-# program on the table of tests/.
+# `make` builds the program, `make run` runs its main job, `make test` runs the whole gate (`rt ci`, then the table of tests/
+# with the program that `rt ci` has built), and `make cases` runs the table alone.
 .PHONY: all run test cases clean
 
 all:
@@ -10,7 +10,7 @@ run: all
 	bin/earliest run examples/four-nodes.gr examples/four-nodes.ss --walks
 
 test:
-	rt ci
+	python3 tests/gate.py
 
 cases: all
 	python3 tests/run.py bin/earliest

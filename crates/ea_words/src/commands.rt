@@ -33,13 +33,24 @@ const CHECK: &str = "Says whether a report of a run is right, or its first fault
 const CHECK_MORE: &str =
     "Example:\n  earliest run roads.gr starts.ss --walks > report\n  earliest check roads.gr starts.ss report\n\nGive the options --tp, --depart, --gap and --joint with which the report was made. It\nprints `ok` where each arrival is the earliest and each walk the canonical one.";
 
+/// A command that is called so in its texts.
+fn named<'a>(command: Command<'a>, name: &str) -> Result<Command<'a>, AllocError>
+    ensures app { IfOk result (λ c. app_of c ≡ app_of command.entry) }
+    ensures local { IfOk result (λ c. (fields_of c).has_globals ≡ (fields_of command.entry).has_globals) }
+{
+    command.bin_name(name)
+}
+
 /// The command `run GR SS`.
 #[tactic(auto, unfolding(crate::specs::Grammar::run_app))]
 pub(crate) fn run_command<'a>(alloc: Global) -> Result<Command<'a>, AllocError>
     ensures app { IfOk result (λ c. app_of c ≡ run_app) }
     ensures local { IfOk result (λ c. (fields_of c).has_globals ≡ false) }
 {
-    let command = Command::new(alloc, "run").about(RUN).after_help(RUN_MORE);
+    let command = named(
+        Command::new(alloc, "run").about(RUN).after_help(RUN_MORE),
+        "earliest run",
+    )?;
     let command = with_arg(command, file(alloc, "gr", "GR", "The network (.gr)"))?;
     let command = with_arg(command, file(alloc, "ss", "SS", "The sources (.ss)"))?;
     let command = with_departures(alloc, command)?;
@@ -58,9 +69,12 @@ pub(crate) fn pairs_command<'a>(alloc: Global) -> Result<Command<'a>, AllocError
     ensures app { IfOk result (λ c. app_of c ≡ pairs_app) }
     ensures local { IfOk result (λ c. (fields_of c).has_globals ≡ false) }
 {
-    let command = Command::new(alloc, "pairs")
-        .about(PAIRS)
-        .after_help(PAIRS_MORE);
+    let command = named(
+        Command::new(alloc, "pairs")
+            .about(PAIRS)
+            .after_help(PAIRS_MORE),
+        "earliest pairs",
+    )?;
     let command = with_arg(command, file(alloc, "gr", "GR", "The network (.gr)"))?;
     let command = with_arg(
         command,
@@ -78,9 +92,12 @@ pub(crate) fn rank_command<'a>(alloc: Global) -> Result<Command<'a>, AllocError>
     ensures app { IfOk result (λ c. app_of c ≡ rank_app) }
     ensures local { IfOk result (λ c. (fields_of c).has_globals ≡ false) }
 {
-    let command = Command::new(alloc, "rank")
-        .about(RANK)
-        .after_help(RANK_MORE);
+    let command = named(
+        Command::new(alloc, "rank")
+            .about(RANK)
+            .after_help(RANK_MORE),
+        "earliest rank",
+    )?;
     let command = with_arg(command, file(alloc, "gr", "GR", "The network (.gr)"))?;
     let command = with_arg(command, file(alloc, "ss", "SS", "The sources (.ss)"))?;
     let command = with_departures(alloc, command)?;
@@ -94,9 +111,12 @@ pub(crate) fn check_command<'a>(alloc: Global) -> Result<Command<'a>, AllocError
     ensures app { IfOk result (λ c. app_of c ≡ check_app) }
     ensures local { IfOk result (λ c. (fields_of c).has_globals ≡ false) }
 {
-    let command = Command::new(alloc, "check")
-        .about(CHECK)
-        .after_help(CHECK_MORE);
+    let command = named(
+        Command::new(alloc, "check")
+            .about(CHECK)
+            .after_help(CHECK_MORE),
+        "earliest check",
+    )?;
     let command = with_arg(command, file(alloc, "gr", "GR", "The network (.gr)"))?;
     let command = with_arg(command, file(alloc, "ss", "SS", "The sources (.ss)"))?;
     let command = with_arg(

@@ -10,4 +10,6 @@ mod reports;
 #[cfg(test)]
 mod said;
 #[cfg(test)]
-mod settings;
+mod same_bytes;
+#[cfg(test)]
+mod statistics;

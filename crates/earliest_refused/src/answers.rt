@@ -1,0 +1,207 @@
+//! Answers of runs and of pairs whose growths are refused.
+ghost use Rattle.ea_words.specs.Limits.{AreOptions};
+
+use crate::counts::{Came, Count};
+use crate::devices::{Greedy, Taking};
+use crate::given::{FOUR_NODES, FROM_ONE, NO_ARCS, holds, unreached, walks_by};
+use crate::scarce::{Held, pieces};
+use ea_input::{StdIn, StdOut};
+use earliest::{AnswerFault, RunOptions, Totals, answer, answer_pairs};
+use std::alloc::Global;
+use std::test::Fail;
+use std::thread::Threads;
+
+const WALKS: &[u8] = b"s 1 0\nd 1 0\nw 1 0\nd 2 5\nw 2 2 2 3\nd 3 2\nw 3 1 2\nd 4 6\nw 4 3 2 3 4\n";
+
+/// What it came to: whole with the whole text, or refused with the front and its length.
+fn came_of(answered: Result<Totals, AnswerFault>, room: &[u8], front: &[u8], whole: &[u8]) -> Came {
+    let refused = AnswerFault::OutOfMemory {
+        written: front.len() as u128,
+    };
+    match answered {
+        Ok(_) if holds(room, whole) => Came::Whole,
+        Err(fault) if fault == refused && holds(room, front) => Came::Refused,
+        _ => Came::Wrong,
+    }
+}
+
+/// A run on the four nodes where a piece of memory is left.
+fn four_nodes_with<H: Threads + Sync>(
+    alloc: Global,
+    rt: &H,
+    options: &RunOptions,
+    small: &mut Held,
+    piece: Vec<u8>,
+) -> Came
+    requires { AreOptions options.now }
+{
+    let mut gr = StdIn::new(FOUR_NODES);
+    let mut ss = StdIn::new(FROM_ONE);
+    let mut tp: Option<StdIn<&[u8]>> = None;
+    let mut room = [0u8; 128];
+    let mut out = StdOut::new(room.as_mut_slice());
+    small.leave(piece);
+    let answered = answer(alloc, rt, &mut gr, &mut ss, &mut tp, options, &mut out);
+    small.release();
+    came_of(answered, room.as_slice(), b"", WALKS)
+}
+
+#[test]
+fn files_and_first_problem(rt: HostRuntime) -> Result<(), Fail> {
+    let alloc = rt.alloc();
+    for many in [false, true] {
+        let mut small = Held::new(alloc, 20_000)?;
+        // A file is read by pieces of 65,536 bytes.
+        let sizes = pieces(alloc, 65_500, 300, 16)?;
+        let mut large = Held::of_large(alloc)?;
+        let mut count = Count::new();
+        for piece in sizes {
+            count.add(four_nodes_with(alloc, &rt, &walks_by(many), &mut small, piece));
+        }
+        large.release();
+        assert!(rt; count.is_refused_at_least(5), "{count}");
+    }
+    Ok(())
+}
+
+/// A run on the network without arcs whose second file takes memory at its end.
+fn no_arcs_with<H: Threads + Sync>(
+    alloc: Global,
+    rt: &H,
+    options: &RunOptions,
+    held: Held,
+    piece: Vec<u8>,
+    room: &mut [u8],
+    whole: &[u8],
+) -> Came
+    requires { AreOptions options.now }
+{
+    let mut gr = StdIn::new(NO_ARCS);
+    let mut ss = StdIn::new(Taking {
+        bytes: FROM_ONE,
+        held,
+        piece: Some(piece),
+    });
+    let mut tp: Option<StdIn<&[u8]>> = None;
+    room.fill(0);
+    let mut out = StdOut::new(&mut *room);
+    let answered = answer(alloc, rt, &mut gr, &mut ss, &mut tp, options, &mut out);
+    came_of(answered, room, b"", whole)
+}
+
+#[test]
+fn arrays_of_the_first_problem(rt: HostRuntime) -> Result<(), Fail> {
+    let alloc = rt.alloc();
+    let whole = unreached(alloc)?;
+    let mut room = Vec::from_elem(alloc, 0u8, 40_000)?;
+    for many in [false, true] {
+        let sizes = pieces(alloc, 0, 110, 1_024)?;
+        let mut large = Held::of_large(alloc)?;
+        let mut count = Count::new();
+        for piece in sizes {
+            let held = Held::new(alloc, 4_000)?;
+            let options = RunOptions {
+                walks: false,
+                ..walks_by(many)
+            };
+            count.add(no_arcs_with(
+                alloc,
+                &rt,
+                &options,
+                held,
+                piece,
+                room.as_mut_slice(),
+                &whole,
+            ));
+        }
+        large.release();
+        assert!(rt; count.is_refused_at_least(5), "{count}");
+    }
+    Ok(())
+}
+
+/// A run on the four nodes from two sources, whose writer takes memory at its first call.
+fn two_sources_with<H: Threads + Sync>(
+    alloc: Global,
+    rt: &H,
+    options: &RunOptions,
+    held: Held,
+    piece: Vec<u8>,
+) -> Came
+    requires { AreOptions options.now }
+{
+    let whole =
+        b"s 1 0\nd 1 0\nw 1 0\nd 2 5\nw 2 2 2 3\nd 3 2\nw 3 1 2\nd 4 6\nw 4 3 2 3 4\ns 3 0\nd 1 inf\nd 2 3\nw 2 1 3\nd 3 0\nw 3 0\nd 4 4\nw 4 2 3 4\n";
+    let mut gr = StdIn::new(FOUR_NODES);
+    let mut ss = StdIn::new(b"p aux sp ss 2\ns 1\ns 3\n".as_slice());
+    let mut tp: Option<StdIn<&[u8]>> = None;
+    let mut room = [0u8; 256];
+    let mut out = StdOut::new(Greedy {
+        room: room.as_mut_slice(),
+        held,
+        piece: Some(piece),
+    });
+    let answered = answer(alloc, rt, &mut gr, &mut ss, &mut tp, options, &mut out);
+    drop(out);
+    came_of(answered, room.as_slice(), WALKS, whole)
+}
+
+#[test]
+fn second_problem(rt: HostRuntime) -> Result<(), Fail> {
+    let alloc = rt.alloc();
+    for many in [false, true] {
+        let sizes = pieces(alloc, 0, 300, 16)?;
+        let mut large = Held::of_large(alloc)?;
+        let mut count = Count::new();
+        for piece in sizes {
+            let held = Held::new(alloc, 4_000)?;
+            count.add(two_sources_with(alloc, &rt, &walks_by(many), held, piece));
+        }
+        large.release();
+        assert!(rt; count.is_refused_at_least(10), "{count}");
+    }
+    Ok(())
+}
+
+/// Two pairs on the four nodes, whose writer takes memory at its first call.
+fn two_pairs_with<H: Threads + Sync>(
+    alloc: Global,
+    rt: &H,
+    options: &RunOptions,
+    held: Held,
+    piece: Vec<u8>,
+) -> Came
+    requires { AreOptions options.now }
+{
+    let front = b"q 1 4 0\nd 4 6\nw 4 3 2 3 4\n";
+    let whole = b"q 1 4 0\nd 4 6\nw 4 3 2 3 4\nq 3 2 0\nd 2 3\nw 2 1 3\n";
+    let mut gr = StdIn::new(FOUR_NODES);
+    let mut p2p = StdIn::new(b"p aux sp p2p 2\nq 1 4\nq 3 2\n".as_slice());
+    let mut tp: Option<StdIn<&[u8]>> = None;
+    let mut room = [0u8; 128];
+    let mut out = StdOut::new(Greedy {
+        room: room.as_mut_slice(),
+        held,
+        piece: Some(piece),
+    });
+    let answered = answer_pairs(alloc, rt, &mut gr, &mut p2p, &mut tp, options, &mut out);
+    drop(out);
+    came_of(answered, room.as_slice(), front, whole)
+}
+
+#[test]
+fn second_pair(rt: HostRuntime) -> Result<(), Fail> {
+    let alloc = rt.alloc();
+    for many in [false, true] {
+        let sizes = pieces(alloc, 0, 300, 16)?;
+        let mut large = Held::of_large(alloc)?;
+        let mut count = Count::new();
+        for piece in sizes {
+            let held = Held::new(alloc, 4_000)?;
+            count.add(two_pairs_with(alloc, &rt, &walks_by(many), held, piece));
+        }
+        large.release();
+        assert!(rt; count.is_refused_at_least(10), "{count}");
+    }
+    Ok(())
+}

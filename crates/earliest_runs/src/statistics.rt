@@ -1,0 +1,41 @@
+//! Statistics of a run.
+use crate::asked::{DEFAULTS, GRAPH, from_one, holds, reports, run};
+use earliest::{RunOptions, Totals};
+
+#[test]
+fn no_turns(rt: HostRuntime) {
+    let options = RunOptions {
+        turns: 0,
+        stats: true,
+        ..DEFAULTS
+    };
+    let report =
+        b"s 1 0\nd 1 0\nd 2 5\nd 3 2\nd 4 6\nc seeded 1\nc pushed 0\nc popped 0\nc stale 0\nc scanned 0\nc returned 0\nc drained 1\nc finish 1\n";
+    assert!(rt; reports(&rt, &rt, from_one(GRAPH), &options, report));
+}
+
+#[test]
+fn one_worker(rt: HostRuntime) {
+    let options = RunOptions {
+        workers: 1,
+        turns: 100,
+        stats: true,
+        ..DEFAULTS
+    };
+    let mut room = [0u8; 512];
+    let totals = Totals {
+        seeded: 1,
+        pushed: 5,
+        popped: 6,
+        stale: 2,
+        scanned: 4,
+        returned: 0,
+        drained: 0,
+        finish: 0,
+    };
+    let answered = run(&rt, &rt, from_one(GRAPH), &options, room.as_mut_slice());
+    assert_eq!(rt; answered, Ok(totals));
+    let report =
+        b"s 1 0\nd 1 0\nd 2 5\nd 3 2\nd 4 6\nc seeded 1\nc pushed 5\nc popped 6\nc stale 2\nc scanned 4\nc returned 0\nc drained 0\nc finish 0\n";
+    assert!(rt; holds(room.as_slice(), report));
+}
