@@ -182,11 +182,6 @@ small_queries roads classes (query ∷ queries) few each =
       small_queries roads classes queries few (λ other among. each other (suc among.0, (omega (arith, among.1.0), among.1.1))),
     )
 
-pub small_drop : (queries : List Asking) (place : ℕ) → AreAllSmall (sources_of queries) → AreAllSmall (sources_of (drop place queries))
-small_drop queries zero small = small
-small_drop [] (suc place) small = small
-small_drop (query ∷ queries) (suc place) small = small_drop queries place small.1
-
 -- the query at a place
 module _ (nodes : ℕ) (queries : List Asking) (place : ℕ) (query : Asking) (inside : place < length queries) (is : query ≡ get_or queries place query) where
   pub next_query : sources_of (drop place queries) ≡ query.sources ∷ sources_of (drop (place + 1) queries)
@@ -194,9 +189,6 @@ module _ (nodes : ℕ) (queries : List Asking) (place : ℕ) (query : Asking) (i
       let parts = drop-cons queries place query inside in
       let more : suc place ≡ place + 1 = omega arith in
       ap (λ (qs : List Asking). sources_of qs) parts ∙ ap (λ (q : Asking). q.sources ∷ sources_of (drop (suc place) queries)) (sym is) ∙ ap (λ n. query.sources ∷ sources_of (drop n queries)) more
-
-  pub form_more : {reported : List Said} {lines others : List Line} (P : Type 0) → ReadsProblem nodes query.sources reported lines others → (ReadsReport nodes (sources_of (drop place queries)) lines → P) → ReadsReport nodes (sources_of (drop (place + 1) queries)) others → P
-  form_more {lines} P here whole later = whole (subst (λ (qs : List (List Source)). ReadsReport nodes qs lines) (sym next_query) (one_read here later))
 
   pub wrong_more : {reported : List Said} {lines others : List Line} (P : ℕ → Type 0) → ReadsProblem nodes query.sources reported lines others → ((number : ℕ) → ReportWrong nodes (sources_of (drop place queries)) lines number → P number) → (number : ℕ) → ReportWrong nodes (sources_of (drop (place + 1) queries)) others number → P number
   wrong_more {lines} P here whole number later = whole number (subst (λ (qs : List (List Source)). ReportWrong nodes qs lines number) (sym next_query) (behind_problem here later))
@@ -210,11 +202,6 @@ no_query_left [] zero long = refl
 no_query_left [] (suc place) long = refl
 no_query_left (query ∷ queries) zero long = absurd (omega arith)
 no_query_left (query ∷ queries) (suc place) long = no_query_left queries place (omega arith)
-
-pub form_end : (nodes : ℕ) (queries : List Asking) (place : ℕ) (found : Option SpokenLine) (behind : List Line) (P : Type 0) → length queries ≤ place → found ≡ None → (ReadsReport nodes (sources_of (drop place queries)) (found_then found behind) → P) → P
-form_end nodes queries place found behind P long none whole =
-    let all : ReadsReport nodes [] [] = all_read in
-    whole (rw (no_query_left queries place long, none) all)
 
 pub form_too_long : (nodes : ℕ) (queries : List Asking) (place : ℕ) (found : Option SpokenLine) (line : SpokenLine) (behind : List Line) (P : ℕ → Type 0) → length queries ≤ place → found ≡ Some line → ((number : ℕ) → ReportWrong nodes (sources_of (drop place queries)) (found_then found behind) number → P number) → P line.number
 form_too_long nodes queries place found line behind P long is whole =

@@ -4,7 +4,7 @@ use Rattle.std.specs.Prelude.{Some}
 use Rattle.ea_road.specs.declared.source.Source.{Source}
 use Rattle.ea_check.specs.Verdicts.{WrittenWalk, Said}
 use Rattle.ea_check.specs.Form.{Line, SaysWalk, IsArcNumber, AreArcNumbers, arc_number}
-use Rattle.ea_check.specs.Reads.{ReadsSources, ReadsNode, without_walk, and_walk, ReadsNodes, no_more, one_more, ReadsProblem, ReadsReport, one_read}
+use Rattle.ea_check.specs.Reads.{ReadsSources, ReadsNode, without_walk, and_walk, ReadsNodes, no_more, one_more, ReadsProblem}
 use Rattle.ea_check.proofs.Steps.{one_time, walk_begins}
 
 same_number : (field : List ℕ) (arc other : ℕ) → IsArcNumber field arc → IsArcNumber field other → arc ≡ other
@@ -73,9 +73,3 @@ one_problem {nodes} {sources} {reported} {told} {lines} {others} {rest} this tha
     let middles = one_rest sources lines this.middle that.middle this.of_sources that.of_sources in
     let moved = subst (λ (ls : List Line). ReadsNodes 1 told ls rest) (sym middles) that.of_nodes in
     one_way (this.each_node ∙ sym that.each_node) this.of_nodes moved
-
--- what is behind a report's first problem
-pub rest_of : {nodes : ℕ} {sources : List Source} {queries : List (List Source)} {reported : List Said} {lines others : List Line} → ReadsReport nodes (sources ∷ queries) lines → ReadsProblem nodes sources reported lines others → ReadsReport nodes queries others
-rest_of {nodes} {queries} (one_read here later) also =
-    let same = one_problem here also in
-    subst (λ (ls : List Line). ReadsReport nodes queries ls) same.1 later

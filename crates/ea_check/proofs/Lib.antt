@@ -20,3 +20,4 @@ pub mod Determined
 pub mod Whole
 pub mod Written
 pub mod Leading
+pub mod Onward

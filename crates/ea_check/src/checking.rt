@@ -1,11 +1,9 @@
 //! Whether a report is right.
-ghost use Rattle.std.specs.Prelude.{◌≡◌, ◌+◌, ◌<◌, ◌^◌, ◌↔◌, IsTrue, None, MatchResult};
+ghost use Rattle.std.specs.Prelude.{◌≡◌, ◌↔◌, Err, IsTrue, None, MatchResult};
 ghost use Rattle.std.specs.List.{IsAmong};
 ghost use Rattle.ea_road.specs.Queries.{Asking, IsProblem};
-ghost use Rattle.ea_road.specs.Roads.{IsNetwork};
 ghost use Rattle.ea_check.specs.Checked.{IsChecked, sources_of};
 ghost use Rattle.ea_check.specs.Form.{lines_of_report};
-ghost use Rattle.ea_check.specs.Reads.{IsWrong, ReadsReport, ReportWrong};
 ghost use Rattle.ea_check.specs.Verdicts.{IsTask, IsVerdict, IsWellFormed};
 
 use crate::fault::CheckFault;
@@ -17,24 +15,6 @@ use crate::verdict::judge;
 use ea_finish::{Open, find_links};
 use ea_road::{Network, Query, TravelTimes, is_problem};
 use std::alloc::Global;
-
-/// Whether the form of a report is right.
-fn check_form(alloc: Global, nodes: u32, queries: &[Query], report: &[u8]) -> Result<(), CheckFault>
-    requires nodes { nodes + 1 < 2 ^ 32 }
-    ensures { MatchResult result
-        (λ _. ReadsReport nodes (sources_of queries.now) (lines_of_report report.now))
-        (IsWrong (ReportWrong nodes (sources_of queries.now) (lines_of_report report.now))) }
-{
-    let mut next = look_ahead(report, 0);
-    for query in queries {
-        let (_, rest) = read_problem(alloc, nodes, query.sources(), next)?;
-        next = rest;
-    }
-    match next.line {
-        None => Ok(()),
-        Some(line) => Err(CheckFault::BadLine(line.number)),
-    }
-}
 
 /// What is wrong with what a report says of a problem.
 fn check_problem<T: TravelTimes>(
@@ -54,26 +34,23 @@ fn check_problem<T: TravelTimes>(
     judge(network, times, query, &ordered, reported, &links)
 }
 
-/// What is wrong with a report whose form is right, problem by problem.
-fn check_problems<T: TravelTimes>(
+/// The first fault of the problems read so far, this one the last of them.
+fn check_next<T: TravelTimes>(
+    before: Result<(), CheckFault>,
     alloc: Global,
     network: &Network,
     times: &T,
-    queries: &[Query],
-    report: &[u8],
+    query: &Query,
+    reported: &Reported,
 ) -> Result<(), CheckFault>
-    requires network { IsNetwork network.now }
-    requires problems { (query : Asking) → IsAmong queries.now query → IsProblem network.now (T.classes times.now) query × (query.target ≡ None) }
-    requires form { ReadsReport network.now.nodes (sources_of queries.now) (lines_of_report report.now) }
-    ensures { IsChecked network.now (T.answers times.now) (sources_of queries.now) (lines_of_report report.now) result }
+    requires task { IsTask network.now (T.classes times.now) query.now.sources }
+    requires formed { IsWellFormed network.now.nodes reported.now }
+    ensures { MatchResult before
+        (λ _. IsVerdict network.now (T.answers times.now) query.now.sources reported.now result)
+        (λ fault. result ≡ Err fault) }
 {
-    let mut next = look_ahead(report, 0);
-    for query in queries {
-        let (reported, rest) = read_problem(alloc, network.nodes(), query.sources(), next)?;
-        check_problem(alloc, network, times, query, &reported)?;
-        next = rest;
-    }
-    Ok(())
+    before?;
+    check_problem(alloc, network, times, query, reported)
 }
 
 /// Whether queries can be checked over a network and travel times with classes up to the greatest: each makes a problem
@@ -93,6 +70,8 @@ pub fn is_checkable(network: &Network, classes: usize, queries: &[Query]) -> boo
 /// `w` line the canonical walk. If not, its first fault: one of form wherever the report has any, else that of the first
 /// problem that has one. The queries ask all nodes, each query's lines stand one after another in the report.
 ///
+/// The report is read once. A problem's fault is kept while the form of the later problems is read.
+///
 /// It takes time in proportion to the report and to the network for each query, and memory for one problem at a time.
 pub fn check<T: TravelTimes>(
     alloc: Global,
@@ -104,6 +83,16 @@ pub fn check<T: TravelTimes>(
     requires { (query : Asking) → IsAmong queries.now query → IsProblem network.now (T.classes times.now) query × (query.target ≡ None) }
     ensures { IsChecked network.now (T.answers times.now) (sources_of queries.now) (lines_of_report report.now) result }
 {
-    check_form(alloc, network.nodes(), queries, report)?;
-    check_problems(alloc, network, times, queries, report)
+    let nodes = network.nodes();
+    let mut next = look_ahead(report, 0);
+    let mut verdict = Ok(());
+    for query in queries {
+        let (reported, rest) = read_problem(alloc, nodes, query.sources(), next)?;
+        verdict = check_next(verdict, alloc, network, times, query, &reported);
+        next = rest;
+    }
+    match next.line {
+        None => verdict,
+        Some(line) => Err(CheckFault::BadLine(line.number)),
+    }
 }
