@@ -9,7 +9,7 @@ use crate::finishing::finish;
 use crate::levels::Levels;
 use crate::open::Open;
 use crate::searching::search;
-use crate::unwinding::without_walks;
+use crate::unwinding::{unwind, without_walks};
 use ea_road::{ArrivalFunction, Network, Profiles, Query, TravelTimes};
 use std::alloc::{AllocError, Global};
 
@@ -27,7 +27,10 @@ pub fn solve_alone<T: TravelTimes>(
     let levels = Levels::reserve(alloc, network.nodes())?;
     let (table, todo, levels) = search(alloc, network, times, query, todo, levels)?;
     let finished = finish(network, times, query, table, todo);
-    Ok(unwind_noted(network, times, query, finished, levels.as_slice()))
+    if levels.are_many() {
+        return Ok(unwind_noted(network, times, query, finished, levels.as_slice()));
+    }
+    Ok(unwind(network, times, query, finished))
 }
 
 /// The earliest arrivals without walks, found by one thread.

@@ -35,25 +35,32 @@ impl Track for Tracked {
 #[derive(Drop)]
 pub(crate) struct Levels {
     noted: Vec<u32>,
+    falls: usize,
 }
 
 impl Levels {
     /// Room for the levels of so many nodes.
     pub(crate) fn reserve(alloc: Global, nodes: u32) -> Result<Levels, AllocError> {
         let noted = vec![in alloc; NO_LEVEL; nodes as usize]?;
-        Ok(Levels { noted })
+        Ok(Levels { noted, falls: 0 })
     }
 
     /// No room, so nothing is noted.
     pub(crate) fn none(alloc: Global) -> Levels {
         Levels {
             noted: Vec::new(alloc),
+            falls: 0,
         }
     }
 
     /// The levels, that of node 1 first.
     pub(crate) fn as_slice(&self) -> &[u32] {
         &self.noted
+    }
+
+    /// Whether so many nodes were reached that one look at each arc costs less than to find their links anew.
+    pub(crate) fn are_many(&self) -> bool {
+        self.falls >= self.noted.len() / 4
     }
 
     /// The level to which the arcs from a node lead.
@@ -66,6 +73,7 @@ impl Levels {
     pub(crate) fn note(&mut self, node: u32, level: u32) {
         if let Some(noted) = self.noted.get_mut((node as usize).wrapping_sub(1)) {
             *noted = level;
+            self.falls = self.falls.saturating_add(1);
         }
     }
 

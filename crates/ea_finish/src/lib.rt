@@ -22,4 +22,6 @@ pub use open::Open;
 pub use unwinding::{find_links, unwind, without_walks};
 
 #[cfg(test)]
+mod slow_walks;
+#[cfg(test)]
 mod tests;

@@ -6,7 +6,7 @@ use std::alloc::{AllocError, Global};
 use std::test::Fail;
 
 /// An arc by its tail, head, weight and class.
-type Row = (u32, u32, u32, u32);
+pub(crate) type Row = (u32, u32, u32, u32);
 
 const FOUR_NODES: [Row; 5] = [
     (1, 2, 7, 0),
@@ -65,7 +65,7 @@ fn answered(
 }
 
 /// The answer for all nodes.
-fn from_sources(
+pub(crate) fn from_sources(
     alloc: Global,
     nodes: u32,
     rows: &[Row],
