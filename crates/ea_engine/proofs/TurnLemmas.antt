@@ -17,7 +17,7 @@ use Rattle.ea_pool.specs.declared.account.Account.{Account}
 use Rattle.ea_pool.specs.declared.TheConstants.{SHARES}
 use Rattle.ea_pool.specs.Pools.{SameBooks, Pops, IsLeastLeft}
 use Rattle.ea_engine.specs.Turns.{is_idle, IsShaped, popped_as, popped_in}
-use Rattle.ea_engine.specs.Closed.{entry_at, IsClosedAs, IsClosedTurn}
+use Rattle.ea_engine.specs.Closed.{entry_at, IsClosedAs, IsClosedTurn, IsFreshAs, IsFreshTurn}
 use Rattle.ea_engine.specs.Worked.{kit, Progress, IsTurn, IsHandOf, IsInside, IsLoneAs}
 use Rattle.ea_engine.proofs.ProgressLemmas.{Progress-then}
 
@@ -81,6 +81,14 @@ module _ (roads : Roads) (answers : ℕ → ℕ → ℕ → ℕ → Type 0) (tar
   IsClosedAs-idle bs hand Refused e i = absurd (false≢true i)
   IsClosedAs-idle bs hand Cut e i = absurd (false≢true i)
 
+  IsFreshAs-idle : (bs : List Bound) (k : TurnKind) (e : Entry) → is_idle k ≡ true → IsFreshAs target bs k e
+  IsFreshAs-idle bs Empty e i = tt
+  IsFreshAs-idle bs Busy e i = tt
+  IsFreshAs-idle bs Stale e i = tt
+  IsFreshAs-idle bs Scanned e i = absurd (false≢true i)
+  IsFreshAs-idle bs Refused e i = absurd (false≢true i)
+  IsFreshAs-idle bs Cut e i = absurd (false≢true i)
+
   pub IsTurn-idle : (r : SeatRecord) (a b : Account) (w u : Stream) (n : ℕ) (t : Turn) (h : Hand)
       → SameBooks a b → u ≡ after_words 2 w
       → t.number ≡ n → is_idle t.kind ≡ true → IsShaped t → t.lowered ≡ 0 → h.popped ≡ None → h.refused ≡ None
@@ -96,6 +104,7 @@ module _ (roads : Roads) (answers : ℕ → ℕ → ℕ → ℕ → Type 0) (tar
     progress = rw (refused, lowered, popped_as-idle t.kind t.key t.node idle)
         (Progress-drawn r a b w u [] 2 e.0 e.1 e.2 d);
     closed = IsClosedAs-idle r.bounds (option_to_list h.popped) t.kind _ idle;
+    fresh = IsFreshAs-idle r.bounds t.kind _ idle;
     lone = lone;
   }
 
@@ -103,10 +112,10 @@ module _ (roads : Roads) (answers : ℕ → ℕ → ℕ → ℕ → Type 0) (tar
       → Pops a e b → u ≡ after_words 2 w
       → t.number ≡ n → popped_in t ≡ e ∷ [] → IsShaped t → t.lowered ≤ 2 ^ 28 → IsHandOf t.kind h → IsInside roads h → ((x : Entry) → Contains (option_to_list h.popped) x → Contains (popped_in t) x)
       → Progress (kit r b u) (kit s c z) [] t.lowered t.lowered (option_to_list h.refused)
-      → IsClosedTurn roads answers target s.bounds (option_to_list h.popped) t
+      → IsClosedTurn roads answers target s.bounds (option_to_list h.popped) t → IsFreshTurn target r.bounds t
       → (a.shares ≡ SHARES → heaps ≡ 2 → IsLeastLeft e a)
       → IsTurn roads answers target heaps (kit r a w) (kit s c z) n t h
-  IsTurn-popped r s a b c w u z n t h e is_b d number popped shaped few hand inside from progress closed left = record {
+  IsTurn-popped r s a b c w u z n t h e is_b d number popped shaped few hand inside from progress closed fresh left = record {
     number_is = number;
     shaped = shaped;
     few = few;
@@ -116,5 +125,6 @@ module _ (roads : Roads) (answers : ℕ → ℕ → ℕ → ℕ → Type 0) (tar
     progress = Progress-then _ (kit r b u) _ (e ∷ []) [] (popped_in t) 2 t.lowered _ 0 t.lowered _ _
         (Progress-drawn r a b w u (e ∷ []) 2 is_b.0 is_b.1 is_b.2 d) progress popped refl (sym (zero-add t.lowered));
     closed = closed;
+    fresh = fresh;
     lone = λ whole. IsLoneAs-popped t.kind heaps t.key t.node a e popped (left whole);
   }

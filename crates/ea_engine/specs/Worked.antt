@@ -19,7 +19,7 @@ use Rattle.ea_pool.specs.declared.account.Account.{Account}
 use Rattle.ea_pool.specs.declared.TheConstants.{SHARES}
 use Rattle.ea_pool.specs.Pools.{NothingLeft, IsLeastLeft}
 use Rattle.ea_engine.specs.Turns.{Told, IsTurnList, IsShaped, popped_in, popped_in_all, lowered_in_all, counters_of}
-use Rattle.ea_engine.specs.Closed.{entry_at, entry_of, IsClosedTurn}
+use Rattle.ea_engine.specs.Closed.{entry_at, entry_of, IsClosedTurn, IsFreshTurn}
 
 -- what a worker has: its two seats, and its generator
 pub record Kit : Type 0 where
@@ -84,6 +84,7 @@ module _ (roads : Roads) (answers : ℕ → ℕ → ℕ → ℕ → Type 0) (tar
     pub hand_inside : IsInside roads hand
     pub progress : Progress from to (popped_in turn) (2 + turn.lowered) turn.lowered (option_to_list hand.refused)
     pub closed : IsClosedTurn roads answers target to.labels.bounds (option_to_list hand.popped) turn
+    pub fresh : IsFreshTurn target from.labels.bounds turn
     -- what a seat with all shares learns
     pub lone : from.account.shares ≡ SHARES → IsLoneAs heaps from.account turn.kind (entry_at turn.key turn.node)
 

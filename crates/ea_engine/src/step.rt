@@ -10,7 +10,7 @@ ghost use Rattle.ea_pool.specs.Pools.{SameBooks, Pops, NothingLeft, IsLeastLeft}
 ghost use Rattle.ea_pool.specs.Replies.{MatchPopped};
 ghost use Rattle.ea_engine.specs.Words.{after_words};
 ghost use Rattle.ea_pool.specs.declared.entry.Entry.{Entry as PoolEntry};
-ghost use Rattle.ea_engine.specs.Closed.{IsClosedTurn, IsCut};
+ghost use Rattle.ea_engine.specs.Closed.{IsClosedTurn, IsCut, IsFreshTurn};
 ghost use Rattle.ea_engine.specs.Turns.{is_idle, is_refused, is_leave, IsShaped, popped_in};
 ghost use Rattle.ea_engine.specs.Worked.{kit, Progress, IsTurn, IsHandOf, IsInside, hand_size};
 
@@ -101,6 +101,7 @@ fn is_above_target<K: Known>(
     ensures seat { seat.new.table ≡ labels.now.table }
     ensures progress { (account : Account) (words : Stream) → Progress (kit seat.old.history account words) (kit seat.new.history account words) [] 0 0 [] }
     ensures cut { result ≡ true → IsCut target seat.new.history.bounds entry }
+    ensures known { IsCut target seat.old.history.bounds entry → result ≡ true }
 {
     match target {
         None => false,
@@ -153,6 +154,7 @@ pub fn visit<K: Known, P: TravelTimes, R: Rng>(
         (kit means.new.label_seat.history (account_of means.new.pool_seat) (R.stream means.new.rng))
         [] result.turn.lowered result.turn.lowered (option_to_list result.hand.refused) }
     ensures closed { IsClosedTurn network.now (P.answers profiles.now) query.now.target means.new.label_seat.history.bounds (option_to_list result.hand.popped) result.turn }
+    ensures fresh { IsFreshTurn query.now.target means.old.label_seat.history.bounds result.turn }
 {
     let label = labels.read(&mut means.label_seat, entry.node);
     if label < entry.key {

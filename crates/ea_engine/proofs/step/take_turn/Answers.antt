@@ -22,4 +22,4 @@ returns-in-Entry-clause-turn g c =
     let v = c.visit.ensures in
     IsTurn-popped _ _ _ _ _ _ _ _ _ _ _ _ _ _ _ _
     c.in-Entry.ensures.popped.0 c.in-Entry.ensures.words
-    v.number v.popped v.shaped v.few v.hand v.inside v.from v.progress v.closed c.in-Entry.ensures.least
+    v.number v.popped v.shaped v.few v.hand v.inside v.from v.progress v.closed v.fresh c.in-Entry.ensures.least

@@ -1,6 +1,8 @@
-use Rattle.std.proofs.Common.{[], refl, sym, ap, arith, zero-add}
+use Rattle.std.proofs.Common.{[], refl, sym, ◌∙◌, ap, arith, subst, zero-add}
+use Rattle.std.proofs.lemmas.Bool.{false≢true}
+use Rattle.ea_engine.specs.Closed.{IsCut}
 use Rattle.ea_engine.proofs.ProgressLemmas.{Progress-noted, Progress-then}
-use Rattle.ea_engine.proofs.BoundLemmas.{IsReachedBefore-noted}
+use Rattle.ea_engine.proofs.BoundLemmas.{IsCut-noted, IsReachedBefore-noted, least_is_before}
 use Rattle.ea_road.proofs.Reached.{reaches_node}
 use Rattle.ea_engine.proofs.step.visit.Goals as goal
 
@@ -43,4 +45,34 @@ returns-in-Some-clause-inside g c =
     let ground = c.requires.ground in (
       reaches_node c.args.network.now _ ground.problem.network c.args.query.now.sources c.args.entry.node c.args.entry.key (λ source among. (ground.problem.sources_in source among).0) ((ground.names c.args.entry.node c.args.entry.key).0 c.requires.entry),
       rw c.in-Some.is at c.scan_entry-end.ensures.inside,
+    )
+
+pub returns-then-is_above_target-clause-fresh : goal.returns-then-is_above_target-clause-fresh
+returns-then-is_above_target-clause-fresh g c =
+    rw c.popped_turn-then-is_above_target.ensures (λ stale.
+    let low = least_is_before _ c.args.entry.node c.read-label.result c.args.entry.key c.read-label.ensures.least stale in
+    omega (arith, low, c.if-label-entry.false))
+
+pub returns-in-None-clause-fresh : goal.returns-in-None-clause-fresh
+returns-in-None-clause-fresh g c =
+    rw c.popped_turn-turn.ensures (
+      λ stale.
+          let low = least_is_before _ c.args.entry.node c.read-label.result c.args.entry.key c.read-label.ensures.least stale in
+          omega (arith, low, c.if-label-entry.false),
+      λ cut.
+          let before = subst (λ t. IsCut t c.args.means.now.label_seat.history.bounds c.args.entry) (sym c.requires.target) cut in
+          let known = IsCut-noted _ _ c.args.entry.node c.read-label.result c.args.target c.args.entry (ap (λ x. x.bounds) c.read-label.ensures.gains) before in
+          false≢true (sym c.if-is_above_target.false ∙ c.is_above_target.ensures.known known),
+    )
+
+pub returns-in-Some-clause-fresh : goal.returns-in-Some-clause-fresh
+returns-in-Some-clause-fresh g c =
+    rw c.popped_turn-turn-in-Some.ensures (
+      λ stale.
+          let low = least_is_before _ c.args.entry.node c.read-label.result c.args.entry.key c.read-label.ensures.least stale in
+          omega (arith, low, c.if-label-entry.false),
+      λ cut.
+          let before = subst (λ t. IsCut t c.args.means.now.label_seat.history.bounds c.args.entry) (sym c.requires.target) cut in
+          let known = IsCut-noted _ _ c.args.entry.node c.read-label.result c.args.target c.args.entry (ap (λ x. x.bounds) c.read-label.ensures.gains) before in
+          false≢true (sym c.if-is_above_target.false ∙ c.is_above_target.ensures.known known),
     )
