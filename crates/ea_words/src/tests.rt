@@ -302,7 +302,7 @@ fn texts_that_are_asked_for(rt: HostRuntime) {
     assert!(rt; says(&rt, ["--help"].as_slice(), true, "Usage: earliest"));
     assert!(rt; says(&rt, ["-h"].as_slice(), true, "pairs"));
     assert!(rt; says(&rt, ["--version"].as_slice(), true, "earliest 0.1.0"));
-    assert!(rt; says(&rt, ["help", "run"].as_slice(), true, "--joint"));
+    assert!(rt; says(&rt, ["help", "run"].as_slice(), true, "Usage: earliest run"));
     assert!(rt;
         says(
             &rt,
