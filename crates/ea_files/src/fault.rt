@@ -1,5 +1,5 @@
 //! Files by their names in messages, and why one gave nothing.
-ghost use Rattle.std.specs.Prelude.{◌≡◌};
+ghost use Rattle.std.specs.Prelude.{◌≡◌, Some};
 ghost use Rattle.ea_files.specs.FileNames.{file_word};
 
 use ea_input::{InputFault, ReadFault};
@@ -38,6 +38,8 @@ impl FileWord {
 }
 
 impl fmt::Display for FileWord {
+    ghost output = { λ word. Some (file_word word) };
+
     fn fmt<W: fmt::Write>(&self, f: &mut fmt::Formatter<W>) -> fmt::Result {
         f.write_str(self.word())
     }

@@ -1,4 +1,6 @@
 pub mod Limits
+pub mod Named
 pub mod Refused
-pub mod SimpleApps
 pub mod Reported
+pub mod Required
+pub mod SimpleApps

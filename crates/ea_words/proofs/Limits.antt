@@ -1,6 +1,6 @@
 -- Numbers that are cut off above every limit.
-use Rattle.std.proofs.Common.{◌≡◌, ℕ, ◌<◌, ◌≤◌, ◌^◌, ◌&&◌, min, Bool, true, false, cond, refl, ap, sym, ◌∙◌, arith, tests}
-use Rattle.std.specs.Prelude.{Option, Some, None, option_and_then, option_map, nat_le}
+use Rattle.std.proofs.Common.{◌≡◌, ℕ, ◌<◌, ◌^◌, min, refl, arith}
+use Rattle.std.specs.Prelude.{Option, Some, None, option_and_then, option_map}
 use Rattle.std.proofs.lemmas.Bool.Decides.{nat_tests}
 use Rattle.ea_words.specs.Values.{within_limits}
 

@@ -1,39 +1,27 @@
 -- From clap's refusals to those of the words.
-use Rattle.std.proofs.Common.{◌≡◌, Bool, true, false, List, [], ◌∷◌, refl, Option, Some, None, inl, ap, ◌∙◌}
-use Rattle.clap.specs.Words.{Kinds, IsAmong, Row, Text}
-use Rattle.clap.specs.declared.error.kind.ErrorKind.TheVariants.{InvalidSubcommand, MissingRequiredArgument}
+use Rattle.std.proofs.Common.{◌≡◌, Bool, false, List, [], ◌∷◌, refl, Some, None, inl}
+use Rattle.clap.specs.Words.{Kinds, Text}
+use Rattle.clap.specs.declared.error.kind.ErrorKind.TheVariants.{InvalidSubcommand}
 use Rattle.ea_words.specs.declared.fault.CommandFault.{CommandFault}
 use Rattle.ea_words.specs.declared.fault.CommandFault.TheVariants.{Words, BadOption, OutOfMemory}
 use Rattle.clap.specs.Words.{fault_of, matches_of}
 use Rattle.ea_words.specs.Grammar.{program}
 use Rattle.ea_words.specs.declared.options.RunOptions.{RunOptions}
-use Rattle.ea_words.specs.Meaning.{Files, Verb, app_by, second_by, reported_by, ask_by, files_by, options_by, meaning_by, options_of, ◌>>=◌}
-use Rattle.ea_words.specs.Refusals.{IsTextOf, IsRefusalBy, IsRefusedBy, IsMissing, IsUnasked, some_kind, named_kinds, kinds_by}
+use Rattle.ea_words.specs.Meaning.{Files, Verb, app_by, second_by, reported_by, ask_by, files_by, options_by, meaning_by}
+use Rattle.ea_words.specs.Refusals.{IsTextOf, IsRefusalBy, IsRefusedBy, IsComplaint, IsUnasked, some_kind}
 
 -- A refusal stays one where a kind is there in any case.
 pub kept_by_some : (kinds : Kinds) (help : Bool) → IsTextOf kinds help → IsTextOf (some_kind kinds) help
 kept_by_some [] help text = absurd text.1
 kept_by_some (kind ∷ kinds) help text = text
 
-pub kept_by_names : (files : Option Files) (kinds : Kinds) (help : Bool) → IsTextOf kinds help → IsTextOf (named_kinds files kinds) help
-kept_by_names (Some files) kinds help text = text
-kept_by_names None [] help text = absurd text.1
-kept_by_names None (kind ∷ kinds) help text = text
-
 -- Words that clap takes and that begin with no command's name.
 pub stray_text : (kinds : Kinds) (help : Bool) → kinds ≡ [] → help ≡ false → IsTextOf (some_kind kinds) help
 stray_text kinds help none plain = rw none (InvalidSubcommand, inl refl, plain)
 
--- Words that clap takes and that lack a name.
-pub missing_text : (files : Option Files) (kinds : Kinds) (help : Bool) → files ≡ None → kinds ≡ [] → help ≡ false → IsTextOf (named_kinds files kinds) help
-missing_text files kinds help missing none plain = rw (missing, none) (MissingRequiredArgument, inl refl, plain)
-
-pub named_taken : (files : Option Files) (kinds : Kinds) (names : Files) → files ≡ Some names → kinds ≡ [] → named_kinds files kinds ≡ []
-named_taken files kinds names there none = rw there none
-
 -- What clap refuses is refused.
 pub refused_by_clap : (verb : Verb) (words : List Text) (fault : CommandFault) → IsRefusalBy (fault_of (app_by verb) words) fault → IsRefusedBy (Some verb) words fault
-refused_by_clap verb words (Words help text) refused = kept_by_names (files_by verb words) (fault_of (app_by verb) words) help refused
+refused_by_clap verb words (Words help text) refused = refused
 refused_by_clap verb words BadOption refused = absurd refused
 refused_by_clap verb words OutOfMemory refused = refused
 
@@ -42,15 +30,15 @@ stray_refused words (Words help text) refused = kept_by_some (fault_of program w
 stray_refused words BadOption refused = absurd refused
 stray_refused words OutOfMemory refused = refused
 
-pub stray_taken : (words : List Text) (fault : CommandFault) → fault_of program words ≡ [] → IsMissing fault → IsRefusedBy None words fault
+pub stray_taken : (words : List Text) (fault : CommandFault) → fault_of program words ≡ [] → IsComplaint fault → IsRefusedBy None words fault
 stray_taken words (Words help text) taken missing = stray_text (fault_of program words) help taken missing
 stray_taken words BadOption taken missing = absurd missing
 stray_taken words OutOfMemory taken missing = missing
 
--- What clap takes is refused where a name is missing or an option's value is bad.
+-- What clap takes is refused where an option's value is bad.
 pub unasked_refused : (verb : Verb) (words : List Text) (fault : CommandFault) → fault_of (app_by verb) words ≡ [] → IsUnasked (second_by verb) (reported_by verb) (matches_of (app_by verb) words) fault → IsRefusedBy (Some verb) words fault
-unasked_refused verb words (Words help text) taken unasked = missing_text (files_by verb words) (fault_of (app_by verb) words) help unasked.0 taken unasked.1
-unasked_refused verb words BadOption taken unasked = (named_taken (files_by verb words) (fault_of (app_by verb) words) unasked.0 unasked.1 taken, unasked)
+unasked_refused verb words (Words help text) taken unasked = absurd unasked
+unasked_refused verb words BadOption taken unasked = (taken, unasked)
 unasked_refused verb words OutOfMemory taken unasked = unasked
 
 -- And else it asks for its files and options.

@@ -1,6 +1,6 @@
--- A command that wants a report has one.
-use Rattle.std.proofs.Common.{◌≡◌, ℕ, List, Bool, true, ap, sym, ◌∙◌}
-use Rattle.std.specs.Prelude.{Option, Some, None, codes, option_and_then, unwrap_or}
+-- A command that wants a report has one, and a command's files are named where each name is there.
+use Rattle.std.proofs.Common.{◌≡◌, List, Bool, true, false, true≢false, is_some, refl, ap, sym, ◌∙◌}
+use Rattle.std.specs.Prelude.{Option, Some, None, codes, unwrap_or}
 use Rattle.std.proofs.lemmas.Option.{none-some}
 use Rattle.clap.specs.Words.{Row, Text, first_of}
 use Rattle.ea_words.specs.Meaning.{Files, files_of, wanted, ◌>>=◌}
@@ -20,3 +20,29 @@ no_name (Some a) (Some b) (Some c) tp files made none =
 pub has_report : (second : Text) (rows : List Row) (files : Files) → files_of second true rows ≡ Some files → files.report ≡ None → ⊥
 unfolding files_of chain
 has_report second rows files made none = no_name (first_of (codes "gr") rows) (first_of second rows) (first_of (codes "report") rows) (first_of (codes "tp") rows) files made none
+
+all_named : (gr starts : Option Text) (report : Option (Option Text)) (tp : Option Text) → is_some gr ≡ true → is_some starts ≡ true → is_some report ≡ true → is_some (chain gr starts report tp) ≡ true
+unfolding chain
+all_named None starts report tp a b c = absurd (true≢false (sym a))
+all_named (Some gr) None report tp a b c = absurd (true≢false (sym b))
+all_named (Some gr) (Some starts) None tp a b c = absurd (true≢false (sym c))
+all_named (Some gr) (Some starts) (Some report) tp a b c = refl
+
+pub unwanted : (name : Option Text) → is_some (wanted false name) ≡ true
+unwanted name = refl
+
+pub there : (name : Option Text) → is_some name ≡ true → is_some (wanted true name) ≡ true
+there None some = absurd (true≢false (sym some))
+there (Some name) some = refl
+
+pub has_files : (second : Text) (reported : Bool) (rows : List Row) → is_some (first_of (codes "gr") rows) ≡ true → is_some (first_of second rows) ≡ true
+    → is_some (wanted reported (first_of (codes "report") rows)) ≡ true → is_some (files_of second reported rows) ≡ true
+unfolding files_of chain
+has_files second reported rows = all_named (first_of (codes "gr") rows) (first_of second rows) (wanted reported (first_of (codes "report") rows)) (first_of (codes "tp") rows)
+
+pub report_there : (second : Text) (rows : List Row) (files : Files) → files_of second true rows ≡ Some files → is_some files.report ≡ true
+report_there second rows files made = go files.report refl
+  where
+    go : (report : Option Text) → files.report ≡ report → is_some report ≡ true
+    go None none = absurd (has_report second rows files made none)
+    go (Some report) some = refl

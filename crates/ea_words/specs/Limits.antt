@@ -1,5 +1,5 @@
 -- The limits of options.
-use Rattle.std.specs.Prelude.{ℕ, ◌<◌, ◌≤◌, ◌^◌}
+use Rattle.std.specs.Prelude.{◌≤◌}
 use Rattle.ea_words.specs.declared.options.RunOptions.{RunOptions}
 use Rattle.ea_words.specs.declared.options.Command.{Command}
 use Rattle.ea_words.specs.declared.options.Command.TheVariants.{Stored, Run, Pairs, Rank, Check}

@@ -1,6 +1,6 @@
 -- What words ask for: no words ask for the stored run; words that begin with a command's name ask for what clap makes of
 -- the others, with the defaults and limits of each option.
-use Rattle.std.specs.Prelude.{◌≡◌, ℕ, Bool, true, false, List, [], ◌∷◌, codes, Option, Some, None, option_and_then, option_map, if◌then◌else◌}
+use Rattle.std.specs.Prelude.{Bool, true, false, List, codes, Option, Some, None, option_and_then, option_map, if◌then◌else◌}
 use Rattle.std.specs.Str.{bytes_eq}
 use Rattle.clap.specs.Words.{App, Row, Text, first_of, matches_of}
 use Rattle.ea_words.specs.declared.meaning.Names.{Names}

@@ -1,16 +1,16 @@
 -- Why words ask for nothing.
-use Rattle.std.specs.Prelude.{◌≡◌, Bool, true, false, List, [], ◌∷◌, codes, Option, Some, None}
+use Rattle.std.specs.Prelude.{◌≡◌, Bool, true, false, List, [], ◌∷◌, Option, Some, None}
 use Rattle.clap.specs.Words.{Kinds, IsAmong, Row, Text, fault_of, matches_of}
 use Rattle.clap.specs.Words.{kind_of}
 use Rattle.clap.specs.declared.error.Error.{Error}
 use Rattle.clap.specs.declared.error.kind.ErrorKind.{ErrorKind}
 use Rattle.clap.specs.declared.error.kind.ErrorKind.TheVariants as kind
-use Rattle.clap.specs.declared.error.kind.ErrorKind.TheVariants.{DisplayHelp, DisplayVersion, InvalidSubcommand, MissingRequiredArgument}
+use Rattle.clap.specs.declared.error.kind.ErrorKind.TheVariants.{DisplayHelp, DisplayVersion, InvalidSubcommand}
 use Rattle.ea_words.specs.declared.fault.CommandFault.{CommandFault}
 use Rattle.ea_words.specs.declared.fault.CommandFault.TheVariants.{Words, BadOption, OutOfMemory}
 use Rattle.ea_words.specs.declared.options.Command.{Command}
 use Rattle.ea_words.specs.Grammar.{program}
-use Rattle.ea_words.specs.Meaning.{Files, Verb, stored, verb_of, app_by, second_by, reported_by, files_by, meaning_by, asked, files_of, options_of}
+use Rattle.ea_words.specs.Meaning.{Files, Verb, stored, verb_of, app_by, second_by, reported_by, meaning_by, asked, files_of, options_of}
 
 -- Whether a text of this kind was asked for.
 abbrev pub is_shown : ErrorKind → Bool
@@ -24,14 +24,8 @@ abbrev pub some_kind : Kinds → Kinds
 some_kind [] = InvalidSubcommand ∷ []
 some_kind (kind ∷ kinds) = kind ∷ kinds
 
--- A command whose file's name is missing is refused in any case.
-abbrev pub named_kinds : Option Files → Kinds → Kinds
-named_kinds (Some files) kinds = kinds
-named_kinds None [] = MissingRequiredArgument ∷ []
-named_kinds None (kind ∷ kinds) = kind ∷ kinds
-
 abbrev pub kinds_by : Option Verb → List Text → Kinds
-kinds_by (Some verb) words = named_kinds (files_by verb words) (fault_of (app_by verb) words)
+kinds_by (Some verb) words = fault_of (app_by verb) words
 kinds_by None words = some_kind (fault_of program words)
 
 -- The names are there, and some option's value is no number or out of its limits.
@@ -59,20 +53,19 @@ IsFaultOf error BadOption = ⊥
 IsFaultOf error OutOfMemory = Unit {0}
 
 -- A text that nobody asked for, or refused memory.
-abbrev pub IsMissing : CommandFault → Type 0
-IsMissing (Words help text) = help ≡ false
-IsMissing BadOption = ⊥
-IsMissing OutOfMemory = Unit {0}
+abbrev pub IsComplaint : CommandFault → Type 0
+IsComplaint (Words help text) = help ≡ false
+IsComplaint BadOption = ⊥
+IsComplaint OutOfMemory = Unit {0}
 
--- Why rows ask for nothing: a name is missing, or an option's value is bad.
+-- Why rows that name all files ask for nothing: an option's value is bad, or memory is refused.
 abbrev pub IsUnasked : Text → Bool → List Row → CommandFault → Type 0
-IsUnasked second reported rows (Words help text) = (files_of second reported rows ≡ None) × (help ≡ false)
+IsUnasked second reported rows (Words help text) = ⊥
 IsUnasked second reported rows BadOption = HasBadOption second reported rows
 IsUnasked second reported rows OutOfMemory = Unit {0}
 
 -- Words that begin with a command's name, or with none, are refused for this. A text comes only where clap refuses the
--- words or a name is missing, and tells whether it was asked for; BadOption comes only where clap takes them; memory may
--- always be refused.
+-- words, and tells whether it was asked for; BadOption comes only where clap takes them; memory may always be refused.
 abbrev pub IsRefusedBy : Option Verb → List Text → CommandFault → Type 0
 IsRefusedBy verb words (Words help text) = IsTextOf (kinds_by verb words) help
 IsRefusedBy verb words BadOption = (kinds_by verb words ≡ []) × IsBadBy verb words

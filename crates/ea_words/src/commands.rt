@@ -169,7 +169,8 @@ fn with_last<'a>(alloc: Global, command: Command<'a>) -> Result<Command<'a>, All
 pub(crate) fn program<'a>(alloc: Global) -> Result<Command<'a>, AllocError>
     ensures { IfOk result (λ c. app_of c ≡ program) }
 {
-    let command = with_command(bare_program(alloc), run_command(alloc)?)?;
+    let bare = named(bare_program(alloc), "earliest")?;
+    let command = with_command(bare, run_command(alloc)?)?;
     let command = with_command(command, pairs_command(alloc)?)?;
     with_last(alloc, command)
 }

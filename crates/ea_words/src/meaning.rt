@@ -1,11 +1,12 @@
 //! What words ask for.
 ghost use Rattle.std.specs.Prelude.{◌≡◌, IfOk, IfErr, IfSome, true, map, codes, option_map, is_some, Some, None, [], ◌∷◌};
+ghost use Rattle.clap.specs.Built.{IsParsedFrom};
 ghost use Rattle.clap.specs.Words.{app_of, fault_of, found_of, kind_of, matches_of, rows_of, is_simple, is_simple_and_free, IsAmong};
 ghost use Rattle.ea_words.specs.Meaning.{run_verb, pairs_verb, rank_verb, check_verb};
 ghost use Rattle.ea_words.specs.Limits.{AreOptions, HasLimits};
 ghost use Rattle.ea_words.specs.Meaning;
 ghost use Rattle.ea_words.specs.Meaning.{files, files_of, options_of};
-ghost use Rattle.ea_words.specs.Refusals.{Asks, AsksBy, IsRefusal, IsRefusedBy, IsRefusalBy, IsFaultOf, IsMissing, IsUnasked, is_shown};
+ghost use Rattle.ea_words.specs.Refusals.{Asks, AsksBy, IsRefusal, IsRefusedBy, IsRefusalBy, IsFaultOf, IsComplaint, IsUnasked, is_shown};
 
 use crate::commands::{check_command, pairs_command, program, rank_command, run_command};
 use crate::fault::CommandFault;
@@ -76,6 +77,7 @@ fn matches_in<'a, S: AsStr>(
     requires simple { is_simple (app_of command) ≡ true }
     requires free { is_simple_and_free (app_of command) ≡ true }
     ensures taken { IfOk result (λ m. fault_of (app_of command.entry) (map S.text words.entry.now) ≡ []) }
+    ensures parsed { IfOk result (λ m. IsParsedFrom command.entry m) }
     ensures rows { IfOk result (λ m. rows_of (found_of m) ≡ matches_of (app_of command.entry) (map S.text words.entry.now)) }
     ensures refused { IfErr result (IsRefusalBy (fault_of (app_of command.entry) (map S.text words.entry.now))) }
 {
@@ -121,31 +123,29 @@ fn names_in<'a>(matches: &ArgMatches<'a>, second: &str, reported: bool) -> Optio
     })
 }
 
-/// What a command asks for: its files and its options.
+/// What a command asks for: its files, whose names are all there, and its options.
 fn asked_in<'a>(
-    alloc: Global,
     matches: &ArgMatches<'a>,
     second: &str,
     reported: bool,
 ) -> Result<(Names<'a>, RunOptions), CommandFault>
+    requires named { is_some (files_of second.now reported (rows_of (found_of matches.now))) ≡ true }
     ensures ok { IfOk result (λ asked. (files_of second.now reported (rows_of (found_of matches.now)) ≡ Some (files asked.0)) × (options_of (rows_of (found_of matches.now)) ≡ Some asked.1)) }
     ensures limits { IfOk result (λ asked. AreOptions asked.1) }
     ensures err { IfErr result (IsUnasked second.now reported (rows_of (found_of matches.now))) }
 {
-    let Some(names) = names_in(matches, second, reported) else {
-        return Err(missing_name(alloc));
-    };
+    let names = names_in(matches, second, reported).unwrap();
     match options_in(matches) {
         Some(options) => Ok((names, options)),
         None => Err(CommandFault::BadOption),
     }
 }
 
-/// What is said where a file's name is missing.
-fn missing_name(alloc: Global) -> CommandFault
-    ensures { IsMissing result }
+/// What is said where no command is named.
+fn no_command(alloc: Global) -> CommandFault
+    ensures { IsComplaint result }
 {
-    match String::from_str(alloc, "error: the name of a file is missing\n") {
+    match String::from_str(alloc, "error: no command is named\n") {
         Ok(text) => CommandFault::Words { help: false, text },
         Err(_) => CommandFault::OutOfMemory,
     }
@@ -158,7 +158,7 @@ fn run_of_words<'a, S: AsStr>(alloc: Global, words: &'a [S]) -> Result<Command<'
     ensures err { IfErr result (IsRefusedBy (Some run_verb) (map S.text words.entry.now)) }
 {
     let matches = matches_in(alloc, run_command(alloc)?, words)?;
-    let (names, options) = asked_in(alloc, &matches, "ss", false)?;
+    let (names, options) = asked_in(&matches, "ss", false)?;
     Ok(Command::Run {
         gr: names.gr,
         ss: names.starts,
@@ -174,7 +174,7 @@ fn pairs_of_words<'a, S: AsStr>(alloc: Global, words: &'a [S]) -> Result<Command
     ensures err { IfErr result (IsRefusedBy (Some pairs_verb) (map S.text words.entry.now)) }
 {
     let matches = matches_in(alloc, pairs_command(alloc)?, words)?;
-    let (names, options) = asked_in(alloc, &matches, "p2p", false)?;
+    let (names, options) = asked_in(&matches, "p2p", false)?;
     Ok(Command::Pairs {
         gr: names.gr,
         p2p: names.starts,
@@ -190,7 +190,7 @@ fn rank_of_words<'a, S: AsStr>(alloc: Global, words: &'a [S]) -> Result<Command<
     ensures err { IfErr result (IsRefusedBy (Some rank_verb) (map S.text words.entry.now)) }
 {
     let matches = matches_in(alloc, rank_command(alloc)?, words)?;
-    let (names, options) = asked_in(alloc, &matches, "ss", false)?;
+    let (names, options) = asked_in(&matches, "ss", false)?;
     Ok(Command::Rank {
         gr: names.gr,
         ss: names.starts,
@@ -206,15 +206,12 @@ fn check_of_words<'a, S: AsStr>(alloc: Global, words: &'a [S]) -> Result<Command
     ensures err { IfErr result (IsRefusedBy (Some check_verb) (map S.text words.entry.now)) }
 {
     let matches = matches_in(alloc, check_command(alloc)?, words)?;
-    let (names, options) = asked_in(alloc, &matches, "ss", true)?;
-    let Some(report) = names.report else {
-        return Err(missing_name(alloc));
-    };
+    let (names, options) = asked_in(&matches, "ss", true)?;
     Ok(Command::Check {
         gr: names.gr,
         ss: names.starts,
         tp: names.tp,
-        report,
+        report: names.report.unwrap(),
         options,
     })
 }
@@ -228,7 +225,7 @@ fn refusal_of_words<'a, S: AsStr>(alloc: Global, words: &'a [S]) -> CommandFault
         Err(_) => return CommandFault::OutOfMemory,
     };
     match matches_in(alloc, command, words) {
-        Ok(_) => missing_name(alloc),
+        Ok(_) => no_command(alloc),
         Err(fault) => fault,
     }
 }

@@ -88,6 +88,164 @@ fn pairs_with_timetables(rt: HostRuntime) {
 }
 
 #[test]
+fn a_rank(rt: HostRuntime) {
+    let words = [
+        "rank",
+        "g",
+        "--seed",
+        "0",
+        "s",
+        "--heaps",
+        "8",
+        "--workers",
+        "16",
+        "--gap",
+        "007",
+    ];
+    let Some(
+        Command::Rank {
+            gr,
+            ss,
+            tp,
+            options,
+        },
+    ) = asked(&rt, words.as_slice())
+    else {
+        assert!(rt; false);
+        return;
+    };
+    assert!(rt; gr == "g" && ss == "s" && tp.is_none());
+    assert!(rt;
+        options
+            == RunOptions {
+                joint: false,
+                walks: false,
+                stats: false,
+                workers: 16,
+                heaps: 8,
+                turns: 1_000_000,
+                seed: 0,
+                depart: 0,
+                gap: 7,
+            }
+    );
+}
+
+#[test]
+fn a_check(rt: HostRuntime) {
+    let words = [
+        "check",
+        "g",
+        "s",
+        "--joint",
+        "--depart",
+        "281474976710655",
+        "r",
+        "--tp",
+        "t",
+    ];
+    let Some(
+        Command::Check {
+            gr,
+            ss,
+            tp,
+            report,
+            options,
+        },
+    ) = asked(&rt, words.as_slice())
+    else {
+        assert!(rt; false);
+        return;
+    };
+    assert!(rt; gr == "g" && ss == "s" && tp == Some("t") && report == "r");
+    assert!(rt;
+        options
+            == RunOptions {
+                joint: true,
+                walks: false,
+                stats: false,
+                workers: 4,
+                heaps: 2,
+                turns: 1_000_000,
+                seed: 1,
+                depart: 281_474_976_710_655,
+                gap: 0,
+            }
+    );
+}
+
+#[test]
+fn numbers_of_rank_and_check(rt: HostRuntime) {
+    for (option, value) in [
+        ("--workers", "0"),
+        ("--workers", "17"),
+        ("--heaps", "9"),
+        ("--heaps", "two"),
+        ("--seed", "18446744073709551616"),
+        ("--seed", "0x1"),
+        ("--depart", "281474976710656"),
+        ("--gap", "+1"),
+    ] {
+        assert!(rt;
+            is_bad(&rt, ["rank", "g", "s", option, value].as_slice()),
+            "{option} {value}"
+        );
+    }
+    for (option, value) in [
+        ("--depart", "281474976710656"),
+        ("--depart", "1.5"),
+        ("--gap", "281474976710656"),
+        ("--gap", "99999999999999999999999999999999999999999"),
+        ("--gap", " 1"),
+    ] {
+        let words = ["check", "g", "s", "r", option, value];
+        assert!(rt; is_bad(&rt, words.as_slice()), "{option} {value}");
+    }
+}
+
+#[test]
+fn names_that_are_missing(rt: HostRuntime) {
+    assert!(rt; says(&rt, ["rank"].as_slice(), false, "<GR>\n  <SS>"));
+    assert!(rt; says(&rt, ["rank", "g"].as_slice(), false, "<SS>"));
+    assert!(rt; says(&rt, ["pairs", "g"].as_slice(), false, "<P2P>"));
+    assert!(rt; says(&rt, ["check", "g"].as_slice(), false, "<SS>\n  <REPORT>"));
+    assert!(rt; says(&rt, ["check", "g", "s"].as_slice(), false, "<REPORT>"));
+    // An option's value is no file's name, and a bad value doesn't hide that a name is missing.
+    assert!(rt; says(&rt, ["rank", "g", "--gap", "s"].as_slice(), false, "<SS>"));
+    assert!(rt;
+        says(
+            &rt,
+            ["check", "g", "s", "--tp", "r"].as_slice(),
+            false,
+            "<REPORT>"
+        )
+    );
+}
+
+#[test]
+fn words_that_rank_and_check_dont_have(rt: HostRuntime) {
+    for option in ["--walks", "--stats", "--joint", "--turns"] {
+        assert!(rt;
+            says(&rt, ["rank", "g", "s", option].as_slice(), false, option),
+            "{option}"
+        );
+    }
+    for option in [
+        "--walks",
+        "--stats",
+        "--workers",
+        "--heaps",
+        "--turns",
+        "--seed",
+    ] {
+        let words = ["check", "g", "s", "r", option];
+        assert!(rt; says(&rt, words.as_slice(), false, option), "{option}");
+    }
+    assert!(rt; says(&rt, ["rank", "g", "s", "r"].as_slice(), false, "'r'"));
+    assert!(rt; says(&rt, ["check", "g", "s", "r", "q"].as_slice(), false, "'q'"));
+}
+
+#[test]
 fn options_out_of_their_limits(rt: HostRuntime) {
     assert!(rt; is_bad(&rt, ["run", "g", "s", "--workers", "17"].as_slice()));
     assert!(rt; is_bad(&rt, ["run", "g", "s", "--heaps", "1"].as_slice()));
@@ -144,14 +302,39 @@ fn texts_that_are_asked_for(rt: HostRuntime) {
     assert!(rt; says(&rt, ["--help"].as_slice(), true, "Usage: earliest"));
     assert!(rt; says(&rt, ["-h"].as_slice(), true, "pairs"));
     assert!(rt; says(&rt, ["--version"].as_slice(), true, "earliest 0.1.0"));
-    assert!(rt; says(&rt, ["help", "run"].as_slice(), true, "--joint"));
+    assert!(rt; says(&rt, ["help", "run"].as_slice(), true, "Usage: earliest run"));
     assert!(rt;
         says(
             &rt,
             ["run", "--help"].as_slice(),
             true,
-            "Usage: run [OPTIONS] <GR> <SS>"
+            "Usage: earliest run [OPTIONS] <GR> <SS>"
         )
     );
     assert!(rt; says(&rt, ["pairs", "-h"].as_slice(), true, "281474976710655"));
+    assert!(rt;
+        says(
+            &rt,
+            ["pairs", "--help"].as_slice(),
+            true,
+            "Usage: earliest pairs [OPTIONS] <GR> <P2P>"
+        )
+    );
+    assert!(rt;
+        says(
+            &rt,
+            ["rank", "--help"].as_slice(),
+            true,
+            "Usage: earliest rank [OPTIONS] <GR> <SS>"
+        )
+    );
+    assert!(rt;
+        says(
+            &rt,
+            ["check", "--help"].as_slice(),
+            true,
+            "Usage: earliest check [OPTIONS] <GR> <SS> <REPORT>"
+        )
+    );
+    assert!(rt; says(&rt, ["run", "g"].as_slice(), false, "Usage: earliest run"));
 }

@@ -11,6 +11,9 @@ use std::alloc::Global;
 use std::test::Fail;
 use std::thread::Threads;
 
+/// Timetables by which each arc takes its weight.
+const PLAIN: &[u8] = b"p tp 1 2\nk 1 plain\nt 1 1\nt 4 1\n";
+
 const WALKS: &[u8] = b"s 1 0\nd 1 0\nw 1 0\nd 2 5\nw 2 2 2 3\nd 3 2\nw 3 1 2\nd 4 6\nw 4 3 2 3 4\n";
 
 /// What it came to: whole with the whole text, or refused with the front and its length.
@@ -30,6 +33,7 @@ fn four_nodes_with<H: Threads + Sync>(
     alloc: Global,
     rt: &H,
     options: &RunOptions,
+    tp: Option<&[u8]>,
     small: &mut Held,
     piece: Vec<u8>,
 ) -> Came
@@ -37,7 +41,7 @@ fn four_nodes_with<H: Threads + Sync>(
 {
     let mut gr = StdIn::new(FOUR_NODES);
     let mut ss = StdIn::new(FROM_ONE);
-    let mut tp: Option<StdIn<&[u8]>> = None;
+    let mut tp = tp.map(StdIn::new);
     let mut room = [0u8; 128];
     let mut out = StdOut::new(room.as_mut_slice());
     small.leave(piece);
@@ -49,14 +53,14 @@ fn four_nodes_with<H: Threads + Sync>(
 #[test]
 fn files_and_first_problem(rt: HostRuntime) -> Result<(), Fail> {
     let alloc = rt.alloc();
-    for many in [false, true] {
+    for (many, tp) in [(false, None), (true, None), (false, Some(PLAIN))] {
         let mut small = Held::new(alloc, 20_000)?;
         // A file is read by pieces of 65,536 bytes.
         let sizes = pieces(alloc, 65_500, 300, 16)?;
         let mut large = Held::of_large(alloc)?;
         let mut count = Count::new();
         for piece in sizes {
-            count.add(four_nodes_with(alloc, &rt, &walks_by(many), &mut small, piece));
+            count.add(four_nodes_with(alloc, &rt, &walks_by(many), tp, &mut small, piece));
         }
         large.release();
         assert!(rt; count.is_refused_at_least(5), "{count}");

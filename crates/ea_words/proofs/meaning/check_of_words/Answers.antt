@@ -1,11 +1,12 @@
-use Rattle.std.proofs.Common.{◌≡◌, ◌∙◌, ap, subst, map, List, []}
-use Rattle.clap.specs.Words.{App, Row, Text, app_of, fault_of, matches_of, is_simple, is_simple_and_free}
+use Rattle.std.proofs.Common.{◌≡◌, ◌∙◌, ap, subst, map, List, [], refl}
+use Rattle.clap.specs.Words.{App, Row, fault_of, matches_of, is_simple, is_simple_and_free}
 use Rattle.clap.proofs.TakesLemmas.{passed_up}
 use Rattle.ea_words.specs.Meaning.{check_verb, app_by, second_by, reported_by}
-use Rattle.ea_words.specs.Refusals.{IsRefusalBy, IsRefusedBy, IsUnasked}
-use Rattle.std.specs.Prelude.{option_map}
+use Rattle.ea_words.specs.Refusals.{IsRefusalBy, IsUnasked}
 use Rattle.ea_words.specs.Meaning.{files}
-use Rattle.ea_words.proofs.Reported.{has_report}
+use Rattle.clap.proofs.CallerLemmas.{some_of_text}
+use Rattle.ea_words.proofs.Reported.{report_there}
+use Rattle.ea_words.proofs.Named.{files_named}
 use Rattle.ea_words.proofs.Refused.{refused_by_clap, unasked_refused}
 use Rattle.ea_words.proofs.SimpleApps.{simple_check, free_check}
 use Rattle.ea_words.proofs.meaning.check_of_words.Goals as goal
@@ -15,6 +16,9 @@ matches_in-requires-clause-simple g c = ap is_simple c.in_ok-check_command.ensur
 
 pub matches_in-requires-clause-free : goal.matches_in-requires-clause-free
 matches_in-requires-clause-free g c = ap is_simple_and_free c.in_ok-check_command.ensures.app ∙ free_check
+
+pub asked_in-requires : goal.asked_in-requires
+asked_in-requires g c = record { named = files_named check_verb _ _ c.in_ok-check_command.ensures.app c.in_ok-matches.ensures.parsed }
 
 pub returns-in_err-matches-clause-err : goal.returns-in_err-matches-clause-err
 returns-in_err-matches-clause-err g c =
@@ -33,5 +37,5 @@ returns-in_err-names-clause-err g c =
     let unasked = subst (λ (r : List Row). IsUnasked (second_by check_verb) (reported_by check_verb) r fault) rows c.in_err-names.ensures.err in
     passed_up c.from_residual-in_err-names.result fault _ c.from_residual-in_err-names.ensures.1 (unasked_refused check_verb words fault taken unasked)
 
-pub returns-in_default-clause-err : goal.returns-in_default-clause-err
-returns-in_default-clause-err g c = absurd (has_report _ _ (files c.in_ok-names.names) c.in_ok-names.ensures.ok.0 (ap (option_map (λ t. t.now)) c.in_default.is))
+pub unwrap-requires : goal.unwrap-requires
+unwrap-requires g c = some_of_text (λ t. t.now) c.in_ok-names.names.report _ refl (report_there _ _ (files c.in_ok-names.names) c.in_ok-names.ensures.ok.0)

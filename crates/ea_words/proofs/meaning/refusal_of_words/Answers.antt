@@ -16,7 +16,7 @@ pub returns-in-Ok-matches_in : goal.returns-in-Ok-matches_in
 returns-in-Ok-matches_in g c =
     let words = map g.S.AsStr.text c.args.words.now in
     let taken : fault_of program words ≡ [] = subst (λ (a : App). fault_of a words ≡ []) c.in-Ok.ensures c.in-Ok-matches_in.ensures.taken in
-    stray_taken words c.missing_name.result taken c.missing_name.ensures
+    stray_taken words c.no_command.result taken c.no_command.ensures
 
 pub returns : goal.returns
 returns g c =

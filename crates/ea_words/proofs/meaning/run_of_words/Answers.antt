@@ -1,8 +1,9 @@
 use Rattle.std.proofs.Common.{◌≡◌, ◌∙◌, ap, subst, map, List, []}
-use Rattle.clap.specs.Words.{App, Row, Text, app_of, fault_of, matches_of, is_simple, is_simple_and_free}
+use Rattle.clap.specs.Words.{App, Row, fault_of, matches_of, is_simple, is_simple_and_free}
 use Rattle.clap.proofs.TakesLemmas.{passed_up}
 use Rattle.ea_words.specs.Meaning.{run_verb, app_by, second_by, reported_by}
-use Rattle.ea_words.specs.Refusals.{IsRefusalBy, IsRefusedBy, IsUnasked}
+use Rattle.ea_words.specs.Refusals.{IsRefusalBy, IsUnasked}
+use Rattle.ea_words.proofs.Named.{files_named}
 use Rattle.ea_words.proofs.Refused.{refused_by_clap, unasked_refused}
 use Rattle.ea_words.proofs.SimpleApps.{simple_run, free_run}
 use Rattle.ea_words.proofs.meaning.run_of_words.Goals as goal
@@ -12,6 +13,9 @@ matches_in-requires-clause-simple g c = ap is_simple c.in_ok-run_command.ensures
 
 pub matches_in-requires-clause-free : goal.matches_in-requires-clause-free
 matches_in-requires-clause-free g c = ap is_simple_and_free c.in_ok-run_command.ensures.app ∙ free_run
+
+pub asked_in-requires : goal.asked_in-requires
+asked_in-requires g c = record { named = files_named run_verb _ _ c.in_ok-run_command.ensures.app c.in_ok-matches.ensures.parsed }
 
 pub returns-in_err-matches-clause-err : goal.returns-in_err-matches-clause-err
 returns-in_err-matches-clause-err g c =
