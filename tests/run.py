@@ -7,6 +7,9 @@ import shlex
 import subprocess
 import sys
 
+sys.dont_write_bytecode = True
+import schedules
+
 HERE = os.path.dirname(os.path.abspath(__file__))
 EXAMPLES = os.path.join(HERE, "..", "examples")
 
@@ -57,6 +60,7 @@ def run_all(program):
     results = [(shlex.join(words), ran(program, words), (status, out, err)) for words, status, out, err in cases()]
     unwritten = (4, None, b"earliest: 12 WriteFailed after 0 bytes\n")
     results += [(name, result, unwritten) for name, result in into_devices(program)]
+    results += schedules.results(program)
     failed = [(name, was) for name, was, want in results if was != want]
     for name, was in failed:
         print("failed:", name, *was)
