@@ -1,5 +1,5 @@
 #!/bin/sh
-# Times the engine of several threads beside that of one and Dijkstra's method by hand, on road-like graphs that the
+# Times the engine of several threads beside that of one, Dijkstra's method and a MultiQueue by hand, on road-like graphs that the
 # generator wrote: GENERATOR [SCRATCH]. A folder of the scratch that has the program already is used as it is.
 set -e
 here=$(cd "$(dirname "$0")" && pwd)
@@ -7,6 +7,7 @@ generator=$1
 scratch=${2:-/tmp/bench_several}
 mkdir -p "$scratch"
 rustc -O -C target-cpu=x86-64-v2 "$here/dijkstra.rs" -o "$scratch/dijkstra"
+rustc -O -C target-cpu=x86-64-v2 "$here/multiqueue.rs" -o "$scratch/multiqueue"
 program="$scratch/ws/crates/several"
 if [ ! -d "$program" ]; then
     mkdir -p "$program/src"
@@ -28,6 +29,9 @@ for graph in road250000 road2500000; do
     for workers in 0 1 2 4; do
         for heaps in 2 8; do
             "$program/out/several" "$scratch/$graph.gr" "$scratch/$graph.tp" "$workers" "$heaps" 3
+            if [ "$workers" -gt 0 ]; then
+                "$scratch/multiqueue" "$scratch/$graph.gr" "$scratch/$graph.tp" "$workers" "$heaps" 3
+            fi
         done
     done
 done
