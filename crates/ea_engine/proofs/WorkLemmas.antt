@@ -25,7 +25,7 @@ use Rattle.ea_pool.specs.declared.TheConstants.{SHARES}
 use Rattle.ea_pool.specs.Entries.{only}
 use Rattle.ea_pool.specs.Pools.{NothingLeft, IsLeft}
 use Rattle.ea_engine.specs.Turns.{Told, IsShaped, IsShapedAs, IsOver, is_ended, idle_run, ends_worker, is_empty, is_busy, is_idle, is_leave, is_refused, counters_of, counted, count_kind, lowered_in_all, popped_as, popped_in, popped_in_all, IsRoomy}
-use Rattle.ea_engine.specs.Closed.{entry_at, entry_of, IsClosedAs, IsClosedTurn}
+use Rattle.ea_engine.specs.Closed.{entry_at, entry_of, IsClosedAs, IsClosedTurn, IsFreshAs, IsFreshTurn}
 use Rattle.ea_engine.specs.Worked.{Kit, Progress, IsTurn, IsWork, IsHandOf, IsInside, IsLoneAs}
 use Rattle.ea_engine.proofs.ProgressLemmas.{Progress-none, Progress-then}
 use Rattle.ea_engine.proofs.BoundLemmas.{IsStale-more, IsScanned-more, IsCut-more}
@@ -108,6 +108,17 @@ module _ (roads : Roads) (answers : ℕ → ℕ → ℕ → ℕ → Type 0) (tar
   IsClosedAs-more bs cs hand hand' Scanned e stays held h = IsScanned-more bs cs stays roads answers e h
   IsClosedAs-more bs cs hand hand' Refused e stays held h = held e h
 
+  -- what was fresh by more bounds is so by fewer
+  IsFreshAs-less : (bs cs : List Bound) (k : TurnKind) (e : Entry) → ((b : Bound) → Contains bs b → Contains cs b) → IsFreshAs target cs k e → IsFreshAs target bs k e
+  IsFreshAs-less bs cs Empty e stays h = tt
+  IsFreshAs-less bs cs Busy e stays h = tt
+  IsFreshAs-less bs cs Stale e stays h = tt
+  IsFreshAs-less bs cs Scanned e stays h =
+      (λ stale. h.0 (IsStale-more bs cs stays e stale), λ cut. h.1 (IsCut-more bs cs stays target e cut))
+  IsFreshAs-less bs cs Refused e stays h =
+      (λ stale. h.0 (IsStale-more bs cs stays e stale), λ cut. h.1 (IsCut-more bs cs stays target e cut))
+  IsFreshAs-less bs cs Cut e stays h = λ stale. h (IsStale-more bs cs stays e stale)
+
   module _ {T : Type 0} (shows : T → Turn → Flow → T → Type 0) (heaps : ℕ) where
     pub record SoFar (from to : Kit) (budget : ℕ) (tracer tracer' : T) (counters : Counters) (hand : Hand) (number idle : ℕ) (ended : Bool) : Type 0 where
       pub turns : List Told
@@ -122,6 +133,7 @@ module _ (roads : Roads) (answers : ℕ → ℕ → ℕ → ℕ → Type 0) (tar
       pub counted : counters ≡ counters_of turns
       pub progress : Progress from to (popped_in_all turns) (2 * length turns + lowered_in_all turns) (lowered_in_all turns) (option_to_list hand.refused)
       pub closed : (i : ℕ) (d : Told) → i < length turns → IsClosedTurn roads answers target to.labels.bounds (option_to_list hand.popped) (get_or turns i d).0
+      pub fresh : (i : ℕ) (d : Told) → i < length turns → IsFreshTurn target from.labels.bounds (get_or turns i d).0
       pub hand_popped : (entry : Entry) → Contains (option_to_list hand.popped) entry → Contains (popped_in_all turns) entry
       pub hand_inside : IsInside roads hand
       pub open_hand : ended ≡ false → (hand.popped ≡ None) × (hand.refused ≡ None)
@@ -146,6 +158,7 @@ module _ (roads : Roads) (answers : ℕ → ℕ → ℕ → ℕ → Type 0) (tar
       counted = zeros;
       progress = rw refused (Progress-none k);
       closed = λ i d lt. absurd (omega arith);
+      fresh = λ i d lt. absurd (omega arith);
       hand_popped = λ e inside. absurd (omega (arith, (rw popped at inside).1));
       hand_inside = rw (popped, refused) (tt, tt);
       open_hand = λ e. (popped, refused);
@@ -204,6 +217,7 @@ module _ (roads : Roads) (answers : ℕ → ℕ → ℕ → ℕ → Type 0) (tar
             (omega (arith, length-append h.turns ((turn, flow) ∷ []), lowered_push h.turns (turn, flow))) (lowered_push h.turns (turn, flow));
         closed = index_push (λ i t. IsClosedTurn roads answers target to.labels.bounds (option_to_list hand'.popped) t.0) h.turns (turn, flow)
             (λ i d lt. IsClosedAs-more mid.labels.bounds to.labels.bounds (option_to_list hand.popped) (option_to_list hand'.popped) _ _ one.progress.bounds_stay (λ x inside. absurd (omega (arith, (rw ((h.open_hand refl).0) at inside).1))) (h.closed i d lt)) one.closed;
+        fresh = index_push (λ i t. IsFreshTurn target from.labels.bounds t.0) h.turns (turn, flow) h.fresh (IsFreshAs-less from.labels.bounds mid.labels.bounds turn.kind _ h.progress.bounds_stay one.fresh);
         hand_popped = λ e inside. rw (popped_push h.turns (turn, flow)) (Contains-append_left (popped_in turn) (popped_in_all h.turns) e (one.hand_popped e inside));
         hand_inside = one.hand_inside;
         open_hand = λ e. hand_open turn.kind hand' (is_leave flow) one.hand_is (sym ends ∙ e);
@@ -234,6 +248,7 @@ module _ (roads : Roads) (answers : ℕ → ℕ → ℕ → ℕ → Type 0) (tar
       counted = h.counted;
       progress = h.progress;
       closed = λ k d lt. h.closed k d lt;
+      fresh = λ k d lt. h.fresh k d lt;
       hand_popped = h.hand_popped;
       hand_inside = h.hand_inside;
       pushed_few = (SoFar-roomy from to budget tracer tracer' counters hand number idle ended h small).pushed;

@@ -97,6 +97,7 @@ module _ (roads : Roads) (answers : ℕ → ℕ → ℕ → ℕ → Type 0) (tar
       pub counted : counters ≡ counters_of turns
       pub progress : Progress from to (popped_in_all turns) (2 * length turns + lowered_in_all turns) (lowered_in_all turns) (option_to_list hand.refused)
       pub closed : All (λ t. IsClosedTurn roads answers target to.labels.bounds (option_to_list hand.popped) t.0) turns
+      pub fresh : All (λ t. IsFreshTurn target from.labels.bounds t.0) turns
       pub hand_popped : (entry : Entry) → Contains (option_to_list hand.popped) entry → Contains (popped_in_all turns) entry
       pub hand_inside : IsInside roads hand
       pub returned_is : counters.returned ≡ hand_size hand
