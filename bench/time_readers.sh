@@ -9,7 +9,8 @@ mkdir -p "$scratch/readers/crates/read_times/src"
 cp -r "$here/../crates/ea_text" "$here/../crates/ea_input" "$scratch/readers/crates"
 rm -rf "$scratch"/readers/crates/*/out
 cp "$here/read_times.rattle" "$scratch/readers/crates/read_times/src/main.rt"
-printf 'ea_text: smallvec thiserror\nea_input: ea_text thiserror\nread_times: ea_input anyhow\n' > "$scratch/readers/crates.txt"
+grep -E '^(ea_text|ea_input)\b' "$here/../crates.txt" > "$scratch/readers/crates.txt"
+echo 'read_times: ea_input anyhow' >> "$scratch/readers/crates.txt"
 (cd "$scratch/readers/crates/read_times" && rt run -- gr "$scratch/road10000.gr")
 for graph in road10000 road100000 road1000000 road10000000 odd10000000; do
     echo "== $graph"
