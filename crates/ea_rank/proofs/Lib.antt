@@ -3,6 +3,7 @@ mod Queues
 mod Metering
 mod Placing
 mod Books
+mod Coursing
 mod Recording
 mod Underways
 mod Occurring

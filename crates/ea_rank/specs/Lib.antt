@@ -5,5 +5,6 @@ pub mod Places
 pub mod Records
 pub mod Runs
 pub mod States
+pub mod Courses
 pub mod Summaries
 pub mod QueueLaws

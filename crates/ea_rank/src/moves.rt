@@ -2,7 +2,8 @@
 ghost use Rattle.std.specs.Prelude.{◌≡◌, ◌<◌, ◌≤◌, ◌-◌, [], length, replicate, slice_index, IfOk, MatchOption};
 ghost use Rattle.ea_road.specs.declared.TheConstants.{NONE};
 ghost use Rattle.ea_lists.specs.Totals.{total};
-ghost use Rattle.ea_rank.specs.Runs.{Finds, Lowers, Pops};
+ghost use Rattle.ea_rank.specs.Courses.{LowersBy};
+ghost use Rattle.ea_rank.specs.Runs.{Finds, Pops};
 ghost use Rattle.ea_rank.specs.States.{state_of};
 
 use crate::event::Event;
@@ -55,7 +56,7 @@ impl Run {
     pub(crate) fn lower(&mut self, word: u64, node: u32, time: u64) -> Result<(), OutOfMemory>
         requires node { (0 < node) × (node ≤ length self.old.labels.items) }
         requires heaps { 2 ≤ length self.old.heaps }
-        ensures { IfOk result (λ _. Lowers node time (state_of self.old) (state_of self.new)) }
+        ensures { IfOk result (λ _. LowersBy word node time (state_of self.old) (state_of self.new)) }
     {
         self.labels[node as usize - 1] = time;
         let Ok(()) = self.heaps.push_at(word, Entry { key: time, node }) else {

@@ -1,5 +1,5 @@
 //! A recorded run of one thread.
-ghost use Rattle.std.specs.Prelude.{◌≡◌, ◌+◌, ◌<◌, ◌≤◌, [], None, length, IfOk};
+ghost use Rattle.std.specs.Prelude.{◌≡◌, ◌+◌, ◌<◌, ◌≤◌, [], None, length, IfOk, ℕ};
 ghost use Rattle.ea_road.specs.declared.TheConstants.{HORIZON};
 ghost use Rattle.ea_road.specs.Answers.{IsFifoFunction};
 ghost use Rattle.ea_road.specs.Labels.{label_of};
@@ -7,6 +7,7 @@ ghost use Rattle.ea_road.specs.Queries.{IsProblem};
 ghost use Rattle.ea_road.specs.Roads.{leaving, IsNode};
 ghost use Rattle.ea_rank.specs.Ranks.{popped_keys, queue_after};
 ghost use Rattle.ea_rank.specs.Records.{ContainArrivals, HasRanks};
+ghost use Rattle.ea_rank.specs.Courses.{IsRunBy, Scans, Sows};
 ghost use Rattle.ea_rank.specs.Runs.{Underway, weighs};
 ghost use Rattle.ea_rank.specs.States.{state_of};
 ghost use Rattle.ea_rank.specs.Tallies.{added};
@@ -41,6 +42,8 @@ fn scan<T: TravelTimes, R: Rng>(
     ensures heaps { IfOk result (λ _. length run.new.heaps ≡ length run.old.heaps) }
     ensures less { IfOk result (λ _. added run.new.labels.items + weighs (λ entry. 1) run.new.heaps
         ≤ added run.old.labels.items + weighs (λ entry. 1) run.old.heaps) }
+    ensures course { IfOk result (λ _. Scans network.now (T.answers times.now) departure (leaving network.now node)
+        (R.stream rng.old) (state_of run.old) (R.stream rng.new) (state_of run.new)) }
 {
     let arcs = network.leaving(node).arcs;
     for place in 0..arcs.len() {
@@ -67,13 +70,14 @@ fn sow<T: TravelTimes>(
     ensures underway { IfOk result (λ _. Underway network.now (T.answers times.now) query.now.sources
         query.now.sources [] (state_of run.new)) }
     ensures heaps { IfOk result (λ _. length run.new.heaps ≡ length run.old.heaps) }
+    ensures course { IfOk result (λ _. (pushes : ℕ) × Sows query.now.sources (state_of run.old) pushes (state_of run.new)) }
 {
     let _ = network.nodes();
     let mut word = 0;
     for source in query.sources() {
         if source.departure < run.label(source.node) {
             run.lower(word, source.node, source.departure)?;
-            word = word.wrapping_add(1);
+            word += 1;
         }
     }
     Ok(())
@@ -98,6 +102,9 @@ pub fn record_run<T: TravelTimes, R: Rng + Drop>(
     ensures empty { IfOk result (λ recorded. queue_after [] recorded.events.items ≡ []) }
     ensures least { IfOk result (λ recorded. ContainArrivals network.now (T.answers times.now)
         query.now.sources (popped_keys recorded.events.items)) }
+    // which record it is: the course of the turns by the generator's words
+    ensures course { IfOk result (λ recorded. IsRunBy network.now (T.answers times.now) heaps (R.stream rng)
+        query.now.sources recorded.events.items) }
 {
     let mut run = Run::new(alloc, network.nodes(), heaps)?;
     sow(network, times, query, &mut run)?;
@@ -136,6 +143,9 @@ pub fn record_run_by<F: ArrivalFunction + Drop, R: Rng + Drop>(
     ensures least { IfOk result (λ recorded. ContainArrivals network.now
         (λ class weight departure arrival. ∥ F.answers closure class weight departure arrival ∥₁)
         query.now.sources (popped_keys recorded.events.items)) }
+    ensures course { IfOk result (λ recorded. IsRunBy network.now
+        (λ class weight departure arrival. ∥ F.answers closure class weight departure arrival ∥₁)
+        heaps (R.stream rng) query.now.sources recorded.events.items) }
 {
     let profiles = Profiles::new(closure, classes);
     record_run(alloc, network, &profiles, query, heaps, rng)

@@ -1,4 +1,5 @@
-use Rattle.std.proofs.Common.{◌≡◌, ◌≢◌, ◌<◌, ◌+◌, ◌∷◌, ◌++◌, [], ℕ, List, length, replicate, Option, sym, ap, ◌∙◌, arith, subst, inl, inr}
+use Rattle.std.proofs.Common.{◌≡◌, ◌≢◌, ◌<◌, ◌≤◌, ◌+◌, ◌∷◌, ◌++◌, [], ℕ, List, length, replicate, Option, sym, ap, ◌∙◌, arith, subst, inl, inr}
+use Rattle.std.proofs.lemmas.List.{length-replicate}
 use Rattle.ea_road.specs.declared.TheConstants.{NONE}
 use Rattle.ea_road.specs.Labels.{label_of}
 use Rattle.ea_road.specs.Queries.{IsAskedBy}
@@ -11,6 +12,8 @@ use Rattle.ea_rank.specs.Runs.{State, entry_of, weighs}
 use Rattle.ea_rank.specs.States.{state_of}
 use Rattle.ea_rank.specs.Tallies.{added}
 use Rattle.ea_rank.proofs.Books.{none_weighs, fresh_weighs, fresh_length, takes-length}
+use Rattle.ea_rank.specs.Courses.Turns.{begins}
+use Rattle.ea_rank.proofs.Coursing.{turn_stale, turn_scans}
 use Rattle.ea_rank.proofs.Occurring.{popped_as_often}
 use Rattle.ea_rank.proofs.Recording.{recorded-none, recorded-pops, recorded-empty}
 use Rattle.ea_rank.proofs.Underways.{less-pops, underway-none, underway-pops, underway-fixed, underway-popped, popped_known}
@@ -79,13 +82,15 @@ loop-run-preserved g c =
     let moved = rw c.in-Some.is at c.in_ok-entry.ensures in
     let inv = c.loop-run.invariant in
     let entry = c.in-Some.entry in
-    let stale : label_of c.loop-run.run.labels.items entry.node < entry.key = omega (arith, c.label.ensures, c.if-entry-label.false, ap (λ (l : List ℕ). label_of l entry.node) moved.labels) in record {
+    let stale : label_of c.loop-run.run.labels.items entry.node < entry.key = omega (arith, c.label.ensures, c.if-entry-label.false, ap (λ (l : List ℕ). label_of l entry.node) moved.labels) in
+    let stale_now : label_of c.pop.new.self.labels.items entry.node < entry.key = omega (arith, c.label.ensures, c.if-entry-label.false) in record {
       underway = (
         inv.underway.0 ++ entry ∷ [],
         underway-pops c.args.network.now _ c.args.query.now.sources c.nodes.ensures.network [] inv.underway.0 _ _ entry (state_of c.loop-run.run) (state_of c.pop.new.self) (inl stale) inv.underway.1 moved,
         recorded-pops _ _ entry inv.underway.0 (state_of c.loop-run.run) (state_of c.pop.new.self) inv.underway.2 moved,
       );
       heaps = takes-length _ entry c.loop-run.run.heaps c.pop.new.self.heaps moved.heaps.taken ∙ inv.heaps;
+      course = turn_stale c.args.network.now _ c.args.heaps _ _ _ _ c.args.query.now.sources (state_of c.loop-run.run) (state_of c.pop.new.self) _ _ entry inv.course c.next_u64.ensures c.next_u64-in-loop-run.ensures moved stale_now;
     }
 
 pub fixed_labels_are_least-requires-clause-fixed : goal.fixed_labels_are_least-requires-clause-fixed
@@ -121,4 +126,33 @@ returns-clause-least g c =
           let there = underway-popped c.args.network.now _ c.args.query.now.sources c.nodes.ensures.network popped (state_of c.loop-run.run) told.0 u node (record { from_one = some; to_last = omega (arith, u.places) }) labelled in
           subst (λ (x : ℕ). 0 < times (entry_of node x) popped) at there))
           inv.underway.2.keys);
+    }
+
+pub loop-run-init : goal.loop-run-init
+loop-run-init g c =
+    let made = c.in_ok-run.ensures in
+    let sown = c.in_ok-sow.ensures.course in record {
+      underway = c.in_ok-sow.ensures.underway;
+      heaps = c.in_ok-sow.ensures.heaps ∙ ap (λ (heaps : List (List Entry)). length heaps) made.1 ∙ length-replicate c.args.heaps [];
+      course = record {
+        start = state_of c.in_ok-run.run';
+        sown = state_of c.sow.new.run;
+        pushes = sown.0;
+        labels = made.0 ∙ ap (λ (n : ℕ). replicate n NONE) c.nodes.ensures.nodes;
+        heaps_are = made.1;
+        nothing = made.2;
+        sows = sown.1;
+        turns = begins;
+      };
+    }
+
+pub loop-run-preserved-in-Continue-branch-5 : goal.loop-run-preserved-in-Continue-branch-5
+loop-run-preserved-in-Continue-branch-5 g c =
+    let moved = rw c.in-Some.is at c.in_ok-entry.ensures in
+    let inv = c.loop-run.invariant in
+    let entry = c.in-Some.entry in
+    let fresh : entry.key ≤ label_of c.pop.new.self.labels.items entry.node = omega (arith, c.label.ensures, c.if-entry-label.true) in record {
+      underway = c.in_ok-scan.ensures.underway;
+      heaps = c.in_ok-scan.ensures.heaps ∙ takes-length _ entry c.loop-run.run.heaps c.pop.new.self.heaps moved.heaps.taken ∙ inv.heaps;
+      course = turn_scans c.args.network.now _ c.args.heaps _ _ _ _ _ c.args.query.now.sources (state_of c.loop-run.run) (state_of c.pop.new.self) (state_of c.scan.new.run) _ _ entry inv.course c.next_u64.ensures c.next_u64-in-loop-run.ensures moved fresh c.in_ok-scan.ensures.course;
     }

@@ -1,4 +1,5 @@
 use Rattle.std.proofs.Common.{◌≡◌, ◌+◌, [], length}
+use Rattle.ea_rank.specs.Courses.{Begun}
 use Rattle.ea_rank.specs.Runs.{weighs, Underway}
 use Rattle.ea_rank.specs.States.{state_of}
 use Rattle.ea_rank.specs.Tallies.{added}
@@ -8,6 +9,7 @@ abbrev pub invariant-loop-run : goal.invariant-loop-run
 invariant-loop-run g l = record {
   underway : Underway l.network (g.T.TravelTimes.answers l.times) l.query.sources l.query.sources [] (state_of l.run);
   heaps : length l.run.heaps ≡ l.heaps;
+  course : Begun l.network (g.T.TravelTimes.answers l.times) l.heaps (g.R.Rng.stream l.fn.rng) l.query.sources (g.R.Rng.stream l.rng) (state_of l.run);
 }
 
 -- each turn takes an entry, and each lowering takes one from the sum at least and adds one entry

@@ -1,12 +1,14 @@
-use Rattle.std.proofs.Common.{◌<◌, ◌≤◌, ◌+◌, ◌⊎◌, length, get_or, drop, ◌∙◌, arith, inl, inr}
-use Rattle.std.proofs.lemmas.List.{drop_more}
+use Rattle.std.proofs.Common.{◌<◌, ◌≤◌, ◌+◌, ◌⊎◌, length, get_or, drop, take, refl, ◌∙◌, arith, inl, inr}
+use Rattle.std.proofs.lemmas.List.{drop_more, take_more}
 use Rattle.ea_road.specs.declared.TheConstants.{HORIZON}
 use Rattle.ea_road.specs.declared.arc.Arc.{Arc}
 use Rattle.ea_road.specs.Labels.{label_of}
 use Rattle.ea_road.specs.Roads.{leaving}
 use Rattle.ea_road.proofs.Arcs.{is_question}
 use Rattle.ea_road.proofs.ByTail.{arc_beside, tail_beside}
+use Rattle.ea_rank.specs.Courses.Scans.{begins, passes}
 use Rattle.ea_rank.specs.States.{state_of}
+use Rattle.ea_rank.proofs.Coursing.{scan_pushes}
 use Rattle.ea_rank.proofs.Recording.{recorded-lowers}
 use Rattle.ea_rank.proofs.Underways.{pass-lowers, pass-keeps, less-lowers}
 use Rattle.ea_rank.proofs.turns.scan.Goals as goal
@@ -45,26 +47,30 @@ loop-place-preserved g c =
     let arrival = c.arrive-arrival.result in
     let answer = rw c.from.ensures at c.arrive-arrival.ensures in
     let fifo = g.met.T.TravelTimes.fifo c.args.times.now in
+    let more = take_more numbers i 0 near in
     elim c.if-arrival-le-HORIZON.branch [
       | then-arrival-le-HORIZON+then-arrival-label+in_ok-lower w ↦ (
-          let moved = w.in_ok-lower.ensures in
+          let by = w.in_ok-lower.ensures in
+          let moved = by.lowers in
           let low : arrival < label_of c.loop-place.run.labels.items arc.head = omega (arith, w.label.ensures, w.if-arrival-label.true) in
           let later = fifo.not_before arc.class arc.weight c.args.departure arrival (is_question roads _ number c.args.departure arc network classed is_arc c.requires.departure) answer in
           let passed = pass-lowers roads _ sources network _ fifo classed rest popped number node c.args.departure arrival arc (state_of c.loop-place.run) (state_of w.lower.new.self)
           c.requires.node c.requires.departure inv.label is_arc tail answer later w.if-arrival-le-HORIZON.true low was moved in
           let head = (network.each_fits number arc is_arc).head in
-          rw w.run-is (record {
+          let course = scan_pushes roads _ c.args.departure (take i numbers) _ _ _ (state_of c.args.run.now) (state_of c.loop-place.run) (state_of w.lower.new.self) number arrival _ arc inv.course is_arc answer w.if-arrival-le-HORIZON.true low by w.next_u64.ensures in
+          rw (w.run-is, w.rng-is) (record {
             underway = (popped, passed.0, recorded-lowers _ _ popped (state_of c.loop-place.run) (state_of w.lower.new.self) inv.underway.2 moved);
             label = passed.1;
             heaps = moved.count ∙ inv.heaps;
             less = omega (arith, less-lowers arc.head arrival (state_of c.loop-place.run) (state_of w.lower.new.self) head.from_one (omega (arith, head.to_last, was.places)) low moved, inv.less);
+            course = rw more course;
           }))
       | else-arrival-le-HORIZON w ↦ (
           let why : (HORIZON < arrival) ⊎ (label_of c.loop-place.run.labels.items arc.head ≤ arrival) = elim w.else-arrival-le-HORIZON.branch [
             | else-arrival-le-HORIZON-via-then-arrival-le-HORIZON+else-arrival-label v ↦ inr (omega (arith, v.label.ensures, v.if-arrival-label.false))
             | else-arrival-le-HORIZON-via-else-arrival-le-HORIZON v ↦ inl (omega (arith, v.if-arrival-le-HORIZON.false))
           ] in
-          rw w.run-is (record {
+          rw (w.run-is, w.rng-is) (record {
             underway = (
               popped,
               pass-keeps roads _ sources network _ fifo classed rest popped number node c.args.departure arrival arc (state_of c.loop-place.run) c.requires.departure inv.label is_arc tail answer why was,
@@ -73,6 +79,7 @@ loop-place-preserved g c =
             label = inv.label;
             heaps = inv.heaps;
             less = inv.less;
+            course = rw more (passes inv.course is_arc answer why);
           }))
     ]
 
@@ -87,3 +94,12 @@ lower-requires-clause-node g c =
     let is_arc = arc_beside c.args.network.now c.leaving.result.numbers.now c.leaving.result.arcs.now c.loop-place.place none c.leaving.ensures.arcs c.loop-place-test.true in
     let head = (c.leaving.ensures.network.each_fits _ _ is_arc).head in
     (head.from_one, omega (arith, head.to_last, c.loop-place.invariant.underway.1.places))
+
+pub loop-place-init : goal.loop-place-init
+loop-place-init g c = record {
+  underway = c.requires.underway;
+  label = c.requires.label;
+  heaps = refl;
+  less = omega arith;
+  course = begins;
+}

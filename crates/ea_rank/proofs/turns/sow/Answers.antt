@@ -1,9 +1,10 @@
-use Rattle.std.proofs.Common.{◌<◌, ◌≤◌, [], get_or, take, ◌∙◌, arith}
+use Rattle.std.proofs.Common.{◌<◌, ◌≤◌, [], get_or, take, refl, ◌∙◌, arith}
 use Rattle.std.proofs.lemmas.List.{take_more}
 use Rattle.std.specs.List.{IsAmong}
 use Rattle.ea_road.specs.declared.source.Source.{Source}
 use Rattle.ea_road.specs.Labels.{label_of}
 use Rattle.ea_road.proofs.Reached.{reaches_source}
+use Rattle.ea_rank.specs.Courses.Sows.{begins, passes, pushes}
 use Rattle.ea_rank.specs.States.{state_of}
 use Rattle.ea_rank.proofs.Recording.{recorded-lowers}
 use Rattle.ea_rank.proofs.Underways.{among_at, underway-lowers, underway-begins, lowered_label}
@@ -39,18 +40,31 @@ loop-source-preserved g c =
     let roads = c.args.network.now in
     elim c.if-source-label.branch [
       | then-source-label+in_ok-lower w ↦ (
-          let moved = w.in_ok-lower.ensures in
+          let by = w.in_ok-lower.ensures in
+          let moved = by.lowers in
           let low : source.departure < label_of c.loop-source.run.labels.items source.node = omega (arith, c.label.ensures, w.if-source-label.true) in
           let kept = underway-lowers roads _ c.args.query.now.sources c.nodes.ensures.network (take i items) [] popped source.node source.departure (state_of c.loop-source.run) (state_of w.lower.new.self) there within low (reaches_source roads _ c.args.query.now.sources source among within) inv.underway.1 moved in
           let now = lowered_label source.node source.departure (state_of c.loop-source.run) (state_of w.lower.new.self) there.from_one (omega (arith, there.to_last, inv.underway.1.places)) moved in
-          rw (w.run-is, more) (record {
+          rw (w.run-is, w.word-is, more) (record {
             underway = (popped, underway-begins roads _ c.args.query.now.sources c.nodes.ensures.network (take i items) source popped (state_of w.lower.new.self) (omega arith) kept, recorded-lowers _ _ popped (state_of c.loop-source.run) (state_of w.lower.new.self) inv.underway.2 moved);
             heaps = moved.count ∙ inv.heaps;
+            course = pushes source inv.course low by;
+            few = omega (arith, inv.few);
           }))
       | else-source-label w ↦ (
           let low : label_of c.loop-source.run.labels.items source.node ≤ source.departure = omega (arith, c.label.ensures, w.if-source-label.false) in
-          rw (w.run-is, more) (record {
+          rw (w.run-is, w.word-is, more) (record {
             underway = (popped, underway-begins roads _ c.args.query.now.sources c.nodes.ensures.network (take i items) source popped (state_of c.loop-source.run) low inv.underway.1, inv.underway.2);
             heaps = inv.heaps;
+            course = passes source inv.course low;
+            few = omega (arith, inv.few);
           }))
     ]
+
+pub loop-source-init : goal.loop-source-init
+loop-source-init g c = record {
+  underway = c.requires.underway;
+  heaps = refl;
+  course = begins;
+  few = omega arith;
+}
