@@ -54,12 +54,20 @@ def into_devices(program):
         os.close(writer)
 
 
+def no_text(program):
+    """What the program does where a word is no UTF-8: the command, a file's name, an option's value."""
+    for words in ([b"\xff.gr", "x.ss"], ["run", b"\xff.gr", "four-nodes.ss"], ["run", "four-nodes.gr", "four-nodes.ss", "--seed", b"\xe9"]):
+        yield f"words {words}", ran(program, words)
+
+
 def run_all(program):
     """Runs all cases, tells which fail, and answers how many passed and failed."""
     program = os.path.abspath(program)
     results = [(shlex.join(words), ran(program, words), (status, out, err)) for words, status, out, err in cases()]
     unwritten = (4, None, b"earliest: 12 WriteFailed after 0 bytes\n")
     results += [(name, result, unwritten) for name, result in into_devices(program)]
+    refused = b"error: invalid UTF-8 was detected in one or more arguments\n\nFor more information, try '--help'.\n"
+    results += [(name, result, (2, b"", refused)) for name, result in no_text(program)]
     results += schedules.results(program)
     failed = [(name, was) for name, was, want in results if was != want]
     for name, was in failed:

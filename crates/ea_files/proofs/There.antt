@@ -1,14 +1,35 @@
--- The text of a file that is there.
-use Rattle.std.proofs.Common.{◌≡◌, ℕ, List, sym, subst}
-use Rattle.std.specs.Prelude.{Option, Some, option_map, Result, Ok, Err, IfOk}
+-- The text of a file that may be left out.
+use Rattle.std.proofs.Common.{◌≡◌, ℕ, ◌≤◌, ◌^◌, List, length, sym, subst}
+use Rattle.std.specs.Prelude.{Option, Some, None, option_map, Result, Ok, Err, IfOk, IfSome}
 use Rattle.ea_input.specs.TableViews.{table}
 use Rattle.ea_input.specs.declared.table.RawTable.{RawTable}
 use Rattle.ea_files.specs.declared.fault.FileFault.{FileFault}
-use Rattle.ea_files.specs.Files.{IsAll, IsAllIfThere}
+use Rattle.ea_files.specs.Files.{IsAllIfThere, IsTextIfThere, IsTextOf, reading}
 use Rattle.ea_files.specs.Given.{IsTableOf}
 
-pub table_there : {R : Type 0} (had : R → Option (List ℕ)) (device : Option R) (reader : R) (arcs : ℕ) (r : Result RawTable FileFault) → device ≡ Some reader
-    → IfOk r (λ found. (text : List ℕ) × IsAll (had reader) text × IsTableOf arcs (Some text) (table found))
-    → IfOk r (λ found. (text : Option (List ℕ)) × IsAllIfThere (option_map had device) text × IsTableOf arcs text (table found))
-table_there had device reader arcs (Ok found) there read = (Some read.0, subst (λ o. IsAllIfThere (option_map had o) (Some read.0)) (sym there) read.1, read.2)
-table_there had device reader arcs (Err fault) there read = tt
+module _ {R : Type 0} (had : R → Option (List ℕ)) (failed interrupted : R → ℕ) where
+  -- The text of a file that is there.
+  pub table_there : (device after : Option R) (old new : R) (arcs : ℕ) (r : Result RawTable FileFault) → device ≡ Some old → after ≡ Some new
+      → IfOk r (λ found. (text : List ℕ) × IsTextOf (reading (had old) (failed old) (failed new) (interrupted old) (interrupted new)) text × IsTableOf arcs (Some text) (table found))
+      → IfOk r (λ found. (text : Option (List ℕ)) × IsTextIfThere had failed interrupted device after text × IsTableOf arcs text (table found))
+  table_there device after old new arcs (Ok found) was is read =
+      (Some read.0, subst (λ o. IsTextIfThere had failed interrupted o after (Some read.0)) (sym was) (subst (λ o. IsTextIfThere had failed interrupted (Some old) o (Some read.0)) (sym is) read.1), read.2)
+  table_there device after old new arcs (Err fault) was is read = tt
+
+  -- It is all that the reader had, and not too much, and the device bore it.
+  pub all_there : (old new : Option R) (text : Option (List ℕ)) → IsTextIfThere had failed interrupted old new text → IsAllIfThere (option_map had old) text
+  all_there None None None is = tt
+  all_there (Some old) (Some new) (Some text) is = is.all
+  all_there None None (Some text) is = absurd is
+  all_there None (Some new) None is = absurd is
+  all_there None (Some new) (Some text) is = absurd is
+  all_there (Some old) None None is = absurd is
+  all_there (Some old) None (Some text) is = absurd is
+  all_there (Some old) (Some new) None is = absurd is
+
+  pub few_there : (old new : Option R) (text : Option (List ℕ)) → IsTextIfThere had failed interrupted old new text → IfSome text (λ bytes. length bytes ≤ 2 ^ 33)
+  few_there old new None is = tt
+  few_there (Some old) (Some new) (Some text) is = is.few
+  few_there None None (Some text) is = absurd is
+  few_there None (Some new) (Some text) is = absurd is
+  few_there (Some old) None (Some text) is = absurd is

@@ -1,6 +1,6 @@
 -- What readers give, and why they give nothing.
-use Rattle.std.specs.Prelude.{◌≡◌, ◌⊎◌, ℕ, ◌<◌, ◌^◌, List, length, Option, Some, None, IfSome}
-use Rattle.ea_text.specs.Device.{HasGivenUp}
+use Rattle.std.specs.Prelude.{◌≡◌, ◌⊎◌, ℕ, ◌<◌, ◌≤◌, ◌^◌, List, length, Option, Some, None, IfSome}
+use Rattle.ea_text.specs.Device.{BearsOn, GivesUp}
 use Rattle.ea_text.specs.Text.{field_lines}
 use Rattle.ea_text.specs.declared.whole.ReadFault.{ReadFault}
 use Rattle.ea_text.specs.declared.whole.ReadFault.TheVariants.{TooLarge, ReadFailed, OutOfMemory as no_memory}
@@ -35,16 +35,38 @@ pub record Reading : Type 0 where
 abbrev pub reading : Option (List ℕ) → ℕ → ℕ → ℕ → ℕ → Reading
 reading had failed failed_after interrupted interrupted_after = record { had = had; failed = failed; failed_after = failed_after; interrupted = interrupted; interrupted_after = interrupted_after }
 
--- Why a file wasn't read: it has more than 2^33 bytes, or its device gave up.
+-- No read failed, and the interruptions were borne.
+abbrev pub IsBorne : Reading → Type 0
+IsBorne reading = BearsOn reading.failed reading.failed_after reading.interrupted reading.interrupted_after
+
+-- A file's text, as it was read: all bytes that the reader had, at most 2^33, and the device bore it.
+pub record IsTextOf (reading : Reading) (text : List ℕ) : Type 0 where
+  pub all : IsAll reading.had text
+  pub few : length text ≤ 2 ^ 33
+  pub borne : IsBorne reading
+
+-- The same of a file that may be left out: there is a text just where there is a reader.
+abbrev pub IsTextIfThere : {R : Type 0} → (R → Option (List ℕ)) → (R → ℕ) → (R → ℕ) → Option R → Option R → Option (List ℕ) → Type 0
+IsTextIfThere had failed interrupted None None None = Unit {0}
+IsTextIfThere had failed interrupted (Some old) (Some new) (Some text) = IsTextOf (reading (had old) (failed old) (failed new) (interrupted old) (interrupted new)) text
+IsTextIfThere had failed interrupted _ _ _ = ⊥
+
+-- The reads of a file that may be left out were borne.
+abbrev pub IsBorneIfThere : {R : Type 0} → (R → ℕ) → (R → ℕ) → Option R → Option R → Type 0
+IsBorneIfThere failed interrupted None None = Unit {0}
+IsBorneIfThere failed interrupted (Some old) (Some new) = BearsOn (failed old) (failed new) (interrupted old) (interrupted new)
+IsBorneIfThere failed interrupted _ _ = ⊥
+
+-- Why a file wasn't read: it has more than 2^33 bytes, or its device gave up, just then.
 abbrev pub IsUnread : Reading → ReadFault → Type 0
-IsUnread reading TooLarge = IfSome reading.had (λ left. 2 ^ 33 < length left)
-IsUnread reading ReadFailed = HasGivenUp reading.failed reading.failed_after reading.interrupted reading.interrupted_after
+IsUnread reading TooLarge = IfSome reading.had (λ left. 2 ^ 33 < length left) × IsBorne reading
+IsUnread reading ReadFailed = GivesUp reading.failed reading.failed_after reading.interrupted reading.interrupted_after
 IsUnread reading no_memory = ⊥
 
 -- Why a file gave nothing: it wasn't read, or its text has this fault, or memory was refused.
 abbrev pub IsFaultIn : FileWord → Format → Reading → FileFault → Type 0
 IsFaultIn file format reading (Read word fault) = (word ≡ file) × IsUnread reading fault
-IsFaultIn file format reading (Input word fault) = (word ≡ file) × ((text : List ℕ) × IsAll reading.had text × IsFaultOf format (field_lines text) fault)
+IsFaultIn file format reading (Input word fault) = (word ≡ file) × ((text : List ℕ) × IsTextOf reading text × IsFaultOf format (field_lines text) fault)
 IsFaultIn file format reading OutOfMemory = Unit {0}
 
 -- The same where only reading may have failed.
@@ -73,11 +95,11 @@ IsFaultIfThere had failed interrupted file format old new fault =
 
 -- A text that a reader gave denotes this graph.
 abbrev pub IsGraphOf : Reading → Graph → Type 0
-IsGraphOf reading graph = (text : List ℕ) × IsAll reading.had text × DenotesGraph (field_lines text) graph
+IsGraphOf reading graph = (text : List ℕ) × IsTextOf reading text × DenotesGraph (field_lines text) graph
 
 -- A text that a reader gave denotes starts among so many nodes.
 abbrev pub HasStarts : {X : Type 0} → (ℕ → List (List (List ℕ)) → X → Type 0) → ℕ → Reading → Type 0
-HasStarts {X} DenotesStarts nodes reading = (text : List ℕ) × (starts : X) × IsAll reading.had text × DenotesStarts nodes (field_lines text) starts
+HasStarts {X} DenotesStarts nodes reading = (text : List ℕ) × (starts : X) × IsTextOf reading text × DenotesStarts nodes (field_lines text) starts
 
 -- The first fault of the files: that of the network; or where it is sound that of the starts; or where both are that of the timetables.
 pub data IsFirstFault {X : Type 0}

@@ -1,10 +1,10 @@
 //! A network and its timetables, of what files denote.
-ghost use Rattle.std.specs.Prelude.{◌≡◌, ℕ, List, Option, IfOk, IfErr, length, option_map};
+ghost use Rattle.std.specs.Prelude.{◌≡◌, ℕ, List, Option, IfOk, IfErr, length};
 ghost use Rattle.ea_input.specs.Formats.{table_format};
 ghost use Rattle.ea_input.specs.Graph.{DenotesGraph};
 ghost use Rattle.ea_input.specs.Table.{Table};
 ghost use Rattle.ea_input.specs.Views.{graph as graph_of};
-ghost use Rattle.ea_files.specs.Files.{IsAllIfThere, IsFaultIfThere};
+ghost use Rattle.ea_files.specs.Files.{IsFaultIfThere, IsTextIfThere};
 ghost use Rattle.ea_files.specs.Given.{IsRoadOf, IsTableOf, given_by, roads_of};
 ghost use Rattle.ea_files.specs.Sound.{IsSound};
 
@@ -48,7 +48,7 @@ pub(crate) fn read_road<T: ByteIn>(
     tp: &mut Option<T>,
 ) -> Result<Road, FileFault>
     requires { (lines : List (List (List ℕ))) × DenotesGraph lines (graph_of graph) }
-    ensures road { IfOk result (λ road. (text : Option (List ℕ)) × (table : Table) × IsAllIfThere (option_map T.remaining tp.old) text
+    ensures road { IfOk result (λ road. (text : Option (List ℕ)) × (table : Table) × IsTextIfThere T.remaining T.Device.failed T.Device.interrupted tp.old tp.new text
         × IsTableOf (length graph.arcs.items) text table × IsRoadOf (record { graph = graph_of graph; table = table }) road) }
     ensures fault { IfErr result (IsFaultIfThere T.remaining T.Device.failed T.Device.interrupted FileWord.Tp (table_format (length graph.arcs.items)) tp.old tp.new) }
 {

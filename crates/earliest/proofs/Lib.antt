@@ -1,4 +1,5 @@
 pub mod Copied
+pub mod Counting
 pub mod Sending
 pub mod Posing
 pub mod Outcomes

@@ -1,15 +1,14 @@
 -- Reports of the same problems are equal.
-use Rattle.std.proofs.Common.{◌≡◌, ◌==◌, ℕ, zero, suc, ◌+◌, ◌<◌, ◌≤◌, Bool, true, false, List, [], ◌∷◌, ◌++◌, ◌^◌, length, get_or, map, cond, refl, ap, ap₂, sym, ◌∙◌, arith, subst}
+use Rattle.std.proofs.Common.{◌≡◌, ◌==◌, ℕ, zero, suc, ◌<◌, Bool, true, false, List, [], ◌∷◌, ◌++◌, ◌^◌, length, get_or, map, refl, ap, ap₂, sym, ◌∙◌, arith, subst}
 use Rattle.std.specs.Prelude.{All, Option, Some, None, unwrap_or, if◌then◌else◌}
 use Rattle.std.specs.List.{flat_map}
 use Rattle.std.proofs.lemmas.Option.{none-some}
 use Rattle.ea_text.specs.Text.{field_lines}
-use Rattle.ea_road.specs.declared.TheConstants.{NONE, HORIZON}
+use Rattle.ea_road.specs.declared.TheConstants.{NONE}
 use Rattle.ea_road.specs.Roads.{Roads, IsNode}
 use Rattle.ea_road.specs.Queries.{Asking, IsAskedBy}
-use Rattle.ea_road.specs.Arrivals.{IsLeast, IsLeastAt}
+use Rattle.ea_road.specs.Arrivals.{IsLeastAt}
 use Rattle.ea_road.specs.Labels.{time_of, label_of}
-use Rattle.ea_road.specs.Levels.{IsCanonical}
 use Rattle.ea_road.proofs.Fixed.{one_least}
 use Rattle.ea_road.proofs.Canonical.{one_canonical}
 use Rattle.ea_finish.specs.Answers.{Answered, HasArrivals, IsAnswer, arrival_of, walk_of}

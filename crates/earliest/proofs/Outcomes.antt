@@ -1,5 +1,5 @@
 -- What an answer comes to.
-use Rattle.std.proofs.Common.{◌≡◌, ◌⊎◌, ℕ, Bool, List, refl, sym, subst, inl, inr, map}
+use Rattle.std.proofs.Common.{◌≡◌, ℕ, List, refl, sym, subst, inl, inr}
 use Rattle.std.specs.Prelude.{Option, Result, Ok, Err, IfOk, IfErr}
 use Rattle.ea_input.specs.declared.table.RawKind.{RawKind}
 use Rattle.ea_road.specs.Roads.{Roads}
@@ -14,6 +14,7 @@ use Rattle.ea_files.specs.Sound.{IsSound}
 use Rattle.ea_files.proofs.Denoting.{denoting_is_sound}
 use Rattle.ea_report.specs.declared.stats.Totals.{Totals}
 use Rattle.ea_report.specs.Sent.{Seen}
+use Rattle.ea_words.specs.declared.options.RunOptions.{RunOptions}
 use Rattle.earliest.specs.Faults.{answer_fault}
 use Rattle.earliest.specs.Fronts.{IsCutShort, IsFront, IsWritten, times_on}
 use Rattle.earliest.specs.Runs.{Asks, IsAnswered, IsFailed, IsFrontOf}
@@ -27,41 +28,41 @@ given_is_sound DenotesStarts gr starts tp given found read = denoting_is_sound (
 on_given : (P : Roads → (ℕ → ℕ → ℕ → ℕ → Type 0) → Type 0) (given : Given) (road : Road) → IsRoadOf given road → P road.network (times_on road) → P (roads_of given) (times_of given.table.kinds)
 on_given P given road is_road holds = subst (λ (r : Roads). P r (times_of given.table.kinds)) is_road.network (subst (λ (kinds : List RawKind). P road.network (times_of kinds)) is_road.kinds holds)
 
-module _ {X : Type 0} (asks : Asks X) (walks stats : Bool) (tp : Option (Option (List ℕ))) where
+module _ {X : Type 0} (asks : Asks X) (options : RunOptions) (tp : Option (Option (List ℕ))) where
   -- The files were at fault.
-  pub files_failed : (gr starts : Reading) (IsTableFault : ℕ → FileFault → Type 0) (first : Seen) (fault : FileFault) → IsFirstFault asks.word asks.format asks.DenotesStarts gr starts IsTableFault fault → IsFailed asks walks stats tp gr starts IsTableFault first first (answer_fault fault)
+  pub files_failed : (gr starts : Reading) (IsTableFault : ℕ → FileFault → Type 0) (first : Seen) (fault : FileFault) → IsFirstFault asks.word asks.format asks.DenotesStarts gr starts IsTableFault fault → IsFailed asks options tp gr starts IsTableFault first first (answer_fault fault)
   files_failed gr starts IsTableFault first (file.Read word fault) is = (is, refl)
   files_failed gr starts IsTableFault first (file.Input word fault) is = (is, refl)
   files_failed gr starts IsTableFault first file.OutOfMemory is = inl (refl, refl)
 
   module _ (gr starts : Option (List ℕ)) (given : Given) (found : X) (read : AreGiven asks.DenotesStarts gr starts tp given found) (within : asks.AreWithin found) (road : Road) (is_road : IsRoadOf given road) (queries : List Asking) (are : queries ≡ asks.problems found) where
     -- The report went out.
-    pub answered : (old new : Option (List ℕ)) (r : Result Totals AnswerFault) → IfOk r (IsWritten walks stats road.network (times_on road) queries old new) → IfOk r (IsAnswered asks walks stats tp gr starts old new)
-    answered old new (Err fault) written = tt
-    answered old new (Ok totals) written = record {
+    pub answered : (first now : Seen) (r : Result Totals AnswerFault) → IfOk r (IsWritten options road.network (times_on road) queries first now) → IfOk r (IsAnswered asks options tp gr starts first now)
+    answered first now (Err fault) written = tt
+    answered first now (Ok totals) written = record {
       given = given;
       found = found;
       read = read;
       within = within;
-      written = on_given (λ roads answers. IsWritten walks stats roads answers (asks.problems found) old new totals) given road is_road (subst (λ qs. IsWritten walks stats road.network (times_on road) qs old new totals) are written);
+      written = on_given (λ roads answers. IsWritten options roads answers (asks.problems found) first now totals) given road is_road (subst (λ qs. IsWritten options road.network (times_on road) qs first now totals) are written);
     }
 
-    front : (old new : Option (List ℕ)) (size : ℕ) → IsFront walks stats road.network (times_on road) queries old new size → IsFrontOf asks walks stats tp gr starts old new size
+    front : (old new : Option (List ℕ)) (size : ℕ) → IsFront options road.network (times_on road) queries old new size → IsFrontOf asks options tp gr starts old new size
     front old new size part = record {
       given = given;
       found = found;
       read = read;
       within = within;
-      front = on_given (λ roads answers. IsFront walks stats roads answers (asks.problems found) old new size) given road is_road (subst (λ qs. IsFront walks stats road.network (times_on road) qs old new size) are part);
+      front = on_given (λ roads answers. IsFront options roads answers (asks.problems found) old new size) given road is_road (subst (λ qs. IsFront options road.network (times_on road) qs old new size) are part);
     }
 
     -- The report was cut short.
-    pub failed : (gr_reading starts_reading : Reading) (IsTableFault : ℕ → FileFault → Type 0) (first now : Seen) → gr_reading.had ≡ gr → starts_reading.had ≡ starts → (r : Result Totals AnswerFault) → IfErr r (IsCutShort walks stats road.network (times_on road) queries first now) → IfErr r (IsFailed asks walks stats tp gr_reading starts_reading IsTableFault first now)
+    pub failed : (gr_reading starts_reading : Reading) (IsTableFault : ℕ → FileFault → Type 0) (first now : Seen) → gr_reading.had ≡ gr → starts_reading.had ≡ starts → (r : Result Totals AnswerFault) → IfErr r (IsCutShort options road.network (times_on road) queries first now) → IfErr r (IsFailed asks options tp gr_reading starts_reading IsTableFault first now)
     failed a b IsTableFault first now same_gr same_starts (Ok totals) cut = tt
     failed a b IsTableFault first now same_gr same_starts (Err (Write size)) cut = (there size cut.0, cut.1) where
-      there : (n : ℕ) → IsFront walks stats road.network (times_on road) queries first.contents now.contents n → IsFrontOf asks walks stats tp a.had b.had first.contents now.contents n
-      there n part = subst (λ o. IsFrontOf asks walks stats tp o b.had first.contents now.contents n) (sym same_gr) (subst (λ o. IsFrontOf asks walks stats tp gr o first.contents now.contents n) (sym same_starts) (front first.contents now.contents n part))
-    failed a b IsTableFault first now same_gr same_starts (Err (OutOfMemory size)) cut = inr (subst (λ o. IsFrontOf asks walks stats tp o b.had first.contents now.contents size) (sym same_gr) (subst (λ o. IsFrontOf asks walks stats tp gr o first.contents now.contents size) (sym same_starts) (front first.contents now.contents size cut)))
+      there : (n : ℕ) → IsFront options road.network (times_on road) queries first.contents now.contents n → IsFrontOf asks options tp a.had b.had first.contents now.contents n
+      there n part = subst (λ o. IsFrontOf asks options tp o b.had first.contents now.contents n) (sym same_gr) (subst (λ o. IsFrontOf asks options tp gr o first.contents now.contents n) (sym same_starts) (front first.contents now.contents n part))
+    failed a b IsTableFault first now same_gr same_starts (Err (OutOfMemory size)) cut = inr (subst (λ o. IsFrontOf asks options tp o b.had first.contents now.contents size) (sym same_gr) (subst (λ o. IsFrontOf asks options tp gr o first.contents now.contents size) (sym same_starts) (front first.contents now.contents size cut)))
     failed a b IsTableFault first now same_gr same_starts (Err (Read word fault)) cut = absurd cut
     failed a b IsTableFault first now same_gr same_starts (Err (Input word fault)) cut = absurd cut
     failed a b IsTableFault first now same_gr same_starts (Err BadOption) cut = absurd cut

@@ -1,32 +1,34 @@
 -- Reports that went out, one after the other.
-use Rattle.std.proofs.Common.{◌≡◌, ◌⊎◌, ℕ, zero, suc, ◌+◌, ◌-◌, ◌^◌, ◌<◌, ◌≤◌, Bool, true, List, [], ◌∷◌, ◌++◌, length, take, get_or, refl, ap, ap₂, sym, ◌∙◌, arith, subst, inl, inr, append-nil, append_assoc, length-append}
-use Rattle.std.specs.Prelude.{Option, if◌then◌else◌}
+use Rattle.std.proofs.Common.{◌≡◌, ℕ, ◌+◌, ◌^◌, ◌<◌, ◌≤◌, true, List, [], ◌∷◌, ◌++◌, length, take, get_or, refl, ap, sym, ◌∙◌, arith, subst, inl, inr, append-nil, append_assoc, length-append}
+use Rattle.std.specs.Prelude.{Option}
 use Rattle.std.specs.Io.KnownBytes.{Appends}
 use Rattle.std.proofs.KnownBytes.{Appends-trans, Appends-nil}
 use Rattle.std.proofs.Math.Seq.{take-length, take-append-add}
-use Rattle.std.proofs.lemmas.List.{take_more, take-append-le}
-use Rattle.ea_text.specs.Device.{HasGivenUp}
+use Rattle.std.proofs.lemmas.List.{take_more}
+use Rattle.ea_text.specs.Device.{BearsOn, HasGivenUp}
 use Rattle.ea_road.specs.Roads.{Roads}
 use Rattle.ea_road.specs.Queries.{Asking}
 use Rattle.ea_report.specs.Sent.{IsCutAt, IsNotLess, Seen}
 use Rattle.ea_report.specs.declared.stats.Totals.{Totals}
 use Rattle.ea_report.specs.Stats.{stats_text}
 use Rattle.earliest.specs.Reported.{IsReportOf, AreReported}
-use Rattle.earliest.specs.Fronts.{IsFront, of_problems, of_stats, IsCutShort, IsSent, IsStopped, IsStoppedBy, IsWritten, AreSent}
-use Rattle.earliest.specs.Counted.{AreBalanced}
+use Rattle.earliest.specs.Fronts.{IsFront, of_problems, of_stats, IsCutShort, IsSent, IsStopped, IsStoppedBy, IsWritten, AreSent, totals_text}
+use Rattle.ea_words.specs.declared.options.RunOptions.{RunOptions}
+use Rattle.earliest.specs.Counted.{AreBalanced, AreTotals}
+use Rattle.earliest.specs.Workers.{settings_by}
 use Rattle.earliest.specs.declared.fault.AnswerFault.{AnswerFault}
 use Rattle.earliest.specs.declared.fault.AnswerFault.TheVariants.{Read, Input, BadOption, Write, OutOfMemory}
 
-module _ (walks : Bool) (roads : Roads) (answers : ℕ → ℕ → ℕ → ℕ → Type 0) where
+module _ (options : RunOptions) (roads : Roads) (answers : ℕ → ℕ → ℕ → ℕ → Type 0) where
   -- One more report.
-  pub reported_more : (front : List Asking) (query : Asking) (texts text : List ℕ) → AreReported walks roads answers front texts → IsReportOf walks roads answers query text → AreReported walks roads answers (front ++ query ∷ []) (texts ++ text)
+  pub reported_more : (front : List Asking) (query : Asking) (texts text : List ℕ) → AreReported options.walks roads answers front texts → IsReportOf options.walks roads answers query text → AreReported options.walks roads answers (front ++ query ∷ []) (texts ++ text)
   reported_more [] query texts text none is_report = (text, [], is_report, refl, rw none (sym (append-nil text)))
   reported_more (first ∷ front) query texts text some is_report =
       (some.0, some.1 ++ text, some.2, reported_more front query some.1 text some.3 is_report, rw some.4 (append_assoc some.0 some.1 text))
 
   -- None yet.
-  pub sent_none : (first : Seen) → AreSent walks roads answers [] first first 0
-  sent_none first = record { report = []; are_reported = refl; appended = Appends-nil first.contents; counted = refl; unfailed = refl; monotone = omega arith }
+  pub sent_none : (first : Seen) → AreSent options.walks roads answers [] first first 0
+  sent_none first = record { report = []; are_reported = refl; appended = Appends-nil first.contents; counted = refl; unfailed = refl; borne = omega arith; monotone = omega arith }
 
   -- A count that doesn't fall.
   goes_on : (first old now : ℕ) → first < 2 ^ 64 → first ≤ old → IsNotLess old now → first ≤ now
@@ -34,13 +36,14 @@ module _ (walks : Bool) (roads : Roads) (answers : ℕ → ℕ → ℕ → ℕ �
   goes_on first old now fits before (inr h) = omega (arith, fits, h)
 
   -- One more went out.
-  pub sent_more : (front : List Asking) (query : Asking) (first old now : Seen) (before written : ℕ) → first.interrupted < 2 ^ 64 → AreSent walks roads answers front first old before → IsSent walks roads answers query old now before written → AreSent walks roads answers (front ++ query ∷ []) first now written
+  pub sent_more : (front : List Asking) (query : Asking) (first old now : Seen) (before written : ℕ) → first.interrupted < 2 ^ 64 → AreSent options.walks roads answers front first old before → IsSent options.walks roads answers query old now before written → AreSent options.walks roads answers (front ++ query ∷ []) first now written
   sent_more front query first old now before written fits sent more = record {
     report = sent.report ++ more.text;
     are_reported = reported_more front query sent.report more.text sent.are_reported more.is_report;
     appended = Appends-trans first.contents old.contents now.contents sent.report more.text sent.appended more.appended;
     counted = more.counted ∙ ap (λ (n : ℕ). n + length more.text) sent.counted ∙ sym (length-append sent.report more.text);
     unfailed = more.unfailed ∙ sent.unfailed;
+    borne = omega (arith, more.borne, sent.borne, length-append front (query ∷ []));
     monotone = goes_on first.interrupted old.interrupted now.interrupted fits sent.monotone more.not_less;
   }
 
@@ -64,24 +67,24 @@ module _ (walks : Bool) (roads : Roads) (answers : ℕ → ℕ → ℕ → ℕ �
     one_more = take_more all i query inside ∙ ap (λ q. take i all ++ q ∷ []) (sym at)
 
     -- Its report goes out.
-    pub sent_next : (first old now : Seen) (before written : ℕ) → first.interrupted < 2 ^ 64 → AreSent walks roads answers (take i all) first old before → IsSent walks roads answers query old now before written → AreSent walks roads answers (take (i + 1) all) first now written
-    sent_next first old now before written fits sent more = subst (λ qs. AreSent walks roads answers qs first now written) (sym one_more) (sent_more (take i all) query first old now before written fits sent more)
+    pub sent_next : (first old now : Seen) (before written : ℕ) → first.interrupted < 2 ^ 64 → AreSent options.walks roads answers (take i all) first old before → IsSent options.walks roads answers query old now before written → AreSent options.walks roads answers (take (i + 1) all) first now written
+    sent_next first old now before written fits sent more = subst (λ qs. AreSent options.walks roads answers qs first now written) (sym one_more) (sent_more (take i all) query first old now before written fits sent more)
 
     -- Its report stops.
-    module _ (stats : Bool) (first old now : Seen) (before : ℕ) (sent : AreSent walks roads answers (take i all) first old before) where
-      stopped : (written : ℕ) → IsStopped walks roads answers query old now before written → IsFront walks stats roads answers all first.contents now.contents written
+    module _ (first old now : Seen) (before : ℕ) (sent : AreSent options.walks roads answers (take i all) first old before) where
+      stopped : (written : ℕ) → IsStopped options.walks roads answers query old now before written → IsFront options roads answers all first.contents now.contents written
       stopped written stop = of_problems (i + 1) (sent.report ++ stop.text)
-          (subst (λ qs. AreReported walks roads answers qs (sent.report ++ stop.text)) (sym one_more) (reported_more (take i all) query sent.report stop.text sent.are_reported stop.is_report))
+          (subst (λ qs. AreReported options.walks roads answers qs (sent.report ++ stop.text)) (sym one_more) (reported_more (take i all) query sent.report stop.text sent.are_reported stop.is_report))
           (cut_after first.contents old.contents now.contents sent.report stop.text before stop.sent written sent.appended sent.counted stop.counted stop.cut)
 
-      nothing : (written : ℕ) → written ≡ before → now ≡ old → IsFront walks stats roads answers all first.contents now.contents written
+      nothing : (written : ℕ) → written ≡ before → now ≡ old → IsFront options roads answers all first.contents now.contents written
       nothing written same still =
           let size : written ≡ length sent.report = same ∙ sent.counted in
           let whole : take written sent.report ≡ sent.report = ap (λ (n : ℕ). take n sent.report) size ∙ take-length sent.report in
           of_problems i sent.report sent.are_reported
           (omega (arith, size), subst (λ t. Appends first.contents now.contents t) (sym whole) (subst (λ (s : Seen). Appends first.contents s.contents sent.report) (sym still) sent.appended))
 
-      pub stops : (fault : AnswerFault) → IsStoppedBy walks roads answers query old now before fault → IsCutShort walks stats roads answers all first now fault
+      pub stops : (fault : AnswerFault) → IsStoppedBy options.walks roads answers query old now before fault → IsCutShort options roads answers all first now fault
       stops (Write written) stop = (stopped written stop.0, gave_up first old now sent.unfailed sent.monotone stop.1)
       stops (OutOfMemory written) (inl still) = nothing written still.0 still.1
       stops (OutOfMemory written) (inr stop) = stopped written stop
@@ -90,17 +93,20 @@ module _ (walks : Bool) (roads : Roads) (answers : ℕ → ℕ → ℕ → ℕ �
       stops BadOption stop = absurd stop
 
   -- The totals after all reports.
-  module _ (stats : Bool) (all : List Asking) (first old now : Seen) (before : ℕ) (totals : Totals) (sent : AreSent walks roads answers all first old before) where
-    pub totals_cut : (size : ℕ) → stats ≡ true → IsCutAt old.contents now.contents (stats_text totals) size → HasGivenUp old.failed now.failed old.interrupted now.interrupted → IsCutShort walks stats roads answers all first now (Write (before + size))
-    totals_cut size told cut gone = (
-      of_stats sent.report totals told sent.are_reported (cut_after first.contents old.contents now.contents sent.report (stats_text totals) before size (before + size) sent.appended sent.counted refl cut),
+  module _ (all : List Asking) (first old now : Seen) (before : ℕ) (totals : Totals) (sent : AreSent options.walks roads answers all first old before) where
+    pub totals_cut : (size : ℕ) → options.stats ≡ true → AreTotals (settings_by options) all totals → IsCutAt old.contents now.contents (stats_text totals) size → HasGivenUp old.failed now.failed old.interrupted now.interrupted → IsCutShort options roads answers all first now (Write (before + size))
+    totals_cut size told counted cut gone = (
+      of_stats sent.report totals told sent.are_reported counted (cut_after first.contents old.contents now.contents sent.report (stats_text totals) before size (before + size) sent.appended sent.counted refl cut),
       gave_up first old now sent.unfailed sent.monotone gone,
     )
 
-    pub all_written : Appends old.contents now.contents (if stats then stats_text totals else []) → AreBalanced totals → IsWritten walks stats roads answers all first.contents now.contents totals
-    all_written more balanced = record {
+    pub all_written : Appends old.contents now.contents (totals_text options totals) → BearsOn old.failed now.failed old.interrupted now.interrupted → AreTotals (settings_by options) all totals → AreBalanced totals → IsWritten options roads answers all first now totals
+    all_written more bears counted balanced = record {
       report = sent.report;
       are_reported = sent.are_reported;
       appended = Appends-trans first.contents old.contents now.contents sent.report _ sent.appended more;
+      counted = counted;
       balanced = balanced;
+      unfailed = bears.0 ∙ sent.unfailed;
+      borne = omega (arith, bears.1, sent.borne);
     }

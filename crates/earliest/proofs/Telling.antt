@@ -1,14 +1,13 @@
 -- Lines that went out.
-use Rattle.std.proofs.Common.{◌≡◌, ◌⊎◌, ℕ, ◌+◌, ◌-◌, ◌^◌, ◌≤◌, List, length, refl, sym, arith, subst, inl, inr}
-use Rattle.std.specs.Prelude.{Result, Ok, Err, IfOk, IfErr, take}
+use Rattle.std.proofs.Common.{◌≡◌, ℕ, ◌+◌, ◌-◌, ◌^◌, ◌≤◌, List, length, sym, arith, subst, inl, inr}
+use Rattle.std.specs.Prelude.{Result, Ok, Err, IfOk, IfErr}
 use Rattle.std.specs.Io.KnownBytes.{Appends}
 use Rattle.std.proofs.Math.Seq.{take-length}
-use Rattle.ea_text.specs.Device.{one_more, GivesUp}
+use Rattle.ea_text.specs.Device.{GivesUp}
 use Rattle.ea_report.specs.Sent.{IsCutBy, IsReason, IsWhole, Seen}
 use Rattle.ea_report.specs.declared.report.WriteFault.{WriteFault}
 use Rattle.ea_report.specs.declared.report.WriteFaultKind.TheVariants.{WriteFailed}
 use Rattle.earliest.specs.Said.{IsSaid}
-use native.Mathlib.Decide.{dec_le}
 
 -- A device that gave up shows it.
 gone : (failed failed_after interrupted interrupted_after : ℕ) → GivesUp failed failed_after interrupted interrupted_after → failed_after ≤ failed → failed_after + 1 ≤ 2 ^ 64 - 1 → interrupted_after ≤ interrupted + 1000 → interrupted_after + 1 ≤ 2 ^ 64 - 1 → ⊥

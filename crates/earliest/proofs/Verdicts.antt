@@ -28,7 +28,7 @@ module _ (joint : Bool) (depart gap : ℕ) (tp : Option (Option (List ℕ))) whe
   run_failed gr ss report left IsTableFault file.OutOfMemory is = refl
 
   -- A verdict on a road is one on what the files denote.
-  pub judged : (gr ss report left : Option (List ℕ)) (given : Given) (found text : List ℕ) → AreGiven DenotesSources gr ss tp given found → IsReadWhole report left text → AreWithin depart gap (length found) → (road : Road) → IsRoadOf given road → (queries : List Asking) → queries ≡ run_problems joint depart gap found → (said : List ℕ) → said ≡ text
+  pub judged : (gr ss : Option (List ℕ)) (report : Reading) (left : Option (List ℕ)) (given : Given) (found text : List ℕ) → AreGiven DenotesSources gr ss tp given found → IsReadWhole report left text → AreWithin depart gap (length found) → (road : Road) → IsRoadOf given road → (queries : List Asking) → queries ≡ run_problems joint depart gap found → (said : List ℕ) → said ≡ text
       → (verdict : Result (Unit {0}) CheckFault) → IsChecked road.network (times_on road) (sources_of queries) (lines_of_report said) verdict → IsJudged joint depart gap tp gr ss report left verdict
   judged gr ss report left given found text read whole within road is_road queries are said same verdict checked = record {
     given = given;

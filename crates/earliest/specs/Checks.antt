@@ -1,12 +1,12 @@
 -- What a checked report comes to, with the network and the sources that its files denote.
-use Rattle.std.specs.Prelude.{◌≡◌, ℕ, ◌^◌, ◌≤◌, Bool, List, Option, Result, length}
+use Rattle.std.specs.Prelude.{◌≡◌, ℕ, Bool, List, Option, Result, length}
 use Rattle.std.specs.Io.KnownBytes.{IsAtEnd}
 use Rattle.ea_input.specs.Formats.{source_format}
 use Rattle.ea_input.specs.Sources.{DenotesSources}
 use Rattle.ea_files.specs.declared.fault.FileWord.TheVariants.{Ss, Report}
 use Rattle.ea_files.specs.declared.fault.FileFault.{FileFault}
 use Rattle.ea_files.specs.declared.fault.FileFault.TheVariants as file
-use Rattle.ea_files.specs.Files.{IsAll, IsFirstFault, IsUnreadBy, Reading}
+use Rattle.ea_files.specs.Files.{IsFirstFault, IsTextOf, IsUnreadBy, Reading}
 use Rattle.ea_files.specs.Given.{AreGiven, Given, roads_of, times_of}
 use Rattle.ea_files.specs.Starts.{AreWithin, run_problems}
 use Rattle.ea_check.specs.Checked.{IsChecked, sources_of}
@@ -15,11 +15,10 @@ use Rattle.ea_check.specs.declared.fault.CheckFault.{CheckFault}
 use Rattle.earliest.specs.declared.fault.AnswerFault.{AnswerFault}
 use Rattle.earliest.specs.declared.fault.AnswerFault.TheVariants.{Read, Input, BadOption, Write, OutOfMemory}
 
--- All bytes of a report were read, at most 2^33, and none is left.
-pub record IsReadWhole (had left : Option (List ℕ)) (text : List ℕ) : Type 0 where
-  pub all : IsAll had text
+-- A report was read as a file is, and no byte of it is left.
+pub record IsReadWhole (report : Reading) (left : Option (List ℕ)) (text : List ℕ) : Type 0 where
+  pub is_text : IsTextOf report text
   pub end : IsAtEnd left
-  pub few : length text ≤ 2 ^ 33
 
 -- The files of a run denote something.
 abbrev pub AreSound : Option (Option (List ℕ)) → Option (List ℕ) → Option (List ℕ) → Type 0
@@ -27,7 +26,7 @@ AreSound tp gr ss = (given : Given) × (found : List ℕ) × AreGiven DenotesSou
 
 module _ (joint : Bool) (depart gap : ℕ) (tp : Option (Option (List ℕ))) where
   -- All files were read, all departures are within the horizon, and this is said of the report's text.
-  pub record IsJudged (gr ss report left : Option (List ℕ)) (verdict : Result (Unit {0}) CheckFault) : Type 0 where
+  pub record IsJudged (gr ss : Option (List ℕ)) (report : Reading) (left : Option (List ℕ)) (verdict : Result (Unit {0}) CheckFault) : Type 0 where
     pub given : Given
     pub found : List ℕ
     pub text : List ℕ
@@ -37,7 +36,7 @@ module _ (joint : Bool) (depart gap : ℕ) (tp : Option (Option (List ℕ))) whe
     pub checked : IsChecked (roads_of given) (times_of given.table.kinds) (sources_of (run_problems joint depart gap found)) (lines_of_report text) verdict
 
   -- All files were read, and some departure is beyond the horizon.
-  pub record IsLate (gr ss report left : Option (List ℕ)) : Type 0 where
+  pub record IsLate (gr ss : Option (List ℕ)) (report : Reading) (left : Option (List ℕ)) : Type 0 where
     pub given : Given
     pub found : List ℕ
     pub text : List ℕ
@@ -54,6 +53,6 @@ module _ (joint : Bool) (depart gap : ℕ) (tp : Option (Option (List ℕ))) whe
   abbrev pub IsUnjudged : Reading → Reading → Reading → Option (List ℕ) → (ℕ → FileFault → Type 0) → AnswerFault → Type 0
   IsUnjudged gr ss report left IsTableFault (Read word fault) = IsFirstAtFault gr ss report IsTableFault (file.Read word fault)
   IsUnjudged gr ss report left IsTableFault (Input word fault) = IsFirstAtFault gr ss report IsTableFault (file.Input word fault)
-  IsUnjudged gr ss report left IsTableFault BadOption = IsLate gr.had ss.had report.had left
+  IsUnjudged gr ss report left IsTableFault BadOption = IsLate gr.had ss.had report left
   IsUnjudged gr ss report left IsTableFault (Write written) = ⊥
   IsUnjudged gr ss report left IsTableFault (OutOfMemory written) = written ≡ 0

@@ -1,6 +1,86 @@
--- The totals of problems.
-use Rattle.std.specs.Prelude.{◌≡◌, ℕ, ◌+◌, ◌*◌, ◌^◌, ◌≤◌}
+-- What was counted while problems were solved, and their totals.
+use Rattle.std.specs.Prelude.{◌≡◌, ℕ, ◌+◌, ◌*◌, ◌^◌, ◌≤◌, List, [], ◌∷◌, All, length, sum_by}
+use Rattle.ea_road.specs.Queries.{Asking}
+use Rattle.ea_engine.specs.declared.counters.Counters.{Counters}
+use Rattle.ea_engine.specs.declared.settings.Settings.{Settings}
+use Rattle.ea_engine.specs.Tallies.{IsTally, IsLoneTally, pushed_by_all, popped_by_all}
+use Rattle.ea_engine.specs.Turns.{Told, IsTurnList, counters_of}
 use Rattle.ea_report.specs.declared.stats.Totals.{Totals}
+
+-- The counts of one problem: entries that were seeded, handed back and drained, nodes that were open at the finish, and what
+-- each worker counted.
+pub record Counts : Type 0 where
+  pub seeded : ℕ
+  pub returned : ℕ
+  pub drained : ℕ
+  pub finish : ℕ
+  pub workers : List Counters
+
+-- A worker counted the turns of a lawful list of turns.
+abbrev pub CountsTurns : ℕ → Counters → Type 0
+CountsTurns budget counters = (turns : List Told) × IsTurnList budget turns × (counters ≡ counters_of turns)
+
+-- A run of a problem with these settings counts so.
+pub record AreCountsOf (settings : Settings) (query : Asking) (counts : Counts) : Type 0 where
+  pub one_each : length counts.workers ≡ settings.workers
+  pub turns : All (CountsTurns settings.turns) counts.workers
+  pub tally : IsTally (length query.sources) counts.seeded counts.returned counts.drained counts.finish counts.workers
+  pub lone : IsLoneTally (settings.workers * settings.heaps) counts.drained counts.workers
+
+-- Runs of problems, one after the other, count so.
+abbrev pub AreCountsOfAll : Settings → List Asking → List Counts → Type 0
+AreCountsOfAll settings [] [] = Unit {0}
+AreCountsOfAll settings (query ∷ queries) (counts ∷ more) = AreCountsOf settings query counts × AreCountsOfAll settings queries more
+AreCountsOfAll settings _ _ = ⊥
+
+-- The totals of one problem: what workers did is the sum over all workers.
+abbrev pub totals_by : Counts → Totals
+totals_by counts = record {
+  seeded = counts.seeded;
+  pushed = pushed_by_all counts.workers;
+  popped = popped_by_all counts.workers;
+  stale = sum_by (λ (c : Counters). c.stale) counts.workers;
+  scanned = sum_by (λ (c : Counters). c.scanned) counts.workers;
+  returned = counts.returned;
+  drained = counts.drained;
+  finish = counts.finish;
+}
+
+-- The totals of problems: each is the sum over the problems.
+abbrev pub totals_of : List Counts → Totals
+totals_of all = record {
+  seeded = sum_by (λ counts. (totals_by counts).seeded) all;
+  pushed = sum_by (λ counts. (totals_by counts).pushed) all;
+  popped = sum_by (λ counts. (totals_by counts).popped) all;
+  stale = sum_by (λ counts. (totals_by counts).stale) all;
+  scanned = sum_by (λ counts. (totals_by counts).scanned) all;
+  returned = sum_by (λ counts. (totals_by counts).returned) all;
+  drained = sum_by (λ counts. (totals_by counts).drained) all;
+  finish = sum_by (λ counts. (totals_by counts).finish) all;
+}
+
+-- Totals of some problems and of others.
+abbrev pub plus : Totals → Totals → Totals
+plus these those = record {
+  seeded = these.seeded + those.seeded;
+  pushed = these.pushed + those.pushed;
+  popped = these.popped + those.popped;
+  stale = these.stale + those.stale;
+  scanned = these.scanned + those.scanned;
+  returned = these.returned + those.returned;
+  drained = these.drained + those.drained;
+  finish = these.finish + those.finish;
+}
+
+-- The totals of a run of a problem.
+abbrev pub IsTotal : Settings → Asking → Totals → Type 0
+IsTotal settings query totals = (counts : Counts) × AreCountsOf settings query counts × (totals ≡ totals_by counts)
+
+-- The totals of runs of problems: the sums over what was counted of each.
+pub record AreTotals (settings : Settings) (problems : List Asking) (totals : Totals) : Type 0 where
+  pub all : List Counts
+  pub counted : AreCountsOfAll settings problems all
+  pub sums : totals ≡ totals_of all
 
 -- What was pushed was popped or drained, and no more nodes were open at the finish than were drained and handed back.
 pub record AreBalanced (totals : Totals) : Type 0 where

@@ -7,3 +7,4 @@ pub mod Reported
 pub mod Runs
 pub mod Said
 pub mod SameBytes
+pub mod Workers

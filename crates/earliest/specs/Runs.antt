@@ -15,6 +15,7 @@ use Rattle.ea_files.specs.Given.{Given, AreGiven, roads_of, times_of}
 use Rattle.ea_files.specs.Starts.{AreWithin, run_problems, pair_problems}
 use Rattle.ea_report.specs.declared.stats.Totals.{Totals}
 use Rattle.ea_report.specs.Sent.{Seen}
+use Rattle.ea_words.specs.declared.options.RunOptions.{RunOptions}
 use Rattle.earliest.specs.Fronts.{IsFront, IsWritten}
 use Rattle.earliest.specs.declared.fault.AnswerFault.{AnswerFault}
 use Rattle.earliest.specs.declared.fault.AnswerFault.TheVariants.{Read, Input, BadOption, Write, OutOfMemory}
@@ -27,14 +28,14 @@ pub record Asks (X : Type 0) : Type 1 where
   pub problems : X → List Asking
   pub AreWithin : X → Type 0
 
-module _ {X : Type 0} (asks : Asks X) (walks stats : Bool) (tp : Option (Option (List ℕ))) where
+module _ {X : Type 0} (asks : Asks X) (options : RunOptions) (tp : Option (Option (List ℕ))) where
   -- What went out is the report of what the files denote, and with statistics the totals.
-  pub record IsAnswered (gr starts old new : Option (List ℕ)) (totals : Totals) : Type 0 where
+  pub record IsAnswered (gr starts : Option (List ℕ)) (first now : Seen) (totals : Totals) : Type 0 where
     pub given : Given
     pub found : X
     pub read : AreGiven asks.DenotesStarts gr starts tp given found
     pub within : asks.AreWithin found
-    pub written : IsWritten walks stats (roads_of given) (times_of given.table.kinds) (asks.problems found) old new totals
+    pub written : IsWritten options (roads_of given) (times_of given.table.kinds) (asks.problems found) first now totals
 
   -- The files denote a report, and what went out is its front.
   pub record IsFrontOf (gr starts old new : Option (List ℕ)) (written : ℕ) : Type 0 where
@@ -42,7 +43,7 @@ module _ {X : Type 0} (asks : Asks X) (walks stats : Bool) (tp : Option (Option 
     pub found : X
     pub read : AreGiven asks.DenotesStarts gr starts tp given found
     pub within : asks.AreWithin found
-    pub front : IsFront walks stats (roads_of given) (times_of given.table.kinds) (asks.problems found) old new written
+    pub front : IsFront options (roads_of given) (times_of given.table.kinds) (asks.problems found) old new written
 
   -- The files are sound, and some departure is beyond the horizon.
   pub record HasLateStart (gr starts : Option (List ℕ)) : Type 0 where

@@ -1,12 +1,11 @@
 -- The lines by which the program tells outcomes, and its statuses.
-use Rattle.std.specs.Prelude.{◌≡◌, ℕ, ◌+◌, ◌-◌, ◌^◌, ◌≤◌, Bool, List, [], ◌∷◌, codes, decimal, if◌then◌else◌}
+use Rattle.std.specs.Prelude.{ℕ, ◌+◌, ◌-◌, ◌^◌, ◌≤◌, List, [], ◌∷◌, codes, decimal, if◌then◌else◌}
 use Rattle.std.specs.List.{flat_map}
 use Rattle.std.specs.Io.KnownBytes.{Appends}
 use Rattle.ea_text.specs.Outcome.{fault_number, fault_name}
 use Rattle.ea_text.specs.declared.whole.ReadFault.{ReadFault}
 use Rattle.ea_text.specs.declared.whole.ReadFault.TheVariants as read
 use Rattle.ea_input.specs.FaultNames.{kind_number, kind_name}
-use Rattle.ea_files.specs.declared.fault.FileWord.{FileWord}
 use Rattle.ea_files.specs.FileNames.{file_word}
 use Rattle.ea_report.specs.Sent.{IsCutAt, Seen}
 use Rattle.ea_words.specs.declared.fault.CommandFault.{CommandFault}

@@ -1,7 +1,8 @@
 //! From files to a report.
-ghost use Rattle.std.specs.Prelude.{◌≡◌, IfOk, IfErr, length, option_map};
+ghost use Rattle.std.specs.Prelude.{◌≡◌, IfOk, IfErr, OnOk, option_map};
+ghost use Rattle.ea_text.specs.Device.{BearsOn};
 ghost use Rattle.ea_input.specs.Formats.{table_format};
-ghost use Rattle.ea_files.specs.Files.{IsFaultIfThere, reading};
+ghost use Rattle.ea_files.specs.Files.{IsBorneIfThere, IsFaultIfThere, reading};
 ghost use Rattle.ea_report.specs.Sent.{seen};
 ghost use Rattle.ea_words.specs.Limits.{AreOptions};
 ghost use Rattle.earliest.specs.Runs.{IsAnswered, IsFailed, run_asks, pair_asks};
@@ -34,9 +35,13 @@ pub fn answer<H: Threads + Sync, G: ByteIn, S: ByteIn, T: ByteIn, W: ByteOut>(
     out: &mut W,
 ) -> Result<Totals, AnswerFault>
     requires options { AreOptions options.now }
-    ensures answered { IfOk result (IsAnswered (run_asks options.now.joint options.now.depart options.now.gap) options.now.walks options.now.stats
-        (option_map T.remaining tp.old) (G.remaining gr.old) (S.remaining ss.old) (W.contents out.old) (W.contents out.new)) }
-    ensures failed { IfErr result (IsFailed (run_asks options.now.joint options.now.depart options.now.gap) options.now.walks options.now.stats (option_map T.remaining tp.old)
+    ensures answered { IfOk result (IsAnswered (run_asks options.now.joint options.now.depart options.now.gap) options.now
+        (option_map T.remaining tp.old) (G.remaining gr.old) (S.remaining ss.old)
+        (seen (W.contents out.old) (W.Device.failed out.old) (W.Device.interrupted out.old)) (seen (W.contents out.new) (W.Device.failed out.new) (W.Device.interrupted out.new))) }
+    ensures gr_borne { OnOk result (BearsOn (G.Device.failed gr.old) (G.Device.failed gr.new) (G.Device.interrupted gr.old) (G.Device.interrupted gr.new)) }
+    ensures ss_borne { OnOk result (BearsOn (S.Device.failed ss.old) (S.Device.failed ss.new) (S.Device.interrupted ss.old) (S.Device.interrupted ss.new)) }
+    ensures tp_borne { OnOk result (IsBorneIfThere T.Device.failed T.Device.interrupted tp.old tp.new) }
+    ensures failed { IfErr result (IsFailed (run_asks options.now.joint options.now.depart options.now.gap) options.now (option_map T.remaining tp.old)
         (reading (G.remaining gr.old) (G.Device.failed gr.old) (G.Device.failed gr.new) (G.Device.interrupted gr.old) (G.Device.interrupted gr.new))
         (reading (S.remaining ss.old) (S.Device.failed ss.old) (S.Device.failed ss.new) (S.Device.interrupted ss.old) (S.Device.interrupted ss.new))
         (λ arcs. IsFaultIfThere T.remaining T.Device.failed T.Device.interrupted FileWord.Tp (table_format arcs) tp.old tp.new)
@@ -68,9 +73,13 @@ pub fn answer_pairs<H: Threads + Sync, G: ByteIn, P: ByteIn, T: ByteIn, W: ByteO
     out: &mut W,
 ) -> Result<Totals, AnswerFault>
     requires options { AreOptions options.now }
-    ensures answered { IfOk result (IsAnswered (pair_asks options.now.depart options.now.gap) options.now.walks options.now.stats
-        (option_map T.remaining tp.old) (G.remaining gr.old) (P.remaining p2p.old) (W.contents out.old) (W.contents out.new)) }
-    ensures failed { IfErr result (IsFailed (pair_asks options.now.depart options.now.gap) options.now.walks options.now.stats (option_map T.remaining tp.old)
+    ensures answered { IfOk result (IsAnswered (pair_asks options.now.depart options.now.gap) options.now
+        (option_map T.remaining tp.old) (G.remaining gr.old) (P.remaining p2p.old)
+        (seen (W.contents out.old) (W.Device.failed out.old) (W.Device.interrupted out.old)) (seen (W.contents out.new) (W.Device.failed out.new) (W.Device.interrupted out.new))) }
+    ensures gr_borne { OnOk result (BearsOn (G.Device.failed gr.old) (G.Device.failed gr.new) (G.Device.interrupted gr.old) (G.Device.interrupted gr.new)) }
+    ensures p2p_borne { OnOk result (BearsOn (P.Device.failed p2p.old) (P.Device.failed p2p.new) (P.Device.interrupted p2p.old) (P.Device.interrupted p2p.new)) }
+    ensures tp_borne { OnOk result (IsBorneIfThere T.Device.failed T.Device.interrupted tp.old tp.new) }
+    ensures failed { IfErr result (IsFailed (pair_asks options.now.depart options.now.gap) options.now (option_map T.remaining tp.old)
         (reading (G.remaining gr.old) (G.Device.failed gr.old) (G.Device.failed gr.new) (G.Device.interrupted gr.old) (G.Device.interrupted gr.new))
         (reading (P.remaining p2p.old) (P.Device.failed p2p.old) (P.Device.failed p2p.new) (P.Device.interrupted p2p.old) (P.Device.interrupted p2p.new))
         (λ arcs. IsFaultIfThere T.remaining T.Device.failed T.Device.interrupted FileWord.Tp (table_format arcs) tp.old tp.new)

@@ -1,7 +1,8 @@
 //! Reports, checked.
-ghost use Rattle.std.specs.Prelude.{◌≡◌, ◌≤◌, IfOk, IfErr, option_map};
+ghost use Rattle.std.specs.Prelude.{◌≡◌, ◌≤◌, IfOk, IfErr, OnOk, option_map};
+ghost use Rattle.ea_text.specs.Device.{BearsOn};
 ghost use Rattle.ea_input.specs.Formats.{table_format};
-ghost use Rattle.ea_files.specs.Files.{IsFaultIfThere, reading};
+ghost use Rattle.ea_files.specs.Files.{IsBorneIfThere, IsFaultIfThere, reading};
 ghost use Rattle.ea_words.specs.Limits.{AreOptions};
 ghost use Rattle.earliest.specs.Checks.{IsJudged, IsUnjudged};
 
@@ -31,7 +32,11 @@ pub fn check_report<G: ByteIn, S: ByteIn, T: ByteIn, R: ByteIn>(
 ) -> Result<Result<(), CheckFault>, AnswerFault>
     requires options { AreOptions options.now }
     ensures judged { IfOk result (IsJudged options.now.joint options.now.depart options.now.gap
-        (option_map T.remaining tp.old) (G.remaining gr.old) (S.remaining ss.old) (R.remaining report.old) (R.remaining report.new)) }
+        (option_map T.remaining tp.old) (G.remaining gr.old) (S.remaining ss.old)
+        (reading (R.remaining report.old) (R.Device.failed report.old) (R.Device.failed report.new) (R.Device.interrupted report.old) (R.Device.interrupted report.new)) (R.remaining report.new)) }
+    ensures gr_borne { OnOk result (BearsOn (G.Device.failed gr.old) (G.Device.failed gr.new) (G.Device.interrupted gr.old) (G.Device.interrupted gr.new)) }
+    ensures ss_borne { OnOk result (BearsOn (S.Device.failed ss.old) (S.Device.failed ss.new) (S.Device.interrupted ss.old) (S.Device.interrupted ss.new)) }
+    ensures tp_borne { OnOk result (IsBorneIfThere T.Device.failed T.Device.interrupted tp.old tp.new) }
     ensures unjudged { IfErr result (IsUnjudged options.now.joint options.now.depart options.now.gap (option_map T.remaining tp.old)
         (reading (G.remaining gr.old) (G.Device.failed gr.old) (G.Device.failed gr.new) (G.Device.interrupted gr.old) (G.Device.interrupted gr.new))
         (reading (S.remaining ss.old) (S.Device.failed ss.old) (S.Device.failed ss.new) (S.Device.interrupted ss.old) (S.Device.interrupted ss.new))

@@ -1,15 +1,17 @@
 //! Reports of problems, written one after the other.
 ghost use Rattle.std.specs.Prelude.{◌≡◌, ◌≤◌, ◌<◌, ◌+◌, ◌*◌, ◌^◌, ℕ, [], IfOk, IfErr, OnOk, if◌then◌else◌, length, true};
 ghost use Rattle.std.specs.Io.KnownBytes.{Appends};
-ghost use Rattle.ea_text.specs.Device.{HasGivenUp};
+ghost use Rattle.ea_text.specs.Device.{BearsOn, HasGivenUp};
 ghost use Rattle.ea_road.specs.Queries.{IsProblem};
 ghost use Rattle.ea_finish.specs.Answers.{HasArrivals, IsAnswer};
 ghost use Rattle.ea_report.specs.Sent.{IsCutAt, seen};
 ghost use Rattle.ea_report.specs.Stats.{stats_text};
+ghost use Rattle.ea_report.specs.declared.stats.Totals.{Totals};
 ghost use Rattle.ea_words.specs.Limits.{AreOptions};
-ghost use Rattle.earliest.specs.Counted.{AreBalanced, AreSmall};
+ghost use Rattle.earliest.specs.Counted.{AreBalanced, AreSmall, AreTotals, IsTotal, plus};
 ghost use Rattle.earliest.specs.Faults;
 ghost use Rattle.earliest.specs.Fronts.{AreProblems, AreSent, IsCutShort, IsSent, IsStoppedBy, IsWritten, times_on};
+ghost use Rattle.earliest.specs.Workers.{settings_by};
 
 use crate::fault::AnswerFault;
 use crate::solving::{Found, find};
@@ -103,6 +105,7 @@ impl Progress {
         ensures err { IfErr result (IsStoppedBy options.now.walks road.now.network (times_on road.now) query.now (seen (W.contents out.old) (W.Device.failed out.old) (W.Device.interrupted out.old))
             (seen (W.contents out.new) (W.Device.failed out.new) (W.Device.interrupted out.new)) self.old.written) }
         ensures bound { OnOk result (self.new.written ≤ self.old.written + 2 ^ 90) }
+        ensures counted { OnOk result ((more : Totals) × IsTotal (settings_by options.now) query.now more × (self.new.totals ≡ plus self.old.totals more)) }
         ensures balanced { OnOk result (AreBalanced self.new.totals) }
         ensures small { OnOk result ((problems : ℕ) → AreSmall problems self.old.totals → AreSmall (problems + 1) self.new.totals) }
     {
@@ -133,9 +136,10 @@ fn report_each<H: Threads + Sync, W: ByteOut>(
     requires options { AreOptions options.now }
     ensures ok { IfOk result (λ progress. AreSent options.now.walks road.now.network (times_on road.now) queries.now (seen (W.contents out.old) (W.Device.failed out.old) (W.Device.interrupted out.old))
         (seen (W.contents out.new) (W.Device.failed out.new) (W.Device.interrupted out.new)) progress.written) }
-    ensures err { IfErr result (IsCutShort options.now.walks options.now.stats road.now.network (times_on road.now) queries.now (seen (W.contents out.old) (W.Device.failed out.old) (W.Device.interrupted out.old))
+    ensures err { IfErr result (IsCutShort options.now road.now.network (times_on road.now) queries.now (seen (W.contents out.old) (W.Device.failed out.old) (W.Device.interrupted out.old))
         (seen (W.contents out.new) (W.Device.failed out.new) (W.Device.interrupted out.new))) }
     ensures bound { IfOk result (λ progress. progress.written ≤ 1000000 * 2 ^ 90) }
+    ensures counted { IfOk result (λ progress. AreTotals (settings_by options.now) queries.now progress.totals) }
     ensures balanced { IfOk result (λ progress. AreBalanced progress.totals) }
 {
     let mut progress = Progress {
@@ -158,6 +162,7 @@ fn write_totals<W: ByteOut>(
 ) -> Result<(), AnswerFault>
     requires { progress.now.written ≤ 1000000 * 2 ^ 90 }
     ensures ok { OnOk result (Appends (W.contents out.old) (W.contents out.new) (if stats then stats_text progress.now.totals else [])) }
+    ensures borne { OnOk result (BearsOn (W.Device.failed out.old) (W.Device.failed out.new) (W.Device.interrupted out.old) (W.Device.interrupted out.new)) }
     ensures err { IfErr result (λ fault. (sent : ℕ) × (stats ≡ true) × (fault ≡ AnswerFault.Write (progress.now.written + sent))
         × IsCutAt (W.contents out.old) (W.contents out.new) (stats_text progress.now.totals) sent
         × HasGivenUp (W.Device.failed out.old) (W.Device.failed out.new) (W.Device.interrupted out.old) (W.Device.interrupted out.new)) }
@@ -186,8 +191,9 @@ pub(crate) fn report_all<H: Threads + Sync, W: ByteOut>(
     requires problems { AreProblems road.now queries.now }
     requires few { (length queries.now ≤ 1000000) × (road.now.network.nodes ≤ 67108864) }
     requires options { AreOptions options.now }
-    ensures ok { IfOk result (λ totals. IsWritten options.now.walks options.now.stats road.now.network (times_on road.now) queries.now (W.contents out.old) (W.contents out.new) totals) }
-    ensures err { IfErr result (IsCutShort options.now.walks options.now.stats road.now.network (times_on road.now) queries.now (seen (W.contents out.old) (W.Device.failed out.old) (W.Device.interrupted out.old))
+    ensures ok { IfOk result (IsWritten options.now road.now.network (times_on road.now) queries.now (seen (W.contents out.old) (W.Device.failed out.old) (W.Device.interrupted out.old))
+        (seen (W.contents out.new) (W.Device.failed out.new) (W.Device.interrupted out.new))) }
+    ensures err { IfErr result (IsCutShort options.now road.now.network (times_on road.now) queries.now (seen (W.contents out.old) (W.Device.failed out.old) (W.Device.interrupted out.old))
         (seen (W.contents out.new) (W.Device.failed out.new) (W.Device.interrupted out.new))) }
 {
     let progress = report_each(alloc, rt, road, queries, options, out)?;

@@ -6,7 +6,8 @@ ghost use Rattle.ea_engine.specs.Settled.{AreSettings};
 ghost use Rattle.ea_engine.specs.Tallies.{IsTally};
 ghost use Rattle.ea_finish.specs.Answers.{HasArrivals, IsAnswer};
 ghost use Rattle.ea_words.specs.Limits.{AreOptions};
-ghost use Rattle.earliest.specs.Counted.{AreBalanced, AreSmall};
+ghost use Rattle.earliest.specs.Counted.{AreBalanced, AreSmall, IsTotal, totals_by};
+ghost use Rattle.earliest.specs.Workers.{generators_from, settings_by};
 
 use crate::totals::work_of;
 use ea_engine::{Answer, Counters, Flow, NoGate, Settings, Turn, solve, solve_arrivals};
@@ -30,7 +31,7 @@ pub(crate) struct Found {
 fn settings_of(options: &RunOptions) -> Settings
     requires { AreOptions options.now }
     ensures settings { AreSettings result }
-    ensures workers { result.workers ≡ options.now.workers }
+    ensures asked { result ≡ settings_by options.now }
 {
     Settings {
         workers: options.workers as u32,
@@ -41,7 +42,8 @@ fn settings_of(options: &RunOptions) -> Settings
 
 /// The generators of workers: worker i's is seeded with `seed + i`, modulo 2^64.
 fn generators(alloc: Global, seed: u64, workers: u32) -> Result<Vec<Xoshiro256PlusPlus>, AllocError>
-    ensures { IfOk result (λ rngs. vec_len rngs ≡ workers) }
+    ensures one_each { IfOk result (λ rngs. vec_len rngs ≡ workers) }
+    ensures seeded { IfOk result (λ rngs. rngs.items ≡ generators_from seed workers) }
 {
     let mut rngs = Vec::with_capacity(alloc, workers as usize)?;
     for i in 0..workers {
@@ -71,6 +73,7 @@ fn totals_of(
 ) -> Totals
     requires tally { (sources : Rattle.std.specs.Prelude.ℕ) × (sources ≤ 1000000) × IsTally sources seeded returned drained finish counters.now }
     requires few { length counters.now ≤ 16 }
+    ensures sums { result ≡ totals_by (record { seeded = seeded; returned = returned; drained = drained; finish = finish; workers = counters.now }) }
     ensures balanced { AreBalanced result }
     ensures small { AreSmall 1 result }
 {
@@ -103,6 +106,7 @@ fn find_walks<H: Threads + Sync, T: FnMut(Turn) -> Flow + Send + Drop>(
     requires workers { (vec_len rngs ≡ settings.workers) × (vec_len tracers ≡ settings.workers) }
     requires tracers { All T.IsAlwaysCallable tracers.items }
     ensures answer { IfOk result (λ found. IsAnswer road.now.network (TimetablesAnswer road.now.times.list.items) query.now found.answer) }
+    ensures counted { IfOk result (λ found. IsTotal settings query.now found.totals) }
     ensures balanced { IfOk result (λ found. AreBalanced found.totals) }
     ensures small { IfOk result (λ found. AreSmall 1 found.totals) }
 {
@@ -145,6 +149,7 @@ fn find_arrivals<H: Threads + Sync, T: FnMut(Turn) -> Flow + Send + Drop>(
     requires workers { (vec_len rngs ≡ settings.workers) × (vec_len tracers ≡ settings.workers) }
     requires tracers { All T.IsAlwaysCallable tracers.items }
     ensures answer { IfOk result (λ found. HasArrivals road.now.network (TimetablesAnswer road.now.times.list.items) query.now found.answer) }
+    ensures counted { IfOk result (λ found. IsTotal settings query.now found.totals) }
     ensures balanced { IfOk result (λ found. AreBalanced found.totals) }
     ensures small { IfOk result (λ found. AreSmall 1 found.totals) }
 {
@@ -186,6 +191,7 @@ fn find_by<H: Threads + Sync, T: FnMut(Turn) -> Flow + Send + Drop + Copy>(
     requires tracer { T.IsAlwaysCallable tracer }
     ensures arrivals { IfOk result (λ found. HasArrivals road.now.network (TimetablesAnswer road.now.times.list.items) query.now found.answer) }
     ensures walks { IfOk result (λ found. options.now.walks ≡ true → IsAnswer road.now.network (TimetablesAnswer road.now.times.list.items) query.now found.answer) }
+    ensures counted { IfOk result (λ found. IsTotal (settings_by options.now) query.now found.totals) }
     ensures balanced { IfOk result (λ found. AreBalanced found.totals) }
     ensures small { IfOk result (λ found. AreSmall 1 found.totals) }
 {
@@ -212,6 +218,7 @@ pub(crate) fn find<H: Threads + Sync>(
     requires options { AreOptions options.now }
     ensures arrivals { IfOk result (λ found. HasArrivals road.now.network (TimetablesAnswer road.now.times.list.items) query.now found.answer) }
     ensures walks { IfOk result (λ found. options.now.walks ≡ true → IsAnswer road.now.network (TimetablesAnswer road.now.times.list.items) query.now found.answer) }
+    ensures counted { IfOk result (λ found. IsTotal (settings_by options.now) query.now found.totals) }
     ensures balanced { IfOk result (λ found. AreBalanced found.totals) }
     ensures small { IfOk result (λ found. AreSmall 1 found.totals) }
 {

@@ -1,14 +1,15 @@
 //! The totals of problems.
-ghost use Rattle.std.specs.Prelude.{◌≡◌, ◌+◌, ◌*◌, ◌^◌, ◌≤◌, ◌<◌, ℕ, length, sum_by};
+ghost use Rattle.std.specs.Prelude.{◌≡◌, ◌+◌, ◌*◌, ◌^◌, ◌≤◌, ◌<◌, ℕ, [], length, sum_by};
 ghost use Rattle.ea_engine.specs.Tallies.{pushed_by_all, popped_by_all, returned_by_all};
 ghost use Rattle.ea_engine.specs.declared.counters.Counters.{Counters as Counted};
-ghost use Rattle.earliest.specs.Counted.{AreBalanced, AreSmall};
+ghost use Rattle.earliest.specs.Counted.{AreBalanced, AreSmall, plus, totals_of};
 
 use ea_engine::Counters;
 use ea_report::Totals;
 
 /// No problem yet.
 pub(crate) fn no_totals() -> Totals
+    ensures none { result ≡ totals_of [] }
     ensures balanced { AreBalanced result }
     ensures small { AreSmall 0 result }
 {
@@ -83,6 +84,7 @@ pub(crate) fn add_totals(totals: &mut Totals, more: &Totals)
     requires few { (problems : ℕ) × (problems < 1000000) × AreSmall problems totals.old }
     requires small { AreSmall 1 more.now }
     requires balanced { AreBalanced totals.old × AreBalanced more.now }
+    ensures sums { totals.new ≡ plus totals.old more.now }
     ensures balanced { AreBalanced totals.new }
     ensures small { (problems : ℕ) → AreSmall problems totals.old → AreSmall (problems + 1) totals.new }
 {

@@ -8,8 +8,13 @@ mod stored;
 use crate::runs::{perform, tell};
 use earliest::{CommandFault, Outcome, RunOptions};
 use std::env;
+use std::io::{self, ErrorKind};
 use std::process::ExitCode;
 use std::thread::Threads;
+
+/// What is told of a word that is no text.
+const NO_TEXT: &str =
+    "error: invalid UTF-8 was detected in one or more arguments\n\nFor more information, try '--help'.\n";
 
 fn main(rt: HostRuntime) -> ExitCode {
     ExitCode::from(run(&rt, &rt))
@@ -17,8 +22,9 @@ fn main(rt: HostRuntime) -> ExitCode {
 
 /// Does what the words ask for, and answers the status.
 fn run<H: Threads + Sync>(rt: &HostRuntime, threads: &H) -> u8 {
-    let Ok(words) = words_of(rt) else {
-        return tell(rt, Outcome::Command(CommandFault::OutOfMemory));
+    let words = match words_of(rt) {
+        Ok(words) => words,
+        Err(fault) => return tell(rt, Outcome::Command(fault)),
     };
     match RunOptions::of_words(rt.alloc(), &words) {
         Ok(command) => perform(rt, threads, command),
@@ -28,14 +34,26 @@ fn run<H: Threads + Sync>(rt: &HostRuntime, threads: &H) -> u8 {
 
 /// The words of the command line, without the program's name.
 fn words_of(rt: &HostRuntime) -> Result<Vec<String>, CommandFault> {
-    let mut words = Vec::new(rt.alloc());
-    let Ok(args) = env::args(rt) else {
-        return Ok(words);
+    let args = match env::args(rt) {
+        Ok(args) => args,
+        Err(error) => return Err(fault_of(rt, &error)),
     };
+    let mut words = Vec::new(rt.alloc());
     for word in args.skip(1) {
         if words.push(word).is_err() {
             return Err(CommandFault::OutOfMemory);
         }
     }
     Ok(words)
+}
+
+/// Why the words can't be read: one of them is no text, or memory was refused.
+fn fault_of(rt: &HostRuntime, error: &io::Error) -> CommandFault {
+    if error.kind() != ErrorKind::InvalidData {
+        return CommandFault::OutOfMemory;
+    }
+    match String::from_str(rt.alloc(), NO_TEXT) {
+        Ok(text) => CommandFault::Words { help: false, text },
+        Err(_) => CommandFault::OutOfMemory,
+    }
 }

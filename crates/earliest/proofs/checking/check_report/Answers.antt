@@ -3,6 +3,7 @@ use Rattle.std.specs.Prelude.{All, None, option_map}
 use Rattle.std.proofs.lemmas.Result.{err_from_is_err_and}
 use Rattle.ea_input.specs.Sources.{DenotesSources}
 use Rattle.ea_road.specs.Queries.{Asking}
+use Rattle.ea_files.specs.Files.{reading}
 use Rattle.ea_files.specs.Starts.{AreWithin, run_problems}
 use Rattle.ea_files.proofs.Denoting.{sources_are_nodes}
 use Rattle.earliest.specs.Fronts.{AreProblems}
@@ -44,5 +45,5 @@ returns-clause-judged g c =
     let o = c.args.options.now in
     let within : AreWithin o.depart o.gap (length files.sources.items) = search rules in
     let queries = c.deref-2.ensures.value ∙ c.in_ok-queries.ensures ∙ ap (run_problems o.joint o.depart o.gap) c.deref.ensures.value in
-    judged o.joint o.depart o.gap (option_map g.T.ByteIn.remaining c.args.tp.now) (g.G.ByteIn.remaining c.args.gr.now) (g.S.ByteIn.remaining c.args.ss.now) (g.R.ByteIn.remaining c.args.report.now) (g.R.ByteIn.remaining c.read_report.new.report) given.0 files.sources.items c.in_ok-text.text.items given.1 (record { all = c.in_ok-text.ensures.all; end = c.in_ok-text.ensures.end; few = c.in_ok-text.ensures.few }) within files.road given.2
+    judged o.joint o.depart o.gap (option_map g.T.ByteIn.remaining c.args.tp.now) (g.G.ByteIn.remaining c.args.gr.now) (g.S.ByteIn.remaining c.args.ss.now) (reading (g.R.ByteIn.remaining c.args.report.now) (g.R.Device.failed c.args.report.now) (g.R.Device.failed c.read_report.new.report) (g.R.Device.interrupted c.args.report.now) (g.R.Device.interrupted c.read_report.new.report)) (g.R.ByteIn.remaining c.read_report.new.report) given.0 files.sources.items c.in_ok-text.text.items given.1 (record { is_text = c.in_ok-text.ensures.text; end = c.in_ok-text.ensures.end }) within files.road given.2
     c.deref-2.result.now queries c.deref-3.result.now c.deref-3.ensures.value c.check.result c.check.ensures

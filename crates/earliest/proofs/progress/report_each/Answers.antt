@@ -2,6 +2,8 @@ use Rattle.std.proofs.Common.{arith}
 use Rattle.std.proofs.lemmas.Result.{err_from_is_err_and}
 use Rattle.ea_report.specs.Sent.{seen}
 use Rattle.earliest.specs.Fronts.{times_on}
+use Rattle.earliest.specs.Workers.{settings_by}
+use Rattle.earliest.proofs.Counting.{totals_next}
 use Rattle.earliest.proofs.Sending.{stops, sent_next}
 use Rattle.earliest.proofs.progress.report_each.Goals as goal
 
@@ -9,7 +11,7 @@ pub returns-in_err-report-clause-err : goal.returns-in_err-report-clause-err
 returns-in_err-report-clause-err g c =
     let p = err_from_is_err_and c.from_residual.result c.from_residual.ensures.1 in
     let first = seen (g.W.ByteOut.contents c.args.out.now) (g.W.Device.failed c.args.out.now) (g.W.Device.interrupted c.args.out.now) in
-    rw (p.1, p.2) (stops c.args.options.now.walks c.args.road.now.network (times_on c.args.road.now) c.args.queries.now c.loop-query.query-index c.query-item.result c.loop-query-test.true c.query-item.is c.args.options.now.stats first _ _ _ c.loop-query.invariant.sent _ c.in_err-report.ensures.err)
+    rw (p.1, p.2) (stops c.args.options.now c.args.road.now.network (times_on c.args.road.now) c.args.queries.now c.loop-query.query-index c.query-item.result c.loop-query-test.true c.query-item.is first _ _ _ c.loop-query.invariant.sent _ c.in_err-report.ensures.err)
 
 pub loop-query-preserved : goal.loop-query-preserved
 loop-query-preserved g c =
@@ -19,8 +21,9 @@ loop-query-preserved g c =
     let first = seen (g.W.ByteOut.contents c.args.out.now) (g.W.Device.failed c.args.out.now) (g.W.Device.interrupted c.args.out.now) in
     record {
       fits = inv.fits;
-      sent = sent_next c.args.options.now.walks c.args.road.now.network (times_on c.args.road.now) c.args.queries.now i c.query-item.result c.loop-query-test.true c.query-item.is first _ now _ c.report.new.self.written inv.fits inv.sent c.in_ok-report.ensures.ok;
+      sent = sent_next c.args.options.now c.args.road.now.network (times_on c.args.road.now) c.args.queries.now i c.query-item.result c.loop-query-test.true c.query-item.is first _ now _ c.report.new.self.written inv.fits inv.sent c.in_ok-report.ensures.ok;
       bound = omega (arith, c.in_ok-report.ensures.bound, inv.bound);
+      counted = totals_next (settings_by c.args.options.now) c.args.queries.now i c.query-item.result c.loop-query-test.true c.query-item.is _ _ inv.counted c.in_ok-report.ensures.counted.0 c.in_ok-report.ensures.counted.1 c.in_ok-report.ensures.counted.2;
       small = c.in_ok-report.ensures.small i inv.small;
       balanced = c.in_ok-report.ensures.balanced;
     }
