@@ -62,10 +62,10 @@ stops_for_device old new text written borne fault device stops = λ first before
     let cut = stops first before way in
     (cut.0, subst (λ kind. IsReason kind first new) device cut.1)
 
-module _ (heaps : ℕ) (roads : Roads) (answers : ℕ → ℕ → ℕ → ℕ → Type 0) where
+module _ (heaps seed : ℕ) (roads : Roads) (answers : ℕ → ℕ → ℕ → ℕ → Type 0) where
   -- The lines of a problem with one source.
-  pub rank_text : (query : Asking) (sources : List Source) (d : Source) (found ranks : List ℕ) (summary : Summary) → sources ≡ query.sources → length query.sources ≡ 1 → AreRanks heaps roads answers query.sources found → ranks ≡ found → summary ≡ summary_of ranks
-      → IsRankText heaps roads answers query (source_line (get_or sources 0 d) ++ rank_line summary)
+  pub rank_text : (query : Asking) (sources : List Source) (d : Source) (found ranks : List ℕ) (summary : Summary) → sources ≡ query.sources → length query.sources ≡ 1 → AreRanks heaps seed roads answers query.sources found → ranks ≡ found → summary ≡ summary_of ranks
+      → IsRankText heaps seed roads answers query (source_line (get_or sources 0 d) ++ rank_line summary)
   rank_text query sources d found ranks summary same one are_ranks same_ranks is = record {
     ranks = found;
     are_ranks = are_ranks;
@@ -73,7 +73,7 @@ module _ (heaps : ℕ) (roads : Roads) (answers : ℕ → ℕ → ℕ → ℕ �
   }
 
   -- One more problem.
-  texts_more : (front : List Asking) (query : Asking) (texts text : List ℕ) → AreRankTexts heaps roads answers front texts → IsRankText heaps roads answers query text → AreRankTexts heaps roads answers (front ++ query ∷ []) (texts ++ text)
+  texts_more : (front : List Asking) (query : Asking) (texts text : List ℕ) → AreRankTexts heaps seed roads answers front texts → IsRankText heaps seed roads answers query text → AreRankTexts heaps seed roads answers (front ++ query ∷ []) (texts ++ text)
   texts_more [] query texts text none is_text = (text, [], is_text, refl, rw none (sym (append-nil text)))
   texts_more (first ∷ front) query texts text some is_text =
       (some.0, some.1 ++ text, some.2, texts_more front query some.1 text some.3 is_text, rw some.4 (append_assoc some.0 some.1 text))
@@ -83,14 +83,14 @@ module _ (heaps : ℕ) (roads : Roads) (answers : ℕ → ℕ → ℕ → ℕ �
     one_more = take_more all i query inside ∙ ap (λ q. take i all ++ q ∷ []) (sym at)
 
     -- The next problem's lines go out.
-    pub next_under_way : (first old now : Seen) (before interruptions written borne : ℕ) → AreUnderWay heaps roads answers (take i all) first old before interruptions → AddsRanks heaps roads answers query old before interruptions now written borne → AreUnderWay heaps roads answers (take (i + 1) all) first now written borne
+    pub next_under_way : (first old now : Seen) (before interruptions written borne : ℕ) → AreUnderWay heaps seed roads answers (take i all) first old before interruptions → AddsRanks heaps seed roads answers query old before interruptions now written borne → AreUnderWay heaps seed roads answers (take (i + 1) all) first now written borne
     next_under_way first old now before interruptions written borne way more =
-        (way.0 ++ more.0, subst (λ qs. AreRankTexts heaps roads answers qs (way.0 ++ more.0)) (sym one_more) (texts_more (take i all) query way.0 more.0 way.1 more.1), more.2 first way.0 way.2)
+        (way.0 ++ more.0, subst (λ qs. AreRankTexts heaps seed roads answers qs (way.0 ++ more.0)) (sym one_more) (texts_more (take i all) query way.0 more.0 way.1 more.1), more.2 first way.0 way.2)
 
     -- They stop.
-    module _ (first old now : Seen) (before interruptions : ℕ) (way : AreUnderWay heaps roads answers (take i all) first old before interruptions) where
+    module _ (first old now : Seen) (before interruptions : ℕ) (way : AreUnderWay heaps seed roads answers (take i all) first old before interruptions) where
       -- Nothing of them was sent.
-      nothing : (written : ℕ) → written ≡ before → now ≡ old → IsRankFront heaps roads answers all first.contents now.contents written
+      nothing : (written : ℕ) → written ≡ before → now ≡ old → IsRankFront heaps seed roads answers all first.contents now.contents written
       nothing written same still =
           let whole : way.0 ≡ way.2.sent = way.2.whole ∙ append-nil way.2.sent in
           let size : written ≡ length way.0 = same ∙ way.2.counted ∙ ap length (sym whole) in
@@ -102,14 +102,14 @@ module _ (heaps : ℕ) (roads : Roads) (answers : ℕ → ℕ → ℕ → ℕ �
             cut = (omega (arith, size), subst (λ t. Appends first.contents now.contents t) (sym front) (subst (λ (s : Seen). Appends first.contents s.contents way.2.sent) (sym still) way.2.appended));
           }
 
-      pub ranks_stop : (fault : AnswerFault) → StopsRanks heaps roads answers query old before interruptions now fault → IsRankingCut heaps roads answers all first now fault
+      pub ranks_stop : (fault : AnswerFault) → StopsRanks heaps seed roads answers query old before interruptions now fault → IsRankingCut heaps seed roads answers all first now fault
       ranks_stop (Write written) stop =
           let text : List ℕ = way.0 ++ stop.0 in
           let cut : IsCutBy first now text (record { written = written; kind = WriteFailed }) = stop.2 first way.0 way.2 in (
             record {
               count = i + 1;
               text = text;
-              are_texts = subst (λ qs. AreRankTexts heaps roads answers qs text) (sym one_more) (texts_more (take i all) query way.0 stop.0 way.1 stop.1);
+              are_texts = subst (λ qs. AreRankTexts heaps seed roads answers qs text) (sym one_more) (texts_more (take i all) query way.0 stop.0 way.1 stop.1);
               cut = cut.0;
             },
             cut.1,
@@ -123,36 +123,36 @@ module _ (heaps : ℕ) (roads : Roads) (answers : ℕ → ℕ → ℕ → ℕ �
 on_files : (P : Roads → (ℕ → ℕ → ℕ → ℕ → Type 0) → Type 0) (given : Given) (road : Road) → IsRoadOf given road → P road.network (times_on road) → P (roads_of given) (times_of given.table.kinds)
 on_files P given road is_road holds = subst (λ (r : Roads). P r (times_of given.table.kinds)) is_road.network (subst (λ (kinds : List RawKind). P road.network (times_of kinds)) is_road.kinds holds)
 
-module _ (heaps depart gap : ℕ) (tp : Option (Option (List ℕ))) where
+module _ (heaps seed depart gap : ℕ) (tp : Option (Option (List ℕ))) where
   -- The files were at fault.
-  pub files_at_fault : (gr ss : Reading) (IsTableFault : ℕ → FileFault → Type 0) (first : Seen) (fault : FileFault) → IsFirstFault Ss source_format DenotesSources gr ss IsTableFault fault → IsUnranked heaps depart gap tp gr ss IsTableFault first first (answer_fault fault)
+  pub files_at_fault : (gr ss : Reading) (IsTableFault : ℕ → FileFault → Type 0) (first : Seen) (fault : FileFault) → IsFirstFault Ss source_format DenotesSources gr ss IsTableFault fault → IsUnranked heaps seed depart gap tp gr ss IsTableFault first first (answer_fault fault)
   files_at_fault gr ss IsTableFault first (file.Read word fault) is = (is, refl)
   files_at_fault gr ss IsTableFault first (file.Input word fault) is = (is, refl)
   files_at_fault gr ss IsTableFault first file.OutOfMemory is = inl (refl, refl)
 
   module _ (given : Given) (found : List ℕ) (within : AreWithin depart gap (length found)) (road : Road) (is_road : IsRoadOf given road) (queries : List Asking) (are : queries ≡ run_problems false depart gap found) where
     -- The lines went out.
-    pub ranked : (gr ss : Option (List ℕ)) (first now : Seen) → AreGiven DenotesSources gr ss tp given found → (r : Result (Unit {0}) AnswerFault) → OnOk r (IsRanking heaps road.network (times_on road) queries first now) → OnOk r (IsRanked heaps depart gap tp gr ss first now)
+    pub ranked : (gr ss : Option (List ℕ)) (first now : Seen) → AreGiven DenotesSources gr ss tp given found → (r : Result (Unit {0}) AnswerFault) → OnOk r (IsRanking heaps seed road.network (times_on road) queries first now) → OnOk r (IsRanked heaps seed depart gap tp gr ss first now)
     ranked gr ss first now read (Err fault) ranking = tt
     ranked gr ss first now read (Ok done) ranking = record {
       given = given;
       found = found;
       read = read;
       within = within;
-      ranking = on_files (λ roads answers. IsRanking heaps roads answers (run_problems false depart gap found) first now) given road is_road (subst (λ qs. IsRanking heaps road.network (times_on road) qs first now) are ranking);
+      ranking = on_files (λ roads answers. IsRanking heaps seed roads answers (run_problems false depart gap found) first now) given road is_road (subst (λ qs. IsRanking heaps seed road.network (times_on road) qs first now) are ranking);
     }
 
-    front : (gr ss old new : Option (List ℕ)) (written : ℕ) → AreGiven DenotesSources gr ss tp given found → IsRankFront heaps road.network (times_on road) queries old new written → IsFrontOfRanks heaps depart gap tp gr ss old new written
+    front : (gr ss old new : Option (List ℕ)) (written : ℕ) → AreGiven DenotesSources gr ss tp given found → IsRankFront heaps seed road.network (times_on road) queries old new written → IsFrontOfRanks heaps seed depart gap tp gr ss old new written
     front gr ss old new written read part = record {
       given = given;
       found = found;
       read = read;
       within = within;
-      front = on_files (λ roads answers. IsRankFront heaps roads answers (run_problems false depart gap found) old new written) given road is_road (subst (λ qs. IsRankFront heaps road.network (times_on road) qs old new written) are part);
+      front = on_files (λ roads answers. IsRankFront heaps seed roads answers (run_problems false depart gap found) old new written) given road is_road (subst (λ qs. IsRankFront heaps seed road.network (times_on road) qs old new written) are part);
     }
 
     -- They were cut short.
-    pub unranked : (gr ss : Reading) (IsTableFault : ℕ → FileFault → Type 0) (first now : Seen) → AreGiven DenotesSources gr.had ss.had tp given found → (r : Result (Unit {0}) AnswerFault) → IfErr r (IsRankingCut heaps road.network (times_on road) queries first now) → IfErr r (IsUnranked heaps depart gap tp gr ss IsTableFault first now)
+    pub unranked : (gr ss : Reading) (IsTableFault : ℕ → FileFault → Type 0) (first now : Seen) → AreGiven DenotesSources gr.had ss.had tp given found → (r : Result (Unit {0}) AnswerFault) → IfErr r (IsRankingCut heaps seed road.network (times_on road) queries first now) → IfErr r (IsUnranked heaps seed depart gap tp gr ss IsTableFault first now)
     unranked gr ss IsTableFault first now read (Ok done) cut = tt
     unranked gr ss IsTableFault first now read (Err (Write written)) cut = (front gr.had ss.had first.contents now.contents written read cut.0, cut.1)
     unranked gr ss IsTableFault first now read (Err (OutOfMemory written)) cut = inr (front gr.had ss.had first.contents now.contents written read cut)

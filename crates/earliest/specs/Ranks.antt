@@ -16,6 +16,7 @@ use Rattle.ea_files.specs.Given.{AreGiven, Given, roads_of, times_of}
 use Rattle.ea_files.specs.Starts.{AreWithin, run_problems}
 use Rattle.ea_rank.specs.declared.event.Event.{Event}
 use Rattle.ea_rank.specs.declared.summary.Summary.{Summary}
+use Rattle.ea_rank.specs.Courses.{IsRunBy}
 use Rattle.ea_rank.specs.Ranks.{popped_keys, queue_after, rank_errors}
 use Rattle.ea_rank.specs.Records.{ContainArrivals, HasRanks}
 use Rattle.ea_rank.specs.Summaries.{summary_of}
@@ -23,6 +24,7 @@ use Rattle.ea_report.specs.Report.{line, source_line}
 use Rattle.ea_report.specs.Sent.{Adds, IsCutAt, IsUnderWay, Seen, Stops}
 use Rattle.ea_report.specs.declared.report.WriteFaultKind.TheVariants.{WriteFailed}
 use Rattle.ea_words.specs.declared.options.RunOptions.{RunOptions}
+use Rattle.earliest.specs.Workers.{words_from}
 use Rattle.earliest.specs.declared.fault.AnswerFault.{AnswerFault}
 use Rattle.earliest.specs.declared.fault.AnswerFault.TheVariants.{Read, Input, BadOption, Write, OutOfMemory}
 
@@ -39,11 +41,12 @@ pub record HasOneSource (query : Asking) : Type 0 where
   pub one : length query.sources ≡ 1
   pub all : query.target ≡ None
 
-module _ (heaps : ℕ) (roads : Roads) (answers : ℕ → ℕ → ℕ → ℕ → Type 0) where
-  -- The rank errors are those of a record of a run: each pop's key was there, and with two heaps no smaller one was; the queue
-  -- ends empty; and the least arrivals are among the popped keys.
+module _ (heaps seed : ℕ) (roads : Roads) (answers : ℕ → ℕ → ℕ → ℕ → Type 0) where
+  -- The rank errors are those of a recorded run with so many heaps and the words of the seed: each pop's key was there, and with
+  -- two heaps no smaller one was; the queue ends empty; and the least arrivals are among the popped keys.
   pub record AreRanks (sources : List Source) (ranks : List ℕ) : Type 0 where
     pub events : List Event
+    pub course : IsRunBy roads answers heaps (words_from seed) sources events
     pub right : HasRanks heaps events
     pub empty : queue_after [] events ≡ []
     pub least : ContainArrivals roads answers sources (popped_keys events)
@@ -104,14 +107,14 @@ module _ (heaps : ℕ) (roads : Roads) (answers : ℕ → ℕ → ℕ → ℕ �
 
 -- ---- from files
 
-module _ (heaps depart gap : ℕ) (tp : Option (Option (List ℕ))) where
+module _ (heaps seed depart gap : ℕ) (tp : Option (Option (List ℕ))) where
   -- What went out are the lines of the sources that the files denote, each by itself.
   pub record IsRanked (gr ss : Option (List ℕ)) (first now : Seen) : Type 0 where
     pub given : Given
     pub found : List ℕ
     pub read : AreGiven DenotesSources gr ss tp given found
     pub within : AreWithin depart gap (length found)
-    pub ranking : IsRanking heaps (roads_of given) (times_of given.table.kinds) (run_problems false depart gap found) first now
+    pub ranking : IsRanking heaps seed (roads_of given) (times_of given.table.kinds) (run_problems false depart gap found) first now
 
   -- The files denote such lines, and what went out is their front.
   pub record IsFrontOfRanks (gr ss old new : Option (List ℕ)) (written : ℕ) : Type 0 where
@@ -119,7 +122,7 @@ module _ (heaps depart gap : ℕ) (tp : Option (Option (List ℕ))) where
     pub found : List ℕ
     pub read : AreGiven DenotesSources gr ss tp given found
     pub within : AreWithin depart gap (length found)
-    pub front : IsRankFront heaps (roads_of given) (times_of given.table.kinds) (run_problems false depart gap found) old new written
+    pub front : IsRankFront heaps seed (roads_of given) (times_of given.table.kinds) (run_problems false depart gap found) old new written
 
   -- The files are sound, and some departure is beyond the horizon.
   pub record HasLateSource (gr ss : Option (List ℕ)) : Type 0 where

@@ -1,7 +1,9 @@
 -- How options set up the workers of a run.
 use Rattle.std.specs.Prelude.{ℕ, zero, suc, ◌+◌, ◌%◌, ◌^◌, List, [], ◌∷◌, ◌++◌}
+use Rattle.rand_core.specs.Steps.{stream_of, steps_u64_high}
+use Rattle.rand_core.specs.Stream.{Stream}
 use Rattle.rand_xoshiro.specs.SplitMix64.{splitmix_seed}
-use Rattle.rand_xoshiro.specs.Xoshiro256.{of_seed}
+use Rattle.rand_xoshiro.specs.Xoshiro256.{of_seed, plus_plus}
 use Rattle.ea_engine.specs.declared.settings.Settings.{Settings}
 use Rattle.ea_words.specs.declared.options.RunOptions.{RunOptions}
 
@@ -21,3 +23,7 @@ generator_from seed = of_seed (splitmix_seed 32 seed)
 abbrev pub generators_from : ℕ → ℕ → List (List ℕ)
 generators_from seed zero = []
 generators_from seed (suc number) = generators_from seed number ++ generator_from (seed_of_worker seed number) ∷ []
+
+-- The words of that generator.
+abbrev pub words_from : ℕ → Stream
+words_from seed = stream_of (steps_u64_high plus_plus) (generator_from seed)

@@ -43,7 +43,7 @@ fn ranks_of(
     requires problem { IsProblem road.now.network (length road.now.times.list.items) query.now }
     requires all { query.now.target ≡ None }
     requires heaps { (2 ≤ heaps) × (heaps ≤ 128) }
-    ensures { IfOk result (λ found. AreRanks heaps road.now.network (times_on road.now) query.now.sources found.items) }
+    ensures { IfOk result (λ found. AreRanks heaps seed road.now.network (times_on road.now) query.now.sources found.items) }
 {
     let rng = Xoshiro256PlusPlus::seed_from_u64(seed);
     let recorded = record_run(alloc, &road.network, &road.times, query, heaps, rng)?;
@@ -104,10 +104,10 @@ fn rank_one<W: ByteOut>(
     requires one { HasOneSource query.now }
     requires heaps { (2 ≤ heaps) × (heaps ≤ 128) }
     requires room { direct.old.written ≤ 1000000 * 2 ^ 70 }
-    ensures ok { OnOk result (AddsRanks heaps road.now.network (times_on road.now) query.now
+    ensures ok { OnOk result (AddsRanks heaps seed road.now.network (times_on road.now) query.now
         (seen (W.contents out.old) (W.Device.failed out.old) (W.Device.interrupted out.old)) direct.old.written direct.old.interruptions
         (seen (W.contents out.new) (W.Device.failed out.new) (W.Device.interrupted out.new)) direct.new.written direct.new.interruptions) }
-    ensures err { IfErr result (StopsRanks heaps road.now.network (times_on road.now) query.now
+    ensures err { IfErr result (StopsRanks heaps seed road.now.network (times_on road.now) query.now
         (seen (W.contents out.old) (W.Device.failed out.old) (W.Device.interrupted out.old)) direct.old.written direct.old.interruptions
         (seen (W.contents out.new) (W.Device.failed out.new) (W.Device.interrupted out.new))) }
     ensures bound { OnOk result (direct.new.written ≤ direct.old.written + 2 ^ 70) }
@@ -139,10 +139,10 @@ fn rank_each<W: ByteOut>(
     requires one { All HasOneSource queries.now }
     requires few { length queries.now ≤ 1000000 }
     requires heaps { (2 ≤ heaps) × (heaps ≤ 128) }
-    ensures ok { OnOk result (IsRanking heaps road.now.network (times_on road.now) queries.now
+    ensures ok { OnOk result (IsRanking heaps seed road.now.network (times_on road.now) queries.now
         (seen (W.contents out.old) (W.Device.failed out.old) (W.Device.interrupted out.old))
         (seen (W.contents out.new) (W.Device.failed out.new) (W.Device.interrupted out.new))) }
-    ensures err { IfErr result (IsRankingCut heaps road.now.network (times_on road.now) queries.now
+    ensures err { IfErr result (IsRankingCut heaps seed road.now.network (times_on road.now) queries.now
         (seen (W.contents out.old) (W.Device.failed out.old) (W.Device.interrupted out.old))
         (seen (W.contents out.new) (W.Device.failed out.new) (W.Device.interrupted out.new))) }
 {
@@ -174,10 +174,10 @@ pub fn rank_report<G: ByteIn, S: ByteIn, T: ByteIn, W: ByteOut>(
     out: &mut W,
 ) -> Result<(), AnswerFault>
     requires options { AreOptions options.now }
-    ensures ranked { OnOk result (IsRanked (heaps_of options.now) options.now.depart options.now.gap
+    ensures ranked { OnOk result (IsRanked (heaps_of options.now) options.now.seed options.now.depart options.now.gap
         (option_map T.remaining tp.old) (G.remaining gr.old) (S.remaining ss.old)
         (seen (W.contents out.old) (W.Device.failed out.old) (W.Device.interrupted out.old)) (seen (W.contents out.new) (W.Device.failed out.new) (W.Device.interrupted out.new))) }
-    ensures unranked { IfErr result (IsUnranked (heaps_of options.now) options.now.depart options.now.gap (option_map T.remaining tp.old)
+    ensures unranked { IfErr result (IsUnranked (heaps_of options.now) options.now.seed options.now.depart options.now.gap (option_map T.remaining tp.old)
         (reading (G.remaining gr.old) (G.Device.failed gr.old) (G.Device.failed gr.new) (G.Device.interrupted gr.old) (G.Device.interrupted gr.new))
         (reading (S.remaining ss.old) (S.Device.failed ss.old) (S.Device.failed ss.new) (S.Device.interrupted ss.old) (S.Device.interrupted ss.new))
         (λ arcs. IsFaultIfThere T.remaining T.Device.failed T.Device.interrupted FileWord.Tp (table_format arcs) tp.old tp.new)

@@ -5,13 +5,13 @@ use Rattle.earliest.proofs.ranking.rank_one.Goals as goal
 
 pub returns-in-Ok-put_ranks-clause-ok : goal.returns-in-Ok-put_ranks-clause-ok
 returns-in-Ok-put_ranks-clause-ok g c =
-    (_, rank_text c.args.heaps c.args.road.now.network (times_on c.args.road.now) c.args.query.now c.sources.result.now _ c.in-Ok.found.items c.deref.result.now c.of.result c.sources.ensures.sources c.requires.one.one c.in-Ok.ensures c.deref.ensures.value c.of.ensures, c.in-Ok-put_ranks.ensures.ok)
+    (_, rank_text c.args.heaps c.args.seed c.args.road.now.network (times_on c.args.road.now) c.args.query.now c.sources.result.now _ c.in-Ok.found.items c.deref.result.now c.of.result c.sources.ensures.sources c.requires.one.one c.in-Ok.ensures c.deref.ensures.value c.of.ensures, c.in-Ok-put_ranks.ensures.ok)
 
 pub returns-clause-err : goal.returns-clause-err
 returns-clause-err g c =
     let old = seen (g.W.ByteOut.contents c.args.out.now) (g.W.Device.failed c.args.out.now) (g.W.Device.interrupted c.args.out.now) in
     let now = seen (g.W.ByteOut.contents c.put_ranks.new.out) (g.W.Device.failed c.put_ranks.new.out) (g.W.Device.interrupted c.put_ranks.new.out) in (
       _,
-      rank_text c.args.heaps c.args.road.now.network (times_on c.args.road.now) c.args.query.now c.sources.result.now _ c.in-Ok.found.items c.deref.result.now c.of.result c.sources.ensures.sources c.requires.one.one c.in-Ok.ensures c.deref.ensures.value c.of.ensures,
+      rank_text c.args.heaps c.args.seed c.args.road.now.network (times_on c.args.road.now) c.args.query.now c.sources.result.now _ c.in-Ok.found.items c.deref.result.now c.of.result c.sources.ensures.sources c.requires.one.one c.in-Ok.ensures c.deref.ensures.value c.of.ensures,
       stops_for_device old now _ c.args.direct.now.written c.args.direct.now.interruptions c.in-Err.fault c.in-Err.ensures.device c.in-Err.ensures.err,
     )
