@@ -1,7 +1,8 @@
 ghost use Rattle.std.specs.Prelude.{◌≡◌};
 
 use super::*;
-use ea_finish::solve_alone;
+use crate::lines::push_node;
+use ea_finish::{Answer, solve_alone};
 use ea_input::{ByteOut, Device, StdOut, read_gr};
 use ea_road::{Network, Query, Source, Timetables, arcs_of, is_problem};
 use std::alloc::Global;
@@ -111,6 +112,75 @@ fn canonical_ties(rt: HostRuntime) -> Result<(), Fail> {
     let text = b"p sp 3 3\na 1 2 0\na 2 3 0\na 1 3 0\n";
     let wanted = b"s 1 0\nd 1 0\nw 1 0\nd 2 0\nw 2 1 1\nd 3 0\nw 3 1 3\n";
     assert!(rt; is_report(rt.alloc(), text, &query, true, wanted)?);
+    Ok(())
+}
+
+/// Adds the lines of a node with its walk.
+fn add_node(
+    text: &mut Vec<u8>,
+    arcs: &mut ArcTexts<'_>,
+    answer: &Answer,
+    node: u32,
+) -> Result<(), Fail>
+    requires { arcs.old.links ≡ answer.now.links }
+    ensures { arcs.new.links ≡ arcs.old.links }
+{
+    if !answer.asks(node) {
+        return Err(Fail::from("no node"));
+    }
+    if !answer.has_walks() {
+        return Err(Fail::from("no walks"));
+    }
+    Ok(push_node(text, arcs, answer, node, true)?)
+}
+
+/// Adds the lines of nodes with their walks, in this order.
+fn add_nodes(
+    text: &mut Vec<u8>,
+    arcs: &mut ArcTexts<'_>,
+    answer: &Answer,
+    nodes: &[u32],
+) -> Result<(), Fail>
+    requires { arcs.old.links ≡ answer.now.links }
+{
+    for node in nodes {
+        add_node(text, arcs, answer, *node)?;
+    }
+    Ok(())
+}
+
+/// The lines of nodes with their walks, in this order.
+fn lines_of(alloc: Global, graph: &[u8], query: &Query, nodes: &[u32]) -> Result<Vec<u8>, Fail> {
+    let network = network_of(alloc, graph)?;
+    let times = Timetables::new(Vec::new(alloc));
+    if !is_problem(&network, times.classes(), query) {
+        return Err(Fail::from("no problem"));
+    }
+    let answer = solve_alone(alloc, &network, &times, query)?;
+    let mut arcs = ArcTexts::new(alloc, answer.links());
+    let mut text = Vec::new(alloc);
+    add_nodes(&mut text, &mut arcs, &answer, nodes)?;
+    Ok(text)
+}
+
+#[test]
+fn walks_go_on(rt: HostRuntime) -> Result<(), Fail> {
+    let query = from(rt.alloc(), &[(1, 0)])?;
+    let lines = lines_of(rt.alloc(), GRAPH, &query, &[2, 4, 3, 3, 4, 1, 2])?;
+    let wanted =
+        b"d 2 5\nw 2 2 2 3\nd 4 6\nw 4 3 2 3 4\nd 3 2\nw 3 1 2\nd 3 2\nw 3 1 2\nd 4 6\nw 4 3 2 3 4\nd 1 0\nw 1 0\nd 2 5\nw 2 2 2 3\n";
+    assert!(rt; lines.as_slice() == wanted.as_slice());
+    Ok(())
+}
+
+#[test]
+fn walks_of_two_sources(rt: HostRuntime) -> Result<(), Fail> {
+    let query = from(rt.alloc(), &[(1, 0), (3, 0)])?;
+    let graph = b"p sp 6 3\na 1 2 1\na 3 4 1\na 4 5 1\n";
+    let lines = lines_of(rt.alloc(), graph, &query, &[2, 4, 6, 2, 5, 3, 1])?;
+    let wanted =
+        b"d 2 1\nw 2 1 1\nd 4 1\nw 4 1 2\nd 6 inf\nd 2 1\nw 2 1 1\nd 5 2\nw 5 2 2 3\nd 3 0\nw 3 0\nd 1 0\nw 1 0\n";
+    assert!(rt; lines.as_slice() == wanted.as_slice());
     Ok(())
 }
 
