@@ -3,6 +3,7 @@
 A case fails where the status, the standard output or the standard error differs in any byte.
 """
 import os
+import resource
 import shlex
 import subprocess
 import sys
@@ -60,6 +61,15 @@ def no_text(program):
         yield f"words {words}", ran(program, words)
 
 
+def scarce(program):
+    """What the program does where it may take less memory than its words fill."""
+    def limit():
+        resource.setrlimit(resource.RLIMIT_DATA, (2**20, 2**20))
+
+    run = subprocess.run([program, "run", *["x" * 100_000] * 15], stdin=subprocess.DEVNULL, capture_output=True, timeout=60, preexec_fn=limit)
+    return run.returncode, run.stdout, run.stderr
+
+
 def run_all(program):
     """Runs all cases, tells which fail, and answers how many passed and failed."""
     program = os.path.abspath(program)
@@ -68,6 +78,7 @@ def run_all(program):
     results += [(name, result, unwritten) for name, result in into_devices(program)]
     refused = b"error: invalid UTF-8 was detected in one or more arguments\n\nFor more information, try '--help'.\n"
     results += [(name, result, (2, b"", refused)) for name, result in no_text(program)]
+    results.append(("words beyond memory", scarce(program), (3, b"", b"earliest: 13 OutOfMemory\n")))
     results += schedules.results(program)
     failed = [(name, was) for name, was, want in results if was != want]
     for name, was in failed:

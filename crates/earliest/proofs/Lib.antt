@@ -7,4 +7,5 @@ pub mod Telling
 pub mod Asking
 pub mod Verdicts
 pub mod OneReport
+pub mod Agreeing
 pub mod Ranked

@@ -6,6 +6,9 @@ use Rattle.ea_text.specs.Outcome.{fault_number, fault_name}
 use Rattle.ea_text.specs.declared.whole.ReadFault.{ReadFault}
 use Rattle.ea_text.specs.declared.whole.ReadFault.TheVariants as read
 use Rattle.ea_input.specs.FaultNames.{kind_number, kind_name}
+use Rattle.ea_files.specs.declared.fault.FileWord.{FileWord}
+use Rattle.ea_input.specs.declared.fault.FaultKind.{FaultKind}
+use Rattle.ea_input.specs.declared.fault.FaultKind.TheVariants as kind
 use Rattle.ea_files.specs.FileNames.{file_word}
 use Rattle.ea_report.specs.Sent.{IsCutAt, Seen}
 use Rattle.ea_words.specs.declared.fault.CommandFault.{CommandFault}
@@ -41,26 +44,41 @@ written_line written = joined (codes "earliest: 12 WriteFailed after " ∷ decim
 abbrev pub check_line : List ℕ → ℕ → List ℕ
 check_line verdict line = joined (codes "earliest: check " ∷ verdict ∷ codes " line " ∷ decimal line ∷ codes "\n" ∷ [])
 
+-- Want of memory has this line, wherever it came.
+abbrev pub memory_line : List ℕ
+memory_line = plain_line (codes "13 OutOfMemory")
+
+-- The line of a file that wasn't read.
+abbrev pub read_line : FileWord → ReadFault → List ℕ
+read_line file read.TooLarge = file_line (file_word file) (fault_number read.TooLarge) (fault_name read.TooLarge)
+read_line file read.ReadFailed = file_line (file_word file) (fault_number read.ReadFailed) (fault_name read.ReadFailed)
+read_line file read.OutOfMemory = memory_line
+
+-- The line of a text with a fault.
+abbrev pub input_line : FileWord → ℕ → FaultKind → List ℕ
+input_line file line kind.OutOfMemory = memory_line
+input_line file line found = text_line (file_word file) line (kind_number found) (kind_name found)
+
 -- The line of a command that wasn't understood: for words the text that explains them.
 abbrev pub command_line : CommandFault → List ℕ
 command_line (command.Words help text) = text.bytes.items
 command_line command.BadOption = plain_line (codes "14 BadOption")
-command_line command.OutOfMemory = plain_line (codes "13 OutOfMemory")
+command_line command.OutOfMemory = memory_line
 
 -- The line of an answer that isn't whole.
 abbrev pub answer_line : AnswerFault → List ℕ
-answer_line (Read file fault) = file_line (file_word file) (fault_number fault) (fault_name fault)
-answer_line (Input file fault) = text_line (file_word file) fault.line (kind_number fault.kind) (kind_name fault.kind)
+answer_line (Read file fault) = read_line file fault
+answer_line (Input file fault) = input_line file fault.line fault.kind
 answer_line BadOption = plain_line (codes "14 BadOption")
 answer_line (Write written) = written_line written
-answer_line (OutOfMemory written) = plain_line (codes "13 OutOfMemory")
+answer_line (OutOfMemory written) = memory_line
 
 -- The line of a report that is refused.
 abbrev pub refused_line : CheckFault → List ℕ
 refused_line (checked.BadLine line) = check_line (codes "1 BadLine") line
 refused_line (checked.NotAttained line) = check_line (codes "2 NotAttained") line
 refused_line (checked.NotLeast line) = check_line (codes "3 NotLeast") line
-refused_line checked.OutOfMemory = plain_line (codes "13 OutOfMemory")
+refused_line checked.OutOfMemory = memory_line
 refused_line (checked.NotCanonical line) = check_line (codes "5 NotCanonical") line
 
 abbrev pub line_of : Outcome → List ℕ
@@ -82,9 +100,13 @@ read_status read.TooLarge = 1
 read_status read.ReadFailed = 4
 read_status read.OutOfMemory = 3
 
+abbrev pub input_status : FaultKind → ℕ
+input_status kind.OutOfMemory = 3
+input_status _ = 1
+
 abbrev pub answer_status : AnswerFault → ℕ
 answer_status (Read file fault) = read_status fault
-answer_status (Input file fault) = 1
+answer_status (Input file fault) = input_status fault.kind
 answer_status BadOption = 2
 answer_status (Write written) = 4
 answer_status (OutOfMemory written) = 3
@@ -102,8 +124,11 @@ status_of (Check fault) = refused_status fault
 
 -- ---- what went out
 
--- A front of a line went out; and all of it where no call failed, at most 1,000 were interrupted, and neither count is at its end.
+-- A front of a line went out, and nothing was sent after a failure or the 1,001st interruption; and all of it went out where no
+-- call failed, at most 1,000 were interrupted, and neither count is at its end.
 pub record IsSaid (line : List ℕ) (first now : Seen) : Type 0 where
   pub sent : ℕ
   pub front : IsCutAt first.contents now.contents line sent
+  pub one_failure : now.failed ≤ first.failed + 1
+  pub few_interruptions : now.interrupted ≤ first.interrupted + 1001
   pub whole : now.failed ≤ first.failed → now.failed + 1 ≤ 2 ^ 64 - 1 → now.interrupted ≤ first.interrupted + 1000 → now.interrupted + 1 ≤ 2 ^ 64 - 1 → Appends first.contents now.contents line

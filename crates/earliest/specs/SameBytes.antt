@@ -1,11 +1,17 @@
 -- The report of a run, or of pairs, as a fact about its texts and options alone.
-use Rattle.std.specs.Prelude.{◌≡◌, ℕ, Bool, List, Option}
+use Rattle.std.specs.Prelude.{◌≡◌, ℕ, Bool, List, ◌++◌, Option, Some, option_map}
+use Rattle.std.specs.Io.KnownBytes.{Appends}
 use Rattle.ea_text.specs.Text.{field_lines}
 use Rattle.ea_input.specs.Sources.{DenotesSources}
 use Rattle.ea_input.specs.Pairs.{DenotesPairs}
 use Rattle.ea_files.specs.Given.{Given, Denotes, roads_of, times_of}
 use Rattle.ea_files.specs.Starts.{run_problems, pair_problems}
+use Rattle.ea_report.specs.declared.stats.Totals.{Totals}
+use Rattle.ea_report.specs.Sent.{Seen}
+use Rattle.ea_words.specs.declared.options.RunOptions.{RunOptions}
+use Rattle.earliest.specs.Fronts.{totals_text}
 use Rattle.earliest.specs.Reported.{AreReported}
+use Rattle.earliest.specs.Runs.{IsAnswered, run_asks, pair_asks}
 
 -- The report of a run of these texts, from these departures on. No word of workers, heaps, turns or seed occurs here.
 pub record IsRunReport (gr ss : List ℕ) (tp : Option (List ℕ)) (joint : Bool) (depart gap : ℕ) (walks : Bool) (report : List ℕ) : Type 0 where
@@ -29,3 +35,40 @@ RunsHaveOneReport = (gr ss : List ℕ) (tp : Option (List ℕ)) (joint : Bool) (
 
 abbrev pub PairsHaveOneReport : Type 0
 PairsHaveOneReport = (gr p2p : List ℕ) (tp : Option (List ℕ)) (depart gap : ℕ) (walks : Bool) (this that : List ℕ) → IsPairReport gr p2p tp depart gap walks this → IsPairReport gr p2p tp depart gap walks that → this ≡ that
+
+-- ---- two calls
+
+-- A call that answered: its options, its output before and after, and the totals that it gave.
+pub record Answering : Type 0 where
+  pub options : RunOptions
+  pub first : Seen
+  pub now : Seen
+  pub totals : Totals
+
+-- It answered a run of these texts.
+abbrev pub AnswersRun : List ℕ → List ℕ → Option (List ℕ) → Answering → Type 0
+AnswersRun gr ss tp call = IsAnswered (run_asks call.options.joint call.options.depart call.options.gap) call.options (option_map Some tp) (Some gr) (Some ss) call.first call.now call.totals
+
+-- It answered these texts' pairs.
+abbrev pub AnswersPairs : List ℕ → List ℕ → Option (List ℕ) → Answering → Type 0
+AnswersPairs gr p2p tp call = IsAnswered (pair_asks call.options.depart call.options.gap) call.options (option_map Some tp) (Some gr) (Some p2p) call.first call.now call.totals
+
+-- Two calls ask for the same report. Statistics, workers, heaps, turns, seeds and outputs may differ.
+pub record AskForOne (this that : RunOptions) : Type 0 where
+  pub walks : this.walks ≡ that.walks
+  pub depart : this.depart ≡ that.depart
+  pub gap : this.gap ≡ that.gap
+
+-- What a call sent is this report, and then its totals where it has statistics.
+abbrev pub Sends : Answering → List ℕ → Type 0
+Sends call report = Appends call.first.contents call.now.contents (report ++ totals_text call.options call.totals)
+
+-- Two calls that answered runs of the same texts, and asked for the same, sent one report, which is that of the run.
+abbrev pub AnsweredRunsAgree : Type 0
+AnsweredRunsAgree = (gr ss : List ℕ) (tp : Option (List ℕ)) (this that : Answering) → AskForOne this.options that.options → this.options.joint ≡ that.options.joint → AnswersRun gr ss tp this → AnswersRun gr ss tp that
+    → (report : List ℕ) × IsRunReport gr ss tp this.options.joint this.options.depart this.options.gap this.options.walks report × Sends this report × Sends that report
+
+-- The same of pairs, whatever `joint` is.
+abbrev pub AnsweredPairsAgree : Type 0
+AnsweredPairsAgree = (gr p2p : List ℕ) (tp : Option (List ℕ)) (this that : Answering) → AskForOne this.options that.options → AnswersPairs gr p2p tp this → AnswersPairs gr p2p tp that
+    → (report : List ℕ) × IsPairReport gr p2p tp this.options.depart this.options.gap this.options.walks report × Sends this report × Sends that report

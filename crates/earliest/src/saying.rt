@@ -3,12 +3,12 @@ ghost use Rattle.std.specs.Prelude.{◌≡◌, ◌≤◌, length};
 ghost use Rattle.std.specs.List.{flat_map};
 ghost use Rattle.ea_report.specs.Sent.{seen};
 ghost use Rattle.earliest.specs.Said;
-ghost use Rattle.earliest.specs.Said.{IsSaid, line_of, status_of, plain_line, file_line, text_line, written_line, check_line, command_line, command_status, answer_line, answer_status, read_status, refused_line, refused_status};
+ghost use Rattle.earliest.specs.Said.{IsSaid, line_of, status_of, plain_line, file_line, text_line, written_line, check_line, command_line, command_status, answer_line, answer_status, input_line, input_status, read_line, read_status, refused_line, refused_status};
 
 use crate::fault::AnswerFault;
 use ea_check::CheckFault;
 use ea_files::FileWord;
-use ea_input::{ByteOut, ReadFault};
+use ea_input::{ByteOut, FaultKind, InputFault, ReadFault};
 use ea_report::write_pieces;
 use ea_words::CommandFault;
 use itoa::Buffer;
@@ -142,14 +142,41 @@ fn say_command<W: ByteOut>(fault: &CommandFault, out: &mut W) -> u8
     }
 }
 
-/// The status of a file that couldn't be read.
-fn status_of_read(fault: ReadFault) -> u8
-    ensures { result ≡ read_status fault }
+/// Tells why a file wasn't read.
+fn say_read<W: ByteOut>(file: FileWord, fault: ReadFault, out: &mut W) -> u8
+    ensures status { result ≡ read_status fault }
+    ensures line { IsSaid (read_line file fault) (seen (W.contents out.old) (W.Device.failed out.old) (W.Device.interrupted out.old))
+        (seen (W.contents out.new) (W.Device.failed out.new) (W.Device.interrupted out.new)) }
 {
     match fault {
-        ReadFault::TooLarge => 1,
-        ReadFault::ReadFailed => 4,
-        ReadFault::OutOfMemory => 3,
+        ReadFault::TooLarge => {
+            put_file(file.word(), 10, "TooLarge", out);
+            1
+        }
+        ReadFault::ReadFailed => {
+            put_file(file.word(), 11, "ReadFailed", out);
+            4
+        }
+        ReadFault::OutOfMemory => {
+            put_plain("13 OutOfMemory", out);
+            3
+        }
+    }
+}
+
+/// Tells the fault of a file's text.
+fn say_input<W: ByteOut>(file: FileWord, fault: InputFault, out: &mut W) -> u8
+    ensures status { result ≡ input_status fault.kind }
+    ensures line { IsSaid (input_line file fault.line fault.kind) (seen (W.contents out.old) (W.Device.failed out.old) (W.Device.interrupted out.old))
+        (seen (W.contents out.new) (W.Device.failed out.new) (W.Device.interrupted out.new)) }
+{
+    let kind = fault.kind;
+    if kind == FaultKind::OutOfMemory {
+        put_plain("13 OutOfMemory", out);
+        3
+    } else {
+        put_text(file.word(), fault.line, kind.number(), kind.name(), out);
+        1
     }
 }
 
@@ -160,15 +187,8 @@ fn say_answer<W: ByteOut>(fault: AnswerFault, out: &mut W) -> u8
         (seen (W.contents out.new) (W.Device.failed out.new) (W.Device.interrupted out.new)) }
 {
     match fault {
-        AnswerFault::Read { file, fault } => {
-            put_file(file.word(), fault.number(), fault.name(), out);
-            status_of_read(fault)
-        }
-        AnswerFault::Input { file, fault } => {
-            let kind = fault.kind;
-            put_text(file.word(), fault.line, kind.number(), kind.name(), out);
-            1
-        }
+        AnswerFault::Read { file, fault } => say_read(file, fault, out),
+        AnswerFault::Input { file, fault } => say_input(file, fault, out),
         AnswerFault::BadOption => {
             put_plain("14 BadOption", out);
             2

@@ -27,6 +27,25 @@ fn failing_writers(rt: HostRuntime) {
     assert!(rt; holds(room.as_slice(), REPORT));
 }
 
+/// The report with the totals of a run with no turns.
+const COUNTED: &[u8] =
+    b"s 1 0\nd 1 0\nd 2 5\nd 3 2\nd 4 6\nc seeded 1\nc pushed 0\nc popped 0\nc stale 0\nc scanned 0\nc returned 0\nc drained 1\nc finish 1\n";
+
+#[test]
+fn failing_writers_of_totals(rt: HostRuntime) {
+    let options = RunOptions {
+        turns: 0,
+        stats: true,
+        ..DEFAULTS
+    };
+    for k in 30..121usize {
+        let mut room = [0u8; 128];
+        let answered = run(&rt, &rt, from_one(GRAPH), &options, &mut room[..k]);
+        assert_eq!(rt; answered, Err(AnswerFault::Write { written: k as u128 }));
+        assert!(rt; room[..k] == COUNTED[..k]);
+    }
+}
+
 /// A reader of std that gives one byte at a time, so many times, and then fails.
 #[derive(Drop)]
 struct Failing<'a> {

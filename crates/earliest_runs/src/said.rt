@@ -68,6 +68,23 @@ fn say_lines(rt: HostRuntime) {
 }
 
 #[test]
+fn memory_is_no_fault_of_a_file(rt: HostRuntime) {
+    let text = AnswerFault::Input {
+        file: FileWord::Gr,
+        fault: InputFault {
+            line: 0,
+            kind: FaultKind::OutOfMemory,
+        },
+    };
+    assert!(rt; says(Outcome::Answer(text), b"earliest: 13 OutOfMemory\n", 3));
+    let unread = AnswerFault::Read {
+        file: FileWord::P2p,
+        fault: ReadFault::OutOfMemory,
+    };
+    assert!(rt; says(Outcome::Answer(unread), b"earliest: 13 OutOfMemory\n", 3));
+}
+
+#[test]
 fn a_device_that_is_full(rt: HostRuntime) {
     let mut room = [0u8; 4];
     let mut out = StdOut::new(room.as_mut_slice());

@@ -1,0 +1,51 @@
+-- Two calls that answered the same sent one report.
+use Rattle.std.proofs.Common.{◌≡◌, ℕ, List, ◌++◌, refl, ap, subst}
+use Rattle.std.specs.Prelude.{Option, Some, None, option_map}
+use Rattle.std.specs.Io.KnownBytes.{Appends}
+use Rattle.ea_text.specs.Text.{field_lines}
+use Rattle.ea_input.specs.Sources.{DenotesSources}
+use Rattle.ea_input.specs.Pairs.{DenotesPairs}
+use Rattle.ea_files.specs.Files.{IsAllIfThere}
+use Rattle.ea_files.specs.Given.{AreGiven, Denotes, Given}
+use Rattle.earliest.specs.Fronts.{totals_text}
+use Rattle.earliest.specs.SameBytes.{AnsweredPairsAgree, AnsweredRunsAgree, Answering, AnswersPairs, AnswersRun, IsPairReport, IsRunReport}
+use Rattle.earliest.proofs.OneReport.{pairs_have_one_report, runs_have_one_report}
+
+-- A text that is known, where there is one.
+known_text : (tp text : Option (List ℕ)) → IsAllIfThere (option_map Some tp) text → text ≡ tp
+known_text None None is = refl
+known_text (Some left) (Some text) is = ap Some is
+known_text None (Some text) is = absurd is
+known_text (Some left) None is = absurd is
+
+-- What texts that are known denote.
+denoted_by : {X : Type 0} (DenotesStarts : ℕ → List (List (List ℕ)) → X → Type 0) (gr starts : List ℕ) (tp : Option (List ℕ)) (given : Given) (found : X) → AreGiven DenotesStarts (Some gr) (Some starts) (option_map Some tp) given found
+    → Denotes gr tp given × DenotesStarts given.graph.nodes (field_lines starts) found
+denoted_by DenotesStarts gr starts tp given found read = (
+  subst (λ text. Denotes text tp given) read.all_gr (subst (λ text. Denotes read.gr_text text given) (known_text tp read.tp_text read.all_tp) read.denoted),
+  subst (λ text. DenotesStarts given.graph.nodes (field_lines text) found) read.all_starts read.starts_denoted,
+)
+
+run_report : (gr ss : List ℕ) (tp : Option (List ℕ)) (call : Answering) → (answered : AnswersRun gr ss tp call) → IsRunReport gr ss tp call.options.joint call.options.depart call.options.gap call.options.walks answered.written.report
+run_report gr ss tp call answered =
+    let denoted = denoted_by DenotesSources gr ss tp answered.given answered.found answered.read in
+    record { given = answered.given; sources = answered.found; denoted = denoted.0; starts = denoted.1; reported = answered.written.are_reported }
+
+pair_report : (gr p2p : List ℕ) (tp : Option (List ℕ)) (call : Answering) → (answered : AnswersPairs gr p2p tp call) → IsPairReport gr p2p tp call.options.depart call.options.gap call.options.walks answered.written.report
+pair_report gr p2p tp call answered =
+    let denoted = denoted_by DenotesPairs gr p2p tp answered.given answered.found answered.read in
+    record { given = answered.given; pairs = answered.found; denoted = denoted.0; starts = denoted.1; reported = answered.written.are_reported }
+
+pub answered_runs_agree : AnsweredRunsAgree
+answered_runs_agree gr ss tp this that alike joint a b =
+    let mine = run_report gr ss tp this a in
+    let yours : IsRunReport gr ss tp this.options.joint this.options.depart this.options.gap this.options.walks b.written.report = rw (joint, alike.depart, alike.gap, alike.walks) (run_report gr ss tp that b) in
+    let same : b.written.report ≡ a.written.report = runs_have_one_report gr ss tp this.options.joint this.options.depart this.options.gap this.options.walks b.written.report a.written.report yours mine in
+    (a.written.report, mine, a.written.appended, subst (λ report. Appends that.first.contents that.now.contents (report ++ totals_text that.options that.totals)) same b.written.appended)
+
+pub answered_pairs_agree : AnsweredPairsAgree
+answered_pairs_agree gr p2p tp this that alike a b =
+    let mine = pair_report gr p2p tp this a in
+    let yours : IsPairReport gr p2p tp this.options.depart this.options.gap this.options.walks b.written.report = rw (alike.depart, alike.gap, alike.walks) (pair_report gr p2p tp that b) in
+    let same : b.written.report ≡ a.written.report = pairs_have_one_report gr p2p tp this.options.depart this.options.gap this.options.walks b.written.report a.written.report yours mine in
+    (a.written.report, mine, a.written.appended, subst (λ report. Appends that.first.contents that.now.contents (report ++ totals_text that.options that.totals)) same b.written.appended)
