@@ -12,7 +12,6 @@ pub mod Placed
 pub mod Steps
 pub mod BadLines
 pub mod Matched
-pub mod Pushing
 pub mod Reading
 pub mod Keeping
 pub mod Composing
@@ -20,4 +19,5 @@ pub mod Determined
 pub mod Whole
 pub mod Written
 pub mod Leading
+pub mod Counting
 pub mod Onward
