@@ -1,5 +1,5 @@
 -- Going back along links.
-use Rattle.std.proofs.Common.{◌≡◌, ℕ, zero, suc, ◌+◌, List, [], ◌∷◌, ◌++◌, reverse, refl, sym, ◌∙◌, ap, arith}
+use Rattle.std.proofs.Common.{◌≡◌, ℕ, zero, suc, ◌+◌, List, [], ◌∷◌, ◌++◌, length, reverse, refl, sym, ◌∙◌, ap, arith, length-append}
 use Rattle.std.proofs.lemmas.List.{append_assoc, reverse-append}
 use Rattle.ea_finish.specs.declared.link.Link.{Link}
 use Rattle.ea_finish.specs.Links.{link, linked_walk, walk_along}
@@ -25,3 +25,14 @@ along-back links node walk below =
 pub linked-walk : (links : List Link) (node : ℕ) → linked_walk links node ≡ walk_along links (link links node).level node
 unfolding linked_walk
 linked-walk links node = refl
+
+-- as many arcs as links
+along_length : (links : List Link) (count node : ℕ) → length (walk_along links count node) ≡ count
+unfolding walk_along
+along_length links zero node = refl
+along_length links (suc count) node =
+    let front = along_length links count (link links node).from in
+    omega (arith, length-append (walk_along links count (link links node).from) ((link links node).arc ∷ []), front)
+
+pub linked_length : (links : List Link) (node : ℕ) → length (linked_walk links node) ≡ (link links node).level
+linked_length links node = ap (λ (xs : List ℕ). length xs) (linked-walk links node) ∙ along_length links (link links node).level node

@@ -65,6 +65,15 @@ impl Answer {
         self.nodes
     }
 
+    /// The link of each node, where the answer has walks: how its walk ends. Going back along links from an asked node that
+    /// is reached, its level in number, one comes over the arcs of its walk from the last to the first.
+    pub fn links(&self) -> &[Link]
+        ensures links { result.now ≡ self.now.links }
+        ensures stored { IsStored self.now }
+    {
+        &self.links
+    }
+
     /// Whether a number is that of an asked node.
     pub fn asks(&self, node: u32) -> bool
         ensures { IsTrue result ↔ (IsNode self.now.nodes node × IsAskedBy self.now.target node) }

@@ -1,3 +1,4 @@
 pub mod Pieces
 pub mod TotalLines
 pub mod Problems
+pub mod Following

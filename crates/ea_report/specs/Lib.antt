@@ -2,3 +2,4 @@ pub mod Report
 pub mod Asked
 pub mod Sent
 pub mod Stats
+pub mod Walks

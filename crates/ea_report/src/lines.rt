@@ -1,18 +1,19 @@
 //! The lines of a report.
-ghost use Rattle.std.specs.Prelude.{◌≡◌, ◌++◌, ◌∷◌, [], OnOk, codes, decimal, length, map, true};
-ghost use Rattle.std.specs.List.{flat_map};
-ghost use Rattle.ea_report.specs.Report.{spaced, line, source_line, arrival_line, walk_line, pair_line, walk_text, node_text};
+ghost use Rattle.std.specs.Prelude.{◌≡◌, ◌++◌, ℕ, List, OnOk, decimal, length, true};
+ghost use Rattle.ea_report.specs.Report.{spaced, source_line, arrival_line, walk_line, pair_line, walk_text, node_text};
 ghost use Rattle.ea_road.specs.Queries.{IsAskedBy};
 ghost use Rattle.ea_road.specs.Roads.{IsNode};
 ghost use Rattle.ea_finish.specs.Answers.{walk_of};
+ghost use Rattle.ea_report.specs.Walks.{arcs_text};
 
+use crate::walks::ArcTexts;
 use ea_finish::Answer;
 use ea_road::Source;
 use itoa::Buffer;
-use std::alloc::{AllocError, Global};
+use std::alloc::AllocError;
 
 /// Appends a number after a space.
-fn push_number(text: &mut Vec<u8>, number: u64) -> Result<(), AllocError>
+pub(crate) fn push_number(text: &mut Vec<u8>, number: u64) -> Result<(), AllocError>
     ensures { OnOk result (text.new.items ≡ text.old.items ++ spaced (decimal number)) }
 {
     let mut buffer = Buffer::new();
@@ -49,16 +50,19 @@ pub(crate) fn push_arrival(
     Ok(())
 }
 
-/// Appends the line of a walk.
-pub(crate) fn push_walk(text: &mut Vec<u8>, node: u32, arcs: &[u32]) -> Result<(), AllocError>
-    ensures { OnOk result (text.new.items ≡ text.old.items ++ walk_line node arcs.now) }
+/// Appends the line of a walk of so many arcs, by their text.
+pub(crate) fn push_walk(
+    text: &mut Vec<u8>,
+    node: u32,
+    count: u32,
+    arcs: &[u8],
+) -> Result<(), AllocError>
+    ensures { OnOk result ((walk : List ℕ) → length walk ≡ count → arcs.now ≡ arcs_text walk → text.new.items ≡ text.old.items ++ walk_line node walk) }
 {
     text.push(b'w')?;
     push_number(text, u64::from(node))?;
-    push_number(text, arcs.len() as u64)?;
-    for arc in arcs {
-        push_number(text, u64::from(*arc))?;
-    }
+    push_number(text, u64::from(count))?;
+    text.extend_from_slice(arcs)?;
     text.push(b'\n')?;
     Ok(())
 }
@@ -77,26 +81,30 @@ pub(crate) fn push_pair(text: &mut Vec<u8>, source: Source, target: u32) -> Resu
 
 /// Appends the line of an asked node's walk, where it has one.
 fn push_found_walk(
-    alloc: Global,
     text: &mut Vec<u8>,
+    arcs: &mut ArcTexts<'_>,
     answer: &Answer,
     node: u32,
 ) -> Result<(), AllocError>
     requires node { IsNode answer.now.nodes node }
     requires asked { IsAskedBy answer.now.target node }
     requires walks { answer.now.walks ≡ true }
-    ensures { OnOk result (text.new.items ≡ text.old.items ++ walk_text node (walk_of answer.now node)) }
+    requires links { arcs.old.links ≡ answer.now.links }
+    ensures text { OnOk result (text.new.items ≡ text.old.items ++ walk_text node (walk_of answer.now node)) }
+    ensures links { arcs.new.links ≡ arcs.old.links }
 {
-    match answer.walk(alloc, node)? {
-        None => Ok(()),
-        Some(walk) => push_walk(text, node, walk.as_slice()),
+    if answer.arrival(node).is_none() {
+        return Ok(());
     }
+    let links = answer.links();
+    arcs.go_to(node)?;
+    push_walk(text, node, links[node as usize - 1].level, arcs.text())
 }
 
 /// Appends what is said of an asked node.
 pub(crate) fn push_node(
-    alloc: Global,
     text: &mut Vec<u8>,
+    arcs: &mut ArcTexts<'_>,
     answer: &Answer,
     node: u32,
     walks: bool,
@@ -104,11 +112,13 @@ pub(crate) fn push_node(
     requires node { IsNode answer.now.nodes node }
     requires asked { IsAskedBy answer.now.target node }
     requires walks { walks ≡ true → answer.now.walks ≡ true }
-    ensures { OnOk result (text.new.items ≡ text.old.items ++ node_text walks answer.now node) }
+    requires links { arcs.old.links ≡ answer.now.links }
+    ensures text { OnOk result (text.new.items ≡ text.old.items ++ node_text walks answer.now node) }
+    ensures links { arcs.new.links ≡ arcs.old.links }
 {
     push_arrival(text, node, answer.arrival(node))?;
     if walks {
-        push_found_walk(alloc, text, answer, node)?;
+        push_found_walk(text, arcs, answer, node)?;
     }
     Ok(())
 }

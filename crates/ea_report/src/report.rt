@@ -10,6 +10,7 @@ ghost use Rattle.ea_road.specs.Roads.{IsNode};
 
 use crate::lines::{push_node, push_pair, push_source};
 use crate::sending::send;
+use crate::walks::ArcTexts;
 use ea_finish::Answer;
 use ea_input::ByteOut;
 use ea_road::{Network, Query, Source};
@@ -154,6 +155,34 @@ impl Pending {
     /// Adds what is said of an asked node.
     fn put_node<W: ByteOut>(
         &mut self,
+        arcs: &mut ArcTexts<'_>,
+        answer: &Answer,
+        node: u32,
+        walks: bool,
+        out: &mut W,
+    ) -> Result<(), WriteFault>
+        requires room { self.old.written + 2 ^ 63 < 2 ^ 128 }
+        requires node { IsNode answer.now.nodes node }
+        requires asked { IsAskedBy answer.now.target node }
+        requires walks { walks ≡ true → answer.now.walks ≡ true }
+        requires links { arcs.old.links ≡ answer.now.links }
+        ensures links { arcs.new.links ≡ arcs.old.links }
+        ensures ok { OnOk result (Adds (seen (W.contents out.old) (W.Device.failed out.old) (W.Device.interrupted out.old)) self.old.text.items self.old.written self.old.interruptions
+            (seen (W.contents out.new) (W.Device.failed out.new) (W.Device.interrupted out.new)) self.new.text.items self.new.written self.new.interruptions (node_text walks answer.now node)) }
+        ensures err { IfErr result (λ fault. Stops (seen (W.contents out.old) (W.Device.failed out.old) (W.Device.interrupted out.old)) self.old.text.items self.old.written self.old.interruptions
+            (seen (W.contents out.new) (W.Device.failed out.new) (W.Device.interrupted out.new)) fault (node_text walks answer.now node)) }
+        ensures bound { self.new.written ≤ self.old.written + 2 ^ 63 }
+        ensures small { IfErr result (λ fault. fault.written ≤ self.old.written + 2 ^ 63) }
+    {
+        match push_node(&mut self.text, arcs, answer, node, walks) {
+            Ok(()) => self.flush_large(out),
+            Err(_) => Err(self.fault(WriteFaultKind::OutOfMemory)),
+        }
+    }
+
+    /// Adds what is said of the one node that is asked.
+    fn put_alone<W: ByteOut>(
+        &mut self,
         alloc: Global,
         answer: &Answer,
         node: u32,
@@ -171,10 +200,8 @@ impl Pending {
         ensures bound { self.new.written ≤ self.old.written + 2 ^ 63 }
         ensures small { IfErr result (λ fault. fault.written ≤ self.old.written + 2 ^ 63) }
     {
-        match push_node(alloc, &mut self.text, answer, node, walks) {
-            Ok(()) => self.flush_large(out),
-            Err(_) => Err(self.fault(WriteFaultKind::OutOfMemory)),
-        }
+        let mut arcs = ArcTexts::new(alloc, answer.links());
+        self.put_node(&mut arcs, answer, node, walks, out)
     }
 
     /// Adds the lines of sources.
@@ -234,8 +261,9 @@ impl Pending {
         ensures bound { self.new.written ≤ self.old.written + nodes * 2 ^ 63 }
         ensures small { IfErr result (λ fault. fault.written ≤ self.old.written + nodes * 2 ^ 63) }
     {
+        let mut arcs = ArcTexts::new(alloc, answer.links());
         for i in 0..nodes {
-            self.put_node(alloc, answer, i + 1, walks, out)?;
+            self.put_node(&mut arcs, answer, i + 1, walks, out)?;
         }
         Ok(())
     }
@@ -300,7 +328,7 @@ impl Pending {
         ensures small { IfErr result (λ fault. fault.written ≤ (length sources.now + 1) * 2 ^ 63) }
     {
         match self.put_pairs(sources, target, out) {
-            Ok(()) => self.put_node(alloc, answer, target, walks, out),
+            Ok(()) => self.put_alone(alloc, answer, target, walks, out),
             Err(fault) => Err(fault),
         }
     }

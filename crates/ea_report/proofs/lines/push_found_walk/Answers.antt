@@ -1,0 +1,53 @@
+use Rattle.std.proofs.Common.{◌≡◌, ◌≢◌, ◌∙◌, ℕ, List, ◌-◌, ◌++◌, ◌<◌, ◌≤◌, true, length, get_or, refl, sym, ap, subst, arith, eq-eqb}
+use Rattle.std.proofs.lemmas.Bool.{false≢true}
+use Rattle.std.specs.Prelude.{Option, Result, Ok, Err, OnOk}
+use Rattle.std.specs.Option.{is_some}
+use Rattle.ea_road.specs.declared.TheConstants.{NONE}
+use Rattle.ea_road.specs.Labels.{label_of, time_of}
+use Rattle.ea_road.specs.Roads.{IsNode}
+use Rattle.ea_finish.specs.declared.link.Link.{Link}
+use Rattle.ea_finish.specs.declared.link.TheConstants.{NO_LEVEL}
+use Rattle.ea_finish.specs.Links.{link, linked_walk}
+use Rattle.ea_finish.specs.Stored.{AreFollowable}
+use Rattle.ea_finish.proofs.Followed.{linked_length}
+use Rattle.ea_finish.proofs.Linkings.{link_read}
+use Rattle.ea_report.specs.Walks.{arcs_text}
+use Rattle.ea_report.proofs.Following.{walk_text_of}
+use Rattle.ea_report.proofs.lines.push_found_walk.Goals as goal
+
+labelled : (found : Option ℕ) (label : ℕ) → is_some found ≡ true → found ≡ time_of label → label ≢ NONE
+labelled found label some same = λ none. false≢true (sym (rw (eq-eqb label NONE none) refl) ∙ ap (λ (o : Option ℕ). is_some o) (sym same) ∙ some)
+
+ok_then : {T E P Q : Type 0} (r : Result T E) → OnOk r P → (P → Q) → OnOk r Q
+ok_then (Ok x) p f = f p
+ok_then (Err e) p f = tt
+
+pub go_to-requires-clause-node : goal.go_to-requires-clause-node
+go_to-requires-clause-node c =
+    let stored = c.links-links.ensures.stored in
+    let places = ap (λ (xs : List Link). length xs) c.requires.links ∙ stored.links c.requires.walks in
+    record { from_one = c.requires.node.from_one; to_last = omega (arith, places, c.requires.node.to_last) }
+
+pub go_to-requires-clause-followable : goal.go_to-requires-clause-followable
+go_to-requires-clause-followable c =
+    let P : List Link → Type 0 = λ links. AreFollowable links in
+    subst P (sym c.requires.links) (c.links-links.ensures.stored.followable c.requires.walks)
+
+pub go_to-requires-clause-level : goal.go_to-requires-clause-level
+go_to-requires-clause-level c =
+    let some = labelled c.arrival.result (label_of c.args.answer.now.labels c.args.node) c.if-is_none.ensures c.arrival.ensures in
+    let P : List Link → Type 0 = λ links. (link links c.args.node).level < NO_LEVEL in
+    subst P (sym c.requires.links) (c.links-links.ensures.stored.linked c.requires.walks c.args.node c.requires.node c.requires.asked some)
+
+pub returns-clause-text : goal.returns-clause-text
+returns-clause-text c =
+    let answer = c.args.answer.now in
+    let node = c.args.node in
+    let walk = linked_walk answer.links node in
+    let stored = c.links-links.ensures.stored in
+    let some = labelled c.arrival.result (label_of answer.labels node) c.if-is_none.ensures c.arrival.ensures in
+    let within : node ≤ length answer.links = omega (arith, stored.links c.requires.walks, c.requires.node.to_last) in
+    let level = ap (λ (links : List Link). (get_or links (node - 1) (record { level = 0; arc = 0; from = 0 })).level) c.links-links.ensures.links ∙ ap (λ (l : Link). l.level) (link_read answer.links node c.requires.node.from_one within) in
+    let text = c.text.ensures ∙ c.in_ok-go_to.ensures.text ∙ ap (λ (links : List Link). arcs_text (linked_walk links node)) c.requires.links in
+    let line = walk_text_of answer node some in
+    ok_then c.push_walk.result c.push_walk.ensures (λ said. said walk (linked_length answer.links node ∙ sym level) text ∙ ap (λ t. c.args.text.now.items ++ t) (sym line))

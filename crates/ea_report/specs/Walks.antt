@@ -1,0 +1,29 @@
+-- The text of walks, one after another, along links.
+use Rattle.std.specs.Prelude.{◌≡◌, ℕ, ◌-◌, ◌<◌, ◌≤◌, List, decimal, map, take, length, slice_index}
+use Rattle.std.specs.List.{flat_map}
+use Rattle.ea_road.specs.Roads.{IsNode}
+use Rattle.ea_finish.specs.declared.link.Link.{Link}
+use Rattle.ea_finish.specs.Links.{link, linked_walk}
+use Rattle.ea_report.specs.Report.{spaced}
+
+-- The numbers of arcs, each after a space.
+abbrev pub arcs_text : List ℕ → List ℕ
+arcs_text arcs = flat_map spaced (map decimal arcs)
+
+-- What contracts see: the links of nodes, and the text that stands.
+pub record Following : Type 0 where
+  pub links : List Link
+  pub text : List ℕ
+
+-- From a place on the nodes lie along their links: each has its place as its level, and its link leads to the node before.
+abbrev pub IsPath : List Link → List ℕ → ℕ → Type 0
+IsPath links nodes from = (place : ℕ) → from ≤ place → place < length nodes →
+    IsNode (length links) (slice_index nodes place) × ((link links (slice_index nodes place)).level ≡ place)
+    × (0 < place → (link links (slice_index nodes place)).from ≡ slice_index nodes (place - 1))
+
+-- Up to the end of each place the text is that of the walk to the place's node.
+pub record AreFronts (links : List Link) (nodes ends text : List ℕ) : Type 0 where
+  pub few : length ends ≤ length nodes
+  pub within : (place : ℕ) → place < length ends → slice_index ends place ≤ length text
+  pub ascending : (place next : ℕ) → place ≤ next → next < length ends → slice_index ends place ≤ slice_index ends next
+  pub texts : (place : ℕ) → place < length ends → take (slice_index ends place) text ≡ arcs_text (linked_walk links (slice_index nodes place))
