@@ -20,6 +20,8 @@ use Rattle.ea_finish.specs.declared.link.TheConstants.{NO_LEVEL}
 use Rattle.ea_finish.specs.Links.{AreLinks, link, linked_walk}
 use Rattle.ea_finish.proofs.Linkings.{link_read}
 use Rattle.ea_check.specs.Verdicts.{WrittenWalk, Said, IsSaid, reported_time, IsReported, Improves, by_source, by_arc, IsNotAttained, no_level, astray, IsNotCanonical, other_walk, IsNotLeast, improved, IsAttained, IsCanonicalAt, IsWellFormed, IsFirst, IsTask, AreUnimproved, AreAttained, AreCanonical}
+use Rattle.ea_check.specs.Form.{AreShort}
+use Rattle.ea_check.proofs.Fields.{short_canonical}
 use Rattle.ea_check.specs.Nodes.{IsFirstAt, IsFirstOther, IsOtherAt}
 use Rattle.ea_check.specs.declared.fault.CheckFault.{CheckFault}
 use Rattle.ea_check.specs.declared.fault.CheckFault.TheVariants.{BadLine, NotAttained, NotLeast, OutOfMemory, NotCanonical}
@@ -112,6 +114,11 @@ module _
 
         pub linked_canonical : (arcs : List ℕ) → (link links node).level ≢ NO_LEVEL → IsCanonical roads answers sources (IsReported reported) node arcs → arcs ≡ linked_walk links node
         linked_canonical arcs there canonical = one_canonical roads answers sources (IsReported reported) canonical ((are.each node is_node).walk there)
+
+        -- its arcs are numbers of no more than 32 bits
+        pub short_linked : (link links node).level ≢ NO_LEVEL → AreShort (linked_walk links node)
+        short_linked there =
+            short_canonical roads answers sources (IsReported reported) task.network ((are.each node is_node).walk there)
 
         pub right_linked : (line : ℕ) (arcs : List ℕ) → reported_time reported node ≢ NONE → (link links node).level ≢ NO_LEVEL → ((said : Said) → IsSaid reported node said → said.walk ≡ Some (record { line = line; arcs = arcs })) → arcs ≡ linked_walk links node → IsAttained roads answers sources reported node × IsCanonicalAt roads answers sources reported node
         right_linked line arcs has_time there writes same =

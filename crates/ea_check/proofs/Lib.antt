@@ -17,6 +17,7 @@ pub mod Keeping
 pub mod Composing
 pub mod Determined
 pub mod Whole
+pub mod Fields
 pub mod Written
 pub mod Leading
 pub mod Counting

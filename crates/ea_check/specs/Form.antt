@@ -47,6 +47,11 @@ SaysTime _ node time = ⊥
 abbrev pub arc_number : ℕ → ℕ
 arc_number n = if nat_lt n (2 ^ 32) then n else 0
 
+-- Numbers of no more than 32 bits.
+abbrev pub AreShort : List ℕ → Type 0
+AreShort [] = Unit {0}
+AreShort (arc ∷ arcs) = (arc < 2 ^ 32) × AreShort arcs
+
 abbrev pub IsArcNumber : List ℕ → ℕ → Type 0
 IsArcNumber field arc = (n : ℕ) × (number_of field ≡ Some n) × (arc ≡ arc_number n)
 

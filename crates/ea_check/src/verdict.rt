@@ -1,5 +1,5 @@
 //! What is wrong with a report of one problem whose form is right.
-ghost use Rattle.std.specs.Prelude.{◌≡◌, ◌≤◌, ◌<◌, ◌⊎◌, ℕ, MatchOption, length};
+ghost use Rattle.std.specs.Prelude.{◌≡◌, ◌≤◌, ◌<◌, ◌⊎◌, ℕ, MatchOption, OnOk, length};
 ghost use Rattle.std.specs.List.{IsAmong};
 ghost use Rattle.ea_road.specs.declared.TheConstants.{HORIZON};
 ghost use Rattle.ea_road.specs.declared.arc.Arc.{Arc};
@@ -9,7 +9,7 @@ ghost use Rattle.ea_check.specs.Starts.{AreOrdered};
 ghost use Rattle.ea_check.specs.Nodes.{IsFirstOther, IsOtherAt};
 ghost use Rattle.ea_check.specs.Verdicts.{AreUnimproved, Improves, IsFirst, IsNotLeast, IsReported, IsTask, IsVerdict, IsWellFormed, reported_time};
 
-use crate::canonical::is_canonical;
+use crate::canonical::Comparing;
 use crate::fault::CheckFault;
 use crate::reported::Reported;
 use crate::starts::attains;
@@ -26,14 +26,16 @@ fn other_at<T: TravelTimes>(
     reported: &Reported,
     links: &[Link],
     node: u32,
-    arcs: &mut Vec<u32>,
+    walks: &mut Comparing,
 ) -> Result<Option<u64>, CheckFault>
     requires task { IsTask network.now (T.classes times.now) query.now.sources }
     requires ordered { AreOrdered query.now.sources ordered.now }
     requires formed { IsWellFormed network.now.nodes reported.now }
     requires links { AreLinks network.now (T.answers times.now) query.now.sources (IsReported reported.now) links.now }
     requires node { IsNode network.now.nodes node }
-    ensures { IsOtherAt network.now (T.answers times.now) query.now.sources reported.now node result }
+    requires walks { walks.old.texts.links ≡ links.now }
+    ensures other { IsOtherAt network.now (T.answers times.now) query.now.sources reported.now node result }
+    ensures walks { OnOk result (walks.new.texts.links ≡ links.now) }
 {
     let time = reported.time(node);
     if time == NONE {
@@ -45,10 +47,10 @@ fn other_at<T: TravelTimes>(
     let Some((line, text)) = reported.walk(node) else {
         return Ok(None);
     };
-    if is_canonical(links, node, text, arcs)? {
+    if walks.is_canonical(links, node, text)? {
         return Ok(None);
     }
-    if attains(network, times, query, ordered, node, time, arcs) {
+    if attains(network, times, query, ordered, node, time, &walks.arcs) {
         Ok(Some(line))
     } else {
         Err(CheckFault::NotAttained(line))
@@ -71,11 +73,11 @@ fn first_other<T: TravelTimes>(
     requires links { AreLinks network.now (T.answers times.now) query.now.sources (IsReported reported.now) links.now }
     ensures { IsFirstOther network.now (T.answers times.now) query.now.sources reported.now result }
 {
-    let mut arcs = Vec::new(alloc);
+    let mut walks = Comparing::new(alloc, links);
     let mut first = None;
     for node in 1..network.nodes() + 1 {
         let other = other_at(
-            network, times, query, ordered, reported, links, node, &mut arcs,
+            network, times, query, ordered, reported, links, node, &mut walks,
         )?;
         first = first.or(other);
     }
