@@ -1,5 +1,5 @@
 -- Links, followed backwards beside a written walk.
-use Rattle.std.proofs.Common.{◌≡◌, ◌≢◌, ◌∙◌, refl, ℕ, zero, suc, ◌+◌, ◌-◌, ◌<◌, ◌≤◌, List, [], ◌∷◌, ◌++◌, length, take, get_or, arith, ap, sym, subst, length-append}
+use Rattle.std.proofs.Common.{◌≡◌, ◌≢◌, ◌∙◌, refl, ℕ, zero, suc, ◌+◌, ◌-◌, ◌<◌, ◌≤◌, List, [], ◌∷◌, ◌++◌, length, take, get_or, arith, ap, sym, subst}
 use Rattle.std.proofs.lemmas.List.{same_from_push, take_more, take_all}
 use Rattle.std.specs.Prelude.{◌↔◌}
 use Rattle.ea_road.specs.declared.source.Source.{Source}
@@ -9,7 +9,7 @@ use Rattle.ea_finish.specs.declared.link.Link.{Link}
 use Rattle.ea_finish.specs.declared.link.TheConstants.{NO_LEVEL}
 use Rattle.ea_finish.specs.Links.{AreLinks, link, linked_walk, walk_along}
 use Rattle.ea_finish.specs.Stored.{AreFollowable}
-use Rattle.ea_finish.proofs.Followed.{linked-walk}
+use Rattle.ea_finish.proofs.Followed.{linked-walk, linked_length}
 use Rattle.ea_finish.proofs.Linkings.{link-node}
 
 -- one link more
@@ -24,16 +24,8 @@ along_none links zero node none = refl
 along_none links (suc count) node none = absurd (omega arith)
 
 -- as many arcs as links
-along_length : (links : List Link) (count node : ℕ) → length (walk_along links count node) ≡ count
-unfolding walk_along
-along_length links zero node = refl
-along_length links (suc count) node =
-    let front = along_length links count (link links node).from in
-    omega (arith, length-append (walk_along links count (link links node).from) ((link links node).arc ∷ []), front)
-
-pub linked_length : (links : List Link) (node : ℕ) (arcs : List ℕ) → arcs ≡ linked_walk links node → length arcs ≡ (link links node).level
-linked_length links node arcs same =
-    ap (λ (xs : List ℕ). length xs) (same ∙ linked-walk links node) ∙ along_length links (link links node).level node
+pub as_many : (links : List Link) (node : ℕ) (arcs : List ℕ) → arcs ≡ linked_walk links node → length arcs ≡ (link links node).level
+as_many links node arcs same = ap (λ (xs : List ℕ). length xs) same ∙ linked_length links node
 
 taken : (arcs : List ℕ) (left : ℕ) → 0 < left → left ≤ length arcs → take left arcs ≡ take (left - 1) arcs ++ get_or arcs (left - 1) 0 ∷ []
 taken arcs left some few =

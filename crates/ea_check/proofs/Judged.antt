@@ -1,7 +1,8 @@
 -- What the links, the walks and the arcs tell of a report's lines.
 use Rattle.std.proofs.Common.{◌≡◌, ◌∙◌, refl, ℕ, ◌+◌, ◌-◌, ◌<◌, ◌≤◌, List, get_or, ◌⊎◌, inl, inr, arith, ap, sym, subst}
 use Rattle.std.proofs.lemmas.Bool.Decides.{eqb_tells, leb_tells}
-use Rattle.std.specs.Prelude.{◌≢◌, Option, Some, None}
+use Rattle.std.specs.Prelude.{◌≢◌, Option, Some, None, MatchOption, Ok, Err}
+use Rattle.std.specs.Option.{option_or}
 use Rattle.std.specs.List.{IsAmong}
 use Rattle.ea_road.specs.declared.TheConstants.{HORIZON, NONE}
 use Rattle.ea_road.specs.declared.arc.Arc.{Arc}
@@ -19,6 +20,11 @@ use Rattle.ea_finish.specs.declared.link.TheConstants.{NO_LEVEL}
 use Rattle.ea_finish.specs.Links.{AreLinks, link, linked_walk}
 use Rattle.ea_finish.proofs.Linkings.{link_read}
 use Rattle.ea_check.specs.Verdicts.{WrittenWalk, Said, IsSaid, reported_time, IsReported, Improves, by_source, by_arc, IsNotAttained, no_level, astray, IsNotCanonical, other_walk, IsNotLeast, improved, IsAttained, IsCanonicalAt, IsWellFormed, IsFirst, IsTask, AreUnimproved, AreAttained, AreCanonical}
+use Rattle.ea_check.specs.Form.{AreShort}
+use Rattle.ea_check.proofs.Fields.{short_canonical}
+use Rattle.ea_check.specs.Nodes.{IsFirstAt, IsFirstOther, IsOtherAt}
+use Rattle.ea_check.specs.declared.fault.CheckFault.{CheckFault}
+use Rattle.ea_check.specs.declared.fault.CheckFault.TheVariants.{BadLine, NotAttained, NotLeast, OutOfMemory, NotCanonical}
 use Rattle.ea_check.proofs.Right.{said_of, time_of_said, node_of_said}
 use Rattle.ea_check.proofs.Firsts.{one_walk, first_at, line_not_least, line_not_attained, line_not_canonical, attained_no_fault, canonical_no_fault, first_no_level, first_astray, first_other_walk, first_not_least}
 
@@ -66,26 +72,27 @@ module _
         chain_of there =
             ((link links node).level, ((are.each node is_node).level there).chain)
 
-        pub level_of_chain : Chain → (link links node).level ≢ NO_LEVEL
-        level_of_chain chain without =
-            (are.each node is_node).without without chain.0 chain.1
-
-        pub faults_no_level : (line : ℕ) → reported_time reported node ≢ NONE → (link links node).level ≡ NO_LEVEL → ((said : Said) → IsSaid reported node said → line ≡ said.line) → IsNotAttained roads answers sources reported node line × ((next : ℕ) → IsNotAttained roads answers sources reported node next → line ≤ next)
+        pub faults_no_level : (line : ℕ) → reported_time reported node ≢ NONE → (link links node).level ≡ NO_LEVEL → ((said : Said) → IsSaid reported node said → line ≡ said.line) → IsFirstAt (IsNotAttained roads answers sources reported) node line
         faults_no_level line has_time without is_line =
             let said = said_at node is_node in
             let same = time_of_said reported node said.0 said.1 in
             let lines = is_line said.0 said.1 in
             let fault : IsNotAttained roads answers sources reported node said.0.line =
-            no_level said.1 (λ none. has_time (same ∙ none)) ((are.each node is_node).without without) in (
-              subst (λ l. IsNotAttained roads answers sources reported node l) (sym lines) fault,
-              λ next also. let first = first_no_level roads answers sources reported roads.nodes node said.0 formed said.1 next also in omega arith,
-            )
+            no_level said.1 (λ none. has_time (same ∙ none)) ((are.each node is_node).without without) in
+            record {
+              fault = subst (λ l. IsNotAttained roads answers sources reported node l) (sym lines) fault;
+              first = λ next also. let first = first_no_level roads answers sources reported roads.nodes node said.0 formed said.1 next also in omega arith;
+            }
 
-        pub attained_alone : (link links node).level ≢ NO_LEVEL → ((said : Said) → IsSaid reported node said → said.walk ≡ None) → IsAttained roads answers sources reported node
-        attained_alone there alone = record {
-          level = λ said is_said has_time. chain_of there;
-          walk = λ said walk is_said written. let none = alone said is_said in absurd (both said.walk walk none written);
-        }
+        pub right_alone : (link links node).level ≢ NO_LEVEL → ((said : Said) → IsSaid reported node said → said.walk ≡ None) → IsAttained roads answers sources reported node × IsCanonicalAt roads answers sources reported node
+        right_alone there alone =
+            let never : (said : Said) (walk : WrittenWalk) → IsSaid reported node said → said.walk ≡ Some walk → ⊥ = λ said walk is_said written. both said.walk walk (alone said is_said) written in (
+              record {
+                level = λ said is_said has_time. chain_of there;
+                walk = λ said walk is_said written. absurd (never said walk is_said written);
+              },
+              λ said walk is_said written. absurd (never said walk is_said written),
+            )
           where
             both : (writes : Option WrittenWalk) (walk : WrittenWalk) → writes ≡ None → writes ≡ Some walk → ⊥
             both writes walk none some = cc
@@ -108,36 +115,38 @@ module _
         pub linked_canonical : (arcs : List ℕ) → (link links node).level ≢ NO_LEVEL → IsCanonical roads answers sources (IsReported reported) node arcs → arcs ≡ linked_walk links node
         linked_canonical arcs there canonical = one_canonical roads answers sources (IsReported reported) canonical ((are.each node is_node).walk there)
 
-        pub attained_canonical : (line : ℕ) (arcs : List ℕ) → reported_time reported node ≢ NONE → (link links node).level ≢ NO_LEVEL → ((said : Said) → IsSaid reported node said → said.walk ≡ Some (record { line = line; arcs = arcs })) → arcs ≡ linked_walk links node → IsAttained roads answers sources reported node
-        attained_canonical line arcs has_time there writes same =
+        -- its arcs are numbers of no more than 32 bits
+        pub short_linked : (link links node).level ≢ NO_LEVEL → AreShort (linked_walk links node)
+        short_linked there =
+            short_canonical roads answers sources (IsReported reported) task.network ((are.each node is_node).walk there)
+
+        pub right_linked : (line : ℕ) (arcs : List ℕ) → reported_time reported node ≢ NONE → (link links node).level ≢ NO_LEVEL → ((said : Said) → IsSaid reported node said → said.walk ≡ Some (record { line = line; arcs = arcs })) → arcs ≡ linked_walk links node → IsAttained roads answers sources reported node × IsCanonicalAt roads answers sources reported node
+        right_linked line arcs has_time there writes same =
             let times = labels_are_times (reported_time reported) in
-            attained_by line arcs there writes (canonical_attains roads answers sources (IsReported reported) times.within times.one (reported_time reported node) (refl, time_within node is_node has_time) (canonical_linked arcs there same))
+            let canonical = canonical_linked arcs there same in (
+              attained_by line arcs there writes (canonical_attains roads answers sources (IsReported reported) times.within times.one (reported_time reported node) (refl, time_within node is_node has_time) canonical),
+              λ said walk is_said written.
+                  let one = one_walk said said (record { line = line; arcs = arcs }) walk refl (writes said is_said) written in
+                  subst (λ (w : WrittenWalk). IsCanonical roads answers sources (IsReported reported) node w.arcs) one canonical,
+            )
 
-        pub canonical_here : (line : ℕ) (arcs : List ℕ) → (link links node).level ≢ NO_LEVEL → ((said : Said) → IsSaid reported node said → said.walk ≡ Some (record { line = line; arcs = arcs })) → arcs ≡ linked_walk links node → IsCanonicalAt roads answers sources reported node
-        canonical_here line arcs there writes same said walk is_said written =
-            let one = one_walk said said (record { line = line; arcs = arcs }) walk refl (writes said is_said) written in
-            subst (λ (w : WrittenWalk). IsCanonical roads answers sources (IsReported reported) node w.arcs) one (canonical_linked arcs there same)
-
-        pub faults_astray : (line : ℕ) (arcs : List ℕ) → (link links node).level ≢ NO_LEVEL → ((said : Said) → IsSaid reported node said → said.walk ≡ Some (record { line = line; arcs = arcs })) → (Attains roads answers sources arcs node (reported_time reported node) → ⊥) → IsNotAttained roads answers sources reported node line × ((next : ℕ) → IsNotAttained roads answers sources reported node next → line ≤ next)
+        pub faults_astray : (line : ℕ) (arcs : List ℕ) → (link links node).level ≢ NO_LEVEL → ((said : Said) → IsSaid reported node said → said.walk ≡ Some (record { line = line; arcs = arcs })) → (Attains roads answers sources arcs node (reported_time reported node) → ⊥) → IsFirstAt (IsNotAttained roads answers sources reported) node line
         faults_astray line arcs there writes none =
             let said = said_at node is_node in
             let time = time_of_said reported node said.0 said.1 in
-            let chain = chain_of there in (
-              astray said.1 (writes said.0 said.1) (λ attains. none (subst (λ t. Attains roads answers sources arcs node t) (sym time) attains)),
-              first_astray roads answers sources reported node chain.0 said.0 (record { line = line; arcs = arcs }) chain.1 said.1 (writes said.0 said.1),
-            )
+            let chain = chain_of there in
+            record {
+              fault = astray said.1 (writes said.0 said.1) (λ attains. none (subst (λ t. Attains roads answers sources arcs node t) (sym time) attains));
+              first = first_astray roads answers sources reported node chain.0 said.0 (record { line = line; arcs = arcs }) chain.1 said.1 (writes said.0 said.1);
+            }
 
-        pub level_of_attained : (line : ℕ) (arcs : List ℕ) → IsAttained roads answers sources reported node → ((said : Said) → IsSaid reported node said → said.walk ≡ Some (record { line = line; arcs = arcs })) → (link links node).level ≢ NO_LEVEL
-        level_of_attained line arcs attained writes =
-            let said = said_at node is_node in
-            level_of_chain (attained.level said.0 said.1 (formed.walks node said.0 (record { line = line; arcs = arcs }) said.1 (writes said.0 said.1)).0)
-
-        pub faults_other_walk : (line : ℕ) (arcs : List ℕ) → ((said : Said) → IsSaid reported node said → said.walk ≡ Some (record { line = line; arcs = arcs })) → (IsCanonical roads answers sources (IsReported reported) node arcs → ⊥) → IsNotCanonical roads answers sources reported node line × ((next : ℕ) → IsNotCanonical roads answers sources reported node next → line ≤ next)
+        pub faults_other_walk : (line : ℕ) (arcs : List ℕ) → ((said : Said) → IsSaid reported node said → said.walk ≡ Some (record { line = line; arcs = arcs })) → (IsCanonical roads answers sources (IsReported reported) node arcs → ⊥) → IsFirstAt (IsNotCanonical roads answers sources reported) node line
         faults_other_walk line arcs writes none =
-            let said = said_at node is_node in (
-              other_walk said.1 (writes said.0 said.1) none,
-              first_other_walk roads answers sources reported node said.0 (record { line = line; arcs = arcs }) said.1 (writes said.0 said.1),
-            )
+            let said = said_at node is_node in
+            record {
+              fault = other_walk said.1 (writes said.0 said.1) none;
+              first = first_other_walk roads answers sources reported node said.0 (record { line = line; arcs = arcs }) said.1 (writes said.0 said.1);
+            }
 
     pub question_of : (number departure : ℕ) (arc : Arc) → IsArc roads number arc → departure ≡ reported_time reported arc.tail → departure ≢ NONE → IsQuestion classes arc.class arc.weight departure
     question_of number departure arc is_arc same has_time =
@@ -174,7 +183,7 @@ module _
         let few = (node_of_said roads.nodes reported node said formed.each_node is_said).to_last in
         omega arith
 
-    pub attained_all : (above : ℕ) → roads.nodes < above → ((before : ℕ) → before < above → IsAttained roads answers sources reported before) → AreAttained roads answers sources reported
+    attained_all : (above : ℕ) → roads.nodes < above → ((before : ℕ) → before < above → IsAttained roads answers sources reported before) → AreAttained roads answers sources reported
     attained_all above beyond each node =
         elim (leb_tells above node) [
           | inr before ↦ each node (omega (arith, before.1))
@@ -186,20 +195,20 @@ module _
               }
         ]
 
-    pub canonical_all : (above : ℕ) → roads.nodes < above → ((before : ℕ) → before < above → IsCanonicalAt roads answers sources reported before) → AreCanonical roads answers sources reported
+    canonical_all : (above : ℕ) → roads.nodes < above → ((before : ℕ) → before < above → IsCanonicalAt roads answers sources reported before) → AreCanonical roads answers sources reported
     canonical_all above beyond each node said walk is_said written =
         elim (leb_tells above node) [
           | inr before ↦ each node (omega (arith, before.1)) said walk is_said written
           | inl after ↦ absurd (none_beyond node said (omega (arith, after.1)) is_said)
         ]
 
-    pub first_fault_attained : (node line : ℕ) → IsNotAttained roads answers sources reported node line × ((next : ℕ) → IsNotAttained roads answers sources reported node next → line ≤ next) → ((before : ℕ) → before < node → IsAttained roads answers sources reported before) → IsFirst (IsNotAttained roads answers sources reported) line
+    first_fault_attained : (node line : ℕ) → IsFirstAt (IsNotAttained roads answers sources reported) node line → ((before : ℕ) → before < node → IsAttained roads answers sources reported before) → IsFirst (IsNotAttained roads answers sources reported) line
     first_fault_attained node line fault each =
-        first_at (IsNotAttained roads answers sources reported) roads.nodes reported formed (line_not_attained roads answers sources reported) node line fault.0 fault.1 (λ before next less also. attained_no_fault roads answers sources reported before next (each before less) also)
+        first_at (IsNotAttained roads answers sources reported) roads.nodes reported formed (line_not_attained roads answers sources reported) node line fault.fault fault.first (λ before next less also. attained_no_fault roads answers sources reported before next (each before less) also)
 
-    pub first_fault_canonical : (node line : ℕ) → IsNotCanonical roads answers sources reported node line × ((next : ℕ) → IsNotCanonical roads answers sources reported node next → line ≤ next) → ((before : ℕ) → before < node → IsCanonicalAt roads answers sources reported before) → IsFirst (IsNotCanonical roads answers sources reported) line
+    first_fault_canonical : (node line : ℕ) → IsFirstAt (IsNotCanonical roads answers sources reported) node line → ((before : ℕ) → before < node → IsCanonicalAt roads answers sources reported before) → IsFirst (IsNotCanonical roads answers sources reported) line
     first_fault_canonical node line fault each =
-        first_at (IsNotCanonical roads answers sources reported) roads.nodes reported formed (line_not_canonical roads answers sources reported) node line fault.0 fault.1 (λ before next less also. canonical_no_fault roads answers sources reported before next (each before less) also)
+        first_at (IsNotCanonical roads answers sources reported) roads.nodes reported formed (line_not_canonical roads answers sources reported) node line fault.fault fault.first (λ before next less also. canonical_no_fault roads answers sources reported before next (each before less) also)
 
     one_more : (P : ℕ → Type 0) (node : ℕ) → ((before : ℕ) → before < node → P before) → P node → (before : ℕ) → before < node + 1 → P before
     one_more P node each here before less =
@@ -208,11 +217,33 @@ module _
           | inr other ↦ each before (omega (arith, other.1))
         ]
 
-    pub attained_more : (node : ℕ) → ((before : ℕ) → before < node → IsAttained roads answers sources reported before) → IsAttained roads answers sources reported node → (before : ℕ) → before < node + 1 → IsAttained roads answers sources reported before
-    attained_more = one_more (λ node. IsAttained roads answers sources reported node)
+    abbrev Attained : ℕ → Type 0
+    Attained above = (before : ℕ) → before < above → IsAttained roads answers sources reported before
 
-    pub canonical_more : (node : ℕ) → ((before : ℕ) → before < node → IsCanonicalAt roads answers sources reported before) → IsCanonicalAt roads answers sources reported node → (before : ℕ) → before < node + 1 → IsCanonicalAt roads answers sources reported before
-    canonical_more = one_more (λ node. IsCanonicalAt roads answers sources reported node)
+    -- the first line of the nodes before that is not canonical
+    abbrev Known : ℕ → Option ℕ → Type 0
+    Known above first = MatchOption first ((before : ℕ) → before < above → IsCanonicalAt roads answers sources reported before) (λ line. IsFirst (IsNotCanonical roads answers sources reported) line)
+
+    -- one node more
+    pub attained_more : (node : ℕ) (other : Option ℕ) → IsOtherAt roads answers sources reported node (Ok other) → Attained node → Attained (node + 1)
+    attained_more node None here each = one_more (λ node. IsAttained roads answers sources reported node) node each here.0
+    attained_more node (Some line) here each = one_more (λ node. IsAttained roads answers sources reported node) node each here.0
+
+    pub known_more : (node : ℕ) (first other : Option ℕ) → IsOtherAt roads answers sources reported node (Ok other) → Known node first → Known (node + 1) (option_or first other)
+    known_more node (Some line) other here known = known
+    known_more node None None here known = one_more (λ node. IsCanonicalAt roads answers sources reported node) node known here.1
+    known_more node None (Some line) here known = first_fault_canonical node line here.1 known
+
+    pub known_fault : (node : ℕ) (fault : CheckFault) → Attained node → IsOtherAt roads answers sources reported node (Err fault) → IsFirstOther roads answers sources reported (Err fault)
+    known_fault node (NotAttained line) each here = first_fault_attained node line here each
+    known_fault node OutOfMemory each here = tt
+    known_fault node (NotCanonical line) each here = here
+    known_fault node (NotLeast line) each here = here
+    known_fault node (BadLine line) each here = here
+
+    pub known_all : (above : ℕ) (first : Option ℕ) → roads.nodes < above → Attained above → Known above first → IsFirstOther roads answers sources reported (Ok first)
+    known_all above None beyond each known = (attained_all above beyond each, canonical_all above beyond known)
+    known_all above (Some line) beyond each known = (attained_all above beyond each, known)
 
     pub source_improves : (source : Source) (time : ℕ) → IsAmong sources source → time ≡ reported_time reported source.node → source.departure < time → Improves roads answers sources (reported_time reported) source.node
     source_improves source time among same late = by_source among (omega arith)

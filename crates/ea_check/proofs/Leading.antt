@@ -1,18 +1,19 @@
 -- A number at the front of a line.
-use Rattle.std.proofs.Common.{◌≡◌, ℕ, suc, zero, ◌+◌, ◌-◌, ◌<◌, ◌≤◌, ◌^◌, true, false, cond, List, [], ◌∷◌, length, get_or, take, drop, refl, ap, sym, ◌∙◌, subst, arith, tests}
-use Rattle.std.specs.Prelude.{Some, None, Option, ◌&&◌, Bool}
+use Rattle.std.proofs.Common.{◌≡◌, ℕ, suc, zero, ◌+◌, ◌-◌, ◌<◌, ◌≤◌, ◌^◌, true, false, cond, List, [], ◌∷◌, ◌++◌, append_assoc, length, get_or, take, drop, refl, ap, sym, ◌∙◌, subst, arith, tests}
 use Rattle.std.specs.Char.{is_ascii_digit}
 use Rattle.std.specs.Str.{all_ascii_digits}
 use Rattle.std.specs.Str.Parse.{digits_value}
 use Rattle.std.proofs.Math.ListN.{length-take}
 use Rattle.std.proofs.Math.Numerals.{add-one}
 use Rattle.std.proofs.lemmas.Bool.{lt-ltb}
+use Rattle.std.proofs.lemmas.List.{append-nil}
 use Rattle.std.proofs.lemmas.Grind.{common_steps}
-use Rattle.ea_text.specs.Text.{is_blank, number_of}
+use Rattle.ea_text.specs.Text.{is_blank}
 use Rattle.ea_text.proofs.Cutting.{field_at}
 use Rattle.ea_text.proofs.Numbers.{and_left, and_right}
-use Rattle.ea_check.specs.Form.{arc_number}
-use Rattle.ea_check.specs.Reads.{BeginsWith, BeginsWithArc}
+use Rattle.ea_check.specs.Form.{arc_found, arc_number, arc_of, arcs_of}
+use Rattle.ea_check.specs.Reads.{BeginsWithArc}
+use Rattle.ea_check.proofs.Counting.{digits_are_number}
 
 digit_is_no_blank : (b : ℕ) → is_ascii_digit b ≡ true → is_blank b ≡ false
 digit_is_no_blank b e = grind (arith, tests)
@@ -23,15 +24,6 @@ no_blank_so_far [] i h e k below = refl
 no_blank_so_far (b ∷ bs) zero h e k below = absurd (omega arith)
 no_blank_so_far (b ∷ bs) (suc i) h e zero below = digit_is_no_blank b (and_left (is_ascii_digit b) (all_ascii_digits (take i bs)) e)
 no_blank_so_far (b ∷ bs) (suc i) h e (suc k) below = no_blank_so_far bs i (omega arith) (and_right (is_ascii_digit b) (all_ascii_digits (take i bs)) e) k (omega arith)
-
-both_true : (a b : Bool) → a ≡ true → b ≡ true → (a && b) ≡ true
-both_true true b p q = q
-both_true false b p q = cc
-
--- Digits are a number.
-digits_are_number : (field : List ℕ) → 0 < length field → all_ascii_digits field ≡ true → number_of field ≡ Some (digits_value 10 field)
-digits_are_number field some digits =
-    ap (λ t. cond t (Some (digits_value 10 field)) None) (both_true _ _ (lt-ltb 0 _ some) digits)
 
 small_is_itself : (n : ℕ) → n < 2 ^ 32 → arc_number n ≡ n
 small_is_itself n small = ap (λ t. cond t n 0) (lt-ltb n (2 ^ 32) small)
@@ -45,11 +37,14 @@ begins_with text i value some inside blank digits is small =
     let cut = field_at text i some inside blank (no_blank_so_far text i (omega arith) digits) in
     let number = digits_are_number (take i text) (rw length-take (omega arith)) digits in
     subst (λ (rest : List ℕ). BeginsWithArc text value rest) (sym (rest_of text i inside))
-    (take i text, cut, (value, number ∙ ap (λ (n : ℕ). Some n) (sym is), sym (small_is_itself value small)))
+    (take i text, cut, sym (ap arc_found number ∙ ap arc_number (sym is) ∙ small_is_itself value small))
 
--- What a line begins with, where an arc number was found or none.
-pub found : (text rest : List ℕ) (first : Option ℕ) (arc : ℕ) → first ≡ Some arc → BeginsWith text first rest → BeginsWithArc text arc rest
-found text rest first arc is begins = subst (λ (f : Option ℕ). BeginsWith text f rest) is begins
+-- One more arc.
+pub arcs_more : (fields after : List (List ℕ)) (field arcs pushed whole : List ℕ) (arc : ℕ) → fields ≡ field ∷ after → arc ≡ arc_of field → pushed ≡ arcs ++ arc ∷ [] → arcs ++ arcs_of fields ≡ whole → pushed ++ arcs_of after ≡ whole
+arcs_more fields after field arcs pushed whole arc cut is pushes was =
+    ap (λ (xs : List ℕ). xs ++ arcs_of after) pushes ∙ append_assoc arcs (arc ∷ []) (arcs_of after) ∙ ap (λ n. arcs ++ n ∷ arcs_of after) is ∙ ap (λ (fs : List (List ℕ)). arcs ++ arcs_of fs) (sym cut) ∙ was
 
-pub missed : (text rest : List ℕ) (first : Option ℕ) → first ≡ None → BeginsWith text first rest → BeginsWith text None rest
-missed text rest first is begins = subst (λ (f : Option ℕ). BeginsWith text f rest) is begins
+-- No field is left.
+pub arcs_end : (fields : List (List ℕ)) (arcs whole : List ℕ) → fields ≡ [] → arcs ++ arcs_of fields ≡ whole → arcs ≡ whole
+arcs_end fields arcs whole none was =
+    sym (append-nil arcs) ∙ ap (λ (fs : List (List ℕ)). arcs ++ arcs_of fs) (sym none) ∙ was

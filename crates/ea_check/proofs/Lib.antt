@@ -12,12 +12,13 @@ pub mod Placed
 pub mod Steps
 pub mod BadLines
 pub mod Matched
-pub mod Pushing
 pub mod Reading
 pub mod Keeping
 pub mod Composing
 pub mod Determined
 pub mod Whole
+pub mod Fields
 pub mod Written
 pub mod Leading
+pub mod Counting
 pub mod Onward

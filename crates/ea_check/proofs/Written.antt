@@ -1,31 +1,24 @@
 -- What is written of an answer, as lines that are read.
-use Rattle.std.proofs.Common.{◌≡◌, ◌≢◌, ◌∙◌, refl, ℕ, zero, suc, ◌+◌, ◌-◌, ◌^◌, ◌<◌, ◌≤◌, ◌==◌, Bool, true, false, cond, List, [], ◌∷◌, ◌++◌, length, map, take, get_or, inl, inr, arith, ap, sym, subst, append_assoc, tests, eqb-true}
-use Rattle.std.proofs.lemmas.Bool.{ne_eqb, eqb-false, lt-ltb}
+use Rattle.std.proofs.Common.{◌≡◌, ◌≢◌, ◌∙◌, refl, ℕ, zero, suc, ◌+◌, ◌-◌, ◌^◌, ◌<◌, ◌≤◌, ◌==◌, Bool, true, false, cond, List, [], ◌∷◌, ◌++◌, length, map, take, get_or, inl, inr, arith, ap, sym, subst, append_assoc, eqb-true}
+use Rattle.std.proofs.lemmas.Bool.{ne_eqb, eqb-false}
 use Rattle.std.proofs.lemmas.List.{append-nil}
-use Rattle.std.proofs.lemmas.List.Splits.{slice_split-cons_yes, slice_split-cons_no}
-use Rattle.std.specs.Prelude.{Some, None, codes, filter, nat_lt, decimal, if◌then◌else◌, slice_get, Ok}
-use Rattle.std.proofs.lemmas.Fmt.{decimal_is_IsNumeral}
-use Rattle.std.proofs.lemmas.Str.Parse.{numerals_by_value, tells_all_ascii_digits}
-use Rattle.std.specs.List.{slice_split, onto_first, flat_map}
-use Rattle.std.specs.Str.{all_ascii_digits}
-use Rattle.std.specs.Char.{is_ascii_digit}
+use Rattle.std.specs.Prelude.{Some, None, codes, decimal, if◌then◌else◌, slice_get, Ok}
+use Rattle.std.specs.List.{onto_first, flat_map}
 use Rattle.std.specs.Str.Lines.{strip_carriage_return}
 use Rattle.ea_text.specs.Text.{lines_of, is_blank, fields_of, field_lines, is_comment}
 use Rattle.ea_text.specs.Text.{number_of}
-use Rattle.ea_text.proofs.Numbers.{and_left, and_right}
 use Rattle.ea_road.specs.declared.TheConstants.{HORIZON, NONE}
 use Rattle.ea_road.specs.declared.source.Source.{Source}
 use Rattle.ea_road.specs.Labels.{label_of}
 use Rattle.ea_road.specs.Labels.{time_of}
-use Rattle.ea_road.specs.Levels.{IsCanonical, at_source, by_arc}
+use Rattle.ea_road.specs.Levels.{IsCanonical}
 use Rattle.ea_road.specs.Arrivals.{IsLeast, IsLeastAt}
 use Rattle.ea_road.specs.Queries.{IsProblem}
 use Rattle.ea_road.specs.Roads.{Roads, IsNode, IsNetwork}
-use Rattle.ea_road.proofs.Arcs.{arc_inside}
 use Rattle.ea_finish.specs.Answers.{Answered, HasArrivals, walk_of}
 use Rattle.ea_finish.specs.Links.{linked_walk}
 use Rattle.ea_report.specs.Report.{spaced, line, source_line, arrival_line, walk_line, walk_text, node_text, each_node}
-use Rattle.ea_check.specs.Form.{Line, spoken_from, lines_of_report, arc_number, AreArcNumbers, SaysProblems, no_problem, next_problem}
+use Rattle.ea_check.specs.Form.{Line, spoken_from, lines_of_report, AreShort, SaysProblems, no_problem, next_problem}
 use Rattle.ea_check.specs.Checked.{IsChecked}
 use Rattle.ea_check.specs.Places.{AreSmall}
 use Rattle.ea_check.specs.Verdicts.{WrittenWalk, Said, IsRight}
@@ -34,24 +27,12 @@ use Rattle.ea_check.proofs.Composing.{front_problem, small_sources}
 use Rattle.ea_check.proofs.Right.{all_from, node_of_said, time_of_some}
 use Rattle.ea_check.proofs.BadLines.{number_written}
 use Rattle.ea_check.proofs.Steps.{d_is_not_w}
+use Rattle.ea_check.proofs.Fields.{Clear, IsField, AreFields, fields_line, number_field, arc_fields, arcs_written, short_canonical}
 
 -- bytes that are neither a line feed nor a carriage return
 abbrev pub Plain : List ℕ → Type 0
 Plain [] = Unit {0}
 Plain (b ∷ bs) = (b ≢ 10) × (b ≢ 13) × Plain bs
-
--- and no blank
-abbrev pub Clear : List ℕ → Type 0
-Clear [] = Unit {0}
-Clear (b ∷ bs) = (b ≢ 10) × (b ≢ 13) × (is_blank b ≡ false) × Clear bs
-
-pub record IsField (field : List ℕ) : Type 0 where
-  pub clear : Clear field
-  pub some : 0 < length field
-
-abbrev pub AreFields : List (List ℕ) → Type 0
-AreFields [] = Unit {0}
-AreFields (field ∷ fields) = IsField field × AreFields fields
 
 plain_of : (bs : List ℕ) → Clear bs → Plain bs
 plain_of [] clear = tt
@@ -79,27 +60,6 @@ no_return (b ∷ bs) (suc place) plain = no_return bs place plain.2
 kept : (bs : List ℕ) → Plain bs → strip_carriage_return bs ≡ bs
 kept bs plain = ap (λ t. cond t (take (length bs - 1) bs) bs) (ne_eqb (get_or bs (length bs - 1) 0) 13 (no_return bs (length bs - 1) plain))
 
-split_word : (word rest : List ℕ) → Clear word → slice_split is_blank (word ++ 32 ∷ rest) ≡ word ∷ slice_split is_blank rest
-split_word [] rest clear = slice_split-cons_yes is_blank 32 rest refl
-split_word (b ∷ word) rest clear = slice_split-cons_no is_blank b (word ++ 32 ∷ rest) clear.2 ∙ ap (onto_first b) (split_word word rest clear.3)
-
-split_last : (word : List ℕ) → Clear word → slice_split is_blank word ≡ word ∷ []
-split_last [] clear = refl
-split_last (b ∷ word) clear = slice_split-cons_no is_blank b word clear.2 ∙ ap (onto_first b) (split_last word clear.3)
-
-split_all : (word : List ℕ) (fields : List (List ℕ)) → Clear word → AreFields fields → slice_split is_blank (word ++ flat_map spaced fields) ≡ word ∷ fields
-split_all word [] clear are = ap (slice_split is_blank) (append-nil word) ∙ split_last word clear
-split_all word (field ∷ fields) clear are =
-    split_word word (field ++ flat_map spaced fields) clear ∙ ap (λ (fs : List (List ℕ)). word ∷ fs) (split_all field fields are.0.clear are.1)
-
-all_some : (fields : List (List ℕ)) → AreFields fields → filter (λ part. nat_lt 0 (length part)) fields ≡ fields
-all_some [] are = refl
-all_some (field ∷ fields) are =
-    ap (λ t. cond t (field ∷ filter (λ part. nat_lt 0 (length part)) fields) (filter (λ part. nat_lt 0 (length part)) fields)) (lt-ltb 0 (length field) are.0.some) ∙ ap (λ (fs : List (List ℕ)). field ∷ fs) (all_some fields are.1)
-
-fields_line : (word : List ℕ) (fields : List (List ℕ)) → IsField word → AreFields fields → fields_of (word ++ flat_map spaced fields) ≡ word ∷ fields
-fields_line word fields is are = ap (filter (λ part. nat_lt 0 (length part))) (split_all word fields is.clear are) ∙ all_some (word ∷ fields) (is, are)
-
 line_cut : (word : List ℕ) (fields : List (List ℕ)) (rest : List ℕ) → IsField word → AreFields fields → field_lines (line word fields ++ rest) ≡ (word ∷ fields) ∷ field_lines rest
 line_cut word fields rest is are =
     let body : List ℕ = word ++ flat_map spaced fields in
@@ -113,25 +73,6 @@ pub line_spoken : (word : List ℕ) (fields : List (List ℕ)) (rest : List ℕ)
 line_spoken word fields rest number is are loud =
     let here : Line = record { number = number; fields = word ∷ fields } in
     ap (spoken_from number) (line_cut word fields rest is are) ∙ ap (λ t. cond t (spoken_from (number + 1) (field_lines rest)) (here ∷ spoken_from (number + 1) (field_lines rest))) loud
-
--- digits are clear
-digits_clear : (ds : List ℕ) → all_ascii_digits ds ≡ true → Clear ds
-digits_clear [] digits = tt
-digits_clear (d ∷ ds) digits = digit_clear d (digits_clear ds (and_right (is_ascii_digit d) (all_ascii_digits ds) digits)) (and_left (is_ascii_digit d) (all_ascii_digits ds) digits)
-  where
-    digit_clear : (d : ℕ) → Clear ds → is_ascii_digit d ≡ true → Clear (d ∷ ds)
-    digit_clear d rest digit =
-        let low : 48 ≤ d = grind (arith, tests) in
-        let blank : is_blank d ≡ false = grind (arith, tests) in
-        ((λ same. omega arith), (λ same. omega arith), blank, rest)
-
-pub number_field : (n : ℕ) → n < 2 ^ 64 → IsField (decimal n)
-number_field n small =
-    let numeral = decimal_is_IsNumeral n small in
-    record {
-      clear = digits_clear (decimal n) ((numerals_by_value (λ ds. all_ascii_digits ds ≡ true) tells_all_ascii_digits).from (decimal n) numeral.0.1);
-      some = numeral.0.0;
-    }
 
 word_field : (b : ℕ) → b ≢ 10 → b ≢ 13 → is_blank b ≡ false → IsField (b ∷ [])
 word_field b feed return blank = record { clear = (feed, return, blank, tt); some = omega arith }
@@ -160,22 +101,6 @@ sources_written (source ∷ sources) small rest number =
     let joined = append_assoc (source_line source) (flat_map source_line sources) rest in
     let lines = ap (λ (text : List ℕ). spoken_from number (field_lines text)) joined ∙ line_spoken (codes "s") fields (flat_map source_line sources ++ rest) number s_field (number_field source.node small.0, (number_field source.departure small.1, tt)) refl in
     (on.0, subst (λ (ls : List Line). ReadsSources (source ∷ sources) ls (spoken_from on.0 (field_lines rest))) (sym lines) ((refl, number_written source.node small.0, number_written source.departure small.1), on.1))
-
--- arc numbers that can be written
-abbrev pub AreShort : List ℕ → Type 0
-AreShort [] = Unit {0}
-AreShort (arc ∷ arcs) = (arc < 2 ^ 32) × AreShort arcs
-
-arc_fields : (arcs : List ℕ) → AreShort arcs → AreFields (map decimal arcs)
-arc_fields [] short = tt
-arc_fields (arc ∷ arcs) short = (number_field arc (let few = short.0 in omega arith), arc_fields arcs short.1)
-
-arc_same : (arc : ℕ) → arc < 2 ^ 32 → arc ≡ arc_number arc
-arc_same arc few = ap (λ t. cond t arc 0) (sym (lt-ltb arc (2 ^ 32) few))
-
-arcs_written : (arcs : List ℕ) → AreShort arcs → AreArcNumbers (map decimal arcs) arcs
-arcs_written [] short = tt
-arcs_written (arc ∷ arcs) short = ((arc, number_written arc (let few = short.0 in omega arith), arc_same arc short.0), arcs_written arcs short.1)
 
 map_length : (arcs : List ℕ) → length (map decimal arcs) ≡ length arcs
 map_length [] = refl
@@ -376,18 +301,6 @@ module _ (walks : Bool) (answer : Answered) where
           let same : node + 1 + place ≡ node + suc place = omega arith in
           let walk = on.walk place said written found some in
           (walk.0 ∙ ap (linked_walk answer.links) same, subst (λ n. label_of answer.labels n ≢ NONE) same walk.1, walk.2)
-
-short_more : (front : List ℕ) (number : ℕ) → AreShort front → number < 2 ^ 32 → AreShort (front ++ number ∷ [])
-short_more [] number short few = (few, tt)
-short_more (arc ∷ front) number short few = (short.0, short_more front number short.1 few)
-
--- the numbers of a canonical walk's arcs can be written
-short_canonical : (roads : Roads) (answers : ℕ → ℕ → ℕ → ℕ → Type 0) (sources : List Source) (times : ℕ → ℕ → Type 0) {node : ℕ} {walk : List ℕ} → IsNetwork roads → IsCanonical roads answers sources times node walk → AreShort walk
-short_canonical roads answers sources times network (at_source level) = tt
-short_canonical roads answers sources times network (by_arc {number} {walk} front lower upper tight lowest) =
-    let inside = arc_inside roads.arcs (number - 1) tight.arc tight.is_arc.found in
-    let few = network.arcs_limit in
-    short_more walk number (short_canonical roads answers sources times network front) (omega arith)
 
 module _
     (roads : Roads)

@@ -1,5 +1,5 @@
 -- The form of a report: which lines it has, and what they say.
-use Rattle.std.specs.Prelude.{◌≡◌, ◌≢◌, ◌⊎◌, ℕ, ◌+◌, ◌<◌, ◌≤◌, ◌^◌, nat_lt, if◌then◌else◌, List, [], ◌∷◌, ◌++◌, length, codes, Some, None}
+use Rattle.std.specs.Prelude.{◌≡◌, ◌≢◌, ◌⊎◌, ℕ, ◌+◌, ◌<◌, ◌≤◌, ◌^◌, nat_lt, if◌then◌else◌, List, [], ◌∷◌, ◌++◌, length, map, codes, Option, Some, None}
 use Rattle.ea_text.specs.Text.{number_of, is_silent, field_lines}
 use Rattle.ea_road.specs.declared.TheConstants.{HORIZON, NONE}
 use Rattle.ea_road.specs.declared.source.Source.{Source}
@@ -47,8 +47,25 @@ SaysTime _ node time = ⊥
 abbrev pub arc_number : ℕ → ℕ
 arc_number n = if nat_lt n (2 ^ 32) then n else 0
 
+-- Numbers of no more than 32 bits.
+abbrev pub AreShort : List ℕ → Type 0
+AreShort [] = Unit {0}
+AreShort (arc ∷ arcs) = (arc < 2 ^ 32) × AreShort arcs
+
 abbrev pub IsArcNumber : List ℕ → ℕ → Type 0
 IsArcNumber field arc = (n : ℕ) × (number_of field ≡ Some n) × (arc ≡ arc_number n)
+
+-- The arc number that a field writes, and 0 where the field is no number.
+abbrev pub arc_found : Option ℕ → ℕ
+arc_found (Some n) = arc_number n
+arc_found None = 0
+
+abbrev pub arc_of : List ℕ → ℕ
+arc_of field = arc_found (number_of field)
+
+-- The arc numbers that fields write.
+abbrev pub arcs_of : List (List ℕ) → List ℕ
+arcs_of fields = map arc_of fields
 
 abbrev pub AreArcNumbers : List (List ℕ) → List ℕ → Type 0
 AreArcNumbers [] [] = Unit {0}

@@ -1,7 +1,9 @@
 pub mod Verdicts
+pub mod Nodes
 pub mod Views
 pub mod Starts
 pub mod Form
+pub mod Counted
 pub mod Checked
 pub mod Places
 pub mod Reads

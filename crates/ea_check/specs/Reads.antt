@@ -1,5 +1,5 @@
 -- What lines that are still ahead give, place by place, and where they go wrong.
-use Rattle.std.specs.Prelude.{◌≡◌, ◌≢◌, ◌⊎◌, ℕ, suc, ◌+◌, List, [], ◌∷◌, ◌++◌, length, Option, Some, None}
+use Rattle.std.specs.Prelude.{◌≡◌, ◌≢◌, ◌⊎◌, ℕ, suc, ◌+◌, List, [], ◌∷◌, length, Option, Some, None}
 use Rattle.ea_text.specs.Text.{field_lines, fields_of}
 use Rattle.ea_road.specs.declared.TheConstants.{NONE}
 use Rattle.ea_road.specs.declared.source.Source.{Source}
@@ -8,7 +8,7 @@ use Rattle.ea_check.specs.declared.line.SpokenLine.{SpokenLine}
 use Rattle.ea_check.specs.declared.fault.CheckFault.{CheckFault}
 use Rattle.ea_check.specs.declared.fault.CheckFault.TheVariants.{BadLine, NotAttained, NotLeast, OutOfMemory, NotCanonical}
 use Rattle.ea_check.specs.Verdicts.{WrittenWalk, Said}
-use Rattle.ea_check.specs.Form.{Line, IsArcNumber, IsWalkLine, SaysSource, SaysTime, SaysWalk, spoken_from}
+use Rattle.ea_check.specs.Form.{Line, arc_of, IsWalkLine, SaysSource, SaysTime, SaysWalk, spoken_from}
 
 abbrev pub line_of : SpokenLine → Line
 line_of line = record { number = line.number; fields = fields_of line.text.now }
@@ -21,18 +21,9 @@ found_then (Some line) behind = line_of line ∷ behind
 abbrev pub ahead : Ahead → List Line
 ahead a = found_then a.line (spoken_from (a.lines + 1) (field_lines a.rest.now))
 
--- Numbers of which this is so are put behind a list.
-abbrev pub Pushes : (List ℕ → Type 0) → List ℕ → List ℕ → Type 0
-Pushes Are old new = (numbers : List ℕ) × Are numbers × (new ≡ old ++ numbers)
-
--- A line's first field is this arc number, and the other fields are those of the rest.
+-- A line's first field writes this arc number, and the other fields are those of the rest.
 abbrev pub BeginsWithArc : List ℕ → ℕ → List ℕ → Type 0
-BeginsWithArc text arc rest = (field : List ℕ) × (fields_of text ≡ field ∷ fields_of rest) × IsArcNumber field arc
-
--- A line's first field is the arc number that is found, or none where none is found.
-abbrev pub BeginsWith : List ℕ → Option ℕ → List ℕ → Type 0
-BeginsWith text (Some arc) rest = BeginsWithArc text arc rest
-BeginsWith text None rest = (field : List ℕ) × (fields_of text ≡ field ∷ fields_of rest) × ((arc : ℕ) → IsArcNumber field arc → ⊥)
+BeginsWithArc text arc rest = (field : List ℕ) × (fields_of text ≡ field ∷ fields_of rest) × (arc ≡ arc_of field)
 
 -- What a fault of reading says, where bad lines are said to be so. Want of memory says nothing.
 abbrev pub IsWrong : (ℕ → Type 0) → CheckFault → Type 0

@@ -31,7 +31,7 @@ fn check_problem<T: TravelTimes>(
     let todo = Open::reserve(alloc, network.nodes())?;
     let links = find_links(network, times, query.sources(), reported.table(), todo);
     let ordered = ordered_sources(alloc, query.sources())?;
-    judge(network, times, query, &ordered, reported, &links)
+    judge(alloc, network, times, query, &ordered, reported, &links)
 }
 
 /// The first fault of the problems read so far, this one the last of them.

@@ -1,11 +1,13 @@
 //! The checker of reports: whether a report is right, and if not, its first fault.
 #![tactic(auto)]
 
+mod arcs;
 mod canonical;
 mod checking;
 mod fault;
 pub mod laws;
 mod line;
+mod numbers;
 mod problem;
 mod reported;
 mod says;

@@ -1,13 +1,13 @@
 //! The lines of a problem.
-ghost use Rattle.std.specs.Prelude.{◌≡◌, ◌+◌, ◌≤◌, ◌<◌, ◌^◌, ◌++◌, ◌∷◌, [], ℕ, IfOk, List, MatchResult, OnOk, length};
+ghost use Rattle.std.specs.Prelude.{◌≡◌, ◌+◌, ◌≤◌, ◌<◌, ◌^◌, ◌++◌, ◌∷◌, [], IfOk, MatchResult, OnOk, length};
 ghost use Rattle.ea_check.specs.declared.fault.CheckFault.TheVariants.{OutOfMemory};
 ghost use Rattle.ea_check.specs.Reads.{IsWrong, NodeWrong, NodesWrong, ProblemWrong, ReadsNode, ReadsNodes, ReadsProblem, ReadsSources, ReadsWalk, SourcesWrong, WalkWrong, ahead};
-ghost use Rattle.ea_check.specs.Views.{IsIn, said_of, walk_of};
+ghost use Rattle.ea_check.specs.Views.{said_of, walk_of};
 
 use crate::fault::CheckFault;
 use crate::line::{Ahead, look_ahead};
 use crate::reported::{Reported, SaidLine, WalkLine};
-use crate::says::{is_walk_line, push_walk, says_source, time_said};
+use crate::says::{is_walk_line, says_source, says_walk, time_said};
 use ea_road::{NONE, Source};
 use std::alloc::Global;
 
@@ -32,18 +32,15 @@ fn read_sources<'a>(lines: Ahead<'a>, sources: &[Source]) -> Result<Ahead<'a>, C
     Ok(next)
 }
 
-/// Reads a node's `w` line, where such a line comes next, and puts its arcs behind those of the other walks.
+/// Reads a node's `w` line, where such a line comes next.
 fn read_walk<'a>(
     lines: Ahead<'a>,
     node: u32,
-    arcs: &mut Vec<u32>,
-) -> Result<(Option<WalkLine>, Ahead<'a>), CheckFault>
+) -> Result<(Option<WalkLine<'a>>, Ahead<'a>), CheckFault>
     requires { lines.lines + length lines.rest.now < 2 ^ 64 }
     ensures read { MatchResult result
-        (λ read. ReadsWalk node (walk_of arcs.new.items read.0) (ahead lines.entry) (ahead read.1))
+        (λ read. ReadsWalk node (walk_of read.0) (ahead lines.entry) (ahead read.1))
         (IsWrong (WalkWrong node (ahead lines.entry))) }
-    ensures within { IfOk result (λ read. IsIn read.0 (length arcs.new.items)) }
-    ensures kept { OnOk result ((more : List ℕ) × (arcs.new.items ≡ arcs.old.items ++ more)) }
     ensures few { IfOk result (λ read. read.1.lines + length read.1.rest.now ≤ lines.entry.lines + length lines.entry.rest.now) }
 {
     let Some(line) = lines.line else {
@@ -52,30 +49,22 @@ fn read_walk<'a>(
     if !is_walk_line(line.text) {
         return Ok((None, lines));
     }
-    let from = arcs.len();
-    if !push_walk(line.text, node, arcs)? {
+    let Some(arcs) = says_walk(line.text, node) else {
         return Err(CheckFault::BadLine(line.number));
-    }
+    };
     let walk = WalkLine {
         line: line.number,
-        from,
-        to: arcs.len(),
+        arcs,
     };
     Ok((Some(walk), look_ahead(lines.rest, lines.lines)))
 }
 
-/// Reads the lines of a node, and puts the arcs of its walk behind those of the other walks.
-fn read_node<'a>(
-    lines: Ahead<'a>,
-    node: u32,
-    arcs: &mut Vec<u32>,
-) -> Result<(SaidLine, Ahead<'a>), CheckFault>
+/// Reads the lines of a node.
+fn read_node<'a>(lines: Ahead<'a>, node: u32) -> Result<(SaidLine<'a>, Ahead<'a>), CheckFault>
     requires { lines.lines + length lines.rest.now < 2 ^ 64 }
     ensures read { MatchResult result
-        (λ read. ReadsNode node (said_of arcs.new.items read.0) (ahead lines.entry) (ahead read.1))
+        (λ read. ReadsNode node (said_of read.0) (ahead lines.entry) (ahead read.1))
         (IsWrong (NodeWrong node (ahead lines.entry))) }
-    ensures within { IfOk result (λ read. IsIn read.0.walk (length arcs.new.items)) }
-    ensures kept { OnOk result ((more : List ℕ) × (arcs.new.items ≡ arcs.old.items ++ more)) }
     ensures few { IfOk result (λ read. read.1.lines + length read.1.rest.now ≤ lines.entry.lines + length lines.entry.rest.now) }
 {
     let Some(line) = lines.line else {
@@ -93,15 +82,19 @@ fn read_node<'a>(
     if time == NONE {
         return Ok((said, next));
     }
-    let (walk, rest) = read_walk(next, node, arcs)?;
+    let (walk, rest) = read_walk(next, node)?;
     said.walk = walk;
     Ok((said, rest))
 }
 
 /// Keeps what is said of a node, and its time once more.
-fn keep(said: &mut Vec<SaidLine>, table: &mut Vec<u64>, line: SaidLine) -> Result<(), CheckFault>
-    ensures kept { OnOk result (said.new.items ≡ said.old.items ++ line ∷ []) }
-    ensures time { OnOk result (table.new.items ≡ table.old.items ++ line.time ∷ []) }
+fn keep<'a>(
+    said: &mut Vec<SaidLine<'a>>,
+    table: &mut Vec<u64>,
+    line: SaidLine<'a>,
+) -> Result<(), CheckFault>
+    ensures kept { OnOk result (said.new.items ≡ said.old.items ++ line.entry ∷ []) }
+    ensures time { OnOk result (table.new.items ≡ table.old.items ++ line.entry.time ∷ []) }
     ensures refused { MatchResult result (λ _. Unit {0}) (λ fault. fault ≡ OutOfMemory) }
 {
     said.push(line)?;
@@ -114,7 +107,7 @@ fn read_nodes<'a>(
     alloc: Global,
     nodes: u32,
     lines: Ahead<'a>,
-) -> Result<(Reported, Ahead<'a>), CheckFault>
+) -> Result<(Reported<'a>, Ahead<'a>), CheckFault>
     requires few { lines.lines + length lines.rest.now < 2 ^ 64 }
     requires nodes { nodes + 1 < 2 ^ 32 }
     ensures read { MatchResult result
@@ -124,14 +117,13 @@ fn read_nodes<'a>(
 {
     let mut said = Vec::with_capacity(alloc, nodes as usize)?;
     let mut table = Vec::with_capacity(alloc, nodes as usize)?;
-    let mut arcs = Vec::new(alloc);
     let mut next = lines;
     for node in 1..nodes + 1 {
-        let (line, rest) = read_node(next, node, &mut arcs)?;
+        let (line, rest) = read_node(next, node)?;
         keep(&mut said, &mut table, line)?;
         next = rest;
     }
-    Ok((Reported::of(said, table, arcs), next))
+    Ok((Reported::of(said, table), next))
 }
 
 /// Reads the lines of a problem.
@@ -140,7 +132,7 @@ pub(crate) fn read_problem<'a>(
     nodes: u32,
     sources: &[Source],
     lines: Ahead<'a>,
-) -> Result<(Reported, Ahead<'a>), CheckFault>
+) -> Result<(Reported<'a>, Ahead<'a>), CheckFault>
     requires few { lines.lines + length lines.rest.now < 2 ^ 64 }
     requires nodes { nodes + 1 < 2 ^ 32 }
     ensures read { MatchResult result

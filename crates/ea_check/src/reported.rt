@@ -1,56 +1,55 @@
 //! What a report says of one problem.
-ghost use Rattle.std.specs.Prelude.{◌≡◌, ◌<◌, ◌≤◌, ◌-◌, length, map, MatchOption, None, Some, slice_range};
+ghost use Rattle.std.specs.Prelude.{◌≡◌, length, map, MatchOption, None, Some};
 ghost use Rattle.ea_road.specs.Roads.{IsNode};
+ghost use Rattle.ea_text.specs.Text.{fields_of};
+ghost use Rattle.ea_check.specs.Form.{arcs_of};
 ghost use Rattle.ea_check.specs.Verdicts.{IsSaid, Said, reported_time, times_of};
 ghost use Rattle.ea_check.specs.Views.{IsKept, said_of};
 
 use std::marker::Model;
 
-/// Where a walk's arcs lie in the list of all walks' arcs, and the number of its line.
-#[derive(Clone, Copy, Debug, PartialEq, Eq)]
-pub(crate) struct WalkLine {
+/// The text of a walk's arcs, and the number of its line.
+#[derive(Clone, Copy)]
+pub(crate) struct WalkLine<'a> {
     pub line: u64,
-    pub from: usize,
-    pub to: usize,
+    pub arcs: &'a [u8],
 }
 
 /// A node's `d` line and its `w` line.
-#[derive(Clone, Copy, Debug, PartialEq, Eq)]
-pub(crate) struct SaidLine {
+#[derive(Clone, Copy)]
+pub(crate) struct SaidLine<'a> {
     pub line: u64,
     pub time: u64,
-    pub walk: Option<WalkLine>,
+    pub walk: Option<WalkLine<'a>>,
 }
 
 /// What a report says of the nodes of one problem, in their order. Contracts see it as the list of what is said.
 #[derive(Drop)]
-pub(crate) struct Reported {
-    said: Vec<SaidLine>,
+pub(crate) struct Reported<'a> {
+    said: Vec<SaidLine<'a>>,
     /// The times once more, side by side.
     table: Vec<u64>,
-    /// The arcs of all walks, one walk after another.
-    arcs: Vec<u32>,
 }
 
-impl Model for Reported {
+impl<'a> Model for Reported<'a> {
     ghost use Rattle.std.specs.Prelude.{List, map};
     ghost use Rattle.ea_check.specs.Verdicts.{Said};
     ghost use Rattle.ea_check.specs.Views.{IsKept, said_of};
 
     ghost Value = { List Said };
 
-    ghost view = { λ r. map (said_of r.arcs.items) r.said.items };
+    ghost view = { λ r. map said_of r.said.items };
 
-    ghost invariant = { λ r. IsKept r.said.items r.table.items r.arcs.items };
+    ghost invariant = { λ r. IsKept r.said.items r.table.items };
 }
 
-impl Reported {
+impl<'a> Reported<'a> {
     /// What lines that were read say.
-    pub(crate) fn of(said: Vec<SaidLine>, table: Vec<u64>, arcs: Vec<u32>) -> Reported
-        requires { IsKept said.items table.items arcs.items }
-        ensures { result ≡ map (said_of arcs.items) said.items }
+    pub(crate) fn of(said: Vec<SaidLine<'a>>, table: Vec<u64>) -> Reported<'a>
+        requires { IsKept said.items table.items }
+        ensures { result ≡ map said_of said.entry.items }
     {
-        Reported { said, table, arcs }
+        Reported { said, table }
     }
 
     /// The times of all nodes, NONE where nothing arrives.
@@ -76,25 +75,16 @@ impl Reported {
         self.said[node as usize - 1].line
     }
 
-    /// The number of a node's `w` line and the arcs that it writes, where it has one.
-    pub(crate) fn walk(&self, node: u32) -> Option<(u64, &[u32])>
+    /// The number of a node's `w` line and the text of its arcs, where it has one.
+    pub(crate) fn walk(&self, node: u32) -> Option<(u64, &'a [u8])>
         requires { IsNode (length self.now) node }
         ensures { MatchOption result
             ((said : Said) → IsSaid self.now node said → said.walk ≡ None)
-            (λ walk. (said : Said) → IsSaid self.now node said → said.walk ≡ Some (record { line = walk.0; arcs = walk.1.now })) }
+            (λ walk. (said : Said) → IsSaid self.now node said → said.walk ≡ Some (record { line = walk.0; arcs = arcs_of (fields_of walk.1.now) })) }
     {
         let Some(walk) = self.said[node as usize - 1].walk else {
             return None;
         };
-        Some((walk.line, arcs_of(&self.arcs, walk)))
+        Some((walk.line, walk.arcs))
     }
-}
-
-/// The arcs of a walk.
-fn arcs_of(arcs: &[u32], walk: WalkLine) -> &[u32]
-    requires ordered { walk.from ≤ walk.to }
-    requires inside { walk.to ≤ length arcs.now }
-    ensures { result.now ≡ slice_range arcs.now walk.from walk.to }
-{
-    &arcs[walk.from..walk.to]
 }

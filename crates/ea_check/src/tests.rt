@@ -205,6 +205,124 @@ fn odd_reports(rt: HostRuntime) -> Result<(), Fail> {
     Ok(())
 }
 
+/// What the checker says of a report with this `w` line of node 4, its line 6: `2 3 4` is right, `1 4` attains the time.
+fn of_walk(alloc: Global, line: &[u8]) -> Result<Result<(), CheckFault>, Fail> {
+    let rows = [(1, 2, 4, 0), (1, 3, 1, 0), (3, 2, 1, 0), (2, 4, 5, 1)];
+    let mut report = b"s 1 1\nd 1 1\nd 2 3\nd 3 2\nd 4 15\n".to_vec(alloc)?;
+    report.extend_from_slice(line)?;
+    report.push(b'\n')?;
+    verdict(alloc, 4, &rows, &[&[(1, 1)]], &report)
+}
+
+#[test]
+fn odd_walks(rt: HostRuntime) -> Result<(), Fail> {
+    let right: [&[u8]; 6] = [
+        b"w 4 3 2 3 4",
+        b"w\t4\t3\t2\t3\t4\t",
+        b"  w  4 3   2 \t 3  4  ",
+        b"w 04 003 02 0003 4",
+        b"w 4 3 2 000000000000000000000000000003 4",
+        b"w 4 3 2 3 4\r",
+    ];
+    let other: [&[u8]; 6] = [
+        b"w 4 2 1 4",
+        b"w\t4\t2\t1\t4\t",
+        b"  w  4 2   1 \t 4  ",
+        b"w 04 002 01 0004",
+        b"w 4 2 1 000000000000000000000000000004",
+        b"w 4 2 1 4\r",
+    ];
+    for (line, also) in right.iter().zip(other.iter()) {
+        assert_eq!(rt; of_walk(rt.alloc(), line)?, Ok(()));
+        assert_eq!(rt; of_walk(rt.alloc(), also)?, Err(NotCanonical(6)));
+    }
+    let astray: [&[u8]; 10] = [
+        // Numbers of 30 digits and of more than 32 bits, one of them 2^32 + 4, are no arcs.
+        b"w 4 3 2 3 400000000000000000000000000000",
+        b"w 4 2 1 400000000000000000000000000000",
+        b"w 4 3 2 3 4294967300",
+        b"w 4 2 1 4294967300",
+        b"w 4 3 2 3 5",
+        b"w 4 3 0 3 4",
+        b"w 4 1 4",
+        b"w 4 4 2 3 4 4",
+        b"w 4 0",
+        b"w 4 0 \t ",
+    ];
+    for line in astray {
+        assert_eq!(rt; of_walk(rt.alloc(), line)?, Err(NotAttained(6)));
+    }
+    let bad: [&[u8]; 14] = [
+        // A letter, a sign, a carriage return in the midst or twice, and another count.
+        b"w 4 3 2 3 4a",
+        b"w 4 2 1 4a",
+        b"w 4 3 2 x 4",
+        b"w 4 2 x 4",
+        b"w 4 3 2 -3 4",
+        b"w 4 2 -1 4",
+        b"w 4 3 2 +3 4",
+        b"w 4 3 2\r3 4",
+        b"w 4 3 2 3 4\r\r",
+        b"w 4 2 1 4\r\r",
+        b"w 4 2 2 3 4",
+        b"w 4 4 2 3 4",
+        b"w 4 3 1 4",
+        b"w 4 -3 2 3 4",
+    ];
+    for line in bad {
+        assert_eq!(rt; of_walk(rt.alloc(), line)?, Err(BadLine(6)));
+    }
+    Ok(())
+}
+
+#[test]
+fn empty_walks(rt: HostRuntime) -> Result<(), Fail> {
+    let cases: [(&[u8], Result<(), CheckFault>); 5] = [
+        (b"s 1 0\nd 1 0\nw 1 0 \t \nd 2 3\n", Ok(())),
+        (b"s 1 0\nd 1 0\nw 1 00\t\r\nd 2 3\n", Ok(())),
+        (b"s 1 0\nd 1 0\nw 1 0 0\nd 2 3\n", Err(BadLine(3))),
+        (b"s 1 0\nd 1 0\nw 1 1 0\nd 2 3\n", Err(NotAttained(3))),
+        (b"s 1 0\nd 1 0\nw 1 0\nd 2 3\nw 2 0 \n", Err(NotAttained(5))),
+    ];
+    for (report, wanted) in cases {
+        assert_eq!(rt;
+            verdict(rt.alloc(), 2, &[(1, 2, 3, 0)], &[&[(1, 0)]], report)?,
+            wanted
+        );
+    }
+    Ok(())
+}
+
+/// A line with so many copies of a byte before its end.
+fn padded(alloc: Global, front: &[u8], byte: u8, count: u64, end: &[u8]) -> Result<Vec<u8>, Fail> {
+    let mut line = front.to_vec(alloc)?;
+    for _ in 0..count {
+        line.push(byte)?;
+    }
+    line.extend_from_slice(end)?;
+    Ok(line)
+}
+
+#[test]
+fn long_walk_lines(rt: HostRuntime) -> Result<(), Fail> {
+    // Numbers and blanks that go over the ends of the pieces that are counted together.
+    for count in 225..250 {
+        let right = padded(rt.alloc(), b"w 4 3 2 ", b' ', count, b"003 4")?;
+        assert_eq!(rt; of_walk(rt.alloc(), &right)?, Ok(()));
+        let digits = padded(rt.alloc(), b"w 4 3 2 ", b'0', count, b"3 4")?;
+        assert_eq!(rt; of_walk(rt.alloc(), &digits)?, Ok(()));
+        let other = padded(rt.alloc(), b"w 4 2 1 ", b'0', count, b"4")?;
+        assert_eq!(rt; of_walk(rt.alloc(), &other)?, Err(NotCanonical(6)));
+        let letter = padded(rt.alloc(), b"w 4 3 2 x", b' ', count, b"3 4")?;
+        assert_eq!(rt; of_walk(rt.alloc(), &letter)?, Err(BadLine(6)));
+        let last = padded(rt.alloc(), b"w 4 3 2 ", b' ', count, b"3 4x")?;
+        assert_eq!(rt; of_walk(rt.alloc(), &last)?, Err(BadLine(6)));
+        let counted = padded(rt.alloc(), b"w 4 4 2 ", b' ', count, b"3 4")?;
+        assert_eq!(rt; of_walk(rt.alloc(), &counted)?, Err(BadLine(6)));
+    }
+    Ok(())
+}
+
 #[test]
 fn several_sources(rt: HostRuntime) -> Result<(), Fail> {
     let alloc = rt.alloc();
@@ -272,8 +390,18 @@ fn several_sources(rt: HostRuntime) -> Result<(), Fail> {
 fn faults_in_their_order(rt: HostRuntime) -> Result<(), Fail> {
     // A cycle of time 0 is no level; a walk that is another canonical one; a time that is improved.
     let rows = [(1, 2, 4, 0), (2, 3, 0, 0), (3, 2, 0, 0), (1, 3, 4, 0)];
-    let cases: [(&[u8], Result<(), CheckFault>); 5] = [
+    let cases: [(&[u8], Result<(), CheckFault>); 7] = [
         (b"s 1 0\nd 1 0\nd 2 4\nw 2 1 1\nd 3 4\nw 3 1 4\n", Ok(())),
+        // A later line that is not attained comes before a walk that is not canonical.
+        (
+            b"s 1 0\nd 1 0\nd 2 4\nw 2 3 1 2 3\nd 3 4\nw 3 1 1\n",
+            Err(NotAttained(6)),
+        ),
+        // A right walk that is written oddly, and another one behind it.
+        (
+            b"s 1 0\nd 1 0\nd 2 4\nw 2 1 01\nd 3 4\nw 3 2 1 2\n",
+            Err(NotCanonical(6)),
+        ),
         (b"s 1 0\nd 1 0\nd 2 3\nd 3 3\n", Err(NotAttained(3))),
         (
             b"s 1 0\nd 1 0\nd 2 4\nw 2 3 1 2 3\nd 3 4\nw 3 2 1 2\n",

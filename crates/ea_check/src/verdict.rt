@@ -1,22 +1,24 @@
 //! What is wrong with a report of one problem whose form is right.
-ghost use Rattle.std.specs.Prelude.{◌≡◌, ◌≤◌, ◌<◌, ◌⊎◌, ℕ, MatchOption, length};
+ghost use Rattle.std.specs.Prelude.{◌≡◌, ◌≤◌, ◌<◌, ◌⊎◌, ℕ, MatchOption, OnOk, length};
 ghost use Rattle.std.specs.List.{IsAmong};
 ghost use Rattle.ea_road.specs.declared.TheConstants.{HORIZON};
 ghost use Rattle.ea_road.specs.declared.arc.Arc.{Arc};
 ghost use Rattle.ea_road.specs.Roads.{IsArc, IsNode};
 ghost use Rattle.ea_finish.specs.Links.{AreLinks};
 ghost use Rattle.ea_check.specs.Starts.{AreOrdered};
-ghost use Rattle.ea_check.specs.Verdicts.{AreAttained, AreCanonical, AreUnimproved, Improves, IsAttained, IsCanonicalAt, IsFirst, IsNotAttained, IsNotCanonical, IsNotLeast, IsReported, IsTask, IsVerdict, IsWellFormed, reported_time};
+ghost use Rattle.ea_check.specs.Nodes.{IsFirstOther, IsOtherAt};
+ghost use Rattle.ea_check.specs.Verdicts.{AreUnimproved, Improves, IsFirst, IsNotLeast, IsReported, IsTask, IsVerdict, IsWellFormed, reported_time};
 
-use crate::canonical::is_linked_walk;
+use crate::canonical::Comparing;
 use crate::fault::CheckFault;
 use crate::reported::Reported;
 use crate::starts::attains;
 use ea_finish::{Link, NO_LEVEL};
 use ea_road::{HORIZON, NONE, Network, Query, Source, TravelTimes};
+use std::alloc::Global;
 
-/// The first of a node's lines that is not attained.
-fn not_attained_at<T: TravelTimes>(
+/// A node's `w` line that is not the canonical walk, where the node's lines are attained. Else the first that is not.
+fn other_at<T: TravelTimes>(
     network: &Network,
     times: &T,
     query: &Query,
@@ -24,113 +26,62 @@ fn not_attained_at<T: TravelTimes>(
     reported: &Reported,
     links: &[Link],
     node: u32,
-) -> Option<u64>
+    walks: &mut Comparing,
+) -> Result<Option<u64>, CheckFault>
     requires task { IsTask network.now (T.classes times.now) query.now.sources }
     requires ordered { AreOrdered query.now.sources ordered.now }
     requires formed { IsWellFormed network.now.nodes reported.now }
     requires links { AreLinks network.now (T.answers times.now) query.now.sources (IsReported reported.now) links.now }
     requires node { IsNode network.now.nodes node }
-    ensures { MatchOption result
-        (IsAttained network.now (T.answers times.now) query.now.sources reported.now node)
-        (λ line. IsNotAttained network.now (T.answers times.now) query.now.sources reported.now node line
-        × ((next : ℕ) → IsNotAttained network.now (T.answers times.now) query.now.sources reported.now node next → line ≤ next)) }
+    requires walks { walks.old.texts.links ≡ links.now }
+    ensures other { IsOtherAt network.now (T.answers times.now) query.now.sources reported.now node result }
+    ensures walks { OnOk result (walks.new.texts.links ≡ links.now) }
 {
     let time = reported.time(node);
     if time == NONE {
-        return None;
+        return Ok(None);
     }
     if links[node as usize - 1].level == NO_LEVEL {
-        return Some(reported.line(node));
+        return Err(CheckFault::NotAttained(reported.line(node)));
     }
-    let Some((line, arcs)) = reported.walk(node) else {
-        return None;
+    let Some((line, text)) = reported.walk(node) else {
+        return Ok(None);
     };
-    if is_linked_walk(links, node, arcs) {
-        return None;
+    if walks.is_canonical(links, node, text)? {
+        return Ok(None);
     }
-    if attains(network, times, query, ordered, node, time, arcs) {
-        None
+    if attains(network, times, query, ordered, node, time, &walks.arcs) {
+        Ok(Some(line))
     } else {
-        Some(line)
+        Err(CheckFault::NotAttained(line))
     }
 }
 
-/// The first line that is not attained.
-fn first_not_attained<T: TravelTimes>(
+/// The first `w` line that is not the canonical walk, where all lines are attained. Else the first that is not.
+fn first_other<T: TravelTimes>(
+    alloc: Global,
     network: &Network,
     times: &T,
     query: &Query,
     ordered: &[Source],
     reported: &Reported,
     links: &[Link],
-) -> Option<u64>
+) -> Result<Option<u64>, CheckFault>
     requires task { IsTask network.now (T.classes times.now) query.now.sources }
     requires ordered { AreOrdered query.now.sources ordered.now }
     requires formed { IsWellFormed network.now.nodes reported.now }
     requires links { AreLinks network.now (T.answers times.now) query.now.sources (IsReported reported.now) links.now }
-    ensures { MatchOption result
-        (AreAttained network.now (T.answers times.now) query.now.sources reported.now)
-        (λ line. IsFirst (IsNotAttained network.now (T.answers times.now) query.now.sources reported.now) line) }
+    ensures { IsFirstOther network.now (T.answers times.now) query.now.sources reported.now result }
 {
+    let mut walks = Comparing::new(alloc, links);
+    let mut first = None;
     for node in 1..network.nodes() + 1 {
-        if let Some(line) = not_attained_at(network, times, query, ordered, reported, links, node) {
-            return Some(line);
-        }
+        let other = other_at(
+            network, times, query, ordered, reported, links, node, &mut walks,
+        )?;
+        first = first.or(other);
     }
-    None
-}
-
-/// A node's `w` line, where it is not the canonical walk.
-fn not_canonical_at<T: TravelTimes>(
-    network: &Network,
-    times: &T,
-    query: &Query,
-    reported: &Reported,
-    links: &[Link],
-    node: u32,
-) -> Option<u64>
-    requires task { IsTask network.now (T.classes times.now) query.now.sources }
-    requires formed { IsWellFormed network.now.nodes reported.now }
-    requires links { AreLinks network.now (T.answers times.now) query.now.sources (IsReported reported.now) links.now }
-    requires attained { IsAttained network.now (T.answers times.now) query.now.sources reported.now node }
-    requires node { IsNode network.now.nodes node }
-    ensures { MatchOption result
-        (IsCanonicalAt network.now (T.answers times.now) query.now.sources reported.now node)
-        (λ line. IsNotCanonical network.now (T.answers times.now) query.now.sources reported.now node line
-        × ((next : ℕ) → IsNotCanonical network.now (T.answers times.now) query.now.sources reported.now node next → line ≤ next)) }
-{
-    let Some((line, arcs)) = reported.walk(node) else {
-        return None;
-    };
-    if is_linked_walk(links, node, arcs) {
-        None
-    } else {
-        Some(line)
-    }
-}
-
-/// The first line that is not the canonical walk, where all lines are attained.
-fn first_not_canonical<T: TravelTimes>(
-    network: &Network,
-    times: &T,
-    query: &Query,
-    reported: &Reported,
-    links: &[Link],
-) -> Option<u64>
-    requires task { IsTask network.now (T.classes times.now) query.now.sources }
-    requires formed { IsWellFormed network.now.nodes reported.now }
-    requires links { AreLinks network.now (T.answers times.now) query.now.sources (IsReported reported.now) links.now }
-    requires attained { AreAttained network.now (T.answers times.now) query.now.sources reported.now }
-    ensures { MatchOption result
-        (AreCanonical network.now (T.answers times.now) query.now.sources reported.now)
-        (λ line. IsFirst (IsNotCanonical network.now (T.answers times.now) query.now.sources reported.now) line) }
-{
-    for node in 1..network.nodes() + 1 {
-        if let Some(line) = not_canonical_at(network, times, query, reported, links, node) {
-            return Some(line);
-        }
-    }
-    None
+    Ok(first)
 }
 
 /// The lower of a node and the head of an arc, where that arc improves the head's reported time.
@@ -264,6 +215,7 @@ fn first_not_least<T: TravelTimes>(
 
 /// What is wrong with a report of one problem, by the links of its reported times.
 pub(crate) fn judge<T: TravelTimes>(
+    alloc: Global,
     network: &Network,
     times: &T,
     query: &Query,
@@ -277,10 +229,7 @@ pub(crate) fn judge<T: TravelTimes>(
     requires links { AreLinks network.now (T.answers times.now) query.now.sources (IsReported reported.now) links.now }
     ensures { IsVerdict network.now (T.answers times.now) query.now.sources reported.now result }
 {
-    if let Some(line) = first_not_attained(network, times, query, ordered, reported, links) {
-        return Err(CheckFault::NotAttained(line));
-    }
-    if let Some(line) = first_not_canonical(network, times, query, reported, links) {
+    if let Some(line) = first_other(alloc, network, times, query, ordered, reported, links)? {
         return Err(CheckFault::NotCanonical(line));
     }
     match first_not_least(network, times, query, reported) {

@@ -4,7 +4,7 @@ use Rattle.ea_road.specs.Roads.{IsNode}
 use Rattle.ea_finish.specs.declared.link.Link.{Link}
 use Rattle.ea_finish.specs.Links.{link, walk_along}
 use Rattle.ea_finish.proofs.Linkings.{link_read}
-use Rattle.ea_check.proofs.Backwards.{linked_length, starts, goes_back, refuses, ends}
+use Rattle.ea_check.proofs.Backwards.{as_many, starts, goes_back, refuses, ends}
 use Rattle.ea_check.proofs.canonical.is_linked_walk.Goals as goal
 
 read : (links : List Link) (node : ℕ) → IsNode (length links) node → get_or links (node - 1) (record { level = 0; arc = 0; from = 0 }) ≡ link links node
@@ -14,7 +14,7 @@ pub returns-then-arcs-links : goal.returns-then-arcs-links
 returns-then-arcs-links c =
     let level = ap (λ (l : Link). l.level) (read c.args.links.now c.args.node c.requires.node) in (
       λ no. absurd (false≢true no),
-      λ same. absurd (c.if-arcs-links.true (linked_length c.args.links.now c.args.node c.args.arcs.now same ∙ sym level)),
+      λ same. absurd (c.if-arcs-links.true (as_many c.args.links.now c.args.node c.args.arcs.now same ∙ sym level)),
     )
 
 pub back-init : goal.back-init

@@ -21,4 +21,4 @@ returns-in_err-walk-clause-read c =
 
 pub returns-clause-read : goal.returns-clause-read
 returns-clause-read c =
-    node_read c.args.node c.args.lines.line _ c.in-Some.line c.in-Some.is c.in-Some-time_said.time c.in-Some-time_said.ensures (walk_of c.read_walk.new.arcs.items c.in_ok-walk.walk) (ahead c.look_ahead-next.result) (ahead c.in_ok-walk.rest) c.if-time.false c.look_ahead-next.ensures.lines c.in_ok-walk.ensures.read
+    node_read c.args.node c.args.lines.line _ c.in-Some.line c.in-Some.is c.in-Some-time_said.time c.in-Some-time_said.ensures (walk_of c.in_ok-walk.walk) (ahead c.look_ahead-next.result) (ahead c.in_ok-walk.rest) c.if-time.false c.look_ahead-next.ensures.lines c.in_ok-walk.ensures.read

@@ -15,19 +15,18 @@ pub loop-node-preserved : goal.loop-node-preserved
 loop-node-preserved c =
     let read = c.in_ok-line.ensures in
     let inv = c.loop-node.invariant in
-    let old = c.loop-node.arcs.items in
-    let new = c.read_node.new.arcs.items in
     let lines = c.loop-node.said.items in
     let kept = c.keep.new.said.items in
+    let pushed = c.in_ok-keep.ensures.kept in
     record {
-      reads = reads_more old new read.kept.0 lines kept c.loop-node.table.items c.keep.new.table.items c.in_ok-line.line read.kept.1 c.in_ok-keep.ensures.kept read.within inv.kept c.loop-node.node (ahead c.loop-node.next) (ahead c.in_ok-line.rest) (ahead c.args.lines) read.read inv.reads;
+      reads = reads_more lines kept c.in_ok-line.line pushed c.loop-node.node (ahead c.loop-node.next) (ahead c.in_ok-line.rest) (ahead c.args.lines) read.read inv.reads;
       wrong = wrong_behind c.loop-node.node c.args.nodes (ahead c.loop-node.next) (ahead c.args.lines) inv.wrong read.read;
-      kept = kept_more old new read.kept.0 lines kept c.loop-node.table.items c.keep.new.table.items c.in_ok-line.line read.kept.1 c.in_ok-keep.ensures.kept read.within inv.kept c.in_ok-keep.ensures.time;
-      each_node = omega (arith, ap (λ (xs : List SaidLine). length xs) c.in_ok-keep.ensures.kept, length-append lines (c.in_ok-line.line ∷ []), inv.each_node);
+      kept = kept_more lines kept c.in_ok-line.line pushed c.loop-node.table.items c.keep.new.table.items inv.kept c.in_ok-keep.ensures.time;
+      each_node = omega (arith, ap (λ (xs : List SaidLine). length xs) pushed, length-append lines (c.in_ok-line.line ∷ []), inv.each_node);
       few = omega (arith, read.few, inv.few);
     }
 
 pub returns-clause-read : goal.returns-clause-read
 returns-clause-read c =
-    let reads = all_read c.loop-node.arcs.items c.loop-node.said.items c.loop-node.node (ahead c.loop-node.next) (ahead c.args.lines) c.loop-node.invariant.reads in
-    (rw c.of.ensures reads, rw c.of.ensures (said_length c.loop-node.arcs.items c.loop-node.said.items ∙ omega (arith, c.loop-node.invariant.each_node, c.loop-node-test.false, c.loop-node.auto.node-end)))
+    let reads = all_read c.loop-node.said.items c.loop-node.node (ahead c.loop-node.next) (ahead c.args.lines) c.loop-node.invariant.reads in
+    (rw c.of.ensures reads, rw c.of.ensures (said_length c.loop-node.said.items ∙ omega (arith, c.loop-node.invariant.each_node, c.loop-node-test.false, c.loop-node.auto.node-end)))

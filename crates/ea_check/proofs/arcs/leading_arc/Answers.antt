@@ -2,7 +2,7 @@ use Rattle.std.proofs.Common.{arith}
 use Rattle.std.proofs.Math.Numerals.{add-one}
 use Rattle.ea_text.proofs.Numbers.{digits_so_far, value_more_exactly}
 use Rattle.ea_check.proofs.Leading.{begins_with}
-use Rattle.ea_check.proofs.says.leading_arc.Goals as goal
+use Rattle.ea_check.proofs.arcs.leading_arc.Goals as goal
 
 pub returns-then-not-is_ascii_digit-clause-first : goal.returns-then-not-is_ascii_digit-clause-first
 returns-then-not-is_ascii_digit-clause-first c =
