@@ -6,6 +6,8 @@ mod constant;
 #[cfg(test)]
 mod counted;
 #[cfg(test)]
+mod gated;
+#[cfg(test)]
 mod given;
 #[cfg(test)]
 mod left;
