@@ -81,7 +81,8 @@ pub fn seed<K: Known, P: TravelTimes>(
     }
 }
 
-/// Offers all sources, with the words 0, 1, 2, .. in turn.
+/// Offers all sources in their order. The entries of those whose labels are lowered are pushed with the words 0, 1, 2, ..
+/// in turn.
 pub fn seed_all<K: Known, P: TravelTimes>(
     network: &Network,
     profiles: &P,
@@ -114,6 +115,8 @@ pub fn seed_all<K: Known, P: TravelTimes>(
     let mut returned = 0u128;
     let sources = query.sources();
     for place in 0..sources.len() {
+        // So many pushes were tried.
+        let word = (seeded + returned) as u64;
         match seed(
             network,
             profiles,
@@ -123,7 +126,7 @@ pub fn seed_all<K: Known, P: TravelTimes>(
             label_seat,
             pool_seat,
             todo,
-            place as u64,
+            word,
             sources[place],
         ) {
             Seeded::Kept => {}
