@@ -1,10 +1,12 @@
-ghost use Rattle.std.specs.Prelude.{◌≡◌, ◌+◌, ◌<◌, ◌≤◌, ◌||◌, if◌then◌else◌};
+ghost use Rattle.std.specs.Prelude.{◌≡◌, ℕ, ◌+◌, ◌<◌, ◌≤◌, ◌||◌, ◌↔◌, if◌then◌else◌};
+ghost use Rattle.ea_road.specs.Arrivals.{Reaches};
+ghost use Rattle.ea_road.specs.Queries.{IsProblem};
 ghost use Rattle.ea_engine.specs.Turns.{is_idle, is_refused, is_leave};
 ghost use Rattle.ea_pool.specs.Seats.{account_of, heaps_of, IsSeatOf};
-ghost use Rattle.ea_engine.specs.Ground.{IsGround};
 ghost use Rattle.ea_engine.specs.Worked.{kit, IsWork};
 
 use crate::counters::Counters;
+use crate::law::times_are_fifo;
 use crate::scan::Means;
 use crate::step::take_turn;
 use crate::turn::{Flow, Hand, Turn, TurnKind};
@@ -76,7 +78,9 @@ pub fn work<K: Known, P: TravelTimes, R: Rng, G: Gate, T: FnMut(Turn) -> Flow>(
     gate: &G,
     mut tracer: T,
 ) -> WorkerEnd<LabelSeat<K>, PoolSeat<K>, R, T>
-    requires ground { IsGround K.is_known labels.now.nodes network.now (P.answers profiles.now) (P.classes profiles.now) query.now.sources query.now.target }
+    requires problem { IsProblem network.now (P.classes profiles.now) query.now }
+    requires places { labels.now.nodes ≡ network.now.nodes }
+    requires names { (node time : ℕ) → K.is_known node time ↔ Reaches network.now (P.answers profiles.now) query.now.sources node time }
     requires label_seat { label_seat.table ≡ labels.now.table }
     requires pool_seat { IsSeatOf pool.now pool_seat }
     requires tracer { T.IsAlwaysCallable tracer }
@@ -88,6 +92,8 @@ pub fn work<K: Known, P: TravelTimes, R: Rng, G: Gate, T: FnMut(Turn) -> Flow>(
         (kit result.label_seat.history (account_of result.pool_seat) (R.stream result.rng))
         budget tracer result.tracer result.counters result.hand }
 {
+    times_are_fifo(profiles);
+    let _ = network.nodes();
     let target = query.target();
     let among_several = pool_seat.shares() < ea_pool::SHARES;
     let mut means = Means {
