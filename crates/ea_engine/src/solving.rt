@@ -208,6 +208,7 @@ pub fn solve_arrivals<
     requires workers { (vec_len rngs ≡ settings.workers) × (vec_len tracers ≡ settings.workers) }
     requires tracers { All T.IsAlwaysCallable tracers.items }
     ensures answer { IfOk result (λ solved. HasArrivals network.now (P.answers profiles.now) query.now solved.answer) }
+    ensures none { IfOk result (λ solved. solved.answer.walks ≡ false) }
     ensures tally { IfOk result (λ solved. IsTally (length query.now.sources) solved.seeded solved.returned solved.drained solved.finish solved.counters.items) }
     ensures lone { IfOk result (λ solved. IsLoneTally (settings.workers * settings.heaps) solved.drained solved.counters.items) }
     ensures reports { IfOk result (λ solved. AreReports R.stream T.step settings.turns rngs.items solved.rngs.items tracers.items solved.tracers.items solved.counters.items) }
