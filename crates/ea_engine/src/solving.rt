@@ -131,6 +131,9 @@ fn run_named<
 /// Each worker has a generator of random words and a tracer that is shown its turns; `gate` is called before each turn.
 /// Whatever the words, the number of workers, their turns, the gate and the tracers: the answer is one thread's.
 ///
+/// Workers share heaps as in MultiQueues (Rihani, Sanders, Dementiev 2015), and correct labels, as Dreyfus appraised it for
+/// travel times that depend on the departure (Operations Research 17, 1969).
+///
 /// Memory is refused only for the arrays, which are all made before the first worker starts; then generators and tracers
 /// are dropped. A thread that can't be started is no fault.
 pub fn solve<

@@ -18,6 +18,7 @@ use std::hint;
 
 /// What is called before each turn. It may wait.
 pub trait Gate: Sync {
+    /// Called once before each turn of each worker. Workers and turns count from 0.
     fn at(&self, worker: u32, turn: u64);
 }
 
@@ -31,11 +32,17 @@ impl Gate for NoGate {
 /// What a worker leaves.
 #[derive(Drop)]
 pub struct WorkerEnd<S, Q, R, T> {
+    /// Its seat of the label table.
     pub label_seat: S,
+    /// Its seat of the pool.
     pub pool_seat: Q,
+    /// The entries that it hands back.
     pub hand: Hand,
+    /// What it counted.
     pub counters: Counters,
+    /// Its generator, two words a turn and one a lowered head later.
     pub rng: R,
+    /// Its tracer, which was shown each turn.
     pub tracer: T,
 }
 
