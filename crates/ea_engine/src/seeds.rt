@@ -62,6 +62,7 @@ pub fn seed<K: Known, P: TravelTimes>(
     ensures pushed { length (account_of pool_seat.new).pushed ≡ length (account_of pool_seat.old).pushed + seeded_by result }
     ensures popped { (account_of pool_seat.new).popped ≡ (account_of pool_seat.old).popped }
     ensures few { length todo.new.waiting ≤ length todo.old.waiting + back_by result }
+    ensures some { 0 < length todo.old.waiting + back_by result → 0 < length todo.new.waiting }
 {
     match labels.offer(label_seat, source.node, source.departure) {
         Offered::Kept(_) => Seeded::Kept,
@@ -108,6 +109,7 @@ pub fn seed_all<K: Known, P: TravelTimes>(
     ensures pushed { length (account_of pool_seat.new).pushed ≡ length (account_of pool_seat.old).pushed + result.seeded }
     ensures popped { (account_of pool_seat.new).popped ≡ (account_of pool_seat.old).popped }
     ensures few { length todo.new.waiting ≤ length todo.old.waiting + result.returned }
+    ensures some { 0 < result.returned → 0 < length todo.new.waiting }
     ensures small { result.seeded + result.returned < 2 ^ 64 }
     ensures counted { result.seeded + result.returned ≤ length query.now.sources }
 {
