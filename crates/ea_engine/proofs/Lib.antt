@@ -11,3 +11,4 @@ pub mod WorkLemmas
 pub mod AccountLemmas
 pub mod Settling
 pub mod JoinLemmas
+pub mod GroundLemmas

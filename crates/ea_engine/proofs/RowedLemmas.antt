@@ -1,7 +1,8 @@
 -- What is gathered of a row, one worker at a time.
-use Rattle.std.proofs.Common.{◌≡◌, ℕ, suc, ◌+◌, ◌<◌, ◌≤◌, ◌^◌, List, [], ◌∷◌, ◌++◌, length, All, refl, sym, ◌∙◌, ap, arith, length-append, subst, Option}
+use Rattle.std.proofs.Common.{◌≡◌, ℕ, zero, suc, ◌+◌, ◌<◌, ◌≤◌, ◌^◌, List, [], ◌∷◌, ◌++◌, map, length, All, refl, sym, ◌∙◌, ap, arith, length-append, subst, Option}
 use Rattle.std.specs.Prelude.{Contains, sum_by}
 use Rattle.std.proofs.lemmas.List.{map-append, append-nil, append_assoc}
+use Rattle.std.proofs.lemmas.List.Folds.{fold-map}
 use Rattle.std.proofs.lemmas.List.Sums.{fold-append}
 use Rattle.std.proofs.lemmas.List.Elements.{All-head}
 use Rattle.ea_road.specs.declared.source.Source.{Source}
@@ -9,6 +10,7 @@ use Rattle.ea_road.specs.Roads.{Roads}
 use Rattle.ea_labels.specs.declared.record.Bound.{Bound}
 use Rattle.ea_labels.specs.declared.record.SeatRecord.{SeatRecord}
 use Rattle.ea_pool.specs.declared.account.Account.{Account}
+use Rattle.ea_engine.specs.declared.counters.Counters.{Counters}
 use Rattle.ea_engine.specs.declared.gathering.Gathering.{Gathering}
 use Rattle.ea_engine.specs.declared.row.Place.{Place}
 use Rattle.ea_engine.specs.declared.row.Place.TheVariants as place
@@ -20,6 +22,9 @@ use Rattle.ea_engine.proofs.BoundLemmas.{IsReachedBy-more}
 
 pub sum_push : {X : Type 0} (f : X → ℕ) (xs : List X) (x : X) → sum_by f (xs ++ x ∷ []) ≡ sum_by f xs + f x
 sum_push {X} f xs x = fold-append (λ (n : ℕ) (y : X). n + f y) 0 xs (x ∷ [])
+
+pub sum_of_ends : {S Q R T : Type 0} (f : Counters → ℕ) (counters : List Counters) (ends : List (WorkerEnd S Q R T)) → counters ≡ map (λ end. end.counters) ends → sum_by f counters ≡ sum_by (λ end. f end.counters) ends
+sum_of_ends {S} {Q} {R} {T} f counters ends is = ap (sum_by f) is ∙ fold-map (λ (n : ℕ) (c : Counters). n + f c) (λ (end : WorkerEnd S Q R T). end.counters) 0 ends
 
 pub all_done-push : {S Q R T : Type 0} (ends : List (WorkerEnd S Q R T)) (end : WorkerEnd S Q R T) → all_done (ends ++ end ∷ []) ≡ all_done ends ++ place.Done end ∷ []
 all_done-push [] end = refl
@@ -37,6 +42,17 @@ all_done-length (e ∷ ends) = ap suc (all_done-length ends)
 pub nothing_after : {X : Type 0} (xs ys : List X) → length ys ≡ 0 → xs ++ ys ≡ xs
 nothing_after xs [] e = append-nil xs
 nothing_after xs (y ∷ ys) e = absurd (omega (arith, e))
+
+-- where more was handed back somebody waits already, or it was handed back just now
+pub waits_or : (waiting before more after : ℕ) → (0 < before → 0 < waiting) → after ≡ before + more → 0 < after → 0 < waiting + more
+waits_or waiting zero more after some is lt = omega (arith, is, lt)
+waits_or waiting (suc before) more after some is lt = omega (arith, some (omega arith))
+
+-- so it is where the first worker's entries are kept, one after the other
+pub waits_first : (waiting between back popped refused after : ℕ) → (0 < back → 0 < waiting) → (0 < waiting + popped → 0 < between) → after ≡ back + (popped + refused) → 0 < after → 0 < between + refused
+waits_first waiting between zero zero refused after some kept is lt = omega (arith, is, lt)
+waits_first waiting between zero (suc popped) refused after some kept is lt = omega (arith, kept (omega arith))
+waits_first waiting between (suc back) popped refused after some kept is lt = omega (arith, kept (omega (arith, some (omega arith))))
 
 -- the first place of a row and those after it
 pub split_first : {S Q R T : Type 0} (row : List (Place S Q R T)) (first end : WorkerEnd S Q R T) (p : Place S Q R T) (others rest : List (Place S Q R T))
@@ -71,9 +87,10 @@ module _ {S Q R T : Type 0} (record_of : S → SeatRecord) (account_of : Q → A
       → length (account_of h.pool_seat).popped ≡ length (account_of g.pool_seat).popped + end.counters.popped
       → h.returned ≡ g.returned + end.counters.returned → end.counters.returned ≤ 2 → end.counters.pushed < 2 ^ 62
       → length h.todo.waiting ≤ length g.todo.waiting + end.counters.returned
+      → (0 < length g.todo.waiting + end.counters.returned → 0 < length h.todo.waiting)
       → h.counters.items ≡ g.counters.items ++ end.counters ∷ [] → h.rngs.items ≡ g.rngs.items ++ end.rng ∷ [] → h.tracers.items ≡ g.tracers.items ++ end.tracer ∷ []
       → AreGathered record_of account_of fits_labels fits_pool roads answers target sources seeded back (ends ++ end ∷ []) h
-  gathered_more seeded back ends end g h a label_fits pool_fits gathered nodes bounds pushed popped returned small low few counters rngs tracers =
+  gathered_more seeded back ends end g h a label_fits pool_fits gathered nodes bounds pushed popped returned small low few some counters rngs tracers =
       let count = length-append ends (end ∷ []) in
       record {
         label_fits = label_fits;
@@ -90,4 +107,5 @@ module _ {S Q R T : Type 0} (record_of : S → SeatRecord) (account_of : Q → A
         returned_is = omega (arith, a.returned_is, sum_push (λ (e : WorkerEnd S Q R T). e.counters.returned) ends end);
         returned_few = omega (arith, a.returned_few, count);
         few = omega (arith, a.few);
+        some = λ more. some (waits_or (length g.todo.waiting) g.returned end.counters.returned h.returned a.some returned more);
       }

@@ -98,6 +98,15 @@ nothing_left Scanned heaps n key node before a b words refused shaped p two lone
 nothing_left Refused heaps n key node before a b words refused shaped p two lone known some = absurd (none_left a.account _ (known (omega (arith, some))) (lone two).0)
 nothing_left Cut heaps n key node before a b words refused shaped p two lone known some = absurd (none_left a.account _ (known (omega (arith, some))) (lone two).0)
 
+-- where nothing is left, a turn finds two heaps empty
+empty_again : (k : TurnKind) (heaps key node : ℕ) (a : Account) → heaps ≡ 2 → IsLoneAs heaps a k (entry_at key node) → NothingLeft a → is_empty k ≡ true
+empty_again Empty heaps key node a two lone nothing = refl
+empty_again Busy heaps key node a two lone nothing = absurd lone
+empty_again Stale heaps key node a two lone nothing = absurd (none_left a _ nothing (lone two).0)
+empty_again Scanned heaps key node a two lone nothing = absurd (none_left a _ nothing (lone two).0)
+empty_again Refused heaps key node a two lone nothing = absurd (none_left a _ nothing (lone two).0)
+empty_again Cut heaps key node a two lone nothing = absurd (none_left a _ nothing (lone two).0)
+
 module _ (roads : Roads) (answers : ℕ → ℕ → ℕ → ℕ → Type 0) (target : Option ℕ) where
   pub IsClosedAs-more : (bs cs : List Bound) (hand hand' : List Entry) (k : TurnKind) (e : Entry) → ((b : Bound) → Contains bs b → Contains cs b) → ((x : Entry) → Contains hand x → Contains hand' x)
       → IsClosedAs roads answers target bs hand k e → IsClosedAs roads answers target cs hand' k e
@@ -141,6 +150,7 @@ module _ (roads : Roads) (answers : ℕ → ℕ → ℕ → ℕ → Type 0) (tar
       pub popped_back : length (option_to_list hand.popped) ≡ count_kind is_refused turns
       pub refused_back : length (option_to_list hand.refused) ≡ count_kind is_refused turns
       pub never_busy : from.account.shares ≡ SHARES → count_kind is_busy turns ≡ 0
+      pub stays_empty : from.account.shares ≡ SHARES → heaps ≡ 2 → (i : ℕ) (d : Told) → i < length turns → 0 < count_kind is_empty (take i turns) → is_empty (get_or turns i d).0.kind ≡ true
       pub empty_so_far : from.account.shares ≡ SHARES → heaps ≡ 2 → 0 < count_kind is_empty turns → NothingLeft to.account
 
     pub SoFar-start : (k : Kit) (budget : ℕ) (tracer : T) (counters : Counters) (hand : Hand) → counters ≡ counters_of [] → hand.popped ≡ None → hand.refused ≡ None
@@ -166,6 +176,7 @@ module _ (roads : Roads) (answers : ℕ → ℕ → ℕ → ℕ → Type 0) (tar
       popped_back = rw popped refl;
       refused_back = rw refused refl;
       never_busy = λ whole. refl;
+      stays_empty = λ whole two i d lt. absurd (omega arith);
       empty_so_far = λ whole two some. absurd (omega (arith, some));
     }
 
@@ -225,6 +236,9 @@ module _ (roads : Roads) (answers : ℕ → ℕ → ℕ → ℕ → Type 0) (tar
         popped_back = (hand_sizes turn.kind hand' one.hand_is).0 ∙ sym (refused_push h.turns (turn, flow) ∙ ap (λ n. n + cond (is_refused turn.kind) 1 0) none_refused ∙ zero-add _);
         refused_back = (hand_sizes turn.kind hand' one.hand_is).1 ∙ sym (refused_push h.turns (turn, flow) ∙ ap (λ n. n + cond (is_refused turn.kind) 1 0) none_refused ∙ zero-add _);
         never_busy = λ whole. omega (arith, count_push is_busy h.turns (turn, flow), h.never_busy whole, not_busy turn.kind heaps mid.account _ (one.lone (h.progress.pool_shares ∙ whole)));
+        stays_empty = λ whole two. index_push (λ i t. 0 < count_kind is_empty (take i (h.turns ++ (turn, flow) ∷ [])) → is_empty t.0.kind ≡ true) h.turns (turn, flow)
+            (λ i d lt some. h.stays_empty whole two i d lt (rw (take-append-le i h.turns ((turn, flow) ∷ []) (omega arith)) at some))
+            (λ some. empty_again turn.kind heaps turn.key turn.node mid.account two (one.lone (h.progress.pool_shares ∙ whole)) (h.empty_so_far whole two (rw (take-append_seam h.turns ((turn, flow) ∷ [])) at some)));
         empty_so_far = λ whole two some. nothing_left turn.kind heaps turn.lowered turn.key turn.node (count_kind is_empty h.turns) mid to _ _ one.shaped one.progress two (one.lone (h.progress.pool_shares ∙ whole)) (h.empty_so_far whole two)
             (omega (arith, some, count_push is_empty h.turns (turn, flow)));
       }
@@ -256,5 +270,6 @@ module _ (roads : Roads) (answers : ℕ → ℕ → ℕ → ℕ → Type 0) (tar
       returned_is = ap (λ (x : Counters). x.returned) h.counted ∙ omega (arith, h.popped_back, h.refused_back);
       pushed_is = ap (λ (x : Counters). x.pushed) h.counted ∙ omega (arith, h.refused_back, h.progress.lowered_is, ap length h.progress.own_entries, length-map h.progress.lowerings entry_of, length-append (option_to_list hand.refused) h.progress.pushed);
       never_busy = λ whole. ap (λ (x : Counters). x.busy) h.counted ∙ h.never_busy whole;
+      stays_empty = λ whole two k d lt some. h.stays_empty whole two k d lt some;
       empty_at_end = λ whole two some. h.empty_so_far whole two (omega (arith, some, ap (λ (x : Counters). x.empty) h.counted));
     }

@@ -1,5 +1,5 @@
 -- What the places of a row leave, and what is gathered of the first of them.
-use Rattle.std.specs.Prelude.{◌≡◌, ℕ, ◌+◌, ◌*◌, ◌^◌, ◌≤◌, List, [], ◌∷◌, map, length, All, Option, sum_by}
+use Rattle.std.specs.Prelude.{◌≡◌, ℕ, ◌+◌, ◌*◌, ◌^◌, ◌<◌, ◌≤◌, List, [], ◌∷◌, map, length, All, Option, sum_by}
 use Rattle.ea_road.specs.declared.source.Source.{Source}
 use Rattle.ea_road.specs.Roads.{Roads}
 use Rattle.ea_labels.specs.declared.record.SeatRecord.{SeatRecord}
@@ -87,6 +87,7 @@ module _ {S Q R T : Type 0} (record_of : S → SeatRecord) (account_of : Q → A
     pub returned_is : gathering.returned ≡ back + sum_by (λ end. end.counters.returned) ends
     pub returned_few : gathering.returned ≤ back + 2 * length ends
     pub few : length gathering.todo.waiting ≤ gathering.returned
+    pub some : 0 < gathering.returned → 0 < length gathering.todo.waiting
 
   -- What is gathered of all workers of a row.
   pub record IsGatheredRow (seeded back : ℕ) (row : List (Place S Q R T)) (gathering : Gathering S Q R T) : Type 0 where

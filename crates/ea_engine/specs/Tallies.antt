@@ -17,12 +17,13 @@ busy_by_all counters = sum_by (λ c. c.busy) counters
 abbrev pub empty_by_all : List Counters → ℕ
 empty_by_all counters = sum_by (λ c. c.empty) counters
 
--- Of so many sources the pool took `seeded` entries. What it took was popped or drained; a finishing pass that starts with
--- `finish` open nodes opened no more than were drained and handed back; what the workers don't account for of what was
--- handed back are seeds.
+-- Of so many sources the pool took `seeded` entries. What it took was popped or drained. When the finishing pass starts,
+-- `finish` nodes are open, no more than entries were drained and handed back, and some where any was. What the workers don't account for of what
+-- was handed back are seeds.
 pub record IsTally (sources seeded returned drained finish : ℕ) (counters : List Counters) : Type 0 where
   pub balance : seeded + pushed_by_all counters ≡ popped_by_all counters + drained
   pub few_open : finish ≤ drained + returned
+  pub some_open : 0 < drained + returned → 0 < finish
   pub hands : returned_by_all counters ≤ returned
   pub seeds : seeded + (returned - returned_by_all counters) ≤ sources
 

@@ -18,7 +18,7 @@ use Rattle.ea_labels.specs.declared.record.SeatRecord.{SeatRecord}
 use Rattle.ea_pool.specs.declared.account.Account.{Account}
 use Rattle.ea_pool.specs.declared.TheConstants.{SHARES}
 use Rattle.ea_pool.specs.Pools.{NothingLeft, IsLeastLeft}
-use Rattle.ea_engine.specs.Turns.{Told, IsTurnList, IsShaped, popped_in, popped_in_all, lowered_in_all, counters_of}
+use Rattle.ea_engine.specs.Turns.{Told, IsTurnList, IsShaped, StaysEmpty, popped_in, popped_in_all, lowered_in_all, counters_of}
 use Rattle.ea_engine.specs.Closed.{entry_at, entry_of, IsClosedTurn, IsFreshTurn}
 
 -- what a worker has: its two seats, and its generator
@@ -106,5 +106,6 @@ module _ (roads : Roads) (answers : ℕ → ℕ → ℕ → ℕ → Type 0) (tar
       pub popped_is : counters.popped ≡ length (popped_in_all turns)
       -- a seat with all shares is never busy
       pub never_busy : from.account.shares ≡ SHARES → counters.busy ≡ 0
-      -- and where a turn found two heaps empty, what it pushed is what it popped
+      -- and where a turn found two heaps empty, so did each later one, and what it pushed is what it popped
+      pub stays_empty : from.account.shares ≡ SHARES → heaps ≡ 2 → StaysEmpty turns
       pub empty_at_end : from.account.shares ≡ SHARES → heaps ≡ 2 → 0 < counters.empty → NothingLeft to.account

@@ -45,6 +45,7 @@ pub fn settle<K: Known, P: TravelTimes>(
     ensures walks { result.todo.walks ≡ todo.walks }
     ensures drained { length (account_of pool_seat).pushed ≡ length (account_of pool_seat).popped + result.drained }
     ensures few { length result.todo.waiting ≤ length todo.waiting + result.drained }
+    ensures some { 0 < length todo.waiting + result.drained → 0 < length result.todo.waiting }
 {
     let table = labels.close(label_seat);
     let closed = pool.close(pool_seat);

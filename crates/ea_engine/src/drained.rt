@@ -16,6 +16,7 @@ pub fn drain(mut closed: ClosedPool, todo: &mut Open) -> u128
     ensures walks { todo.new.walks ≡ todo.old.walks }
     ensures counted { result ≡ length closed }
     ensures few { length todo.new.waiting ≤ length todo.old.waiting + length closed }
+    ensures some { 0 < length todo.old.waiting + length closed → 0 < length todo.new.waiting }
 {
     let mut drained = 0u128;
     while let Some(entry) = closed.next() {

@@ -46,6 +46,7 @@ pub fn keep(todo: &mut Open, entry: Option<Entry>)
     ensures inside { IfSome entry (λ e. Contains todo.new.waiting e.node) }
     ensures kept { (node : ℕ) → Contains todo.old.waiting node → Contains todo.new.waiting node }
     ensures few { length todo.new.waiting ≤ length todo.old.waiting + length (option_to_list entry) }
+    ensures some { 0 < length todo.old.waiting + length (option_to_list entry) → 0 < length todo.new.waiting }
     ensures room { todo.new.nodes ≡ todo.old.nodes }
     ensures walks { todo.new.walks ≡ todo.old.walks }
 {
@@ -84,6 +85,7 @@ pub fn join_end<K: Known, P: TravelTimes, R: Drop, T: Drop>(
     ensures returned { gathering.new.returned ≡ gathering.old.returned + end.counters.returned }
     ensures returned_few { end.counters.returned ≤ 2 }
     ensures few { length gathering.new.todo.waiting ≤ length gathering.old.todo.waiting + end.counters.returned }
+    ensures some { 0 < length gathering.old.todo.waiting + end.counters.returned → 0 < length gathering.new.todo.waiting }
     ensures counters { (gathering.new.counters.items ≡ gathering.old.counters.items ++ end.counters ∷ []) × (vec_capacity gathering.new.counters ≡ vec_capacity gathering.old.counters) }
     ensures rngs { (gathering.new.rngs.items ≡ gathering.old.rngs.items ++ end.rng ∷ []) × (vec_capacity gathering.new.rngs ≡ vec_capacity gathering.old.rngs) }
     ensures tracers { (gathering.new.tracers.items ≡ gathering.old.tracers.items ++ end.tracer ∷ []) × (vec_capacity gathering.new.tracers ≡ vec_capacity gathering.old.tracers) }
@@ -122,6 +124,7 @@ pub fn begin_gathering<K: Known, P: TravelTimes, R: Drop, T: Drop>(
     requires end { IsFirstEnd (λ s. s.history) (λ s. account_of s) (λ s. s.table ≡ labels.now.table) (λ s. IsSeatOf pool.now s) network.now (P.answers profiles.now) query.now.target query.now.sources seeds.seeded todo.waiting end }
     requires nodes { todo.nodes ≡ network.now.nodes }
     requires few { length todo.waiting ≤ seeds.returned }
+    requires some { 0 < seeds.returned → 0 < length todo.waiting }
     requires returned { seeds.returned < 2 ^ 126 }
     requires none { (results.counters.items ≡ []) × (results.rngs.items ≡ []) × (results.tracers.items ≡ []) }
     requires room { (0 < vec_capacity results.counters) × (0 < vec_capacity results.rngs) × (0 < vec_capacity results.tracers) }
@@ -187,6 +190,7 @@ pub fn gather_row<K: Known, P: TravelTimes, R: Drop, T: Drop>(
     requires few_workers { vec_len row ≤ 16 }
     requires nodes { todo.nodes ≡ network.now.nodes }
     requires few { length todo.waiting ≤ seeds.returned }
+    requires some { 0 < seeds.returned → 0 < length todo.waiting }
     requires returned { seeds.returned < 2 ^ 126 }
     requires none { (results.counters.items ≡ []) × (results.rngs.items ≡ []) × (results.tracers.items ≡ []) }
     requires room { (vec_len row ≤ vec_capacity results.counters) × (vec_len row ≤ vec_capacity results.rngs) × (vec_len row ≤ vec_capacity results.tracers) }

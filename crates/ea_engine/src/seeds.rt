@@ -62,6 +62,7 @@ pub fn seed<K: Known, P: TravelTimes>(
     ensures pushed { length (account_of pool_seat.new).pushed ≡ length (account_of pool_seat.old).pushed + seeded_by result }
     ensures popped { (account_of pool_seat.new).popped ≡ (account_of pool_seat.old).popped }
     ensures few { length todo.new.waiting ≤ length todo.old.waiting + back_by result }
+    ensures some { 0 < length todo.old.waiting + back_by result → 0 < length todo.new.waiting }
 {
     match labels.offer(label_seat, source.node, source.departure) {
         Offered::Kept(_) => Seeded::Kept,
@@ -81,7 +82,8 @@ pub fn seed<K: Known, P: TravelTimes>(
     }
 }
 
-/// Offers all sources, with the words 0, 1, 2, .. in turn.
+/// Offers all sources in their order. The entries of those whose labels are lowered are pushed with the words 0, 1, 2, ..
+/// in turn.
 pub fn seed_all<K: Known, P: TravelTimes>(
     network: &Network,
     profiles: &P,
@@ -107,6 +109,7 @@ pub fn seed_all<K: Known, P: TravelTimes>(
     ensures pushed { length (account_of pool_seat.new).pushed ≡ length (account_of pool_seat.old).pushed + result.seeded }
     ensures popped { (account_of pool_seat.new).popped ≡ (account_of pool_seat.old).popped }
     ensures few { length todo.new.waiting ≤ length todo.old.waiting + result.returned }
+    ensures some { 0 < result.returned → 0 < length todo.new.waiting }
     ensures small { result.seeded + result.returned < 2 ^ 64 }
     ensures counted { result.seeded + result.returned ≤ length query.now.sources }
 {
@@ -114,6 +117,8 @@ pub fn seed_all<K: Known, P: TravelTimes>(
     let mut returned = 0u128;
     let sources = query.sources();
     for place in 0..sources.len() {
+        // So many pushes were tried.
+        let word = (seeded + returned) as u64;
         match seed(
             network,
             profiles,
@@ -123,7 +128,7 @@ pub fn seed_all<K: Known, P: TravelTimes>(
             label_seat,
             pool_seat,
             todo,
-            place as u64,
+            word,
             sources[place],
         ) {
             Seeded::Kept => {}

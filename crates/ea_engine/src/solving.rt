@@ -131,6 +131,9 @@ fn run_named<
 /// Each worker has a generator of random words and a tracer that is shown its turns; `gate` is called before each turn.
 /// Whatever the words, the number of workers, their turns, the gate and the tracers: the answer is one thread's.
 ///
+/// Workers share heaps as in MultiQueues (Rihani, Sanders, Dementiev 2015), and correct labels, as Dreyfus appraised it for
+/// travel times that depend on the departure (Operations Research 17, 1969).
+///
 /// Memory is refused only for the arrays, which are all made before the first worker starts; then generators and tracers
 /// are dropped. A thread that can't be started is no fault.
 pub fn solve<
@@ -208,6 +211,7 @@ pub fn solve_arrivals<
     requires workers { (vec_len rngs ≡ settings.workers) × (vec_len tracers ≡ settings.workers) }
     requires tracers { All T.IsAlwaysCallable tracers.items }
     ensures answer { IfOk result (λ solved. HasArrivals network.now (P.answers profiles.now) query.now solved.answer) }
+    ensures none { IfOk result (λ solved. solved.answer.walks ≡ false) }
     ensures tally { IfOk result (λ solved. IsTally (length query.now.sources) solved.seeded solved.returned solved.drained solved.finish solved.counters.items) }
     ensures lone { IfOk result (λ solved. IsLoneTally (settings.workers * settings.heaps) solved.drained solved.counters.items) }
     ensures reports { IfOk result (λ solved. AreReports R.stream T.step settings.turns rngs.items solved.rngs.items tracers.items solved.tracers.items solved.counters.items) }

@@ -24,14 +24,14 @@ use std::alloc::Global;
 
 impl TurnKind {
     /// Whether the turn found nothing to pop.
-    pub fn is_idle(self) -> bool
+    pub(crate) fn is_idle(self) -> bool
         ensures { result ≡ is_idle self }
     {
         matches!(self, TurnKind::Empty | TurnKind::Busy)
     }
 
     /// Whether the pool refused an entry.
-    pub fn is_refused(self) -> bool
+    pub(crate) fn is_refused(self) -> bool
         ensures { result ≡ is_refused self }
     {
         matches!(self, TurnKind::Refused)
@@ -40,7 +40,7 @@ impl TurnKind {
 
 impl Flow {
     /// Whether the worker is to leave.
-    pub fn is_leave(self) -> bool
+    pub(crate) fn is_leave(self) -> bool
         ensures { result ≡ is_leave self }
     {
         matches!(self, Flow::Leave)
@@ -49,7 +49,7 @@ impl Flow {
 
 impl Hand {
     /// No entry.
-    pub fn empty() -> Hand
+    pub(crate) fn empty() -> Hand
         ensures popped { result.popped ≡ None }
         ensures refused { result.refused ≡ None }
     {

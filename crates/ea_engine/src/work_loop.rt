@@ -1,10 +1,12 @@
-ghost use Rattle.std.specs.Prelude.{◌≡◌, ◌+◌, ◌<◌, ◌≤◌, ◌||◌, if◌then◌else◌};
+ghost use Rattle.std.specs.Prelude.{◌≡◌, ℕ, ◌+◌, ◌<◌, ◌≤◌, ◌||◌, ◌↔◌, if◌then◌else◌};
+ghost use Rattle.ea_road.specs.Arrivals.{Reaches};
+ghost use Rattle.ea_road.specs.Queries.{IsProblem};
 ghost use Rattle.ea_engine.specs.Turns.{is_idle, is_refused, is_leave};
 ghost use Rattle.ea_pool.specs.Seats.{account_of, heaps_of, IsSeatOf};
-ghost use Rattle.ea_engine.specs.Ground.{IsGround};
 ghost use Rattle.ea_engine.specs.Worked.{kit, IsWork};
 
 use crate::counters::Counters;
+use crate::law::times_are_fifo;
 use crate::scan::Means;
 use crate::step::take_turn;
 use crate::turn::{Flow, Hand, Turn, TurnKind};
@@ -16,6 +18,7 @@ use std::hint;
 
 /// What is called before each turn. It may wait.
 pub trait Gate: Sync {
+    /// Called once before each turn of each worker. Workers and turns count from 0.
     fn at(&self, worker: u32, turn: u64);
 }
 
@@ -29,11 +32,17 @@ impl Gate for NoGate {
 /// What a worker leaves.
 #[derive(Drop)]
 pub struct WorkerEnd<S, Q, R, T> {
+    /// Its seat of the label table.
     pub label_seat: S,
+    /// Its seat of the pool.
     pub pool_seat: Q,
+    /// The entries that it hands back.
     pub hand: Hand,
+    /// What it counted.
     pub counters: Counters,
+    /// Its generator, two words a turn and one a lowered head later.
     pub rng: R,
+    /// Its tracer, which was shown each turn.
     pub tracer: T,
 }
 
@@ -76,7 +85,9 @@ pub fn work<K: Known, P: TravelTimes, R: Rng, G: Gate, T: FnMut(Turn) -> Flow>(
     gate: &G,
     mut tracer: T,
 ) -> WorkerEnd<LabelSeat<K>, PoolSeat<K>, R, T>
-    requires ground { IsGround K.is_known labels.now.nodes network.now (P.answers profiles.now) (P.classes profiles.now) query.now.sources query.now.target }
+    requires problem { IsProblem network.now (P.classes profiles.now) query.now }
+    requires places { labels.now.nodes ≡ network.now.nodes }
+    requires names { (node time : ℕ) → K.is_known node time ↔ Reaches network.now (P.answers profiles.now) query.now.sources node time }
     requires label_seat { label_seat.table ≡ labels.now.table }
     requires pool_seat { IsSeatOf pool.now pool_seat }
     requires tracer { T.IsAlwaysCallable tracer }
@@ -88,6 +99,8 @@ pub fn work<K: Known, P: TravelTimes, R: Rng, G: Gate, T: FnMut(Turn) -> Flow>(
         (kit result.label_seat.history (account_of result.pool_seat) (R.stream result.rng))
         budget tracer result.tracer result.counters result.hand }
 {
+    times_are_fifo(profiles);
+    let _ = network.nodes();
     let target = query.target();
     let among_several = pool_seat.shares() < ea_pool::SHARES;
     let mut means = Means {

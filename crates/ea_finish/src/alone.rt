@@ -1,4 +1,4 @@
-ghost use Rattle.std.specs.Prelude.{IfOk};
+ghost use Rattle.std.specs.Prelude.{◌≡◌, false, IfOk};
 ghost use Rattle.ea_road.specs.Answers.{IsFifoFunction};
 ghost use Rattle.ea_road.specs.Queries.{IsProblem};
 ghost use Rattle.ea_finish.specs.Answers.{HasArrivals, IsAnswer};
@@ -13,7 +13,8 @@ use crate::unwinding::{unwind, without_walks};
 use ea_road::{ArrivalFunction, Network, Profiles, Query, TravelTimes};
 use std::alloc::{AllocError, Global};
 
-/// The earliest arrivals and their canonical walks, found by one thread.
+/// The earliest arrivals and their canonical walks, found by one thread. The error comes only where memory is refused for
+/// the arrays, before the search begins.
 pub fn solve_alone<T: TravelTimes>(
     alloc: Global,
     network: &Network,
@@ -33,7 +34,7 @@ pub fn solve_alone<T: TravelTimes>(
     Ok(unwind(network, times, query, finished))
 }
 
-/// The earliest arrivals without walks, found by one thread.
+/// The earliest arrivals without walks, found by one thread. The error is that of `solve_alone`.
 pub fn arrivals_alone<T: TravelTimes>(
     alloc: Global,
     network: &Network,
@@ -41,7 +42,8 @@ pub fn arrivals_alone<T: TravelTimes>(
     query: &Query,
 ) -> Result<Answer, AllocError>
     requires { IsProblem network.now (T.classes times.now) query.now }
-    ensures { IfOk result (HasArrivals network.now (T.answers times.now) query.now) }
+    ensures arrivals { IfOk result (HasArrivals network.now (T.answers times.now) query.now) }
+    ensures none { IfOk result (λ answer. answer.walks ≡ false) }
 {
     let todo = Open::reserve_without_walks(alloc, network.nodes())?;
     let none = Levels::none(alloc);
@@ -51,6 +53,7 @@ pub fn arrivals_alone<T: TravelTimes>(
 }
 
 /// `solve_alone` by a caller's closure from class, weight and departure to the arrival, for classes up to the greatest.
+/// The error is that of `solve_alone`.
 pub fn solve_alone_by<F: ArrivalFunction + Drop>(
     alloc: Global,
     network: &Network,
@@ -66,7 +69,7 @@ pub fn solve_alone_by<F: ArrivalFunction + Drop>(
     solve_alone(alloc, network, &profiles, query)
 }
 
-/// `arrivals_alone` by a caller's closure.
+/// `arrivals_alone` by a caller's closure. The error is that of `solve_alone`.
 pub fn arrivals_alone_by<F: ArrivalFunction + Drop>(
     alloc: Global,
     network: &Network,
@@ -76,7 +79,8 @@ pub fn arrivals_alone_by<F: ArrivalFunction + Drop>(
 ) -> Result<Answer, AllocError>
     requires fifo { IsFifoFunction (F.may closure) (F.answers closure) classes }
     requires problem { IsProblem network.now classes query.now }
-    ensures { IfOk result (HasArrivals network.now (λ class weight departure arrival. ∥ F.answers closure class weight departure arrival ∥₁) query.now) }
+    ensures arrivals { IfOk result (HasArrivals network.now (λ class weight departure arrival. ∥ F.answers closure class weight departure arrival ∥₁) query.now) }
+    ensures none { IfOk result (λ answer. answer.walks ≡ false) }
 {
     let profiles = Profiles::new(closure, classes);
     arrivals_alone(alloc, network, &profiles, query)

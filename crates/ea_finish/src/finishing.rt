@@ -15,7 +15,9 @@ use ea_road::{Arc, HORIZON, NONE, Network, Query, TravelTimes};
 /// A table of labels, the first that of node 1, and a list in which nobody waits.
 #[derive(Drop)]
 pub struct Finished {
+    /// A place for each node, the first that of node 1: its label, or NONE.
     pub table: Vec<u64>,
+    /// The list, with the storage for walks where these are asked for.
     pub todo: Open,
 }
 
@@ -142,6 +144,9 @@ pub(crate) fn latest(target: Option<u32>, table: &[u64]) -> u64
 
 /// Scans waiting nodes at their labels, in the order in which they were opened, until nobody waits. Then each label is
 /// the least arrival; in a pair query, each up to the target's. It takes no memory.
+///
+/// Labels are corrected until none is open: the method is of Dreyfus, An Appraisal of Some Shortest-Path Algorithms
+/// (Operations Research 17, 1969).
 pub fn finish<T: TravelTimes>(
     network: &Network,
     times: &T,

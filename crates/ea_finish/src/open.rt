@@ -28,7 +28,7 @@ impl Model for Open {
 }
 
 impl Open {
-    /// An empty list with room for every node, and for the walks to them.
+    /// An empty list with room for every node, and for the walks to them. The error comes only where memory is refused.
     pub fn reserve(alloc: Global, nodes: u32) -> Result<Open, AllocError>
         ensures { IfOk result (λ todo. todo ≡ record { nodes = nodes; waiting = []; walks = true }) }
     {
@@ -46,7 +46,7 @@ impl Open {
         })
     }
 
-    /// An empty list with room for every node, where no walks are asked for.
+    /// An empty list with room for every node, where no walks are asked for. The error comes only where memory is refused.
     pub fn reserve_without_walks(alloc: Global, nodes: u32) -> Result<Open, AllocError>
         ensures { IfOk result (λ todo. todo ≡ record { nodes = nodes; waiting = []; walks = false }) }
     {

@@ -1,4 +1,4 @@
-ghost use Rattle.std.specs.Prelude.{◌≡◌, ℕ, ◌+◌, ◌<◌, ◌≤◌, [], ◌∷◌, true, List, length};
+ghost use Rattle.std.specs.Prelude.{◌≡◌, ℕ, ◌+◌, ◌<◌, ◌≤◌, [], ◌∷◌, true, false, List, length};
 ghost use Rattle.std.specs.List.{IsAmong};
 ghost use Rattle.ea_road.specs.declared.TheConstants.{HORIZON};
 ghost use Rattle.ea_road.specs.declared.source.Source.{Source};
@@ -188,7 +188,8 @@ pub fn without_walks<T: TravelTimes>(
 ) -> Answer
     requires problem { IsProblem network.now (T.classes times.now) query.now }
     requires finished { IsFinished network.now (T.answers times.now) query.now finished.table.items finished.todo }
-    ensures { HasArrivals network.now (T.answers times.now) query.now result }
+    ensures arrivals { HasArrivals network.now (T.answers times.now) query.now result }
+    ensures none { result.walks ≡ false }
 {
     let nodes = network.nodes();
     let Finished { table, todo } = finished;

@@ -3,7 +3,8 @@
 use crate::entry::Entry;
 use std::collections::LinkedList;
 
-/// What contracts see of a seat: its shares, and the entries that it has pushed and popped, the newest first.
+/// A seat's account: its shares, and the entries that it has pushed and popped. Each step puts its own at the head; a join
+/// puts the other's behind them.
 pub struct Account {
     /// How many of the pool's 64 shares the seat has.
     pub shares: u32,

@@ -1,4 +1,5 @@
-//! Heaps that threads share without a lock: each lies in a slot of a table, behind a word.
+//! Heaps that threads share without a lock: each lies in a slot of a table, behind a word. They are used as those of a
+//! MultiQueue (Rihani, Sanders, Dementiev 2015): a push goes to a heap drawn at random, a pop to the better of two.
 use crate::account::SeatState;
 use crate::least::LeastHeap;
 use crate::rules::PoolRule;

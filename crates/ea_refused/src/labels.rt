@@ -15,9 +15,12 @@ fn open_is_refused_or_whole(rt: HostRuntime) -> Result<(), Fail> {
             Ok((labels, mut seat)) => {
                 opened = opened.wrapping_add(1);
                 let mut other = labels.split(&mut seat);
+                assert_eq!(rt; labels.read(&mut seat, 2), NONE);
                 assert_eq!(rt; labels.offer(&mut seat, 2, 7), Offered::Lowered);
                 assert_eq!(rt; labels.offer(&mut seat, 2, 5), Offered::Lowered);
                 assert_eq!(rt; labels.offer(&mut seat, 2, 9), Offered::Kept(5));
+                assert_eq!(rt; labels.offer(&mut seat, 2, 5), Offered::Kept(5));
+                assert_eq!(rt; labels.read(&mut seat, 2), 5);
                 assert_eq!(rt; labels.read(&mut other, 2), 5);
                 labels.join(&mut seat, other);
                 let words = labels.close(seat);

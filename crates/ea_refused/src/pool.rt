@@ -5,7 +5,7 @@ ghost use Rattle.ea_pool.specs.Seats.{account_of, IsSeatOf};
 use ea_pool::{ClosedPool, Entry, Pool, PoolSeat, Popped, PushRefused, Solo};
 use ea_road::AnyPair;
 use linked_list_allocator::LocalHeap;
-use std::alloc::{Allocator, Global};
+use std::alloc::{AllocError, Allocator, Global};
 use std::test::Fail;
 
 fn entry(key: u64, node: u32) -> Entry
@@ -28,34 +28,79 @@ fn take_all<'a>(alloc: Global, memory: &'a LocalHeap) -> Vec<Vec<u8, &'a LocalHe
     blocks
 }
 
+// Pushes an entry. Where its growth is refused, that is counted, what is held is given back, and the push is made again.
+// Says whether the entry went in.
+fn push_again<'a>(
+    pool: &Pool<AnyPair, &'a LocalHeap>,
+    seat: &mut PoolSeat<AnyPair, &'a LocalHeap>,
+    held: &mut Vec<Vec<u8, &'a LocalHeap>>,
+    again: &mut u32,
+    word: u64,
+    new: Entry,
+) -> bool
+    requires { IsSeatOf pool.now seat.old × (new.key < 1000) }
+    ensures { IsSeatOf pool.now seat.new × ((account_of seat.new).shares ≡ (account_of seat.old).shares) }
+{
+    match pool.push_as(seat, word, new) {
+        Ok(()) => true,
+        Err(PushRefused::Busy(_)) => false,
+        Err(PushRefused::OutOfMemory(back)) => {
+            *again = again.wrapping_add(1);
+            held.clear();
+            pool.push_as(seat, word, back).is_ok()
+        }
+    }
+}
+
+// Whether a pool in this memory gives four entries that two seats push, as two threads do; none where it can't be opened.
+// So many bytes are left for its growths at first. The memory is one thread's alone.
+fn gives_four<'a>(
+    alloc: Global,
+    memory: &'a LocalHeap,
+    left: usize,
+    again: &mut u32,
+) -> Result<Option<bool>, AllocError> {
+    let piece: Vec<u8, &'a LocalHeap> = Vec::with_capacity(memory, left)?;
+    let Ok((pool, mut seat)) = Pool::<AnyPair, &'a LocalHeap>::open(memory, 4) else {
+        return Ok(None);
+    };
+    let mut held = take_all(alloc, memory);
+    drop(piece);
+    let mut other = pool.split(&mut seat);
+    let mut right = push_again(&pool, &mut seat, &mut held, again, 0, entry(4, 1));
+    right &= push_again(&pool, &mut seat, &mut held, again, 1, entry(3, 2));
+    right &= push_again(&pool, &mut other, &mut held, again, 2, entry(2, 3));
+    right &= push_again(&pool, &mut other, &mut held, again, 3, entry(1, 4));
+    pool.join(&mut seat, other);
+    right &= pool.pop_as(&mut seat, 2, 0) == Popped::Entry(entry(1, 4));
+    let mut closed = pool.close(seat);
+    right &= closed.next() == Some(entry(2, 3));
+    right &= closed.next() == Some(entry(3, 2));
+    right &= closed.next() == Some(entry(4, 1));
+    right &= closed.next() == None;
+    right &= closed.next() == None;
+    Ok(Some(right))
+}
+
 #[test]
 fn open_is_refused_or_whole(rt: HostRuntime) -> Result<(), Fail> {
     let mut refused: u32 = 0;
     let mut opened: u32 = 0;
+    let mut again: u32 = 0;
     for step in 0..200 {
-        let memory = LocalHeap::new(rt.alloc(), 64 + 32 * step)?;
-        match Pool::<AnyPair, &LocalHeap>::open(&memory, 4) {
-            Err(_) => refused = refused.wrapping_add(1),
-            Ok((pool, mut seat)) => {
+        let memory = LocalHeap::new(rt.alloc(), 1024 + 32 * step)?;
+        match gives_four(rt.alloc(), &memory, 32 * (step % 16), &mut again)? {
+            None => refused = refused.wrapping_add(1),
+            Some(right) => {
                 opened = opened.wrapping_add(1);
-                let mut other = pool.split(&mut seat);
-                let first = pool.push_as(&mut seat, 0, entry(4, 1));
-                let second = pool.push_as(&mut other, 3, entry(1, 4));
-                pool.join(&mut seat, other);
-                if first.is_ok() && second.is_ok() {
-                    assert_eq!(rt; pool.pop_as(&mut seat, 2, 0), Popped::Entry(entry(1, 4)));
-                    let mut left = pool.close(seat);
-                    assert_eq!(rt; left.next(), Some(entry(4, 1)));
-                    assert_eq!(rt; left.next(), None);
-                    assert_eq!(rt; left.next(), None);
-                }
+                assert!(rt; right);
             }
         }
         assert_eq!(rt; memory.used(), 0);
     }
     assert!(rt;
-        4 <= refused && 2 <= opened,
-        "{refused} refused, {opened} opened"
+        4 <= refused && 32 <= opened && 8 <= again,
+        "{refused} refused, {opened} opened, {again} pushed again"
     );
     Ok(())
 }

@@ -6,7 +6,7 @@ use crate::given::{four_nodes, from_first};
 use crate::greedy::Greedy;
 use crate::scarce::{Held, pieces};
 use ea_engine::{
-    Answer, Flow, Gate, NoGate, Settings, Turn, TurnKind, solve, solve_arrivals, solve_by,
+    Answer, Counters, Flow, Gate, NoGate, Settings, Turn, TurnKind, solve, solve_arrivals, solve_by,
 };
 use ea_road::{Network, Query, Timetables, is_problem};
 use std::alloc::{AllocError, Global};
@@ -176,12 +176,17 @@ fn run_with<H: Threads + Sync>(
         } else {
             Came::Wrong
         },
-        Ok(solved) => came_of(&solved.answer),
+        Ok(solved) => came_of(&solved.answer, &solved.counters, &gate),
     })
 }
 
-fn came_of(answer: &Answer) -> Came {
-    if has_four(answer) {
+/// The arrivals are right, and the gate was called as often as the workers made turns.
+fn came_of(answer: &Answer, counters: &[Counters], gate: &Counted) -> Came {
+    let mut turns = 0u64;
+    for worker in counters {
+        turns = turns.wrapping_add(worker.turns);
+    }
+    if has_four(answer) && turns > 0 && gate.calls.load(Ordering::SeqCst) == turns {
         Came::Right
     } else {
         Came::Wrong

@@ -1,12 +1,36 @@
 //! The worked examples, by their counters.
 use crate::constant::Constant;
 use crate::given::{FOUR_NODES, pose};
-use ea_engine::{Answer, Flow, NoGate, Settings, Turn, solve};
+use ea_engine::{Answer, Flow, NoGate, Settings, Turn, TurnKind, solve};
 use ea_road::is_problem;
 use rand_core::SeedableRng;
 use rand_xoshiro::Xoshiro256PlusPlus;
 use std::sync::atomic::{AtomicU64, Ordering};
 use std::test::Fail;
+
+/// The key, the node and the lowered heads of each turn that popped an entry, in their order.
+const POPPED: [(u64, u32, u64); 6] = [
+    (0, 1, 2),
+    (2, 3, 2),
+    (5, 2, 1),
+    (6, 4, 0),
+    (7, 2, 0),
+    (11, 4, 0),
+];
+
+/// Whether a turn is what the one worker's turn of this number is: four scan, two pop a stale entry, the rest are empty.
+fn is_right(turn: &Turn) -> bool {
+    let shown = (turn.key, turn.node, turn.lowered);
+    if turn.number >= 6 {
+        return matches!(turn.kind, TurnKind::Empty) && shown == (0, 0, 0);
+    }
+    let kind = match turn.kind {
+        TurnKind::Scanned => turn.number < 4,
+        TurnKind::Stale => turn.number >= 4,
+        _ => false,
+    };
+    kind && shown == POPPED[turn.number as usize]
+}
 
 #[test]
 fn one_worker(rt: HostRuntime) -> Result<(), Fail> {
@@ -17,12 +41,15 @@ fn one_worker(rt: HostRuntime) -> Result<(), Fail> {
         return Ok(());
     }
     let calls = AtomicU64::new(0);
-    let shown = &calls;
+    let right = AtomicU64::new(0);
+    let (shown, rights) = (&calls, &right);
     let mut rngs = Vec::new(alloc);
     rngs.push(Xoshiro256PlusPlus::seed_from_u64(1))?;
     let mut tracers = Vec::new(alloc);
-    tracers.push(move |_turn: Turn| -> Flow {
-        shown.fetch_add(1, Ordering::SeqCst);
+    tracers.push(move |turn: Turn| -> Flow {
+        if shown.fetch_add(1, Ordering::SeqCst) == turn.number && is_right(&turn) {
+            rights.fetch_add(1, Ordering::SeqCst);
+        }
         Flow::Go
     })?;
     let settings = Settings {
@@ -42,6 +69,8 @@ fn one_worker(rt: HostRuntime) -> Result<(), Fail> {
         tracers,
     )?;
     assert_eq!(rt; calls.load(Ordering::SeqCst), 38);
+    assert_eq!(rt; right.load(Ordering::SeqCst), 38);
+    assert!(rt; has_four(&solved.answer));
     assert_eq!(rt; solved.seeded, 1);
     assert_eq!(rt; solved.returned, 0);
     assert_eq!(rt; solved.drained, 0);

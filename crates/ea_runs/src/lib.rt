@@ -6,7 +6,13 @@ mod constant;
 #[cfg(test)]
 mod counted;
 #[cfg(test)]
+mod drawn;
+#[cfg(test)]
+mod gated;
+#[cfg(test)]
 mod given;
+#[cfg(test)]
+mod in_turn;
 #[cfg(test)]
 mod left;
 #[cfg(test)]

@@ -69,6 +69,9 @@ fn two_workers_meet(rt: HostRuntime) -> Result<(), Fail> {
         tracers,
     )?;
     assert_eq!(rt; meeting.missed.load(Ordering::SeqCst), 0);
+    for flag in &meeting.flags {
+        assert_eq!(rt; flag.load(Ordering::SeqCst), 1);
+    }
     let answer = &solved.answer;
     for (node, arrival) in [(1, 0), (2, 5), (3, 2), (4, 6)] {
         assert!(rt; answer.asks(node) && answer.arrival(node) == Some(arrival));

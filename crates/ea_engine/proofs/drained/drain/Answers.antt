@@ -26,6 +26,7 @@ loop-entry-preserved c =
       kept = λ node inside. c.add.ensures.kept node (c.loop-entry.invariant.kept node inside);
       counted = omega (arith, c.loop-entry.invariant.counted, same_length c.loop-entry.closed (entry ∷ rest) c.in-Some.ensures.taken);
       few = omega (arith, c.loop-entry.invariant.few, c.add.ensures.at_most_one);
+      some = λ more. omega (arith, c.add.ensures.inside.1);
       room = c.add.ensures.room.0 ∙ c.loop-entry.invariant.room;
       walks = c.add.ensures.room.1 ∙ c.loop-entry.invariant.walks;
     }

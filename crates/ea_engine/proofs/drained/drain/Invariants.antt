@@ -1,4 +1,4 @@
-use Rattle.std.proofs.Common.{◌≡◌, ◌≤◌, ◌+◌, ℕ, ◌⊎◌, length}
+use Rattle.std.proofs.Common.{◌≡◌, ◌<◌, ◌≤◌, ◌+◌, ℕ, ◌⊎◌, length}
 use Rattle.std.specs.Prelude.{Contains}
 use Rattle.ea_pool.specs.declared.entry.Entry.{Entry}
 use Rattle.ea_lists.specs.Totals.{total}
@@ -11,6 +11,7 @@ invariant-loop-entry l = record {
   kept : (node : ℕ) → Contains l.fn.todo.waiting node → Contains l.todo.waiting node;
   counted : l.drained + length l.closed ≡ length l.fn.closed;
   few : length l.todo.waiting ≤ length l.fn.todo.waiting + l.drained;
+  some : 0 < length l.fn.todo.waiting + l.drained → 0 < length l.todo.waiting;
   room : l.todo.nodes ≡ l.fn.todo.nodes;
   walks : l.todo.walks ≡ l.fn.todo.walks;
 }

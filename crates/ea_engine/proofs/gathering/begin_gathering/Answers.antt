@@ -1,6 +1,7 @@
-use Rattle.std.proofs.Common.{[], ◌∷◌, ◌++◌, ◌∙◌, ap, arith}
+use Rattle.std.proofs.Common.{[], ◌∷◌, ◌++◌, length, ◌∙◌, ap, arith}
 use Rattle.std.specs.Option.{option_to_list}
 use Rattle.ea_engine.proofs.JoinLemmas.{waits_hand}
+use Rattle.ea_engine.proofs.RowedLemmas.{waits_first}
 use Rattle.ea_engine.proofs.Settling.{each_of_option, of_option, option_short}
 use Rattle.ea_engine.proofs.gathering.begin_gathering.Goals as goal
 
@@ -31,4 +32,5 @@ returns-clause-gathered g c =
       returned_is = omega (arith, c.from.ensures);
       returned_few = omega (arith, c.from.ensures, e.returned_is, option_short hand.popped, option_short hand.refused);
       few = omega (arith, c.from.ensures, e.returned_is, c.keep.ensures.few, c.keep-2.ensures.few, c.requires.few);
+      some = λ more. c.keep-2.ensures.some (waits_first _ _ c.args.seeds.returned (length (option_to_list hand.popped)) (length (option_to_list hand.refused)) _ c.requires.some c.keep.ensures.some (omega (arith, c.from.ensures, e.returned_is)) more);
     }

@@ -50,6 +50,11 @@ loop-place-preserved g c = record {
     | in-Pushed w ↦ omega (arith, w.in-Pushed.ensures.few, c.loop-place.invariant.few)
     | in-HandedBack w ↦ omega (arith, w.in-HandedBack.ensures.few, c.loop-place.invariant.few)
   ];
+  some = elim c.match-seed.branch [
+    | in-Kept w ↦ (λ back. c.seed.ensures.some (omega (arith, c.loop-place.invariant.some (omega (arith, back)))))
+    | in-Pushed w ↦ (λ back. c.seed.ensures.some (omega (arith, c.loop-place.invariant.some (omega (arith, back)))))
+    | in-HandedBack w ↦ (λ back. w.in-HandedBack.ensures.some (omega arith))
+  ];
   counted = elim c.match-seed.branch [
     | in-Kept w ↦ omega (arith, c.loop-place.invariant.counted)
     | in-Pushed w ↦ omega (arith, c.loop-place.invariant.counted)

@@ -16,6 +16,7 @@ invariant-loop-place g l = record {
   pushed : length (account_of l.pool_seat).pushed ≡ length (account_of l.fn.pool_seat).pushed + l.seeded;
   popped : (account_of l.pool_seat).popped ≡ (account_of l.fn.pool_seat).popped;
   few : length l.todo.waiting ≤ length l.fn.todo.waiting + l.returned;
+  some : 0 < l.returned → 0 < length l.todo.waiting;
   counted : l.seeded + l.returned ≤ l.place;
   label_shares : l.label_seat.history.shares ≡ l.fn.label_seat.history.shares;
   pool_shares : (account_of l.pool_seat).shares ≡ (account_of l.fn.pool_seat).shares;

@@ -1,4 +1,5 @@
 use Rattle.std.proofs.Common.{inl, inr, arith, rules, of_calls}
+use Rattle.ea_engine.proofs.GroundLemmas.{ground_of}
 use Rattle.ea_engine.proofs.WorkLemmas.{SoFar-start, SoFar-more, SoFar-end}
 use Rattle.ea_engine.proofs.work_loop.work.Goals as goal
 use Rattle.ea_engine.proofs.work_loop.work.Goals.{then-turns-test+then-idle-lt32+else-number-budget, then-turns-test+else-idle-lt32, else-turns-test}
@@ -28,3 +29,7 @@ returns-clause-work g c = SoFar-end _ _ _ _ _ _ _ _ _ _ _ _ _ _ _ c.turns.invari
   | then-turns-test+else-idle-lt32 w ↦ inr (inl w.if-idle-lt32.false)
   | else-turns-test w ↦ inl w.turns-test.false
 ])
+
+pub take_turn-end-requires-clause-ground : goal.take_turn-end-requires-clause-ground
+take_turn-end-requires-clause-ground g c κs outlives =
+    ground_of _ _ _ _ _ c.args.query.now c.nodes-among_several.ensures.network c.times_are_fifo.ensures c.requires.problem c.requires.places c.requires.names

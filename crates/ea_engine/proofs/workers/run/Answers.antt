@@ -1,10 +1,11 @@
-use Rattle.std.proofs.Common.{◌≡◌, length, sym, ◌∙◌, ap, arith, subst}
+use Rattle.std.proofs.Common.{◌≡◌, ℕ, length, sym, ◌∙◌, ap, arith, subst}
 use Rattle.std.proofs.lemmas.List.{length-map}
 use Rattle.ea_pool.specs.Seats.{account_of, heaps_of, IsSeatOf}
+use Rattle.ea_engine.specs.declared.counters.Counters.{Counters}
 use Rattle.ea_engine.specs.Rowed.{all_done, IsDoneRow}
 use Rattle.ea_engine.specs.Tallies.{busy_by_all, empty_by_all}
 use Rattle.ea_engine.proofs.DoneRows.{some_of, written, ready_row, seated_done, reports_of_row, lone_of_row}
-use Rattle.ea_engine.proofs.RowedLemmas.{all_done-length}
+use Rattle.ea_engine.proofs.RowedLemmas.{all_done-length, sum_of_ends, waits_or}
 use Rattle.ea_engine.proofs.Settling.{gathered_start}
 use Rattle.ea_engine.proofs.workers.run.Given as given
 use Rattle.ea_engine.proofs.workers.run.Goals as goal
@@ -61,6 +62,18 @@ returns-clause-lone g c =
         all.popped_is,
         c.settle-table.ensures.drained,
       );
+    }
+
+pub returns-clause-tally : goal.returns-clause-tally
+returns-clause-tally g c =
+    let all = c.gather_row-label_seat.ensures.gathered.all in
+    let sum = λ (f : Counters → ℕ). sum_of_ends f _ _ all.counters_are in
+    record {
+      balance = omega (arith, all.pushed_is, all.popped_is, c.settle-table.ensures.drained, sum (λ k. k.pushed), sum (λ k. k.popped));
+      few_open = omega (arith, c.settle-table.ensures.few, all.few);
+      some_open = λ some. c.settle-table.ensures.some (waits_or _ _ _ _ all.some (omega arith) some);
+      hands = omega (arith, all.returned_is, sum (λ k. k.returned));
+      seeds = omega (arith, all.returned_is, sum (λ k. k.returned), c.seed_all-seeds.ensures.counted);
     }
 
 pub returns-clause-reports : goal.returns-clause-reports

@@ -1,4 +1,4 @@
-use Rattle.std.proofs.Common.{◌≡◌, ◌∙◌, ◌<◌, ℕ, List, [], ◌∷◌, ◌++◌, length, All, sym, ap, arith, subst, slice_index_or}
+use Rattle.std.proofs.Common.{◌≡◌, ◌∙◌, List, [], ◌∷◌, ◌++◌, All, sym, ap, arith, subst, slice_index_or}
 use Rattle.ea_runs.proofs.ran.run_one.Given as given
 use Rattle.ea_runs.proofs.ran.run_one.Goals as goal
 

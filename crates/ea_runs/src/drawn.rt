@@ -1,0 +1,91 @@
+//! Which heaps are looked at: seeds and pops with known words over eight heaps.
+use crate::constant::Constant;
+use crate::given::{FOUR_NODES, Given, pose};
+use crate::in_turn::InTurn;
+use ea_engine::{Flow, NoGate, Settings, Turn, solve};
+use ea_road::is_problem;
+use rand_core::Rng;
+use std::alloc::{AllocError, Global};
+use std::sync::atomic::{AtomicU64, Ordering};
+use std::test::Fail;
+use std::thread::Threads;
+
+/// What a run of one turn came to.
+#[derive(Clone, Copy)]
+struct Told {
+    seeded: u128,
+    popped: u64,
+    node: u64,
+}
+
+/// One worker makes one turn over eight heaps; none where what is given makes no problem.
+fn one_turn<H: Threads + Sync, R: Rng + Send + Drop>(
+    alloc: Global,
+    rt: &H,
+    given: &Given,
+    rng: R,
+) -> Result<Option<Told>, AllocError> {
+    if !is_problem(&given.network, given.times.classes(), &given.query) {
+        return Ok(None);
+    }
+    let shown = AtomicU64::new(0);
+    let node = &shown;
+    let mut rngs = Vec::new(alloc);
+    rngs.push(rng)?;
+    let mut tracers = Vec::new(alloc);
+    tracers.push(move |turn: Turn| -> Flow {
+        node.store(u64::from(turn.node), Ordering::SeqCst);
+        Flow::Go
+    })?;
+    let settings = Settings {
+        workers: 1,
+        heaps: 8,
+        turns: 1,
+    };
+    let solved = solve(
+        alloc,
+        rt,
+        &given.network,
+        &given.times,
+        &given.query,
+        settings,
+        rngs,
+        &NoGate,
+        tracers,
+    )?;
+    Ok(Some(Told {
+        seeded: solved.seeded,
+        popped: solved.counters[0].popped,
+        node: shown.load(Ordering::SeqCst),
+    }))
+}
+
+/// A word is taken for each push and not for each source: the third source's entry is in heap 1.
+#[test]
+fn seeds_take_words_where_they_are_pushed(rt: HostRuntime) -> Result<(), Fail> {
+    let alloc = rt.alloc();
+    let given = pose(alloc, 4, &FOUR_NODES, &[(1, 0), (1, 0), (2, 0)])?.ok_or("rows")?;
+    for (word, node) in [(0, 1), (1, 2)] {
+        let told = one_turn(alloc, &rt, &given, Constant(word))?.ok_or("problem")?;
+        assert_eq!(rt; (told.seeded, told.popped, told.node), (2, 1, node));
+    }
+    let told = one_turn(alloc, &rt, &given, Constant(2))?.ok_or("problem")?;
+    assert_eq!(rt; (told.seeded, told.popped), (2, 0));
+    Ok(())
+}
+
+/// The one entry is in heap 0, which a pop looks at by its first word or by its second.
+#[test]
+fn pop_draws_two_words_in_their_order(rt: HostRuntime) -> Result<(), Fail> {
+    let alloc = rt.alloc();
+    let given = pose(alloc, 4, &FOUR_NODES, &[(1, 0)])?.ok_or("rows")?;
+    for (first, second, popped) in [(0, 3, 1), (3, 0, 0), (9, 6, 1), (6, 9, 0)] {
+        let words = InTurn {
+            word: first,
+            next: second,
+        };
+        let told = one_turn(alloc, &rt, &given, words)?.ok_or("problem")?;
+        assert_eq!(rt; told.popped, popped);
+    }
+    Ok(())
+}

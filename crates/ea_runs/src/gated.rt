@@ -1,0 +1,90 @@
+//! The gate is called before each turn of each worker, once, with the worker's and the turn's numbers.
+use crate::given::{FOUR_NODES, pose};
+use ea_engine::{Flow, Gate, Settings, Turn, solve};
+use ea_road::is_problem;
+use rand_core::SeedableRng;
+use rand_xoshiro::Xoshiro256PlusPlus;
+use std::sync::atomic::{AtomicU64, Ordering};
+use std::test::Fail;
+
+/// Counts its calls by workers, and notes a call whose number isn't the count so far.
+#[derive(Drop)]
+struct Counting {
+    calls: [AtomicU64; 3],
+    wrong: AtomicU64,
+}
+
+impl Gate for Counting {
+    fn at(&self, worker: u32, turn: u64) {
+        if worker > 2 || self.calls[worker as usize].fetch_add(1, Ordering::SeqCst) != turn {
+            self.wrong.store(1, Ordering::SeqCst);
+        }
+    }
+}
+
+impl Counting {
+    /// Notes a turn that is shown where its gate wasn't the last one that was called for its worker.
+    fn shown(&self, worker: u32, turn: u64) {
+        if worker > 2
+            || self.calls[worker as usize].load(Ordering::SeqCst) != turn.wrapping_add(1)
+        {
+            self.wrong.store(1, Ordering::SeqCst);
+        }
+    }
+}
+
+#[test]
+fn gate_counts_the_turns(rt: HostRuntime) -> Result<(), Fail> {
+    let alloc = rt.alloc();
+    let given = pose(alloc, 4, &FOUR_NODES, &[(1, 0)])?.ok_or("rows")?;
+    if !is_problem(&given.network, given.times.classes(), &given.query) {
+        assert!(rt; false);
+        return Ok(());
+    }
+    let gate = Counting {
+        calls: [AtomicU64::new(0), AtomicU64::new(0), AtomicU64::new(0)],
+        wrong: AtomicU64::new(0),
+    };
+    let mut rngs = Vec::new(alloc);
+    let mut tracers = Vec::new(alloc);
+    let counting = &gate;
+    for worker in 0..3u32 {
+        rngs.push(Xoshiro256PlusPlus::seed_from_u64(u64::from(worker)))?;
+        // Each worker leaves at a turn of its own.
+        tracers.push(move |turn: Turn| -> Flow {
+            counting.shown(worker, turn.number);
+            if turn.number > 5 * u64::from(worker) {
+                Flow::Leave
+            } else {
+                Flow::Go
+            }
+        })?;
+    }
+    if rngs.len() != 3 || tracers.len() != 3 {
+        assert!(rt; false);
+        return Ok(());
+    }
+    let settings = Settings {
+        workers: 3,
+        heaps: 2,
+        turns: 100,
+    };
+    let solved = solve(
+        alloc,
+        &rt,
+        &given.network,
+        &given.times,
+        &given.query,
+        settings,
+        rngs,
+        &gate,
+        tracers,
+    )?;
+    assert_eq!(rt; gate.wrong.load(Ordering::SeqCst), 0);
+    assert_eq!(rt; solved.counters.len(), 3);
+    for (calls, counters) in gate.calls.iter().zip(&solved.counters) {
+        assert!(rt; counters.turns > 0);
+        assert_eq!(rt; calls.load(Ordering::SeqCst), counters.turns);
+    }
+    Ok(())
+}
