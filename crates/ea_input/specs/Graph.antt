@@ -48,7 +48,7 @@ pub record DenotesGraph (lines : List (List (List ℕ))) (graph : Graph) : Type 
   pub announces : IsProblemLine problem graph.nodes (length graph.arcs)
   pub lists : AreArcLines graph.nodes others graph.arcs
 
--- WHAT A TEXT'S FAULT IS
+-- HOW A READER GOES, STEP BY STEP (no public clause names it: what a text denotes is above, and its fault is `IsFaultOf` in Checks)
 
 -- The size whose numbers these fields are.
 unfoldable pub size_read : List ℕ → List ℕ → Result GraphSize FaultKind
@@ -137,6 +137,6 @@ graph_step read fields = after_said read (graph_line read.size (length read.arcs
 unfoldable pub graph_end : GraphRead → Result Graph FaultKind
 graph_end read = ok_or read.size NoProblemLine >>= λ size. if nat_lt (length read.arcs) size.arcs then Err TooFewLines else Ok (record { nodes = size.nodes; arcs = read.arcs })
 
--- The graph of a text, or its fault.
+-- What a reader finds: the graph of a text, or a fault.
 abbrev pub graph_of : List (List (List ℕ)) → Result Graph InputFault
 graph_of lines = text_after graph_step graph_end no_graph lines

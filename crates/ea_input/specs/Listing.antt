@@ -38,7 +38,7 @@ pub record DenotesItems {A : Type 0} (kind word : List ℕ) (IsItem : List (List
   pub announces : IsCountLine kind problem (length items)
   pub lists : AreItemLines word IsItem others items
 
--- WHAT A TEXT'S FAULT IS
+-- HOW A READER GOES, STEP BY STEP (no public clause names it: what a text denotes is above, and its fault is `IsFaultOf` in Checks)
 
 -- The fields after the words that stand between `p` and the numbers.
 unfoldable pub after_kinds : List (List ℕ) → List (List ℕ) → Result (List (List ℕ)) FaultKind

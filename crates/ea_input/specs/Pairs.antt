@@ -33,6 +33,6 @@ pair_of nodes _ = Err FieldCount
 abbrev pub pair_step : Listed (ℕ × ℕ) → List (List ℕ) → Result (Listed (ℕ × ℕ)) FaultKind
 pair_step = list_step (codes "p2p") (codes "q") pair_of
 
--- The pairs of a text, or its fault.
+-- What a reader finds: the pairs of a text, or a fault.
 abbrev pub pairs_of : ℕ → List (List (List ℕ)) → Result (List (ℕ × ℕ)) InputFault
 pairs_of nodes lines = text_after pair_step list_end (nothing_listed nodes) lines

@@ -21,6 +21,6 @@ source_of nodes fields = only_number 1 nodes fields
 abbrev pub source_step : Listed ℕ → List (List ℕ) → Result (Listed ℕ) FaultKind
 source_step = list_step (codes "ss") (codes "s") source_of
 
--- The sources of a text, or its fault.
+-- What a reader finds: the sources of a text, or a fault.
 abbrev pub sources_of : ℕ → List (List (List ℕ)) → Result (List ℕ) InputFault
 sources_of nodes lines = text_after source_step list_end (nothing_listed nodes) lines

@@ -63,7 +63,7 @@ pub record DenotesTable (arcs : ℕ) (lines : List (List (List ℕ))) (table : T
   pub announces : IsTableProblem problem (length table.kinds) (length table.assigned)
   pub lists : AreTableLines arcs (length table.kinds) 0 others table.kinds table.assigned
 
--- WHAT A TEXT'S FAULT IS
+-- HOW A READER GOES, STEP BY STEP (no public clause names it: what a text denotes is above, and its fault is `IsFaultOf` in Checks)
 
 unfoldable pub size_read : List ℕ → List ℕ → Result TableSize FaultKind
 size_read k t = do
@@ -231,6 +231,6 @@ table_end read = ok_or read.size NoProblemLine >>= λ size.
     if nat_lt (length read.kinds) size.kinds then Err TooFewLines else
     (if nat_lt (length read.assigned) size.assigned then Err TooFewLines else Ok (record { kinds = read.kinds; assigned = read.assigned }))
 
--- The timetable of a text, or its fault.
+-- What a reader finds: the timetable of a text, or a fault.
 abbrev pub table_of : ℕ → List (List (List ℕ)) → Result Table InputFault
 table_of arcs lines = text_after table_step table_end (no_table arcs) lines

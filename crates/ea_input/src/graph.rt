@@ -267,7 +267,7 @@ fn read_graph(alloc: Global, text: &[u8]) -> Result<RawGraph, InputFault>
     read_text(alloc, start, text)
 }
 
-/// The graph that a text denotes, or the text's first fault.
+/// The graph that a text denotes, or the text's first fault. `OutOfMemory`, in line 0, says nothing of the text.
 pub fn read_gr(alloc: Global, text: &[u8]) -> Result<RawGraph, InputFault>
     // What is read is what the text denotes.
     ensures denoted { IfOk result (λ g. DenotesGraph (field_lines text.now) (graph g)) }

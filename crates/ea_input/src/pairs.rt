@@ -137,7 +137,8 @@ fn read_pairs(alloc: Global, text: &[u8], nodes: u32) -> Result<Vec<(u32, u32)>,
     read_text(alloc, start, text)
 }
 
-/// The pairs of a text, in their order; nodes are numbered up to `nodes`.
+/// The pairs of source and target of a text, in their order, or the text's first fault; nodes are numbered from 1 up to
+/// `nodes`. `OutOfMemory`, in line 0, says nothing of the text.
 pub fn read_p2p(alloc: Global, text: &[u8], nodes: u32) -> Result<Vec<(u32, u32)>, InputFault>
     // What is read is what the text denotes.
     ensures denoted { IfOk result (λ found. DenotesPairs nodes (field_lines text.now) (found.items)) }

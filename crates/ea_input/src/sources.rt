@@ -115,7 +115,8 @@ fn read_sources(alloc: Global, text: &[u8], nodes: u32) -> Result<Vec<u32>, Inpu
     read_text(alloc, start, text)
 }
 
-/// The sources of a text, in their order; nodes are numbered up to `nodes`.
+/// The sources of a text, in their order, or the text's first fault; nodes are numbered from 1 up to `nodes`. `OutOfMemory`,
+/// in line 0, says nothing of the text.
 pub fn read_ss(alloc: Global, text: &[u8], nodes: u32) -> Result<Vec<u32>, InputFault>
     // What is read is what the text denotes.
     ensures denoted { IfOk result (λ found. DenotesSources nodes (field_lines text.now) (found.items)) }

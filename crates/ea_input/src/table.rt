@@ -32,7 +32,8 @@ pub enum RawKind {
     Every { period: u64, offset: u64 },
     /// From `lo` on not before `hi`, which is later.
     Closed { lo: u64, hi: u64 },
-    /// At once, and from `lo` on before `hi` it takes `extra` more, at most 2^32.
+    /// At once, and from `lo` on before `hi` it takes `extra` more, at most 2^32. From `hi` on an arc isn't arrived at before
+    /// one that was left just before `hi`: not before `hi + weight + extra`.
     Rush { lo: u64, hi: u64, extra: u64 },
 }
 
@@ -446,7 +447,8 @@ fn read_table(alloc: Global, text: &[u8], arcs: u32) -> Result<RawTable, InputFa
     read_text(alloc, start, text)
 }
 
-/// The timetable of a text; arcs are numbered up to `arcs`.
+/// The timetable of a text, or the text's first fault; arcs are numbered from 1 up to `arcs`. `OutOfMemory`, in line 0, says
+/// nothing of the text.
 pub fn read_tp(alloc: Global, text: &[u8], arcs: u32) -> Result<RawTable, InputFault>
     // What is read is what the text denotes.
     ensures denoted { IfOk result (λ found. DenotesTable arcs (field_lines text.now) (table found)) }

@@ -8,7 +8,7 @@ use ea_input::{RawArc, RawGraph, RawTable};
 use std::alloc::{AllocError, Global};
 
 /// The arcs of a graph in their order. An arc's class is the last that the table assigns to it, and 0 where it assigns
-/// none. Each assigned number is that of an arc.
+/// none. Each assigned number is that of an arc. An error comes only where memory for the list was refused.
 pub fn arcs_of(
     alloc: Global,
     graph: &RawGraph,

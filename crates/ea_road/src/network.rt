@@ -39,7 +39,8 @@ pub struct Leaving<'a> {
 }
 
 impl Network {
-    /// A network of so many nodes and these arcs. It takes time in proportion to both.
+    /// A network of so many nodes, numbered from 1, and these arcs. It takes time in proportion to both. An error comes only
+    /// where memory for the index of arcs by tail was refused; then the arcs are dropped.
     pub fn new(alloc: Global, nodes: u32, arcs: Vec<Arc>) -> Result<Network, AllocError>
         requires { IsNetwork (record { nodes = nodes; arcs = arcs.items }) }
         ensures { IfOk result (λ network. network ≡ record { nodes = nodes; arcs = arcs.items }) }

@@ -24,7 +24,7 @@ impl Timetables {
         Timetables { list }
     }
 
-    /// Travel times by these kinds of timetable.
+    /// Travel times by these kinds of timetable. An error comes only where memory for the list was refused.
     pub fn of(alloc: Global, kinds: &[RawKind]) -> Result<Timetables, AllocError>
         requires { (kind : RawKind) → IsAmong kinds.now kind → IsTrue (is_kind kind) }
         ensures { IfOk result (λ times. map (λ table. table.kind) times.list.items ≡ kinds.now) }

@@ -26,11 +26,12 @@ field_lines text = map (λ line. fields_of (strip_carriage_return line)) (lines_
 abbrev pub number_of : List ℕ → Option ℕ
 number_of field = if nat_lt 0 (length field) && all_ascii_digits field then Some (digits_value 10 field) else None
 
--- A line says nothing where it has no field or is a comment.
+-- The first field of a comment begins with `c`.
 abbrev pub is_comment : List ℕ → Bool
 is_comment [] = false
 is_comment (b ∷ bs) = b == 99
 
+-- A line says nothing where it has no field or is a comment.
 abbrev pub is_silent : List (List ℕ) → Bool
 is_silent [] = true
 is_silent (word ∷ others) = is_comment word

@@ -89,7 +89,7 @@ pub(crate) fn with_departures<'a>(
     Ok(command)
 }
 
-/// The options that say how the workers go. They change how long a run takes and never what it reports.
+/// The options that say how the workers go. They change how long `run` and `pairs` take and never what these report.
 pub(crate) fn with_workers<'a>(
     alloc: Global,
     command: Command<'a>,

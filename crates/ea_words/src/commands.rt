@@ -26,7 +26,7 @@ const PAIRS_MORE: &str =
 const RANK: &str = "Writes how relaxed the queue was: rank errors of one thread's runs";
 
 const RANK_MORE: &str =
-    "Example:\n  earliest rank roads.gr starts.ss --workers 4 --heaps 2\n\nFor each source a line `s S D` (source, departure), then a line `r POPS MAX SUM`: how many\nentries were popped, and the greatest and the sum of their rank errors. The rank error of\na pop is the number of entries in the queue with a smaller key.";
+    "Example:\n  earliest rank roads.gr starts.ss --workers 4 --heaps 2\n\nOne thread makes each run, over as many heaps as P workers would share. For each source\na line `s S D` (source, departure), then a line `r POPS MAX SUM`: how many entries were\npopped, and the greatest and the sum of their rank errors. The rank error of a pop is the\nnumber of entries in the queue with a smaller key.";
 
 const CHECK: &str = "Says whether a report of a run is right, or its first fault";
 
