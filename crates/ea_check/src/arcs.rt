@@ -1,5 +1,5 @@
 //! The arcs of a walk that is written.
-ghost use Rattle.std.specs.Prelude.{◌≡◌, ◌<◌, ◌≤◌, [], IfSome, MatchOption, OnOk, length};
+ghost use Rattle.std.specs.Prelude.{◌≡◌, ◌<◌, [], IfSome, MatchOption, OnOk, length};
 ghost use Rattle.ea_text.specs.Text.{fields_of};
 ghost use Rattle.ea_check.specs.Form.{arc_of, arcs_of};
 ghost use Rattle.ea_check.specs.Reads.{BeginsWithArc};

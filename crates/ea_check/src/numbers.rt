@@ -1,12 +1,13 @@
 //! How many numbers a text writes.
-ghost use Rattle.std.specs.Prelude.{◌≡◌, ◌≤◌, ◌+◌, ℕ, List, MatchOption, length, true};
+ghost use Rattle.std.specs.Prelude.{◌≡◌, ◌≤◌, ℕ, List, MatchOption, length};
 ghost use Rattle.ea_text.specs.Text.{fields_of};
 ghost use Rattle.ea_check.specs.Form.{AreArcNumbers, arcs_of};
 ghost use Rattle.ea_check.specs.Counted.{ends_blank, has_other, starts};
+ghost use Rattle.ea_check.specs.declared.numbers.TheConstants.{PIECE};
 
 use ea_text::is_blank;
 
-/// The most bytes that are counted at a time: no more than a byte counts up to.
+/// The most bytes that are counted at a time: whole registers of them, and no more than a byte counts up to.
 const PIECE: usize = 240;
 
 /// What a piece of a text has.
@@ -23,7 +24,7 @@ struct Found {
 /// What a piece of a text has, where a blank or another byte stands before it. The loop has no branch, so that many bytes
 /// are looked at together.
 fn found_in(piece: &[u8], before: bool) -> Found
-    requires { length piece.now ≤ 240 }
+    requires { length piece.now ≤ PIECE }
     ensures starts { result.starts ≡ starts before piece.now }
     ensures other { result.other ≡ has_other piece.now }
     ensures blank { result.blank ≡ ends_blank before piece.now }

@@ -23,6 +23,10 @@ const REPORT: &[u8] = b"s 1 0\nd 1 0\nd 2 5\nd 3 2\nd 4 6\n";
 const WITH_WALKS: &[u8] =
     b"s 1 0\nd 1 0\nw 1 0\nd 2 5\nw 2 2 2 3\nd 3 2\nw 3 1 2\nd 4 6\nw 4 3 2 3 4\n";
 
+/// With one walk that is written with a leading zero.
+const ODD_WALK: &[u8] =
+    b"s 1 0\nd 1 0\nw 1 0\nd 2 5\nw 2 2 02 3\nd 3 2\nw 3 1 2\nd 4 6\nw 4 3 2 3 4\n";
+
 fn network_of(alloc: Global, nodes: u32, rows: &[Row]) -> Result<Option<Network>, AllocError> {
     let mut arcs = Vec::new(alloc);
     for (tail, head, weight, class) in rows {
@@ -540,14 +544,11 @@ fn memory_refused(rt: HostRuntime) {
     if !is_checkable(&network, times.classes(), &queries) {
         return;
     }
-    match check(alloc, &network, &times, &queries, WITH_WALKS) {
+    match check(alloc, &network, &times, &queries, ODD_WALK) {
         Ok(()) => {}
         Err(fault) => {
             assert_eq!(rt; fault, OutOfMemory);
-            assert_eq!(rt;
-                check(alloc, &network, &times, &queries, WITH_WALKS),
-                Ok(())
-            );
+            assert_eq!(rt; check(alloc, &network, &times, &queries, ODD_WALK), Ok(()));
         }
     }
 }
