@@ -17,7 +17,7 @@ use Rattle.ea_report.specs.Sent.{Seen}
 use Rattle.ea_words.specs.declared.options.RunOptions.{RunOptions}
 use Rattle.earliest.specs.Faults.{answer_fault}
 use Rattle.earliest.specs.Fronts.{IsCutShort, IsFront, IsWritten, times_on}
-use Rattle.earliest.specs.Runs.{Asks, IsAnswered, IsFailed, IsFrontOf}
+use Rattle.earliest.specs.Runs.{AreRead, Asks, IsAnswered, IsFailed, IsFrontOf}
 use Rattle.earliest.specs.declared.fault.AnswerFault.{AnswerFault}
 use Rattle.earliest.specs.declared.fault.AnswerFault.TheVariants.{Read, Input, BadOption, Write, OutOfMemory}
 
@@ -30,10 +30,10 @@ on_given P given road is_road holds = subst (λ (r : Roads). P r (times_of given
 
 module _ {X : Type 0} (asks : Asks X) (options : RunOptions) (tp : Option (Option (List ℕ))) where
   -- The files were at fault.
-  pub files_failed : (gr starts : Reading) (IsTableFault : ℕ → FileFault → Type 0) (first : Seen) (fault : FileFault) → IsFirstFault asks.word asks.format asks.DenotesStarts gr starts IsTableFault fault → IsFailed asks options tp gr starts IsTableFault first first (answer_fault fault)
-  files_failed gr starts IsTableFault first (file.Read word fault) is = (is, refl)
-  files_failed gr starts IsTableFault first (file.Input word fault) is = (is, refl)
-  files_failed gr starts IsTableFault first file.OutOfMemory is = inl (refl, refl)
+  pub files_failed : (gr starts : Reading) (IsTableFault : ℕ → FileFault → Type 0) (IsTableRead : Type 0) (first : Seen) (fault : FileFault) → IsFirstFault asks.word asks.format asks.DenotesStarts gr starts IsTableFault fault → IsFailed asks options tp gr starts IsTableFault IsTableRead first first (answer_fault fault)
+  files_failed gr starts IsTableFault IsTableRead first (file.Read word fault) is = (is, refl)
+  files_failed gr starts IsTableFault IsTableRead first (file.Input word fault) is = (is, refl)
+  files_failed gr starts IsTableFault IsTableRead first file.OutOfMemory is = inl (refl, refl)
 
   module _ (gr starts : Option (List ℕ)) (given : Given) (found : X) (read : AreGiven asks.DenotesStarts gr starts tp given found) (within : asks.AreWithin found) (road : Road) (is_road : IsRoadOf given road) (queries : List Asking) (are : queries ≡ asks.problems found) where
     -- The report went out.
@@ -57,12 +57,12 @@ module _ {X : Type 0} (asks : Asks X) (options : RunOptions) (tp : Option (Optio
     }
 
     -- The report was cut short.
-    pub failed : (gr_reading starts_reading : Reading) (IsTableFault : ℕ → FileFault → Type 0) (first now : Seen) → gr_reading.had ≡ gr → starts_reading.had ≡ starts → (r : Result Totals AnswerFault) → IfErr r (IsCutShort options road.network (times_on road) queries first now) → IfErr r (IsFailed asks options tp gr_reading starts_reading IsTableFault first now)
-    failed a b IsTableFault first now same_gr same_starts (Ok totals) cut = tt
-    failed a b IsTableFault first now same_gr same_starts (Err (Write size)) cut = (there size cut.0, cut.1) where
+    pub failed : (gr_reading starts_reading : Reading) (IsTableFault : ℕ → FileFault → Type 0) (IsTableRead : Type 0) (first now : Seen) → AreRead gr_reading starts_reading IsTableRead → gr_reading.had ≡ gr → starts_reading.had ≡ starts → (r : Result Totals AnswerFault) → IfErr r (IsCutShort options road.network (times_on road) queries first now) → IfErr r (IsFailed asks options tp gr_reading starts_reading IsTableFault IsTableRead first now)
+    failed a b IsTableFault IsTableRead first now are_read same_gr same_starts (Ok totals) cut = tt
+    failed a b IsTableFault IsTableRead first now are_read same_gr same_starts (Err (Write size)) cut = (there size cut.0, cut.1, are_read) where
       there : (n : ℕ) → IsFront options road.network (times_on road) queries first.contents now.contents n → IsFrontOf asks options tp a.had b.had first.contents now.contents n
       there n part = subst (λ o. IsFrontOf asks options tp o b.had first.contents now.contents n) (sym same_gr) (subst (λ o. IsFrontOf asks options tp gr o first.contents now.contents n) (sym same_starts) (front first.contents now.contents n part))
-    failed a b IsTableFault first now same_gr same_starts (Err (OutOfMemory size)) cut = inr (subst (λ o. IsFrontOf asks options tp o b.had first.contents now.contents size) (sym same_gr) (subst (λ o. IsFrontOf asks options tp gr o first.contents now.contents size) (sym same_starts) (front first.contents now.contents size cut)))
-    failed a b IsTableFault first now same_gr same_starts (Err (Read word fault)) cut = absurd cut
-    failed a b IsTableFault first now same_gr same_starts (Err (Input word fault)) cut = absurd cut
-    failed a b IsTableFault first now same_gr same_starts (Err BadOption) cut = absurd cut
+    failed a b IsTableFault IsTableRead first now are_read same_gr same_starts (Err (OutOfMemory size)) cut = inr (subst (λ o. IsFrontOf asks options tp o b.had first.contents now.contents size) (sym same_gr) (subst (λ o. IsFrontOf asks options tp gr o first.contents now.contents size) (sym same_starts) (front first.contents now.contents size cut)), are_read)
+    failed a b IsTableFault IsTableRead first now are_read same_gr same_starts (Err (Read word fault)) cut = absurd cut
+    failed a b IsTableFault IsTableRead first now are_read same_gr same_starts (Err (Input word fault)) cut = absurd cut
+    failed a b IsTableFault IsTableRead first now are_read same_gr same_starts (Err BadOption) cut = absurd cut

@@ -22,10 +22,10 @@ use Rattle.earliest.specs.Fronts.{times_on}
 
 module _ (joint : Bool) (depart gap : ℕ) (tp : Option (Option (List ℕ))) where
   -- The files of the run were at fault.
-  pub run_failed : (gr ss report : Reading) (left : Option (List ℕ)) (IsTableFault : ℕ → FileFault → Type 0) (fault : FileFault) → IsFirstFault Ss source_format DenotesSources gr ss IsTableFault fault → IsUnjudged joint depart gap tp gr ss report left IsTableFault (answer_fault fault)
-  run_failed gr ss report left IsTableFault (file.Read word fault) is = in_run is
-  run_failed gr ss report left IsTableFault (file.Input word fault) is = in_run is
-  run_failed gr ss report left IsTableFault file.OutOfMemory is = refl
+  pub run_failed : (gr ss report : Reading) (left : Option (List ℕ)) (IsTableFault : ℕ → FileFault → Type 0) (IsTableRead : Type 0) (fault : FileFault) → IsFirstFault Ss source_format DenotesSources gr ss IsTableFault fault → IsUnjudged joint depart gap tp gr ss report left IsTableFault IsTableRead (answer_fault fault)
+  run_failed gr ss report left IsTableFault IsTableRead (file.Read word fault) is = in_run is
+  run_failed gr ss report left IsTableFault IsTableRead (file.Input word fault) is = in_run is
+  run_failed gr ss report left IsTableFault IsTableRead file.OutOfMemory is = refl
 
   -- A verdict on a road is one on what the files denote.
   pub judged : (gr ss : Option (List ℕ)) (report : Reading) (left : Option (List ℕ)) (given : Given) (found text : List ℕ) → AreGiven DenotesSources gr ss tp given found → IsReadWhole report left text → AreWithin depart gap (length found) → (road : Road) → IsRoadOf given road → (queries : List Asking) → queries ≡ run_problems joint depart gap found → (said : List ℕ) → said ≡ text

@@ -12,6 +12,7 @@ use Rattle.ea_files.specs.Starts.{AreWithin, run_problems}
 use Rattle.ea_check.specs.Checked.{IsChecked, sources_of}
 use Rattle.ea_check.specs.Form.{lines_of_report}
 use Rattle.ea_check.specs.declared.fault.CheckFault.{CheckFault}
+use Rattle.earliest.specs.Runs.{AreRead}
 use Rattle.earliest.specs.declared.fault.AnswerFault.{AnswerFault}
 use Rattle.earliest.specs.declared.fault.AnswerFault.TheVariants.{Read, Input, BadOption, Write, OutOfMemory}
 
@@ -44,15 +45,16 @@ module _ (joint : Bool) (depart gap : ℕ) (tp : Option (Option (List ℕ))) whe
     pub whole : IsReadWhole report left text
     pub late : AreWithin depart gap (length found) → ⊥
 
-  -- The first fault of the files in their order: that of a file of the run; or where these are sound, the report wasn't read.
-  pub data IsFirstAtFault (gr ss report : Reading) (IsTableFault : ℕ → FileFault → Type 0) (fault : FileFault) : Type 0 where
-    in_run : IsFirstFault Ss source_format DenotesSources gr ss IsTableFault fault → IsFirstAtFault gr ss report IsTableFault fault
-    in_report : AreSound tp gr.had ss.had → IsUnreadBy Report report fault → IsFirstAtFault gr ss report IsTableFault fault
+  -- The first fault of the files in their order: that of a file of the run; or where these were read and are sound, the report
+  -- wasn't read.
+  pub data IsFirstAtFault (gr ss report : Reading) (IsTableFault : ℕ → FileFault → Type 0) (IsTableRead : Type 0) (fault : FileFault) : Type 0 where
+    in_run : IsFirstFault Ss source_format DenotesSources gr ss IsTableFault fault → IsFirstAtFault gr ss report IsTableFault IsTableRead fault
+    in_report : AreSound tp gr.had ss.had → AreRead gr ss IsTableRead → IsUnreadBy Report report fault → IsFirstAtFault gr ss report IsTableFault IsTableRead fault
 
   -- Why nothing is said of a report: the first fault of the files; or a late departure; or memory. Nothing is ever written.
-  abbrev pub IsUnjudged : Reading → Reading → Reading → Option (List ℕ) → (ℕ → FileFault → Type 0) → AnswerFault → Type 0
-  IsUnjudged gr ss report left IsTableFault (Read word fault) = IsFirstAtFault gr ss report IsTableFault (file.Read word fault)
-  IsUnjudged gr ss report left IsTableFault (Input word fault) = IsFirstAtFault gr ss report IsTableFault (file.Input word fault)
-  IsUnjudged gr ss report left IsTableFault BadOption = IsLate gr.had ss.had report left
-  IsUnjudged gr ss report left IsTableFault (Write written) = ⊥
-  IsUnjudged gr ss report left IsTableFault (OutOfMemory written) = written ≡ 0
+  abbrev pub IsUnjudged : Reading → Reading → Reading → Option (List ℕ) → (ℕ → FileFault → Type 0) → Type 0 → AnswerFault → Type 0
+  IsUnjudged gr ss report left IsTableFault IsTableRead (Read word fault) = IsFirstAtFault gr ss report IsTableFault IsTableRead (file.Read word fault)
+  IsUnjudged gr ss report left IsTableFault IsTableRead (Input word fault) = IsFirstAtFault gr ss report IsTableFault IsTableRead (file.Input word fault)
+  IsUnjudged gr ss report left IsTableFault IsTableRead BadOption = IsLate gr.had ss.had report left × AreRead gr ss IsTableRead
+  IsUnjudged gr ss report left IsTableFault IsTableRead (Write written) = ⊥
+  IsUnjudged gr ss report left IsTableFault IsTableRead (OutOfMemory written) = written ≡ 0

@@ -10,7 +10,7 @@ use Rattle.ea_files.specs.declared.fault.FileWord.{FileWord}
 use Rattle.ea_files.specs.declared.fault.FileWord.TheVariants.{Ss, P2p}
 use Rattle.ea_files.specs.declared.fault.FileFault.{FileFault}
 use Rattle.ea_files.specs.declared.fault.FileFault.TheVariants as file
-use Rattle.ea_files.specs.Files.{Reading, IsFirstFault}
+use Rattle.ea_files.specs.Files.{IsBorne, IsFirstFault, Reading}
 use Rattle.ea_files.specs.Given.{Given, AreGiven, roads_of, times_of}
 use Rattle.ea_files.specs.Starts.{AreWithin, run_problems, pair_problems}
 use Rattle.ea_report.specs.declared.stats.Totals.{Totals}
@@ -19,6 +19,10 @@ use Rattle.ea_words.specs.declared.options.RunOptions.{RunOptions}
 use Rattle.earliest.specs.Fronts.{IsFront, IsWritten}
 use Rattle.earliest.specs.declared.fault.AnswerFault.{AnswerFault}
 use Rattle.earliest.specs.declared.fault.AnswerFault.TheVariants.{Read, Input, BadOption, Write, OutOfMemory}
+
+-- All files were read: no read of network, starts and timetables failed, and the interruptions of each were borne.
+abbrev pub AreRead : Reading → Reading → Type 0 → Type 0
+AreRead gr starts IsTableRead = IsBorne gr × IsBorne starts × IsTableRead
 
 -- A run asks these problems of what a file of starts denotes, and their departures are within the horizon.
 pub record Asks (X : Type 0) : Type 1 where
@@ -53,13 +57,16 @@ module _ {X : Type 0} (asks : Asks X) (options : RunOptions) (tp : Option (Optio
     pub late : asks.AreWithin found → ⊥
 
   -- Why an answer is not whole: the first fault of the files; or a late departure; or the device; or memory, before anything
-  -- was written or after a front of the report. Where a file or an option is the cause nothing was written.
-  abbrev pub IsFailed : Reading → Reading → (ℕ → FileFault → Type 0) → Seen → Seen → AnswerFault → Type 0
-  IsFailed gr starts IsTableFault first now (Read word fault) = IsFirstFault asks.word asks.format asks.DenotesStarts gr starts IsTableFault (file.Read word fault) × (now ≡ first)
-  IsFailed gr starts IsTableFault first now (Input word fault) = IsFirstFault asks.word asks.format asks.DenotesStarts gr starts IsTableFault (file.Input word fault) × (now ≡ first)
-  IsFailed gr starts IsTableFault first now BadOption = HasLateStart gr.had starts.had × (now ≡ first)
-  IsFailed gr starts IsTableFault first now (Write written) = IsFrontOf gr.had starts.had first.contents now.contents written × HasGivenUp first.failed now.failed first.interrupted now.interrupted
-  IsFailed gr starts IsTableFault first now (OutOfMemory written) = ((written ≡ 0) × (now ≡ first)) ⊎ IsFrontOf gr.had starts.had first.contents now.contents written
+  -- was written or after a front of the report. Where a file or an option is the cause nothing was written. What comes after the
+  -- files comes where each was read and no read failed.
+  abbrev pub IsFailed : Reading → Reading → (ℕ → FileFault → Type 0) → Type 0 → Seen → Seen → AnswerFault → Type 0
+  IsFailed gr starts IsTableFault IsTableRead first now (Read word fault) = IsFirstFault asks.word asks.format asks.DenotesStarts gr starts IsTableFault (file.Read word fault) × (now ≡ first)
+  IsFailed gr starts IsTableFault IsTableRead first now (Input word fault) = IsFirstFault asks.word asks.format asks.DenotesStarts gr starts IsTableFault (file.Input word fault) × (now ≡ first)
+  IsFailed gr starts IsTableFault IsTableRead first now BadOption = HasLateStart gr.had starts.had × (now ≡ first) × AreRead gr starts IsTableRead
+  IsFailed gr starts IsTableFault IsTableRead first now (Write written) =
+      IsFrontOf gr.had starts.had first.contents now.contents written × HasGivenUp first.failed now.failed first.interrupted now.interrupted × AreRead gr starts IsTableRead
+  IsFailed gr starts IsTableFault IsTableRead first now (OutOfMemory written) =
+      ((written ≡ 0) × (now ≡ first)) ⊎ (IsFrontOf gr.had starts.had first.contents now.contents written × AreRead gr starts IsTableRead)
 
 -- A run asks each source by itself, or all together.
 abbrev pub run_asks : Bool → ℕ → ℕ → Asks (List ℕ)

@@ -44,7 +44,7 @@ pub fn answer<H: Threads + Sync, G: ByteIn, S: ByteIn, T: ByteIn, W: ByteOut>(
     ensures failed { IfErr result (IsFailed (run_asks options.now.joint options.now.depart options.now.gap) options.now (option_map T.remaining tp.old)
         (reading (G.remaining gr.old) (G.Device.failed gr.old) (G.Device.failed gr.new) (G.Device.interrupted gr.old) (G.Device.interrupted gr.new))
         (reading (S.remaining ss.old) (S.Device.failed ss.old) (S.Device.failed ss.new) (S.Device.interrupted ss.old) (S.Device.interrupted ss.new))
-        (λ arcs. IsFaultIfThere T.remaining T.Device.failed T.Device.interrupted FileWord.Tp (table_format arcs) tp.old tp.new)
+        (λ arcs. IsFaultIfThere T.remaining T.Device.failed T.Device.interrupted FileWord.Tp (table_format arcs) tp.old tp.new) (IsBorneIfThere T.Device.failed T.Device.interrupted tp.old tp.new)
         (seen (W.contents out.old) (W.Device.failed out.old) (W.Device.interrupted out.old)) (seen (W.contents out.new) (W.Device.failed out.new) (W.Device.interrupted out.new))) }
 {
     let files = read_run(alloc, gr, ss, tp)?;
@@ -82,7 +82,7 @@ pub fn answer_pairs<H: Threads + Sync, G: ByteIn, P: ByteIn, T: ByteIn, W: ByteO
     ensures failed { IfErr result (IsFailed (pair_asks options.now.depart options.now.gap) options.now (option_map T.remaining tp.old)
         (reading (G.remaining gr.old) (G.Device.failed gr.old) (G.Device.failed gr.new) (G.Device.interrupted gr.old) (G.Device.interrupted gr.new))
         (reading (P.remaining p2p.old) (P.Device.failed p2p.old) (P.Device.failed p2p.new) (P.Device.interrupted p2p.old) (P.Device.interrupted p2p.new))
-        (λ arcs. IsFaultIfThere T.remaining T.Device.failed T.Device.interrupted FileWord.Tp (table_format arcs) tp.old tp.new)
+        (λ arcs. IsFaultIfThere T.remaining T.Device.failed T.Device.interrupted FileWord.Tp (table_format arcs) tp.old tp.new) (IsBorneIfThere T.Device.failed T.Device.interrupted tp.old tp.new)
         (seen (W.contents out.old) (W.Device.failed out.old) (W.Device.interrupted out.old)) (seen (W.contents out.new) (W.Device.failed out.new) (W.Device.interrupted out.new))) }
 {
     let files = read_trips(alloc, gr, p2p, tp)?;

@@ -4,7 +4,7 @@ use Rattle.std.proofs.lemmas.Result.{err_from_is_err_and}
 use Rattle.ea_input.specs.Sources.{DenotesSources}
 use Rattle.ea_input.specs.Formats.{table_format}
 use Rattle.ea_files.specs.declared.fault.FileWord.TheVariants.{Tp}
-use Rattle.ea_files.specs.Files.{IsFaultIfThere, reading}
+use Rattle.ea_files.specs.Files.{IsBorneIfThere, IsFaultIfThere, reading}
 use Rattle.ea_files.specs.Starts.{AreWithin, run_problems}
 use Rattle.ea_files.proofs.Denoting.{sources_are_nodes}
 use Rattle.ea_report.specs.Sent.{seen}
@@ -18,7 +18,7 @@ pub returns-in_err-files-clause-failed : goal.returns-in_err-files-clause-failed
 returns-in_err-files-clause-failed g c =
     let p = err_from_is_err_and c.from_residual.result c.from_residual.ensures.1 in
     let o = c.args.options.now in
-    rw (p.1, p.2) (files_failed (run_asks o.joint o.depart o.gap) o (option_map g.T.ByteIn.remaining c.args.tp.now) _ _ _ _ _ c.in_err-files.ensures.fault)
+    rw (p.1, p.2) (files_failed (run_asks o.joint o.depart o.gap) o (option_map g.T.ByteIn.remaining c.args.tp.now) _ _ _ _ _ _ c.in_err-files.ensures.fault)
 
 pub run_queries-requires-clause-nodes : goal.run_queries-requires-clause-nodes
 run_queries-requires-clause-nodes g c =
@@ -70,5 +70,7 @@ returns-clause-failed g c =
     (reading (g.G.ByteIn.remaining c.args.gr.now) (g.G.Device.failed c.args.gr.now) (g.G.Device.failed c.read_run.new.gr) (g.G.Device.interrupted c.args.gr.now) (g.G.Device.interrupted c.read_run.new.gr))
     (reading (g.S.ByteIn.remaining c.args.ss.now) (g.S.Device.failed c.args.ss.now) (g.S.Device.failed c.read_run.new.ss) (g.S.Device.interrupted c.args.ss.now) (g.S.Device.interrupted c.read_run.new.ss))
     (λ arcs. IsFaultIfThere g.T.ByteIn.remaining g.T.Device.failed g.T.Device.interrupted Tp (table_format arcs) c.args.tp.now c.read_run.new.tp)
+    (IsBorneIfThere g.T.Device.failed g.T.Device.interrupted c.args.tp.now c.read_run.new.tp)
     (seen (g.W.ByteOut.contents c.args.out.now) (g.W.Device.failed c.args.out.now) (g.W.Device.interrupted c.args.out.now))
-    (seen (g.W.ByteOut.contents c.report_all.new.out) (g.W.Device.failed c.report_all.new.out) (g.W.Device.interrupted c.report_all.new.out)) refl refl c.report_all.result c.report_all.ensures.err
+    (seen (g.W.ByteOut.contents c.report_all.new.out) (g.W.Device.failed c.report_all.new.out) (g.W.Device.interrupted c.report_all.new.out))
+    (c.in_ok-files.ensures.gr_borne, c.in_ok-files.ensures.ss_borne, c.in_ok-files.ensures.tp_borne) refl refl c.report_all.result c.report_all.ensures.err

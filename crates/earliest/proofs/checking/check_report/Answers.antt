@@ -17,7 +17,7 @@ pub returns-in_err-files-clause-unjudged : goal.returns-in_err-files-clause-unju
 returns-in_err-files-clause-unjudged g c =
     let p = err_from_is_err_and c.from_residual.result c.from_residual.ensures.1 in
     let o = c.args.options.now in
-    rw (p.1, p.2) (run_failed o.joint o.depart o.gap (option_map g.T.ByteIn.remaining c.args.tp.now) _ _ _ _ _ _ c.in_err-files.ensures.fault)
+    rw (p.1, p.2) (run_failed o.joint o.depart o.gap (option_map g.T.ByteIn.remaining c.args.tp.now) _ _ _ _ _ _ _ c.in_err-files.ensures.fault)
 
 pub run_queries-requires-clause-nodes : goal.run_queries-requires-clause-nodes
 run_queries-requires-clause-nodes g c =
