@@ -37,7 +37,7 @@ fn is_linked_walk(links: &[Link], node: u32, arcs: &[u32]) -> bool
 
 /// Whether a text of arcs is that one, without the space that stands before its first arc.
 fn is_spaced(text: &[u8], spaced: &[u8]) -> bool
-    ensures { IsTrue result → text.now ≡ drop 1 spaced.now }
+    ensures { IsTrue result ↔ (text.now ≡ drop 1 spaced.now) }
 {
     match spaced {
         [] => text.is_empty(),
