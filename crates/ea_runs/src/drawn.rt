@@ -10,7 +10,7 @@ use std::sync::atomic::{AtomicU64, Ordering};
 use std::test::Fail;
 use std::thread::Threads;
 
-/// What a run of one turn came to.
+/// What a run of few turns came to: the node is that of its last turn.
 #[derive(Clone, Copy)]
 struct Told {
     seeded: u128,
@@ -18,14 +18,15 @@ struct Told {
     node: u64,
 }
 
-/// One worker makes one turn over eight heaps; none where what is given makes no problem.
-fn one_turn<H: Threads + Sync, R: Rng + Send + Drop>(
+/// One worker makes so many turns over eight heaps; none where what is given makes no problem.
+fn run_turns<H: Threads + Sync, R: Rng + Send + Drop>(
     alloc: Global,
     rt: &H,
     given: &Given,
     rng: R,
+    turns: u32,
 ) -> Result<Option<Told>, AllocError> {
-    if !is_problem(&given.network, given.times.classes(), &given.query) {
+    if turns > 1000 || !is_problem(&given.network, given.times.classes(), &given.query) {
         return Ok(None);
     }
     let shown = AtomicU64::new(0);
@@ -40,7 +41,7 @@ fn one_turn<H: Threads + Sync, R: Rng + Send + Drop>(
     let settings = Settings {
         workers: 1,
         heaps: 8,
-        turns: 1,
+        turns: u64::from(turns),
     };
     let solved = solve(
         alloc,
@@ -66,10 +67,10 @@ fn seeds_take_words_where_they_are_pushed(rt: HostRuntime) -> Result<(), Fail> {
     let alloc = rt.alloc();
     let given = pose(alloc, 4, &FOUR_NODES, &[(1, 0), (1, 0), (2, 0)])?.ok_or("rows")?;
     for (word, node) in [(0, 1), (1, 2)] {
-        let told = one_turn(alloc, &rt, &given, Constant(word))?.ok_or("problem")?;
+        let told = run_turns(alloc, &rt, &given, Constant(word), 1)?.ok_or("problem")?;
         assert_eq!(rt; (told.seeded, told.popped, told.node), (2, 1, node));
     }
-    let told = one_turn(alloc, &rt, &given, Constant(2))?.ok_or("problem")?;
+    let told = run_turns(alloc, &rt, &given, Constant(2), 1)?.ok_or("problem")?;
     assert_eq!(rt; (told.seeded, told.popped), (2, 0));
     Ok(())
 }
@@ -84,8 +85,19 @@ fn pop_draws_two_words_in_their_order(rt: HostRuntime) -> Result<(), Fail> {
             word: first,
             next: second,
         };
-        let told = one_turn(alloc, &rt, &given, words)?.ok_or("problem")?;
+        let told = run_turns(alloc, &rt, &given, words, 1)?.ok_or("problem")?;
         assert_eq!(rt; told.popped, popped);
     }
+    Ok(())
+}
+
+/// The first turn looks at heaps 3 and 0, pops the seed and pushes one entry with word 3; the second one finds it in heap 3.
+#[test]
+fn push_goes_to_the_heap_of_its_word(rt: HostRuntime) -> Result<(), Fail> {
+    let alloc = rt.alloc();
+    let given = pose(alloc, 4, &FOUR_NODES, &[(2, 0)])?.ok_or("rows")?;
+    let words = InTurn { word: 3, next: 11 };
+    let told = run_turns(alloc, &rt, &given, words, 2)?.ok_or("problem")?;
+    assert_eq!(rt; (told.popped, told.node), (2, 4));
     Ok(())
 }
