@@ -1,6 +1,7 @@
 # `make` builds the program, `make run` runs its main job, `make test` runs the whole gate (`rt ci`, then the table of tests/
-# with the program that `rt ci` has built), and `make cases` runs the table alone.
-.PHONY: all run test cases clean
+# with the program that `rt ci` has built), and `make cases` runs the table alone. `make part CRATES="ea_input"` runs the gate of
+# some crates and of those that they stand on.
+.PHONY: all run test part cases clean
 
 all:
 	cd crates/earliest_program && rt run > /dev/null
@@ -11,6 +12,9 @@ run: all
 
 test:
 	python3 tests/gate.py
+
+part:
+	python3 tests/gate.py $(or $(CRATES),$(error name some crates: make part CRATES="ea_input"))
 
 cases: all
 	python3 tests/run.py bin/earliest

@@ -1,7 +1,8 @@
 //! The rank errors of recorded runs.
 ghost use Rattle.std.specs.Prelude.{◌≡◌, ◌+◌, ◌*◌, ◌^◌, ◌≤◌, ◌++◌, [], All, IfOk, IfErr, OnOk, None, length, option_map};
 ghost use Rattle.ea_input.specs.Formats.{table_format};
-ghost use Rattle.ea_files.specs.Files.{IsFaultIfThere, reading};
+ghost use Rattle.ea_files.specs.Files.{IsBorneIfThere, IsFaultIfThere, reading};
+ghost use Rattle.ea_text.specs.Device.{BearsOn};
 ghost use Rattle.ea_road.specs.Queries.{IsProblem};
 ghost use Rattle.ea_rank.specs.Summaries.{summary_of};
 ghost use Rattle.ea_report.specs.Report.{source_line};
@@ -177,6 +178,9 @@ pub fn rank_report<G: ByteIn, S: ByteIn, T: ByteIn, W: ByteOut>(
     ensures ranked { OnOk result (IsRanked (heaps_of options.now) options.now.seed options.now.depart options.now.gap
         (option_map T.remaining tp.old) (G.remaining gr.old) (S.remaining ss.old)
         (seen (W.contents out.old) (W.Device.failed out.old) (W.Device.interrupted out.old)) (seen (W.contents out.new) (W.Device.failed out.new) (W.Device.interrupted out.new))) }
+    ensures gr_borne { OnOk result (BearsOn (G.Device.failed gr.old) (G.Device.failed gr.new) (G.Device.interrupted gr.old) (G.Device.interrupted gr.new)) }
+    ensures ss_borne { OnOk result (BearsOn (S.Device.failed ss.old) (S.Device.failed ss.new) (S.Device.interrupted ss.old) (S.Device.interrupted ss.new)) }
+    ensures tp_borne { OnOk result (IsBorneIfThere T.Device.failed T.Device.interrupted tp.old tp.new) }
     ensures unranked { IfErr result (IsUnranked (heaps_of options.now) options.now.seed options.now.depart options.now.gap (option_map T.remaining tp.old)
         (reading (G.remaining gr.old) (G.Device.failed gr.old) (G.Device.failed gr.new) (G.Device.interrupted gr.old) (G.Device.interrupted gr.new))
         (reading (S.remaining ss.old) (S.Device.failed ss.old) (S.Device.failed ss.new) (S.Device.interrupted ss.old) (S.Device.interrupted ss.new))
