@@ -1,7 +1,8 @@
 -- What lines of right form say is well formed.
 use Rattle.std.proofs.Common.{◌≡◌, refl, ℕ, zero, suc, ◌-◌, ◌<◌, ◌≤◌, List, [], ◌∷◌, ◌++◌, ◌⊎◌, inl, inr, arith, ap, sym, subst}
 use Rattle.std.specs.Prelude.{◌≢◌, Option, Some, None, slice_get}
-use Rattle.ea_road.specs.declared.TheConstants.{HORIZON, NONE}
+use Rattle.ea_limits.specs.declared.TheConstants.{HORIZON}
+use Rattle.ea_road.specs.declared.TheConstants.{NONE}
 use Rattle.ea_road.specs.declared.source.Source.{Source}
 use Rattle.ea_check.specs.Verdicts.{WrittenWalk, Said, IsLineOf, time_line, walk_line, IsWellFormed}
 use Rattle.ea_check.specs.Form.{Line, SaysTime, SaysNode, alone, with_walk, SaysNodes, no_node, next_node, SaysSources, SaysProblem, IsAfter, AreInOrder}

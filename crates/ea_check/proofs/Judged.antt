@@ -4,7 +4,8 @@ use Rattle.std.proofs.lemmas.Bool.Decides.{eqb_tells, leb_tells}
 use Rattle.std.specs.Prelude.{◌≢◌, Option, Some, None, MatchOption, Ok, Err}
 use Rattle.std.specs.Option.{option_or}
 use Rattle.std.specs.List.{IsAmong}
-use Rattle.ea_road.specs.declared.TheConstants.{HORIZON, NONE}
+use Rattle.ea_limits.specs.declared.TheConstants.{HORIZON}
+use Rattle.ea_road.specs.declared.TheConstants.{NONE}
 use Rattle.ea_road.specs.declared.arc.Arc.{Arc}
 use Rattle.ea_road.specs.declared.source.Source.{Source}
 use Rattle.ea_road.specs.Roads.{Roads, IsArc, IsNode}

@@ -7,7 +7,8 @@ use Rattle.std.specs.List.{onto_first, flat_map}
 use Rattle.std.specs.Str.Lines.{strip_carriage_return}
 use Rattle.ea_text.specs.Text.{lines_of, is_blank, fields_of, field_lines, is_comment}
 use Rattle.ea_text.specs.Text.{number_of}
-use Rattle.ea_road.specs.declared.TheConstants.{HORIZON, NONE}
+use Rattle.ea_limits.specs.declared.TheConstants.{HORIZON}
+use Rattle.ea_road.specs.declared.TheConstants.{NONE}
 use Rattle.ea_road.specs.declared.source.Source.{Source}
 use Rattle.ea_road.specs.Labels.{label_of}
 use Rattle.ea_road.specs.Labels.{time_of}

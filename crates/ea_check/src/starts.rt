@@ -1,7 +1,7 @@
 //! From which source, left at which departure, a written walk attains a time.
 ghost use Rattle.std.specs.Prelude.{◌≡◌, ◌⊎◌, ◌≤◌, ◌<◌, ◌↔◌, [], ℕ, IfOk, IsTrue, List, MatchOption, length, slice_index};
 ghost use Rattle.std.specs.List.{IsAmong};
-ghost use Rattle.ea_road.specs.declared.TheConstants.{HORIZON};
+ghost use Rattle.ea_limits.specs.declared.TheConstants.{HORIZON};
 ghost use Rattle.ea_road.specs.declared.arc.Arc.{Arc};
 ghost use Rattle.ea_road.specs.declared.source.Source.{Source};
 ghost use Rattle.ea_road.specs.Arrivals.{Arrives, Attains};

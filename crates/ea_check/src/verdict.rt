@@ -1,7 +1,7 @@
 //! What is wrong with a report of one problem whose form is right.
 ghost use Rattle.std.specs.Prelude.{◌≡◌, ◌≤◌, ◌<◌, ◌⊎◌, ℕ, MatchOption, OnOk, length};
 ghost use Rattle.std.specs.List.{IsAmong};
-ghost use Rattle.ea_road.specs.declared.TheConstants.{HORIZON};
+ghost use Rattle.ea_limits.specs.declared.TheConstants.{HORIZON};
 ghost use Rattle.ea_road.specs.declared.arc.Arc.{Arc};
 ghost use Rattle.ea_road.specs.Roads.{IsArc, IsNode};
 ghost use Rattle.ea_finish.specs.Links.{AreLinks};

@@ -2,7 +2,7 @@
 ghost use Rattle.std.specs.Prelude.{◌≡◌, ◌↔◌, ◌≤◌, ◌<◌, ℕ, [], ◌∷◌, All, IsTrue, IfOk, length, map};
 ghost use Rattle.ea_files.specs.Starts.{AreWithin, asks_all, sources_from, run_problems, pair_problems};
 ghost use Rattle.ea_road.specs.Queries.{IsSource};
-ghost use Rattle.ea_road.specs.declared.TheConstants.{HORIZON};
+ghost use Rattle.ea_limits.specs.declared.TheConstants.{HORIZON};
 
 use ea_road::{HORIZON, Query, Source};
 use std::alloc::{AllocError, Global};

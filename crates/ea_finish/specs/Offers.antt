@@ -1,7 +1,7 @@
 -- How links are found: nodes offer links to their heads, and each node keeps what precedes.
 use Rattle.std.specs.Prelude.{◌≡◌, ℕ, ◌+◌, ◌<◌, ◌≤◌, nat_le, List, length, slice_index_or, Contains, ◌⊎◌, sum_by, count_by}
 use Rattle.std.specs.List.{IsAmong}
-use Rattle.ea_road.specs.declared.TheConstants.{HORIZON}
+use Rattle.ea_limits.specs.declared.TheConstants.{HORIZON}
 use Rattle.ea_road.specs.declared.source.Source.{Source}
 use Rattle.ea_road.specs.Roads.{Roads}
 use Rattle.ea_finish.specs.declared.link.Link.{Link}

@@ -1,7 +1,8 @@
 -- What scanning a node does to a table and to the nodes that wait.
 use Rattle.std.specs.Prelude.{◌≡◌, ◌≢◌, ℕ, ◌<◌, ◌≤◌, List, Option, length, Contains, min, ◌⊎◌}
 use Rattle.std.specs.List.{IsAmong}
-use Rattle.ea_road.specs.declared.TheConstants.{HORIZON, NONE}
+use Rattle.ea_limits.specs.declared.TheConstants.{HORIZON}
+use Rattle.ea_road.specs.declared.TheConstants.{NONE}
 use Rattle.ea_road.specs.declared.arc.Arc.{Arc}
 use Rattle.ea_road.specs.declared.source.Source.{Source}
 use Rattle.ea_road.specs.Roads.{Roads, IsArc}

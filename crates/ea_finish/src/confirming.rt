@@ -1,7 +1,7 @@
 //! Walks from levels that a search noted: one look at each arc confirms the levels, or the walks are found anew.
 ghost use Rattle.std.specs.Prelude.{◌≡◌, ◌≢◌, ◌↔◌, ℕ, ◌+◌, ◌<◌, ◌≤◌, [], true, List, length, IsTrue};
 ghost use Rattle.std.specs.List.{IsAmong};
-ghost use Rattle.ea_road.specs.declared.TheConstants.{HORIZON};
+ghost use Rattle.ea_limits.specs.declared.TheConstants.{HORIZON};
 ghost use Rattle.ea_road.specs.declared.source.Source.{Source};
 ghost use Rattle.ea_road.specs.Labels.{IsLabel, label_of};
 ghost use Rattle.ea_road.specs.Queries.{IsProblem};

@@ -1,6 +1,6 @@
 //! A search from the sources, with a heap.
 ghost use Rattle.std.specs.Prelude.{◌≡◌, ◌+◌, ◌≤◌, ◌<◌, ℕ, [], List, Option, length, sum, IfOk};
-ghost use Rattle.ea_road.specs.declared.TheConstants.{HORIZON};
+ghost use Rattle.ea_limits.specs.declared.TheConstants.{HORIZON};
 ghost use Rattle.ea_road.specs.Queries.{IsProblem};
 ghost use Rattle.ea_road.specs.Roads.{IsNode, leaving, top_class};
 ghost use Rattle.ea_finish.specs.Frontiers.{WaitsAt};

@@ -17,11 +17,9 @@ use crate::listing::after_kind;
 use crate::plain::{EntryNumbers, leading_entry};
 use crate::range::{numeral, within, within_wide};
 use crate::reading::{LineReader, read_text};
+use ea_limits::HORIZON;
 use ea_text as text;
 use std::alloc::Global;
-
-/// The greatest time.
-const HORIZON: u64 = 281_474_976_710_655;
 
 /// How the arcs of a class are left. Times are at most 281,474,976,710,655.
 #[derive(Clone, Copy, Debug, PartialEq, Eq)]

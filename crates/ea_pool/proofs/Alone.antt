@@ -8,7 +8,7 @@ use Rattle.ea_pool.specs.declared.account.SeatState.{SeatState}
 use Rattle.ea_pool.specs.declared.reply.Popped.{Popped}
 use Rattle.ea_pool.specs.declared.reply.Popped.TheVariants as reply
 use Rattle.ea_lists.specs.Totals.{total}
-use Rattle.ea_road.specs.declared.TheConstants.{HORIZON}
+use Rattle.ea_limits.specs.declared.TheConstants.{HORIZON}
 use Rattle.ea_pool.specs.declared.words.TheConstants.{EMPTY}
 use Rattle.ea_pool.specs.Entries.{only, times, IsKnown, face}
 use Rattle.ea_pool.specs.States.{saw}

@@ -5,7 +5,7 @@ use Rattle.std.specs.List.{AllByRecursion}
 use Rattle.ea_pool.specs.declared.entry.Entry.{Entry}
 use Rattle.ea_pool.specs.declared.account.SeatState.{SeatState}
 use Rattle.ea_pool.specs.declared.TheConstants.{SHARES}
-use Rattle.ea_road.specs.declared.TheConstants.{HORIZON}
+use Rattle.ea_limits.specs.declared.TheConstants.{HORIZON}
 use Rattle.ea_pool.specs.declared.words.TheConstants.{OUT}
 use Rattle.ea_pool.specs.Entries.{only, times, SameEntries, IsLeastOf, IsKnown, face}
 use Rattle.ea_pool.specs.States.{saw, took, popped}

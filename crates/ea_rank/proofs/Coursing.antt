@@ -1,7 +1,7 @@
 -- The next step of a course, by what the calls on the generator tell.
 use Rattle.std.proofs.Common.{◌≡◌, ℕ, ◌<◌, ◌≤◌, List, [], ◌∷◌, ◌++◌, sym, subst}
 use Rattle.rand_core.specs.Stream.{Stream, next_u64}
-use Rattle.ea_road.specs.declared.TheConstants.{HORIZON}
+use Rattle.ea_limits.specs.declared.TheConstants.{HORIZON}
 use Rattle.ea_road.specs.declared.arc.Arc.{Arc}
 use Rattle.ea_road.specs.declared.source.Source.{Source}
 use Rattle.ea_road.specs.Labels.{label_of}

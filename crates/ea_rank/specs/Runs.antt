@@ -1,7 +1,8 @@
 -- A run of one thread: its labels, its heaps and what it has recorded.
 use Rattle.std.specs.Prelude.{◌≡◌, ◌≢◌, ℕ, ◌+◌, ◌-◌, ◌%◌, ◌<◌, ◌≤◌, ◌⊎◌, List, [], ◌∷◌, ◌++◌, length, map, Ok, slice_set, Contains}
 use Rattle.std.specs.List.{IsAmong, AllByRecursion}
-use Rattle.ea_road.specs.declared.TheConstants.{HORIZON, NONE}
+use Rattle.ea_limits.specs.declared.TheConstants.{HORIZON}
+use Rattle.ea_road.specs.declared.TheConstants.{NONE}
 use Rattle.ea_road.specs.declared.arc.Arc.{Arc}
 use Rattle.ea_road.specs.declared.source.Source.{Source}
 use Rattle.ea_road.specs.Roads.{Roads, IsArc, IsNode}

@@ -1,7 +1,7 @@
 -- Where two ways to say times agree up to a time, they have the same tight arcs, levels and canonical walks up to it.
 use Rattle.std.proofs.Common.{◌≡◌, ℕ, ◌≤◌, List, arith, subst}
 use Rattle.std.specs.List.{IsAmong}
-use Rattle.ea_road.specs.declared.TheConstants.{HORIZON}
+use Rattle.ea_limits.specs.declared.TheConstants.{HORIZON}
 use Rattle.ea_road.specs.declared.source.Source.{Source}
 use Rattle.ea_road.specs.Answers.{IsFifo}
 use Rattle.ea_road.specs.Roads.{Roads, IsNode, IsNetwork, top_class}

@@ -1,6 +1,6 @@
 -- What travel times may answer: at which arrival an arc of a class and a weight that is left at a departure is done.
 use Rattle.std.specs.Prelude.{ℕ, ◌<◌, ◌≤◌, ◌^◌}
-use Rattle.ea_road.specs.declared.TheConstants.{HORIZON}
+use Rattle.ea_limits.specs.declared.TheConstants.{HORIZON}
 
 -- A question is a class, a weight and a departure within the horizon.
 pub record IsQuestion (classes : ℕ) (class weight departure : ℕ) : Type 0 where

@@ -1,7 +1,7 @@
 -- A list of profiles as travel times: class 0 is plain, class J is the J-th profile.
 use Rattle.std.specs.Prelude.{ℕ, zero, suc, ◌≡◌, ◌≤◌, ◌<◌, ◌^◌, ◌+◌, List, Some}
 use Rattle.std.specs.List.{slice_get}
-use Rattle.ea_road.specs.declared.TheConstants.{HORIZON}
+use Rattle.ea_limits.specs.declared.TheConstants.{HORIZON}
 
 -- A weight, and a departure within the horizon.
 pub record IsDeparture (weight departure : ℕ) : Type 0 where

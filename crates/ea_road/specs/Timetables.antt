@@ -1,6 +1,6 @@
 -- The four kinds of timetable.
 use Rattle.std.specs.Prelude.{◌≡◌, ℕ, ◌+◌, ◌%◌, ◌^◌, ◌≤◌, max, Bool, true, ◌&&◌, nat_lt, nat_le, if◌then◌else◌}
-use Rattle.ea_road.specs.declared.TheConstants.{HORIZON}
+use Rattle.ea_limits.specs.declared.TheConstants.{HORIZON}
 use Rattle.ea_input.specs.declared.table.RawKind.{RawKind}
 use Rattle.ea_input.specs.declared.table.RawKind.TheVariants.{Plain, Every, Closed, Rush}
 

@@ -22,6 +22,7 @@ mod walk;
 
 pub use arc::Arc;
 pub use arrival_function::ArrivalFunction;
+pub use ea_limits::HORIZON;
 pub use ea_input::{RawArc, RawGraph, RawKind, RawTable};
 pub use graph_arcs::arcs_of;
 pub use known::{AnyPair, Known};
@@ -37,9 +38,6 @@ pub use timetable::Timetable;
 pub use timetables::Timetables;
 pub use travel_times::TravelTimes;
 pub use walk::run_walk;
-
-/// The last time of all: 2^48 - 1.
-pub const HORIZON: u64 = 281_474_976_710_655;
 
 /// No label.
 pub const NONE: u64 = u64::MAX;

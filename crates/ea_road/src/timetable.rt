@@ -1,6 +1,6 @@
 ghost use Rattle.std.specs.Prelude.{◌≡◌, ◌≤◌, ◌<◌, ◌^◌, ◌+◌, IsTrue};
 ghost use Rattle.ea_road.specs.Timetables.{is_kind, KindAnswers, IsNextTime};
-ghost use Rattle.ea_road.specs.declared.TheConstants.{HORIZON};
+ghost use Rattle.ea_limits.specs.declared.TheConstants.{HORIZON};
 
 use crate::HORIZON;
 use crate::travel_times::TravelTimes;

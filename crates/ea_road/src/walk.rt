@@ -1,7 +1,7 @@
 ghost use Rattle.std.specs.Prelude.{◌≡◌, ◌≤◌, ◌<◌, ℕ, MatchOption};
 ghost use Rattle.ea_road.specs.Arrivals.{Arrives, GoesOn};
 ghost use Rattle.ea_road.specs.Roads.{IsArc, IsNetwork, IsNode, top_class};
-ghost use Rattle.ea_road.specs.declared.TheConstants.{HORIZON};
+ghost use Rattle.ea_limits.specs.declared.TheConstants.{HORIZON};
 
 use crate::HORIZON;
 use crate::network::Network;

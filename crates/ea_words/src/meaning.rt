@@ -14,10 +14,9 @@ use crate::options::{Command, RunOptions};
 use crate::values::{has_flag, option_number, text_of};
 use clap::error::ErrorKind;
 use clap::{ArgMatches, Error};
+use ea_limits::HORIZON;
 use std::alloc::Global;
 use std::convert::AsStr;
-
-const LAST_TIME: u64 = 281_474_976_710_655;
 
 /// The options of a command, where each is a number within its limits.
 #[tactic(auto, unfolding(crate::specs::Meaning::options_of))]
@@ -29,8 +28,8 @@ fn options_in(matches: &ArgMatches<'_>) -> Option<RunOptions>
     let heaps = option_number(matches, "heaps", 2, 2, 8)?;
     let turns = option_number(matches, "turns", 1_000_000, 0, 1_000_000_000)?;
     let seed = option_number(matches, "seed", 1, 0, u64::MAX)?;
-    let depart = option_number(matches, "depart", 0, 0, LAST_TIME)?;
-    let gap = option_number(matches, "gap", 0, 0, LAST_TIME)?;
+    let depart = option_number(matches, "depart", 0, 0, HORIZON)?;
+    let gap = option_number(matches, "gap", 0, 0, HORIZON)?;
     Some(RunOptions {
         joint: has_flag(matches, "joint"),
         walks: has_flag(matches, "walks"),

@@ -1,5 +1,5 @@
 use Rattle.std.proofs.Common.{◌≡◌, ℕ, ◌<◌, ◌≤◌, ◌⊎◌}
-use Rattle.ea_road.specs.declared.TheConstants.{HORIZON}
+use Rattle.ea_limits.specs.declared.TheConstants.{HORIZON}
 use Rattle.ea_road.specs.declared.arc.Arc.{Arc}
 use Rattle.ea_road.specs.Roads.{IsArc}
 use Rattle.ea_check.specs.Verdicts.{Improves, reported_time}

@@ -1,5 +1,5 @@
 use Rattle.std.proofs.Common.{ℕ, ◌≤◌, refl, ap, ◌∙◌, arith}
-use Rattle.ea_road.specs.declared.TheConstants.{HORIZON}
+use Rattle.ea_limits.specs.declared.TheConstants.{HORIZON}
 use Rattle.ea_road.specs.Answers.{IsQuestion}
 use Rattle.ea_road.proofs.Arcs.{is_question}
 use Rattle.ea_road.proofs.Reached.{reaches_more}
