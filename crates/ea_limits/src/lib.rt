@@ -53,5 +53,4 @@ pub fn limits_are_these()
     ensures least_heaps { LEAST_HEAPS ≡ 2 }
     ensures heaps { MOST_HEAPS ≡ 8 }
     ensures turns { MOST_TURNS ≡ 1000000000 }
-{
-}
+{}

@@ -22,8 +22,8 @@ mod walk;
 
 pub use arc::Arc;
 pub use arrival_function::ArrivalFunction;
-pub use ea_limits::HORIZON;
 pub use ea_input::{RawArc, RawGraph, RawKind, RawTable};
+pub use ea_limits::HORIZON;
 pub use graph_arcs::arcs_of;
 pub use known::{AnyPair, Known};
 pub use network::{Leaving, Network};
