@@ -1,8 +1,7 @@
 -- What texts denote is within the limits of networks and timetables.
-use Rattle.std.proofs.Common.{◌≡◌, ◌⊎◌, ℕ, zero, suc, ◌+◌, ◌-◌, ◌^◌, ◌<◌, ◌≤◌, ◌==◌, max, List, [], ◌∷◌, length, get_or, cond, Bool, true, false, refl, ap, sym, ◌∙◌, arith, subst, inl, inr}
+use Rattle.std.proofs.Common.{◌≡◌, ℕ, zero, suc, ◌+◌, ◌-◌, ◌^◌, ◌<◌, ◌≤◌, ◌==◌, List, [], ◌∷◌, length, get_or, cond, Bool, true, false, refl, ap, sym, arith, subst, inl, inr}
 use Rattle.std.specs.Prelude.{All, codes, Option, Some, None, IsTrue, slice_get, unwrap_or}
-use Rattle.std.specs.List.{IsAmong}
-use Rattle.std.proofs.lemmas.Bool.Decides.{leb_tells, nat_tests}
+use Rattle.std.proofs.lemmas.Bool.Decides.{nat_tests}
 use Rattle.std.proofs.lemmas.Option.{none-some}
 use Rattle.ea_road.proofs.Assigning.{length-arcs_from}
 use Rattle.ea_input.specs.declared.graph.RawArc.{RawArc}
@@ -12,12 +11,12 @@ use Rattle.ea_input.specs.Graph.{Graph, DenotesGraph, IsArcLine, AreArcLines, Is
 use Rattle.ea_input.specs.Listing.{IsCountLine, IsItemLine, AreItemLines}
 use Rattle.ea_input.specs.Sources.{IsSource, DenotesSources}
 use Rattle.ea_input.specs.Pairs.{IsPair, DenotesPairs}
-use Rattle.ea_input.specs.Table.{Table, DenotesTable, IsKind, IsKindLine, IsAssignedLine, AreTableLines, IsTableProblem}
+use Rattle.ea_input.specs.Table.{Table, IsKind, IsKindLine, IsAssignedLine, AreTableLines}
 use Rattle.ea_road.specs.declared.arc.Arc.{Arc}
-use Rattle.ea_road.specs.Roads.{Roads, IsNode, IsArc, FitsNodes, IsNetwork, top_class}
-use Rattle.ea_road.specs.Assigned.{AreAssigned, class_after, class_of, arcs_from, arcs_with}
+use Rattle.ea_road.specs.Roads.{IsNode, IsArc, FitsNodes, IsNetwork, top_class}
+use Rattle.ea_road.specs.Assigned.{class_after, arcs_from, arcs_with}
 use Rattle.ea_road.specs.Timetables.{is_kind}
-use Rattle.ea_files.specs.Given.{Given, roads_of, no_table, IsTableOf, Denotes}
+use Rattle.ea_files.specs.Given.{Given, IsTableOf}
 use Rattle.ea_files.specs.Sound.{IsSound}
 
 -- ---- arcs

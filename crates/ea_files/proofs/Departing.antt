@@ -1,11 +1,11 @@
 -- Sources and pairs, one after the other, and their departures.
-use Rattle.std.proofs.Common.{◌≡◌, ℕ, zero, suc, ◌+◌, ◌*◌, ◌<◌, ◌≤◌, List, [], ◌∷◌, ◌++◌, length, take, get_or, map, refl, ap, sym, ◌∙◌, arith, subst}
+use Rattle.std.proofs.Common.{◌≡◌, ℕ, zero, suc, ◌+◌, ◌<◌, ◌≤◌, List, [], ◌∷◌, ◌++◌, length, take, get_or, refl, ap, sym, ◌∙◌, arith, subst}
 use Rattle.std.specs.Prelude.{All, Some}
 use Rattle.std.proofs.lemmas.List.{take_more, length-take-le}
 use Rattle.ea_limits.specs.declared.TheConstants.{HORIZON}
 use Rattle.ea_road.specs.declared.source.Source.{Source}
 use Rattle.ea_road.specs.Queries.{Asking, AreSources, IsSource}
-use Rattle.ea_files.specs.Starts.{departure, AreWithin, sources_from, pair_problems, asks_all}
+use Rattle.ea_files.specs.Starts.{departure, AreWithin, sources_from, pair_problems}
 
 -- One more source.
 pub sources_more : (depart gap i : ℕ) (front : List ℕ) (node : ℕ) → sources_from depart gap i (front ++ node ∷ []) ≡ sources_from depart gap i front ++ record { node = node; departure = departure depart gap (i + length front) } ∷ []

@@ -1,23 +1,24 @@
 -- The text of a file that may be left out.
 use Rattle.std.proofs.Common.{◌≡◌, ℕ, ◌≤◌, ◌^◌, List, length, sym, subst}
-use Rattle.std.specs.Prelude.{Option, Some, None, option_map, Result, Ok, Err, IfOk, IfSome}
+use Rattle.std.specs.Prelude.{Option, Some, None, Result, Ok, Err, IfOk, IfSome}
+use Rattle.ea_text.specs.Device.{Seen}
 use Rattle.ea_input.specs.TableViews.{table}
 use Rattle.ea_input.specs.declared.table.RawTable.{RawTable}
 use Rattle.ea_files.specs.declared.fault.FileFault.{FileFault}
-use Rattle.ea_files.specs.Files.{IsAllIfThere, IsTextIfThere, IsTextOf, reading}
+use Rattle.ea_files.specs.Files.{bytes_there, IsAllIfThere, IsTextIfThere, IsTextOf, reading}
 use Rattle.ea_files.specs.Given.{IsTableOf}
 
-module _ {R : Type 0} (had : R → Option (List ℕ)) (failed interrupted : R → ℕ) where
+module _ {R : Type 0} (seen : R → Seen) where
   -- The text of a file that is there.
   pub table_there : (device after : Option R) (old new : R) (arcs : ℕ) (r : Result RawTable FileFault) → device ≡ Some old → after ≡ Some new
-      → IfOk r (λ found. (text : List ℕ) × IsTextOf (reading (had old) (failed old) (failed new) (interrupted old) (interrupted new)) text × IsTableOf arcs (Some text) (table found))
-      → IfOk r (λ found. (text : Option (List ℕ)) × IsTextIfThere had failed interrupted device after text × IsTableOf arcs text (table found))
+      → IfOk r (λ found. (text : List ℕ) × IsTextOf (reading seen old new) text × IsTableOf arcs (Some text) (table found))
+      → IfOk r (λ found. (text : Option (List ℕ)) × IsTextIfThere seen device after text × IsTableOf arcs text (table found))
   table_there device after old new arcs (Ok found) was is read =
-      (Some read.0, subst (λ o. IsTextIfThere had failed interrupted o after (Some read.0)) (sym was) (subst (λ o. IsTextIfThere had failed interrupted (Some old) o (Some read.0)) (sym is) read.1), read.2)
+      (Some read.0, subst (λ o. IsTextIfThere seen o after (Some read.0)) (sym was) (subst (λ o. IsTextIfThere seen (Some old) o (Some read.0)) (sym is) read.1), read.2)
   table_there device after old new arcs (Err fault) was is read = tt
 
   -- It is all that the reader had, and not too much, and the device bore it.
-  pub all_there : (old new : Option R) (text : Option (List ℕ)) → IsTextIfThere had failed interrupted old new text → IsAllIfThere (option_map had old) text
+  pub all_there : (old new : Option R) (text : Option (List ℕ)) → IsTextIfThere seen old new text → IsAllIfThere (bytes_there seen old) text
   all_there None None None is = tt
   all_there (Some old) (Some new) (Some text) is = is.all
   all_there None None (Some text) is = absurd is
@@ -27,7 +28,7 @@ module _ {R : Type 0} (had : R → Option (List ℕ)) (failed interrupted : R �
   all_there (Some old) None (Some text) is = absurd is
   all_there (Some old) (Some new) None is = absurd is
 
-  pub few_there : (old new : Option R) (text : Option (List ℕ)) → IsTextIfThere had failed interrupted old new text → IfSome text (λ bytes. length bytes ≤ 2 ^ 33)
+  pub few_there : (old new : Option R) (text : Option (List ℕ)) → IsTextIfThere seen old new text → IfSome text (λ bytes. length bytes ≤ 2 ^ 33)
   few_there old new None is = tt
   few_there (Some old) (Some new) (Some text) is = is.few
   few_there None None (Some text) is = absurd is

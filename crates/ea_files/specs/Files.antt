@@ -1,6 +1,6 @@
 -- What readers give, and why they give nothing.
-use Rattle.std.specs.Prelude.{◌≡◌, ◌⊎◌, ℕ, ◌<◌, ◌≤◌, ◌^◌, List, length, Option, Some, None, IfSome}
-use Rattle.ea_text.specs.Device.{BearsOn, GivesUp}
+use Rattle.std.specs.Prelude.{◌≡◌, ◌⊎◌, ℕ, ◌<◌, ◌≤◌, ◌^◌, List, length, Option, Some, None, IfSome, option_map}
+use Rattle.ea_text.specs.Device.{Seen, BearsOn, GivesUp}
 use Rattle.ea_text.specs.Text.{field_lines}
 use Rattle.ea_text.specs.declared.whole.ReadFault.{ReadFault}
 use Rattle.ea_text.specs.declared.whole.ReadFault.TheVariants.{TooLarge, ReadFailed, OutOfMemory as no_memory}
@@ -24,43 +24,44 @@ IsAllIfThere None None = Unit {0}
 IsAllIfThere (Some had) (Some text) = IsAll had text
 IsAllIfThere _ _ = ⊥
 
--- What a reader had, and its counts of failures and interruptions before and after.
-pub record Reading : Type 0 where
-  pub had : Option (List ℕ)
-  pub failed : ℕ
-  pub failed_after : ℕ
-  pub interrupted : ℕ
-  pub interrupted_after : ℕ
+-- The bytes that a reader has which may be left out.
+abbrev pub bytes_there : {R : Type 0} → (R → Seen) → Option R → Option (Option (List ℕ))
+bytes_there seen reader = option_map (λ there. (seen there).bytes) reader
 
-abbrev pub reading : Option (List ℕ) → ℕ → ℕ → ℕ → ℕ → Reading
-reading had failed failed_after interrupted interrupted_after = record { had = had; failed = failed; failed_after = failed_after; interrupted = interrupted; interrupted_after = interrupted_after }
+-- A reader before and after it was read.
+pub record Reading : Type 0 where
+  pub old : Seen
+  pub new : Seen
+
+abbrev pub reading : {R : Type 0} → (R → Seen) → R → R → Reading
+reading seen old new = record { old = seen old; new = seen new }
 
 -- No read failed, and the interruptions were borne.
 abbrev pub IsBorne : Reading → Type 0
-IsBorne reading = BearsOn reading.failed reading.failed_after reading.interrupted reading.interrupted_after
+IsBorne reading = BearsOn reading.old reading.new
 
 -- A file's text, as it was read: all bytes that the reader had, at most 2^33, and the device bore it.
 pub record IsTextOf (reading : Reading) (text : List ℕ) : Type 0 where
-  pub all : IsAll reading.had text
+  pub all : IsAll reading.old.bytes text
   pub few : length text ≤ 2 ^ 33
   pub borne : IsBorne reading
 
 -- The same of a file that may be left out: there is a text just where there is a reader.
-abbrev pub IsTextIfThere : {R : Type 0} → (R → Option (List ℕ)) → (R → ℕ) → (R → ℕ) → Option R → Option R → Option (List ℕ) → Type 0
-IsTextIfThere had failed interrupted None None None = Unit {0}
-IsTextIfThere had failed interrupted (Some old) (Some new) (Some text) = IsTextOf (reading (had old) (failed old) (failed new) (interrupted old) (interrupted new)) text
-IsTextIfThere had failed interrupted _ _ _ = ⊥
+abbrev pub IsTextIfThere : {R : Type 0} → (R → Seen) → Option R → Option R → Option (List ℕ) → Type 0
+IsTextIfThere seen None None None = Unit {0}
+IsTextIfThere seen (Some old) (Some new) (Some text) = IsTextOf (reading seen old new) text
+IsTextIfThere seen _ _ _ = ⊥
 
 -- The reads of a file that may be left out were borne.
-abbrev pub IsBorneIfThere : {R : Type 0} → (R → ℕ) → (R → ℕ) → Option R → Option R → Type 0
-IsBorneIfThere failed interrupted None None = Unit {0}
-IsBorneIfThere failed interrupted (Some old) (Some new) = BearsOn (failed old) (failed new) (interrupted old) (interrupted new)
-IsBorneIfThere failed interrupted _ _ = ⊥
+abbrev pub IsBorneIfThere : {R : Type 0} → (R → Seen) → Option R → Option R → Type 0
+IsBorneIfThere seen None None = Unit {0}
+IsBorneIfThere seen (Some old) (Some new) = BearsOn (seen old) (seen new)
+IsBorneIfThere seen _ _ = ⊥
 
 -- Why a file wasn't read: it has more than 2^33 bytes, or its device gave up, just then.
 abbrev pub IsUnread : Reading → ReadFault → Type 0
-IsUnread reading TooLarge = IfSome reading.had (λ left. 2 ^ 33 < length left) × IsBorne reading
-IsUnread reading ReadFailed = GivesUp reading.failed reading.failed_after reading.interrupted reading.interrupted_after
+IsUnread reading TooLarge = IfSome reading.old.bytes (λ left. 2 ^ 33 < length left) × IsBorne reading
+IsUnread reading ReadFailed = GivesUp reading.old reading.new
 IsUnread reading no_memory = ⊥
 
 -- Why a file gave nothing: it wasn't read, or its text has this fault, or memory was refused.
@@ -82,14 +83,13 @@ IsFaultAs file found (Input word fault) = (word ≡ file) × (fault ≡ found) �
 IsFaultAs file found OutOfMemory = Unit {0}
 
 -- The fault of a file that may be left out: memory was refused, or it is that of the file, which is there.
-abbrev pub IsFaultThere : {R : Type 0} → (R → Option (List ℕ)) → (R → ℕ) → (R → ℕ) → FileWord → Format → Option R → Option R → FileFault → Type 0
-IsFaultThere had failed interrupted file format (Some old) (Some new) fault =
-    IsFaultIn file format (reading (had old) (failed old) (failed new) (interrupted old) (interrupted new)) fault
-IsFaultThere had failed interrupted file format _ _ fault = ⊥
+abbrev pub IsFaultThere : {R : Type 0} → (R → Seen) → FileWord → Format → Option R → Option R → FileFault → Type 0
+IsFaultThere seen file format (Some old) (Some new) fault = IsFaultIn file format (reading seen old new) fault
+IsFaultThere seen file format _ _ fault = ⊥
 
-abbrev pub IsFaultIfThere : {R : Type 0} → (R → Option (List ℕ)) → (R → ℕ) → (R → ℕ) → FileWord → Format → Option R → Option R → FileFault → Type 0
-IsFaultIfThere had failed interrupted file format old new fault =
-    (fault ≡ OutOfMemory) ⊎ IsFaultThere had failed interrupted file format old new fault
+abbrev pub IsFaultIfThere : {R : Type 0} → (R → Seen) → FileWord → Format → Option R → Option R → FileFault → Type 0
+IsFaultIfThere seen file format old new fault =
+    (fault ≡ OutOfMemory) ⊎ IsFaultThere seen file format old new fault
 
 -- ---- the files of a run or of pairs, in their order: network, starts, timetables
 

@@ -1,5 +1,5 @@
 -- What it takes that a graph and a table make a network with timetables.
-use Rattle.std.specs.Prelude.{ℕ, ◌≤◌, length, IsTrue}
+use Rattle.std.specs.Prelude.{◌≤◌, length, IsTrue}
 use Rattle.std.specs.List.{IsAmong}
 use Rattle.ea_input.specs.declared.table.RawKind.{RawKind}
 use Rattle.ea_road.specs.Roads.{IsNetwork, top_class}

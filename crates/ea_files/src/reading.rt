@@ -23,9 +23,9 @@ const LARGEST: u64 = 8_589_934_592;
 
 /// All bytes of a file.
 fn text_of<R: ByteIn>(alloc: Global, file: FileWord, reader: &mut R) -> Result<Vec<u8>, FileFault>
-    ensures text { IfOk result (λ bytes. IsTextOf (reading (R.remaining reader.old) (R.Device.failed reader.old) (R.Device.failed reader.new) (R.Device.interrupted reader.old) (R.Device.interrupted reader.new)) bytes.items) }
-    ensures end { OnOk result (IsAtEnd (R.remaining reader.new)) }
-    ensures fault { IfErr result (IsUnreadBy file (reading (R.remaining reader.old) (R.Device.failed reader.old) (R.Device.failed reader.new) (R.Device.interrupted reader.old) (R.Device.interrupted reader.new))) }
+    ensures text { IfOk result (λ bytes. IsTextOf (reading R.seen reader.old reader.new) bytes.items) }
+    ensures end { OnOk result (IsAtEnd (R.seen reader.new).bytes) }
+    ensures fault { IfErr result (IsUnreadBy file (reading R.seen reader.old reader.new)) }
 {
     match read_all(alloc, reader, LARGEST) {
         Ok(bytes) => Ok(bytes),
@@ -47,8 +47,8 @@ fn fault_of(file: FileWord, fault: InputFault) -> FileFault
 
 /// The graph of a file.
 pub(crate) fn read_graph<R: ByteIn>(alloc: Global, gr: &mut R) -> Result<RawGraph, FileFault>
-    ensures denoted { IfOk result (λ found. (text : List ℕ) × IsTextOf (reading (R.remaining gr.old) (R.Device.failed gr.old) (R.Device.failed gr.new) (R.Device.interrupted gr.old) (R.Device.interrupted gr.new)) text × DenotesGraph (field_lines text) (graph found)) }
-    ensures fault { IfErr result (IsFaultIn FileWord.Gr graph_format (reading (R.remaining gr.old) (R.Device.failed gr.old) (R.Device.failed gr.new) (R.Device.interrupted gr.old) (R.Device.interrupted gr.new))) }
+    ensures denoted { IfOk result (λ found. (text : List ℕ) × IsTextOf (reading R.seen gr.old gr.new) text × DenotesGraph (field_lines text) (graph found)) }
+    ensures fault { IfErr result (IsFaultIn FileWord.Gr graph_format (reading R.seen gr.old gr.new)) }
 {
     let text = text_of(alloc, FileWord::Gr, gr)?;
     match read_gr(alloc, &text) {
@@ -63,8 +63,8 @@ pub(crate) fn read_sources<R: ByteIn>(
     ss: &mut R,
     nodes: u32,
 ) -> Result<Vec<u32>, FileFault>
-    ensures denoted { IfOk result (λ found. (text : List ℕ) × IsTextOf (reading (R.remaining ss.old) (R.Device.failed ss.old) (R.Device.failed ss.new) (R.Device.interrupted ss.old) (R.Device.interrupted ss.new)) text × DenotesSources nodes (field_lines text) found.items) }
-    ensures fault { IfErr result (IsFaultIn FileWord.Ss (source_format nodes) (reading (R.remaining ss.old) (R.Device.failed ss.old) (R.Device.failed ss.new) (R.Device.interrupted ss.old) (R.Device.interrupted ss.new))) }
+    ensures denoted { IfOk result (λ found. (text : List ℕ) × IsTextOf (reading R.seen ss.old ss.new) text × DenotesSources nodes (field_lines text) found.items) }
+    ensures fault { IfErr result (IsFaultIn FileWord.Ss (source_format nodes) (reading R.seen ss.old ss.new)) }
 {
     let text = text_of(alloc, FileWord::Ss, ss)?;
     match read_ss(alloc, &text, nodes) {
@@ -79,8 +79,8 @@ pub(crate) fn read_pairs<R: ByteIn>(
     p2p: &mut R,
     nodes: u32,
 ) -> Result<Vec<(u32, u32)>, FileFault>
-    ensures denoted { IfOk result (λ found. (text : List ℕ) × IsTextOf (reading (R.remaining p2p.old) (R.Device.failed p2p.old) (R.Device.failed p2p.new) (R.Device.interrupted p2p.old) (R.Device.interrupted p2p.new)) text × DenotesPairs nodes (field_lines text) found.items) }
-    ensures fault { IfErr result (IsFaultIn FileWord.P2p (pair_format nodes) (reading (R.remaining p2p.old) (R.Device.failed p2p.old) (R.Device.failed p2p.new) (R.Device.interrupted p2p.old) (R.Device.interrupted p2p.new))) }
+    ensures denoted { IfOk result (λ found. (text : List ℕ) × IsTextOf (reading R.seen p2p.old p2p.new) text × DenotesPairs nodes (field_lines text) found.items) }
+    ensures fault { IfErr result (IsFaultIn FileWord.P2p (pair_format nodes) (reading R.seen p2p.old p2p.new)) }
 {
     let text = text_of(alloc, FileWord::P2p, p2p)?;
     match read_p2p(alloc, &text, nodes) {
@@ -91,8 +91,8 @@ pub(crate) fn read_pairs<R: ByteIn>(
 
 /// The timetables of a file.
 fn read_timetables<R: ByteIn>(alloc: Global, tp: &mut R, arcs: u32) -> Result<RawTable, FileFault>
-    ensures denoted { IfOk result (λ found. (text : List ℕ) × IsTextOf (reading (R.remaining tp.old) (R.Device.failed tp.old) (R.Device.failed tp.new) (R.Device.interrupted tp.old) (R.Device.interrupted tp.new)) text × IsTableOf arcs (Rattle.std.specs.Prelude.Some text) (table found)) }
-    ensures fault { IfErr result (IsFaultIn FileWord.Tp (table_format arcs) (reading (R.remaining tp.old) (R.Device.failed tp.old) (R.Device.failed tp.new) (R.Device.interrupted tp.old) (R.Device.interrupted tp.new))) }
+    ensures denoted { IfOk result (λ found. (text : List ℕ) × IsTextOf (reading R.seen tp.old tp.new) text × IsTableOf arcs (Rattle.std.specs.Prelude.Some text) (table found)) }
+    ensures fault { IfErr result (IsFaultIn FileWord.Tp (table_format arcs) (reading R.seen tp.old tp.new)) }
 {
     let text = text_of(alloc, FileWord::Tp, tp)?;
     match read_tp(alloc, &text, arcs) {
@@ -107,8 +107,8 @@ pub(crate) fn read_table<R: ByteIn>(
     tp: &mut Option<R>,
     arcs: u32,
 ) -> Result<RawTable, FileFault>
-    ensures denoted { IfOk result (λ found. (text : Rattle.std.specs.Prelude.Option (List ℕ)) × IsTextIfThere R.remaining R.Device.failed R.Device.interrupted tp.old tp.new text × IsTableOf arcs text (table found)) }
-    ensures fault { IfErr result (IsFaultIfThere R.remaining R.Device.failed R.Device.interrupted FileWord.Tp (table_format arcs) tp.old tp.new) }
+    ensures denoted { IfOk result (λ found. (text : Rattle.std.specs.Prelude.Option (List ℕ)) × IsTextIfThere R.seen tp.old tp.new text × IsTableOf arcs text (table found)) }
+    ensures fault { IfErr result (IsFaultIfThere R.seen FileWord.Tp (table_format arcs) tp.old tp.new) }
 {
     match tp {
         None => Ok(RawTable {
@@ -121,9 +121,9 @@ pub(crate) fn read_table<R: ByteIn>(
 
 /// All bytes of a report, at most 2^33. What they say is not looked at.
 pub fn read_report<R: ByteIn>(alloc: Global, report: &mut R) -> Result<Vec<u8>, FileFault>
-    ensures text { IfOk result (λ bytes. IsTextOf (reading (R.remaining report.old) (R.Device.failed report.old) (R.Device.failed report.new) (R.Device.interrupted report.old) (R.Device.interrupted report.new)) bytes.items) }
-    ensures end { OnOk result (IsAtEnd (R.remaining report.new)) }
-    ensures fault { IfErr result (IsUnreadBy FileWord.Report (reading (R.remaining report.old) (R.Device.failed report.old) (R.Device.failed report.new) (R.Device.interrupted report.old) (R.Device.interrupted report.new))) }
+    ensures text { IfOk result (λ bytes. IsTextOf (reading R.seen report.old report.new) bytes.items) }
+    ensures end { OnOk result (IsAtEnd (R.seen report.new).bytes) }
+    ensures fault { IfErr result (IsUnreadBy FileWord.Report (reading R.seen report.old report.new)) }
 {
     text_of(alloc, FileWord::Report, report)
 }

@@ -48,9 +48,9 @@ pub(crate) fn read_road<T: ByteIn>(
     tp: &mut Option<T>,
 ) -> Result<Road, FileFault>
     requires { (lines : List (List (List ℕ))) × DenotesGraph lines (graph_of graph) }
-    ensures road { IfOk result (λ road. (text : Option (List ℕ)) × (table : Table) × IsTextIfThere T.remaining T.Device.failed T.Device.interrupted tp.old tp.new text
+    ensures road { IfOk result (λ road. (text : Option (List ℕ)) × (table : Table) × IsTextIfThere T.seen tp.old tp.new text
         × IsTableOf (length graph.arcs.items) text table × IsRoadOf (record { graph = graph_of graph; table = table }) road) }
-    ensures fault { IfErr result (IsFaultIfThere T.remaining T.Device.failed T.Device.interrupted FileWord.Tp (table_format (length graph.arcs.items)) tp.old tp.new) }
+    ensures fault { IfErr result (IsFaultIfThere T.seen FileWord.Tp (table_format (length graph.arcs.items)) tp.old tp.new) }
 {
     let table = read_table(alloc, tp, graph.arcs.len() as u32)?;
     let road = road_of(alloc, graph, table)?;

@@ -7,8 +7,8 @@ use Rattle.std.specs.Prelude.{Option, Result, Ok, Err, IfErr, OnOk}
 use Rattle.std.specs.List.{flat_map}
 use Rattle.std.specs.Io.KnownBytes.{Appends}
 use Rattle.std.proofs.KnownBytes.{Appends-trans, Appends-nil}
-use Rattle.ea_text.specs.Device.{one_more, GivesUp, HasGivenUp}
-use Rattle.ea_report.specs.Sent.{AreCounted, IsNotLess, IsCutAt, IsCutBy, IsReason, IsUnderWay, IsWhole, Adds, Stops, Seen}
+use Rattle.ea_text.specs.Device.{Seen, one_more, GivesUp, HasGivenUp}
+use Rattle.ea_report.specs.Sent.{AreCounted, HasBorne, IsNotLess, IsCutAt, IsCutBy, IsReason, IsUnderWay, IsWhole, Adds, Stops}
 use Rattle.ea_report.specs.declared.report.WriteFault.{WriteFault}
 use Rattle.ea_report.specs.declared.report.WriteFaultKind.TheVariants.{WriteFailed}
 use native.Mathlib.Decide.{dec_le}
@@ -24,39 +24,46 @@ pub sent_more : (a b c : Option (List ℕ)) (bytes : List ℕ) (s n : ℕ) → A
 sent_more a b c bytes s n before now = subst (λ sent. Appends a c sent) (front_more bytes s n) (Appends-trans a b c (take s bytes) _ before now)
 
 -- One more interruption.
-pub counted_more : (first old new count : ℕ) → new ≡ one_more old → AreCounted first old count → AreCounted first new (count + 1)
+counted_more : (first old new count : ℕ) → new ≡ one_more old → AreCounted first old count → AreCounted first new (count + 1)
 counted_more first old new count e (few, inl h) = elim (dec_le (2 ^ 64 - 1) old) [ yes p ↦ (omega arith, inr (omega arith)) | no p ↦ (omega arith, inl (omega arith)) ]
 counted_more first old new count e (few, inr h) = (omega arith, inr (omega arith))
 
--- A device that failed, or was interrupted once more than is borne, gave a reason.
-pub failed_gives_up : (failures failures_new first old new count : ℕ) → failures_new ≡ one_more failures → new ≡ old → count ≤ 1000 → AreCounted first old count → GivesUp failures failures_new first new
-failed_gives_up failures failures_new first old new count e same borne h = inl (e, omega (arith, h.0))
+-- A device that bore what it had to goes on.
+pub borne_on : (first old now : Seen) (count : ℕ) → now.failed ≡ old.failed → now.interrupted ≡ old.interrupted → HasBorne first old count → HasBorne first now count
+borne_on first old now count unfailed same h = (unfailed ∙ h.0, rw same h.1)
 
-pub interrupted_gives_up : (failures failures_new first old new : ℕ) → failures_new ≡ failures → new ≡ one_more old → AreCounted first old 1000 → GivesUp failures failures_new first new
-interrupted_gives_up failures failures_new first old new same e h = let more = counted_more first old new 1000 e h in inr (same, more.0, more.1)
+pub borne_more : (first old now : Seen) (count : ℕ) → now.failed ≡ old.failed → now.interrupted ≡ one_more old.interrupted → HasBorne first old count → HasBorne first now (count + 1)
+borne_more first old now count unfailed more h = (unfailed ∙ h.0, counted_more first.interrupted old.interrupted now.interrupted count more h.1)
+
+-- A device that failed, or was interrupted once more than is borne, gave a reason.
+pub failed_gives_up : (first old now : Seen) (count : ℕ) → now.failed ≡ one_more old.failed → now.interrupted ≡ old.interrupted → count ≤ 1000 → HasBorne first old count → GivesUp first now
+failed_gives_up first old now count e same few h = inl (e ∙ ap one_more h.0, omega (arith, same, h.1.0))
+
+pub interrupted_gives_up : (first old now : Seen) → now.failed ≡ old.failed → now.interrupted ≡ one_more old.interrupted → HasBorne first old 1000 → GivesUp first now
+interrupted_gives_up first old now unfailed more h =
+    let counted = counted_more first.interrupted old.interrupted now.interrupted 1000 more h.1 in
+    inr (unfailed ∙ h.0, counted.0, counted.1)
 
 -- All that was pending is sent.
-pub under_way_sent : (first old now : Seen) (pending text : List ℕ) (written before after : ℕ) → Appends old.contents now.contents pending → now.failed ≡ old.failed
-    → ((start : ℕ) → AreCounted start old.interrupted before → AreCounted start now.interrupted after)
+pub under_way_sent : (first old now : Seen) (pending text : List ℕ) (written before after : ℕ) → Appends old.bytes now.bytes pending
+    → ((start : Seen) → HasBorne start old before → HasBorne start now after)
     → IsUnderWay first old pending written before text → IsUnderWay first now [] (written + length pending) after text
-under_way_sent first old now pending text written before after sent unfailed more way = record {
+under_way_sent first old now pending text written before after sent more way = record {
   sent = way.sent ++ pending;
-  appended = Appends-trans first.contents old.contents now.contents way.sent pending way.appended sent;
+  appended = Appends-trans first.bytes old.bytes now.bytes way.sent pending way.appended sent;
   whole = way.whole ∙ sym (append-nil (way.sent ++ pending));
   counted = rw (way.counted, length-append way.sent pending) refl;
-  unfailed = unfailed ∙ way.unfailed;
-  borne = more first.interrupted way.borne;
+  borne = more first way.borne;
 }
 
 -- Only a front of what was pending is sent.
-pub under_way_cut : (first old now : Seen) (pending text : List ℕ) (written borne sent : ℕ) → IsCutAt old.contents now.contents pending sent
-    → ((start : ℕ) → AreCounted start old.interrupted borne → GivesUp old.failed now.failed start now.interrupted)
+pub under_way_cut : (first old now : Seen) (pending text : List ℕ) (written borne sent : ℕ) → IsCutAt old.bytes now.bytes pending sent
+    → ((start : Seen) → HasBorne start old borne → GivesUp start now)
     → IsUnderWay first old pending written borne text → IsCutBy first now text (record { written = written + sent; kind = WriteFailed })
 under_way_cut first old now pending text written borne sent cut reason way =
-    let front : take (written + sent) text ≡ way.sent ++ take sent pending = rw (way.counted, way.whole) (take-append-add way.sent pending sent) in
-    let P : ℕ → Type 0 = λ n. GivesUp n now.failed first.interrupted now.interrupted in (
-      (rw (way.counted, way.whole, length-append way.sent pending) (omega (arith, cut.0)), subst (λ t. Appends first.contents now.contents t) (sym front) (Appends-trans first.contents old.contents now.contents way.sent (take sent pending) way.appended cut.1)),
-      subst P way.unfailed (reason first.interrupted way.borne),
+    let front : take (written + sent) text ≡ way.sent ++ take sent pending = rw (way.counted, way.whole) (take-append-add way.sent pending sent) in (
+      (rw (way.counted, way.whole, length-append way.sent pending) (omega (arith, cut.0)), subst (λ t. Appends first.bytes now.bytes t) (sym front) (Appends-trans first.bytes old.bytes now.bytes way.sent (take sent pending) way.appended cut.1)),
+      reason first way.borne,
     )
 
 -- More is pending.
@@ -66,14 +73,13 @@ under_way_more first now pending text more written borne way = record {
   appended = way.appended;
   whole = ap (λ t. t ++ more) way.whole ∙ append_assoc way.sent pending more;
   counted = way.counted;
-  unfailed = way.unfailed;
   borne = way.borne;
 }
 
 -- A front of a text is a front of a longer one.
 pub cut_more : (first now : Seen) (text more : List ℕ) (fault : WriteFault) → IsCutBy first now text fault → IsCutBy first now (text ++ more) fault
 cut_more first now text more fault cut =
-    ((rw (length-append text more) (omega (arith, cut.0.0)), subst (λ t. Appends first.contents now.contents t) (sym (take-append-le fault.written text more cut.0.0)) cut.0.1), cut.1)
+    ((rw (length-append text more) (omega (arith, cut.0.0)), subst (λ t. Appends first.bytes now.bytes t) (sym (take-append-le fault.written text more cut.0.0)) cut.0.1), cut.1)
 
 -- The texts of nodes 1 to n, at one of them.
 pub each_node-at : (text : ℕ → List ℕ) (n i : ℕ) → i < n → (rest : List ℕ) × (each_node text n ≡ (each_node text i ++ text (i + 1)) ++ rest)
@@ -129,7 +135,7 @@ flat_map-next f (x ∷ xs) (suc i) d h = ap (λ t. f x ++ t) (flat_map-next f xs
 
 -- At the start nothing is under way.
 pub way_start : (now : Seen) (pending : List ℕ) (written borne : ℕ) → pending ≡ [] → written ≡ 0 → borne ≡ 0 → IsUnderWay now now pending written borne []
-way_start now pending written borne e z c = record { sent = []; appended = Appends-nil now.contents; whole = sym e; counted = z; unfailed = refl; borne = (omega arith, inl (omega arith)) }
+way_start now pending written borne e z c = record { sent = []; appended = Appends-nil now.bytes; whole = sym e; counted = z; borne = (refl, (omega arith, inl (omega arith))) }
 
 -- A count that goes on doesn't fall.
 not_less : (old new count : ℕ) → AreCounted old new count → IsNotLess old new
@@ -140,17 +146,17 @@ not_less old new count (few, inr h) = inr h
 pub way_end : (first now : Seen) (pending text : List ℕ) (written borne : ℕ) → pending ≡ [] → borne ≤ 1000 → IsUnderWay first now pending written borne text → IsWhole first now text written
 way_end first now pending text written borne e few way =
     let same : text ≡ way.sent = way.whole ∙ ap (λ p. way.sent ++ p) e ∙ append-nil way.sent in
-    (way.counted ∙ ap length (sym same), subst (λ t. Appends first.contents now.contents t) (sym same) way.appended, (way.unfailed, omega (arith, few, way.borne.0)), not_less first.interrupted now.interrupted borne way.borne)
+    (way.counted ∙ ap length (sym same), subst (λ t. Appends first.bytes now.bytes t) (sym same) way.appended, (way.borne.0, omega (arith, few, way.borne.1.0)), not_less first.interrupted now.interrupted borne way.borne.1)
 
 -- Bytes that were sent at once.
-pub adds_sent : (old now : Seen) (bytes : List ℕ) (written count before after : ℕ) → count ≡ length bytes → Appends old.contents now.contents bytes → now.failed ≡ old.failed
-    → ((start : ℕ) → AreCounted start old.interrupted before → AreCounted start now.interrupted after)
+pub adds_sent : (old now : Seen) (bytes : List ℕ) (written count before after : ℕ) → count ≡ length bytes → Appends old.bytes now.bytes bytes
+    → ((start : Seen) → HasBorne start old before → HasBorne start now after)
     → Adds old [] written before now [] (written + count) after bytes
-adds_sent old now bytes written count before after size sent unfailed more = λ first text way.
-    subst (λ n. IsUnderWay first now [] (written + n) after (text ++ bytes)) (sym size) (under_way_sent first old now bytes (text ++ bytes) written before after sent unfailed more (under_way_more first old [] text bytes written before way))
+adds_sent old now bytes written count before after size sent more = λ first text way.
+    subst (λ n. IsUnderWay first now [] (written + n) after (text ++ bytes)) (sym size) (under_way_sent first old now bytes (text ++ bytes) written before after sent more (under_way_more first old [] text bytes written before way))
 
-pub stops_sent : (old now : Seen) (bytes : List ℕ) (written borne sent : ℕ) → IsCutAt old.contents now.contents bytes sent
-    → ((start : ℕ) → AreCounted start old.interrupted borne → GivesUp old.failed now.failed start now.interrupted)
+pub stops_sent : (old now : Seen) (bytes : List ℕ) (written borne sent : ℕ) → IsCutAt old.bytes now.bytes bytes sent
+    → ((start : Seen) → HasBorne start old borne → GivesUp start now)
     → Stops old [] written borne now (record { written = written + sent; kind = WriteFailed }) bytes
 stops_sent old now bytes written borne sent cut reason = λ first text way.
     under_way_cut first old now bytes (text ++ bytes) written borne sent cut reason (under_way_more first old [] text bytes written borne way)
@@ -175,10 +181,10 @@ stops_early a c p m i fault more rest f = λ first text way.
     subst (λ t. IsCutBy first c t fault) (append_assoc text more rest) (cut_more first c (text ++ more) rest fault (f first text way))
 
 -- A device that is the cause shows it.
-shown : (failures_old failures_new interruptions_old interruptions_new : ℕ) → GivesUp failures_old failures_new interruptions_old interruptions_new → HasGivenUp failures_old failures_new interruptions_old interruptions_new
-shown a b c d (inl p) = elim (dec_le (2 ^ 64 - 1) a) [ yes q ↦ inr (inr (inl (omega (arith, p.0)))) | no q ↦ inl (omega (arith, p.0)) ]
-shown a b c d (inr p) = elim p.2 [ inl h ↦ inr (inl h) | inr h ↦ inr (inr (inr h)) ]
+shown : (old new : Seen) → GivesUp old new → HasGivenUp old new
+shown old new (inl p) = elim (dec_le (2 ^ 64 - 1) old.failed) [ yes q ↦ inr (inr (inl (omega (arith, p.0)))) | no q ↦ inl (omega (arith, p.0)) ]
+shown old new (inr p) = elim p.2 [ inl h ↦ inr (inl h) | inr h ↦ inr (inr (inr h)) ]
 
-pub given_up : {T : Type 0} (r : Result T WriteFault) (first now : Seen) (text : List ℕ) → IfErr r (λ fault. IsCutBy first now text fault) → IfErr r (λ fault. fault.kind ≡ WriteFailed → HasGivenUp first.failed now.failed first.interrupted now.interrupted)
+pub given_up : {T : Type 0} (r : Result T WriteFault) (first now : Seen) (text : List ℕ) → IfErr r (λ fault. IsCutBy first now text fault) → IfErr r (λ fault. fault.kind ≡ WriteFailed → HasGivenUp first now)
 given_up (Ok x) first now text h = tt
-given_up (Err fault) first now text h = λ e. shown first.failed now.failed first.interrupted now.interrupted (subst (λ k. IsReason k first now) e h.1)
+given_up (Err fault) first now text h = λ e. shown first now (subst (λ k. IsReason k first now) e h.1)

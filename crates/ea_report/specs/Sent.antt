@@ -1,7 +1,7 @@
 -- What a device was sent.
 use Rattle.std.specs.Prelude.{◌≡◌, ◌⊎◌, ℕ, ◌+◌, ◌-◌, ◌^◌, ◌≤◌, List, ◌++◌, Option, length, take}
 use Rattle.std.specs.Io.KnownBytes.{Appends}
-use Rattle.ea_text.specs.Device.{BearsOn, GivesUp}
+use Rattle.ea_text.specs.Device.{Seen, BearsOn, GivesUp}
 use Rattle.ea_report.specs.declared.report.WriteFault.{WriteFault}
 use Rattle.ea_report.specs.declared.report.WriteFaultKind.{WriteFaultKind}
 use Rattle.ea_report.specs.declared.report.WriteFaultKind.TheVariants.{WriteFailed, OutOfMemory}
@@ -14,33 +14,27 @@ IsCutAt old new text sent = (sent ≤ length text) × Appends old new (take sent
 abbrev pub AreCounted : ℕ → ℕ → ℕ → Type 0
 AreCounted old new count = (new ≤ old + count) × ((old + count ≤ new) ⊎ (new ≡ 2 ^ 64 - 1))
 
--- What a device shows: the bytes that it holds, where they are known, and its counts of faults.
-pub record Seen : Type 0 where
-  pub contents : Option (List ℕ)
-  pub failed : ℕ
-  pub interrupted : ℕ
-
-abbrev pub seen : Option (List ℕ) → ℕ → ℕ → Seen
-seen contents failed interrupted = record { contents = contents; failed = failed; interrupted = interrupted }
+-- No call of a device failed, and so many were interrupted.
+abbrev pub HasBorne : Seen → Seen → ℕ → Type 0
+HasBorne first now count = (now.failed ≡ first.failed) × AreCounted first.interrupted now.interrupted count
 
 -- A text is under way: its front was sent, so many bytes, and the rest is pending. No call failed, and so many were interrupted.
 pub record IsUnderWay (first now : Seen) (pending : List ℕ) (written interruptions : ℕ) (text : List ℕ) : Type 0 where
   pub sent : List ℕ
-  pub appended : Appends first.contents now.contents sent
+  pub appended : Appends first.bytes now.bytes sent
   pub whole : text ≡ sent ++ pending
   pub counted : written ≡ length sent
-  pub unfailed : now.failed ≡ first.failed
-  pub borne : AreCounted first.interrupted now.interrupted interruptions
+  pub borne : HasBorne first now interruptions
 
 -- What the device showed is why a text was not written whole: for WriteFailed its first failure, or the first interruption
 -- that is not borne; for want of memory neither.
 abbrev pub IsReason : WriteFaultKind → Seen → Seen → Type 0
-IsReason WriteFailed first now = GivesUp first.failed now.failed first.interrupted now.interrupted
-IsReason OutOfMemory first now = BearsOn first.failed now.failed first.interrupted now.interrupted
+IsReason WriteFailed first now = GivesUp first now
+IsReason OutOfMemory first now = BearsOn first now
 
 -- A text was cut: a front of it was sent, and there is a reason.
 abbrev pub IsCutBy : Seen → Seen → List ℕ → WriteFault → Type 0
-IsCutBy first now text fault = IsCutAt first.contents now.contents text fault.written × IsReason fault.kind first now
+IsCutBy first now text fault = IsCutAt first.bytes now.bytes text fault.written × IsReason fault.kind first now
 
 -- The count of interruptions didn't fall, as far as it goes.
 abbrev pub IsNotLess : ℕ → ℕ → Type 0
@@ -49,7 +43,7 @@ IsNotLess old new = (old ≤ new) ⊎ (new ≡ 2 ^ 64 - 1)
 -- A text was written whole: it was sent, so many bytes, no call failed, and the interruptions were counted and borne.
 abbrev pub IsWhole : Seen → Seen → List ℕ → ℕ → Type 0
 IsWhole first now text written =
-    (written ≡ length text) × Appends first.contents now.contents text × BearsOn first.failed now.failed first.interrupted now.interrupted × IsNotLess first.interrupted now.interrupted
+    (written ≡ length text) × Appends first.bytes now.bytes text × BearsOn first now × IsNotLess first.interrupted now.interrupted
 
 -- More of a text was added: whatever text was under way, the text with more at its end is under way now.
 abbrev pub Adds : Seen → List ℕ → ℕ → ℕ → Seen → List ℕ → ℕ → ℕ → List ℕ → Type 0

@@ -2,9 +2,9 @@
 ghost use Rattle.std.specs.Prelude.{◌≡◌, ◌<◌, ◌≤◌, ◌+◌, ◌^◌, ◌*◌, ◌++◌, ℕ, [], List, None, OnOk, IfOk, IfErr, length, true};
 ghost use Rattle.std.specs.List.{flat_map};
 ghost use Rattle.ea_report.specs.Report.{source_line, pair_line, node_text, each_node, problem_text};
-ghost use Rattle.ea_report.specs.Sent.{IsCutBy, IsUnderWay, IsWhole, Adds, Stops, Seen, seen};
+ghost use Rattle.ea_report.specs.Sent.{IsCutBy, IsUnderWay, IsWhole, Adds, Stops};
 ghost use Rattle.ea_report.specs.Asked.{IsOf};
-ghost use Rattle.ea_text.specs.Device.{HasGivenUp};
+ghost use Rattle.ea_text.specs.Device.{Seen, HasGivenUp};
 ghost use Rattle.ea_road.specs.Queries.{IsAskedBy};
 ghost use Rattle.ea_road.specs.Roads.{IsNode};
 
@@ -74,11 +74,11 @@ impl Pending {
     fn flush<W: ByteOut>(&mut self, out: &mut W) -> Result<(), WriteFault>
         requires { self.old.written + 2 ^ 63 < 2 ^ 128 }
         ensures ok { OnOk result ((first : Seen) (text : List ℕ) →
-            IsUnderWay first (seen (W.contents out.old) (W.Device.failed out.old) (W.Device.interrupted out.old)) self.old.text.items self.old.written self.old.interruptions text →
-            IsUnderWay first (seen (W.contents out.new) (W.Device.failed out.new) (W.Device.interrupted out.new)) self.new.text.items self.new.written self.new.interruptions text) }
+            IsUnderWay first (W.seen out.old) self.old.text.items self.old.written self.old.interruptions text →
+            IsUnderWay first (W.seen out.new) self.new.text.items self.new.written self.new.interruptions text) }
         ensures err { IfErr result (λ fault. (first : Seen) (text : List ℕ) →
-            IsUnderWay first (seen (W.contents out.old) (W.Device.failed out.old) (W.Device.interrupted out.old)) self.old.text.items self.old.written self.old.interruptions text →
-            IsCutBy first (seen (W.contents out.new) (W.Device.failed out.new) (W.Device.interrupted out.new)) text fault) }
+            IsUnderWay first (W.seen out.old) self.old.text.items self.old.written self.old.interruptions text →
+            IsCutBy first (W.seen out.new) text fault) }
         ensures empty { OnOk result (self.new.text.items ≡ []) }
         ensures bound { self.new.written ≤ self.old.written + 2 ^ 63 }
         ensures small { IfErr result (λ fault. fault.written ≤ self.old.written + 2 ^ 63) }
@@ -100,11 +100,11 @@ impl Pending {
     fn flush_large<W: ByteOut>(&mut self, out: &mut W) -> Result<(), WriteFault>
         requires { self.old.written + 2 ^ 63 < 2 ^ 128 }
         ensures ok { OnOk result ((first : Seen) (text : List ℕ) →
-            IsUnderWay first (seen (W.contents out.old) (W.Device.failed out.old) (W.Device.interrupted out.old)) self.old.text.items self.old.written self.old.interruptions text →
-            IsUnderWay first (seen (W.contents out.new) (W.Device.failed out.new) (W.Device.interrupted out.new)) self.new.text.items self.new.written self.new.interruptions text) }
+            IsUnderWay first (W.seen out.old) self.old.text.items self.old.written self.old.interruptions text →
+            IsUnderWay first (W.seen out.new) self.new.text.items self.new.written self.new.interruptions text) }
         ensures err { IfErr result (λ fault. (first : Seen) (text : List ℕ) →
-            IsUnderWay first (seen (W.contents out.old) (W.Device.failed out.old) (W.Device.interrupted out.old)) self.old.text.items self.old.written self.old.interruptions text →
-            IsCutBy first (seen (W.contents out.new) (W.Device.failed out.new) (W.Device.interrupted out.new)) text fault) }
+            IsUnderWay first (W.seen out.old) self.old.text.items self.old.written self.old.interruptions text →
+            IsCutBy first (W.seen out.new) text fault) }
         ensures bound { self.new.written ≤ self.old.written + 2 ^ 63 }
         ensures small { IfErr result (λ fault. fault.written ≤ self.old.written + 2 ^ 63) }
     {
@@ -118,10 +118,10 @@ impl Pending {
     /// Adds the line of a source.
     fn put_source<W: ByteOut>(&mut self, source: Source, out: &mut W) -> Result<(), WriteFault>
         requires { self.old.written + 2 ^ 63 < 2 ^ 128 }
-        ensures ok { OnOk result (Adds (seen (W.contents out.old) (W.Device.failed out.old) (W.Device.interrupted out.old)) self.old.text.items self.old.written self.old.interruptions
-            (seen (W.contents out.new) (W.Device.failed out.new) (W.Device.interrupted out.new)) self.new.text.items self.new.written self.new.interruptions (source_line source)) }
-        ensures err { IfErr result (λ fault. Stops (seen (W.contents out.old) (W.Device.failed out.old) (W.Device.interrupted out.old)) self.old.text.items self.old.written self.old.interruptions
-            (seen (W.contents out.new) (W.Device.failed out.new) (W.Device.interrupted out.new)) fault (source_line source)) }
+        ensures ok { OnOk result (Adds (W.seen out.old) self.old.text.items self.old.written self.old.interruptions
+            (W.seen out.new) self.new.text.items self.new.written self.new.interruptions (source_line source)) }
+        ensures err { IfErr result (λ fault. Stops (W.seen out.old) self.old.text.items self.old.written self.old.interruptions
+            (W.seen out.new) fault (source_line source)) }
         ensures bound { self.new.written ≤ self.old.written + 2 ^ 63 }
         ensures small { IfErr result (λ fault. fault.written ≤ self.old.written + 2 ^ 63) }
     {
@@ -139,10 +139,10 @@ impl Pending {
         out: &mut W,
     ) -> Result<(), WriteFault>
         requires { self.old.written + 2 ^ 63 < 2 ^ 128 }
-        ensures ok { OnOk result (Adds (seen (W.contents out.old) (W.Device.failed out.old) (W.Device.interrupted out.old)) self.old.text.items self.old.written self.old.interruptions
-            (seen (W.contents out.new) (W.Device.failed out.new) (W.Device.interrupted out.new)) self.new.text.items self.new.written self.new.interruptions (pair_line target source)) }
-        ensures err { IfErr result (λ fault. Stops (seen (W.contents out.old) (W.Device.failed out.old) (W.Device.interrupted out.old)) self.old.text.items self.old.written self.old.interruptions
-            (seen (W.contents out.new) (W.Device.failed out.new) (W.Device.interrupted out.new)) fault (pair_line target source)) }
+        ensures ok { OnOk result (Adds (W.seen out.old) self.old.text.items self.old.written self.old.interruptions
+            (W.seen out.new) self.new.text.items self.new.written self.new.interruptions (pair_line target source)) }
+        ensures err { IfErr result (λ fault. Stops (W.seen out.old) self.old.text.items self.old.written self.old.interruptions
+            (W.seen out.new) fault (pair_line target source)) }
         ensures bound { self.new.written ≤ self.old.written + 2 ^ 63 }
         ensures small { IfErr result (λ fault. fault.written ≤ self.old.written + 2 ^ 63) }
     {
@@ -167,10 +167,10 @@ impl Pending {
         requires walks { walks ≡ true → answer.now.walks ≡ true }
         requires links { arcs.old.links ≡ answer.now.links }
         ensures links { arcs.new.links ≡ arcs.old.links }
-        ensures ok { OnOk result (Adds (seen (W.contents out.old) (W.Device.failed out.old) (W.Device.interrupted out.old)) self.old.text.items self.old.written self.old.interruptions
-            (seen (W.contents out.new) (W.Device.failed out.new) (W.Device.interrupted out.new)) self.new.text.items self.new.written self.new.interruptions (node_text walks answer.now node)) }
-        ensures err { IfErr result (λ fault. Stops (seen (W.contents out.old) (W.Device.failed out.old) (W.Device.interrupted out.old)) self.old.text.items self.old.written self.old.interruptions
-            (seen (W.contents out.new) (W.Device.failed out.new) (W.Device.interrupted out.new)) fault (node_text walks answer.now node)) }
+        ensures ok { OnOk result (Adds (W.seen out.old) self.old.text.items self.old.written self.old.interruptions
+            (W.seen out.new) self.new.text.items self.new.written self.new.interruptions (node_text walks answer.now node)) }
+        ensures err { IfErr result (λ fault. Stops (W.seen out.old) self.old.text.items self.old.written self.old.interruptions
+            (W.seen out.new) fault (node_text walks answer.now node)) }
         ensures bound { self.new.written ≤ self.old.written + 2 ^ 63 }
         ensures small { IfErr result (λ fault. fault.written ≤ self.old.written + 2 ^ 63) }
     {
@@ -193,10 +193,10 @@ impl Pending {
         requires node { IsNode answer.now.nodes node }
         requires asked { IsAskedBy answer.now.target node }
         requires walks { walks ≡ true → answer.now.walks ≡ true }
-        ensures ok { OnOk result (Adds (seen (W.contents out.old) (W.Device.failed out.old) (W.Device.interrupted out.old)) self.old.text.items self.old.written self.old.interruptions
-            (seen (W.contents out.new) (W.Device.failed out.new) (W.Device.interrupted out.new)) self.new.text.items self.new.written self.new.interruptions (node_text walks answer.now node)) }
-        ensures err { IfErr result (λ fault. Stops (seen (W.contents out.old) (W.Device.failed out.old) (W.Device.interrupted out.old)) self.old.text.items self.old.written self.old.interruptions
-            (seen (W.contents out.new) (W.Device.failed out.new) (W.Device.interrupted out.new)) fault (node_text walks answer.now node)) }
+        ensures ok { OnOk result (Adds (W.seen out.old) self.old.text.items self.old.written self.old.interruptions
+            (W.seen out.new) self.new.text.items self.new.written self.new.interruptions (node_text walks answer.now node)) }
+        ensures err { IfErr result (λ fault. Stops (W.seen out.old) self.old.text.items self.old.written self.old.interruptions
+            (W.seen out.new) fault (node_text walks answer.now node)) }
         ensures bound { self.new.written ≤ self.old.written + 2 ^ 63 }
         ensures small { IfErr result (λ fault. fault.written ≤ self.old.written + 2 ^ 63) }
     {
@@ -207,10 +207,10 @@ impl Pending {
     /// Adds the lines of sources.
     fn put_sources<W: ByteOut>(&mut self, sources: &[Source], out: &mut W) -> Result<(), WriteFault>
         requires { self.old.written + length sources.now * 2 ^ 63 + 2 ^ 63 < 2 ^ 128 }
-        ensures ok { OnOk result (Adds (seen (W.contents out.old) (W.Device.failed out.old) (W.Device.interrupted out.old)) self.old.text.items self.old.written self.old.interruptions
-            (seen (W.contents out.new) (W.Device.failed out.new) (W.Device.interrupted out.new)) self.new.text.items self.new.written self.new.interruptions (flat_map source_line sources.now)) }
-        ensures err { IfErr result (λ fault. Stops (seen (W.contents out.old) (W.Device.failed out.old) (W.Device.interrupted out.old)) self.old.text.items self.old.written self.old.interruptions
-            (seen (W.contents out.new) (W.Device.failed out.new) (W.Device.interrupted out.new)) fault (flat_map source_line sources.now)) }
+        ensures ok { OnOk result (Adds (W.seen out.old) self.old.text.items self.old.written self.old.interruptions
+            (W.seen out.new) self.new.text.items self.new.written self.new.interruptions (flat_map source_line sources.now)) }
+        ensures err { IfErr result (λ fault. Stops (W.seen out.old) self.old.text.items self.old.written self.old.interruptions
+            (W.seen out.new) fault (flat_map source_line sources.now)) }
         ensures bound { self.new.written ≤ self.old.written + length sources.now * 2 ^ 63 }
         ensures small { IfErr result (λ fault. fault.written ≤ self.old.written + length sources.now * 2 ^ 63) }
     {
@@ -228,10 +228,10 @@ impl Pending {
         out: &mut W,
     ) -> Result<(), WriteFault>
         requires { self.old.written + length sources.now * 2 ^ 63 + 2 ^ 63 < 2 ^ 128 }
-        ensures ok { OnOk result (Adds (seen (W.contents out.old) (W.Device.failed out.old) (W.Device.interrupted out.old)) self.old.text.items self.old.written self.old.interruptions
-            (seen (W.contents out.new) (W.Device.failed out.new) (W.Device.interrupted out.new)) self.new.text.items self.new.written self.new.interruptions (flat_map (pair_line target) sources.now)) }
-        ensures err { IfErr result (λ fault. Stops (seen (W.contents out.old) (W.Device.failed out.old) (W.Device.interrupted out.old)) self.old.text.items self.old.written self.old.interruptions
-            (seen (W.contents out.new) (W.Device.failed out.new) (W.Device.interrupted out.new)) fault (flat_map (pair_line target) sources.now)) }
+        ensures ok { OnOk result (Adds (W.seen out.old) self.old.text.items self.old.written self.old.interruptions
+            (W.seen out.new) self.new.text.items self.new.written self.new.interruptions (flat_map (pair_line target) sources.now)) }
+        ensures err { IfErr result (λ fault. Stops (W.seen out.old) self.old.text.items self.old.written self.old.interruptions
+            (W.seen out.new) fault (flat_map (pair_line target) sources.now)) }
         ensures bound { self.new.written ≤ self.old.written + length sources.now * 2 ^ 63 }
         ensures small { IfErr result (λ fault. fault.written ≤ self.old.written + length sources.now * 2 ^ 63) }
     {
@@ -254,10 +254,10 @@ impl Pending {
         requires nodes { answer.now.nodes ≡ nodes }
         requires all { answer.now.target ≡ None }
         requires walks { walks ≡ true → answer.now.walks ≡ true }
-        ensures ok { OnOk result (Adds (seen (W.contents out.old) (W.Device.failed out.old) (W.Device.interrupted out.old)) self.old.text.items self.old.written self.old.interruptions
-            (seen (W.contents out.new) (W.Device.failed out.new) (W.Device.interrupted out.new)) self.new.text.items self.new.written self.new.interruptions (each_node (node_text walks answer.now) nodes)) }
-        ensures err { IfErr result (λ fault. Stops (seen (W.contents out.old) (W.Device.failed out.old) (W.Device.interrupted out.old)) self.old.text.items self.old.written self.old.interruptions
-            (seen (W.contents out.new) (W.Device.failed out.new) (W.Device.interrupted out.new)) fault (each_node (node_text walks answer.now) nodes)) }
+        ensures ok { OnOk result (Adds (W.seen out.old) self.old.text.items self.old.written self.old.interruptions
+            (W.seen out.new) self.new.text.items self.new.written self.new.interruptions (each_node (node_text walks answer.now) nodes)) }
+        ensures err { IfErr result (λ fault. Stops (W.seen out.old) self.old.text.items self.old.written self.old.interruptions
+            (W.seen out.new) fault (each_node (node_text walks answer.now) nodes)) }
         ensures bound { self.new.written ≤ self.old.written + nodes * 2 ^ 63 }
         ensures small { IfErr result (λ fault. fault.written ≤ self.old.written + nodes * 2 ^ 63) }
     {
@@ -291,10 +291,10 @@ impl Pending {
         requires nodes { answer.now.nodes ≡ nodes }
         requires all { answer.now.target ≡ None }
         requires walks { walks ≡ true → answer.now.walks ≡ true }
-        ensures ok { OnOk result (Adds (seen (W.contents out.old) (W.Device.failed out.old) (W.Device.interrupted out.old)) self.old.text.items self.old.written self.old.interruptions
-            (seen (W.contents out.new) (W.Device.failed out.new) (W.Device.interrupted out.new)) self.new.text.items self.new.written self.new.interruptions (flat_map source_line sources.now ++ each_node (node_text walks answer.now) nodes)) }
-        ensures err { IfErr result (λ fault. Stops (seen (W.contents out.old) (W.Device.failed out.old) (W.Device.interrupted out.old)) self.old.text.items self.old.written self.old.interruptions
-            (seen (W.contents out.new) (W.Device.failed out.new) (W.Device.interrupted out.new)) fault (flat_map source_line sources.now ++ each_node (node_text walks answer.now) nodes)) }
+        ensures ok { OnOk result (Adds (W.seen out.old) self.old.text.items self.old.written self.old.interruptions
+            (W.seen out.new) self.new.text.items self.new.written self.new.interruptions (flat_map source_line sources.now ++ each_node (node_text walks answer.now) nodes)) }
+        ensures err { IfErr result (λ fault. Stops (W.seen out.old) self.old.text.items self.old.written self.old.interruptions
+            (W.seen out.new) fault (flat_map source_line sources.now ++ each_node (node_text walks answer.now) nodes)) }
         ensures bound { self.new.written ≤ (length sources.now + nodes) * 2 ^ 63 }
         ensures room { self.new.written < 2 ^ 127 + 2 ^ 96 }
         ensures small { IfErr result (λ fault. fault.written ≤ (length sources.now + nodes) * 2 ^ 63) }
@@ -319,10 +319,10 @@ impl Pending {
         requires node { IsNode answer.now.nodes target }
         requires asked { IsAskedBy answer.now.target target }
         requires walks { walks ≡ true → answer.now.walks ≡ true }
-        ensures ok { OnOk result (Adds (seen (W.contents out.old) (W.Device.failed out.old) (W.Device.interrupted out.old)) self.old.text.items self.old.written self.old.interruptions
-            (seen (W.contents out.new) (W.Device.failed out.new) (W.Device.interrupted out.new)) self.new.text.items self.new.written self.new.interruptions (flat_map (pair_line target) sources.now ++ node_text walks answer.now target)) }
-        ensures err { IfErr result (λ fault. Stops (seen (W.contents out.old) (W.Device.failed out.old) (W.Device.interrupted out.old)) self.old.text.items self.old.written self.old.interruptions
-            (seen (W.contents out.new) (W.Device.failed out.new) (W.Device.interrupted out.new)) fault (flat_map (pair_line target) sources.now ++ node_text walks answer.now target)) }
+        ensures ok { OnOk result (Adds (W.seen out.old) self.old.text.items self.old.written self.old.interruptions
+            (W.seen out.new) self.new.text.items self.new.written self.new.interruptions (flat_map (pair_line target) sources.now ++ node_text walks answer.now target)) }
+        ensures err { IfErr result (λ fault. Stops (W.seen out.old) self.old.text.items self.old.written self.old.interruptions
+            (W.seen out.new) fault (flat_map (pair_line target) sources.now ++ node_text walks answer.now target)) }
         ensures bound { self.new.written ≤ (length sources.now + 1) * 2 ^ 63 }
         ensures room { self.new.written < 2 ^ 127 + 2 ^ 96 }
         ensures small { IfErr result (λ fault. fault.written ≤ (length sources.now + 1) * 2 ^ 63) }
@@ -346,10 +346,10 @@ impl Pending {
         requires start { self.old.written ≡ 0 }
         requires of { IsOf network.now query.now answer.now }
         requires walks { walks ≡ true → answer.now.walks ≡ true }
-        ensures ok { OnOk result (Adds (seen (W.contents out.old) (W.Device.failed out.old) (W.Device.interrupted out.old)) self.old.text.items self.old.written self.old.interruptions
-            (seen (W.contents out.new) (W.Device.failed out.new) (W.Device.interrupted out.new)) self.new.text.items self.new.written self.new.interruptions (problem_text walks network.now.nodes query.now answer.now)) }
-        ensures err { IfErr result (λ fault. Stops (seen (W.contents out.old) (W.Device.failed out.old) (W.Device.interrupted out.old)) self.old.text.items self.old.written self.old.interruptions
-            (seen (W.contents out.new) (W.Device.failed out.new) (W.Device.interrupted out.new)) fault (problem_text walks network.now.nodes query.now answer.now)) }
+        ensures ok { OnOk result (Adds (W.seen out.old) self.old.text.items self.old.written self.old.interruptions
+            (W.seen out.new) self.new.text.items self.new.written self.new.interruptions (problem_text walks network.now.nodes query.now answer.now)) }
+        ensures err { IfErr result (λ fault. Stops (W.seen out.old) self.old.text.items self.old.written self.old.interruptions
+            (W.seen out.new) fault (problem_text walks network.now.nodes query.now answer.now)) }
         ensures bound { self.new.written ≤ (network.now.nodes + length query.now.sources + 1) * 2 ^ 63 }
         ensures room { self.new.written < 2 ^ 127 + 2 ^ 96 }
         ensures small { IfErr result (λ fault. fault.written ≤ (network.now.nodes + length query.now.sources + 1) * 2 ^ 63) }
@@ -373,11 +373,11 @@ fn send_problem<W: ByteOut>(
 ) -> Result<u128, WriteFault>
     requires of { IsOf network.now query.now answer.now }
     requires walks { walks ≡ true → answer.now.walks ≡ true }
-    ensures ok { let before = seen (W.contents out.old) (W.Device.failed out.old) (W.Device.interrupted out.old) in
-        let after = seen (W.contents out.new) (W.Device.failed out.new) (W.Device.interrupted out.new) in
+    ensures ok { let before = W.seen out.old in
+        let after = W.seen out.new in
         IfOk result (IsWhole before after (problem_text walks network.now.nodes query.now answer.now)) }
-    ensures err { let before = seen (W.contents out.old) (W.Device.failed out.old) (W.Device.interrupted out.old) in
-        let after = seen (W.contents out.new) (W.Device.failed out.new) (W.Device.interrupted out.new) in
+    ensures err { let before = W.seen out.old in
+        let after = W.seen out.new in
         IfErr result (IsCutBy before after (problem_text walks network.now.nodes query.now answer.now)) }
     ensures bound { IfOk result (λ written. written ≤ (network.now.nodes + length query.now.sources + 2) * 2 ^ 63) }
     ensures small { IfErr result (λ fault. fault.written ≤ (network.now.nodes + length query.now.sources + 2) * 2 ^ 63) }
@@ -404,18 +404,18 @@ pub fn write_problem<W: ByteOut>(
 ) -> Result<u128, WriteFault>
     requires of { IsOf network.now query.now answer.now }
     requires walks { options.walks ≡ true → answer.now.walks ≡ true }
-    ensures ok { let before = seen (W.contents out.old) (W.Device.failed out.old) (W.Device.interrupted out.old) in
-        let after = seen (W.contents out.new) (W.Device.failed out.new) (W.Device.interrupted out.new) in
+    ensures ok { let before = W.seen out.old in
+        let after = W.seen out.new in
         IfOk result (IsWhole before after (problem_text options.walks network.now.nodes query.now answer.now)) }
-    ensures err { let before = seen (W.contents out.old) (W.Device.failed out.old) (W.Device.interrupted out.old) in
-        let after = seen (W.contents out.new) (W.Device.failed out.new) (W.Device.interrupted out.new) in
+    ensures err { let before = W.seen out.old in
+        let after = W.seen out.new in
         IfErr result (IsCutBy before after (problem_text options.walks network.now.nodes query.now answer.now)) }
     // A line has fewer than 2^63 bytes, so a sum over a million problems is below 2^128.
     ensures bound { IfOk result (λ written. written ≤ (network.now.nodes + length query.now.sources + 2) * 2 ^ 63) }
     ensures small { IfErr result (λ fault. fault.written ≤ (network.now.nodes + length query.now.sources + 2) * 2 ^ 63) }
     // WriteFailed comes only where the device's counts show a reason.
     ensures device { IfErr result (λ fault. fault.kind ≡ WriteFaultKind.WriteFailed →
-        HasGivenUp (W.Device.failed out.old) (W.Device.failed out.new) (W.Device.interrupted out.old) (W.Device.interrupted out.new)) }
+        HasGivenUp (W.seen out.old) (W.seen out.new)) }
 {
     send_problem(alloc, network, query, answer, options.walks, out)
 }

@@ -1,8 +1,8 @@
 //! Bytes sent to a device.
 ghost use Rattle.std.specs.Prelude.{◌≡◌, ◌<◌, ◌≤◌, ◌+◌, ℕ, OnOk, OnErr, IfErr, length};
 ghost use Rattle.std.specs.Io.KnownBytes.{Appends};
-ghost use Rattle.ea_text.specs.Device.{GivesUp};
-ghost use Rattle.ea_report.specs.Sent.{IsCutAt, AreCounted};
+ghost use Rattle.ea_text.specs.Device.{Seen, GivesUp};
+ghost use Rattle.ea_report.specs.Sent.{IsCutAt, HasBorne};
 
 use ea_input::{ByteOut, DeviceFault};
 
@@ -15,15 +15,15 @@ pub(crate) fn send<W: ByteOut>(
     interruptions: &mut u64,
 ) -> Result<(), usize>
     requires { interruptions.old ≤ 1000 }
-    ensures ok { OnOk result (Appends (W.contents out.old) (W.contents out.new) bytes.now) }
-    ensures err { IfErr result (λ sent. IsCutAt (W.contents out.old) (W.contents out.new) bytes.now sent) }
+    ensures ok { OnOk result (Appends (W.seen out.old).bytes (W.seen out.new).bytes bytes.now) }
+    ensures err { IfErr result (λ sent. IsCutAt (W.seen out.old).bytes (W.seen out.new).bytes
+        bytes.now sent) }
     ensures borne { interruptions.new ≤ 1000 }
-    ensures failed { OnOk result (W.Device.failed out.new ≡ W.Device.failed out.old) }
     // Whatever was counted before, the count goes on; and an error has a reason.
-    ensures counted { OnOk result ((first : ℕ) → AreCounted first (W.Device.interrupted out.old) interruptions.old
-        → AreCounted first (W.Device.interrupted out.new) interruptions.new) }
-    ensures given_up { OnErr result ((first : ℕ) → AreCounted first (W.Device.interrupted out.old) interruptions.old
-        → GivesUp (W.Device.failed out.old) (W.Device.failed out.new) first (W.Device.interrupted out.new)) }
+    ensures counted { OnOk result ((first : Seen) →
+        HasBorne first (W.seen out.old) interruptions.old → HasBorne first (W.seen out.new) interruptions.new) }
+    ensures given_up { OnErr result ((first : Seen) →
+        HasBorne first (W.seen out.old) interruptions.old → GivesUp first (W.seen out.new)) }
 {
     let mut sent = 0;
     while sent < bytes.len() {

@@ -4,7 +4,7 @@ ghost use Rattle.std.specs.List.{flat_map};
 ghost use Rattle.ea_report.specs.Stats.{total_line, number_end, stats_text};
 ghost use Rattle.ea_report.specs.Report.{spaced};
 ghost use Rattle.ea_text.specs.Device.{HasGivenUp};
-ghost use Rattle.ea_report.specs.Sent.{IsCutBy, IsWhole, Adds, Stops, seen};
+ghost use Rattle.ea_report.specs.Sent.{IsCutBy, IsWhole, Adds, Stops};
 
 use crate::report::{WriteFault, WriteFaultKind};
 use crate::sending::send;
@@ -47,10 +47,10 @@ impl Direct {
     /// Sends bytes.
     pub(crate) fn put<W: ByteOut>(&mut self, bytes: &[u8], out: &mut W) -> Result<(), WriteFault>
         requires { self.old.written + 2 ^ 64 < 2 ^ 128 }
-        ensures ok { OnOk result (Adds (seen (W.contents out.old) (W.Device.failed out.old) (W.Device.interrupted out.old)) [] self.old.written self.old.interruptions
-            (seen (W.contents out.new) (W.Device.failed out.new) (W.Device.interrupted out.new)) [] self.new.written self.new.interruptions bytes.now) }
-        ensures err { IfErr result (λ fault. Stops (seen (W.contents out.old) (W.Device.failed out.old) (W.Device.interrupted out.old)) [] self.old.written self.old.interruptions
-            (seen (W.contents out.new) (W.Device.failed out.new) (W.Device.interrupted out.new)) fault bytes.now) }
+        ensures ok { OnOk result (Adds (W.seen out.old) [] self.old.written self.old.interruptions
+            (W.seen out.new) [] self.new.written self.new.interruptions bytes.now) }
+        ensures err { IfErr result (λ fault. Stops (W.seen out.old) [] self.old.written self.old.interruptions
+            (W.seen out.new) fault bytes.now) }
         ensures device { IfErr result (λ fault. fault.kind ≡ WriteFaultKind.WriteFailed) }
         ensures bound { self.new.written ≤ self.old.written + 2 ^ 64 }
         ensures small { IfErr result (λ fault. fault.written ≤ self.old.written + 2 ^ 64) }
@@ -72,10 +72,10 @@ impl Direct {
     /// Sends a field after a space.
     fn put_field<W: ByteOut>(&mut self, field: &[u8], out: &mut W) -> Result<(), WriteFault>
         requires { self.old.written + 2 * 2 ^ 64 < 2 ^ 128 }
-        ensures ok { OnOk result (Adds (seen (W.contents out.old) (W.Device.failed out.old) (W.Device.interrupted out.old)) [] self.old.written self.old.interruptions
-            (seen (W.contents out.new) (W.Device.failed out.new) (W.Device.interrupted out.new)) [] self.new.written self.new.interruptions (spaced field.now)) }
-        ensures err { IfErr result (λ fault. Stops (seen (W.contents out.old) (W.Device.failed out.old) (W.Device.interrupted out.old)) [] self.old.written self.old.interruptions
-            (seen (W.contents out.new) (W.Device.failed out.new) (W.Device.interrupted out.new)) fault (spaced field.now)) }
+        ensures ok { OnOk result (Adds (W.seen out.old) [] self.old.written self.old.interruptions
+            (W.seen out.new) [] self.new.written self.new.interruptions (spaced field.now)) }
+        ensures err { IfErr result (λ fault. Stops (W.seen out.old) [] self.old.written self.old.interruptions
+            (W.seen out.new) fault (spaced field.now)) }
         ensures device { IfErr result (λ fault. fault.kind ≡ WriteFaultKind.WriteFailed) }
         ensures bound { self.new.written ≤ self.old.written + 2 * 2 ^ 64 }
         ensures small { IfErr result (λ fault. fault.written ≤ self.old.written + 2 * 2 ^ 64) }
@@ -96,10 +96,10 @@ impl Direct {
         out: &mut W,
     ) -> Result<(), WriteFault>
         requires { self.old.written + 6 * 2 ^ 64 < 2 ^ 128 }
-        ensures ok { OnOk result (Adds (seen (W.contents out.old) (W.Device.failed out.old) (W.Device.interrupted out.old)) [] self.old.written self.old.interruptions
-            (seen (W.contents out.new) (W.Device.failed out.new) (W.Device.interrupted out.new)) [] self.new.written self.new.interruptions (total_line (name.now, total))) }
-        ensures err { IfErr result (λ fault. Stops (seen (W.contents out.old) (W.Device.failed out.old) (W.Device.interrupted out.old)) [] self.old.written self.old.interruptions
-            (seen (W.contents out.new) (W.Device.failed out.new) (W.Device.interrupted out.new)) fault (total_line (name.now, total))) }
+        ensures ok { OnOk result (Adds (W.seen out.old) [] self.old.written self.old.interruptions
+            (W.seen out.new) [] self.new.written self.new.interruptions (total_line (name.now, total))) }
+        ensures err { IfErr result (λ fault. Stops (W.seen out.old) [] self.old.written self.old.interruptions
+            (W.seen out.new) fault (total_line (name.now, total))) }
         ensures device { IfErr result (λ fault. fault.kind ≡ WriteFaultKind.WriteFailed) }
         ensures bound { self.new.written ≤ self.old.written + 6 * 2 ^ 64 }
         ensures small { IfErr result (λ fault. fault.written ≤ self.old.written + 6 * 2 ^ 64) }
@@ -118,10 +118,10 @@ impl Direct {
         out: &mut W,
     ) -> Result<(), WriteFault>
         requires { self.old.written + 5 * 2 ^ 64 < 2 ^ 128 }
-        ensures ok { OnOk result (Adds (seen (W.contents out.old) (W.Device.failed out.old) (W.Device.interrupted out.old)) [] self.old.written self.old.interruptions
-            (seen (W.contents out.new) (W.Device.failed out.new) (W.Device.interrupted out.new)) [] self.new.written self.new.interruptions (spaced name.now ++ number_end total)) }
-        ensures err { IfErr result (λ fault. Stops (seen (W.contents out.old) (W.Device.failed out.old) (W.Device.interrupted out.old)) [] self.old.written self.old.interruptions
-            (seen (W.contents out.new) (W.Device.failed out.new) (W.Device.interrupted out.new)) fault (spaced name.now ++ number_end total)) }
+        ensures ok { OnOk result (Adds (W.seen out.old) [] self.old.written self.old.interruptions
+            (W.seen out.new) [] self.new.written self.new.interruptions (spaced name.now ++ number_end total)) }
+        ensures err { IfErr result (λ fault. Stops (W.seen out.old) [] self.old.written self.old.interruptions
+            (W.seen out.new) fault (spaced name.now ++ number_end total)) }
         ensures device { IfErr result (λ fault. fault.kind ≡ WriteFaultKind.WriteFailed) }
         ensures bound { self.new.written ≤ self.old.written + 5 * 2 ^ 64 }
         ensures small { IfErr result (λ fault. fault.written ≤ self.old.written + 5 * 2 ^ 64) }
@@ -135,10 +135,10 @@ impl Direct {
     /// Sends a number after a space, and the end of its line.
     fn put_number<W: ByteOut>(&mut self, number: u128, out: &mut W) -> Result<(), WriteFault>
         requires { self.old.written + 3 * 2 ^ 64 < 2 ^ 128 }
-        ensures ok { OnOk result (Adds (seen (W.contents out.old) (W.Device.failed out.old) (W.Device.interrupted out.old)) [] self.old.written self.old.interruptions
-            (seen (W.contents out.new) (W.Device.failed out.new) (W.Device.interrupted out.new)) [] self.new.written self.new.interruptions (number_end number)) }
-        ensures err { IfErr result (λ fault. Stops (seen (W.contents out.old) (W.Device.failed out.old) (W.Device.interrupted out.old)) [] self.old.written self.old.interruptions
-            (seen (W.contents out.new) (W.Device.failed out.new) (W.Device.interrupted out.new)) fault (number_end number)) }
+        ensures ok { OnOk result (Adds (W.seen out.old) [] self.old.written self.old.interruptions
+            (W.seen out.new) [] self.new.written self.new.interruptions (number_end number)) }
+        ensures err { IfErr result (λ fault. Stops (W.seen out.old) [] self.old.written self.old.interruptions
+            (W.seen out.new) fault (number_end number)) }
         ensures device { IfErr result (λ fault. fault.kind ≡ WriteFaultKind.WriteFailed) }
         ensures bound { self.new.written ≤ self.old.written + 3 * 2 ^ 64 }
         ensures small { IfErr result (λ fault. fault.written ≤ self.old.written + 3 * 2 ^ 64) }
@@ -158,10 +158,10 @@ impl Direct {
     /// Sends the lines of totals.
     fn put_totals<W: ByteOut>(&mut self, rows: &[Row<'_>], out: &mut W) -> Result<(), WriteFault>
         requires { self.old.written + length rows.now * (6 * 2 ^ 64) + 6 * 2 ^ 64 < 2 ^ 128 }
-        ensures ok { OnOk result (Adds (seen (W.contents out.old) (W.Device.failed out.old) (W.Device.interrupted out.old)) [] self.old.written self.old.interruptions
-            (seen (W.contents out.new) (W.Device.failed out.new) (W.Device.interrupted out.new)) [] self.new.written self.new.interruptions (flat_map (λ row. total_line (row.0.now, row.1)) rows.now)) }
-        ensures err { IfErr result (λ fault. Stops (seen (W.contents out.old) (W.Device.failed out.old) (W.Device.interrupted out.old)) [] self.old.written self.old.interruptions
-            (seen (W.contents out.new) (W.Device.failed out.new) (W.Device.interrupted out.new)) fault (flat_map (λ row. total_line (row.0.now, row.1)) rows.now)) }
+        ensures ok { OnOk result (Adds (W.seen out.old) [] self.old.written self.old.interruptions
+            (W.seen out.new) [] self.new.written self.new.interruptions (flat_map (λ row. total_line (row.0.now, row.1)) rows.now)) }
+        ensures err { IfErr result (λ fault. Stops (W.seen out.old) [] self.old.written self.old.interruptions
+            (W.seen out.new) fault (flat_map (λ row. total_line (row.0.now, row.1)) rows.now)) }
         ensures device { IfErr result (λ fault. fault.kind ≡ WriteFaultKind.WriteFailed) }
         ensures small { IfErr result (λ fault. fault.written ≤ self.old.written + length rows.now * (6 * 2 ^ 64)) }
     {
@@ -174,11 +174,11 @@ impl Direct {
 
 /// Sends the eight totals, and answers how many bytes it sent.
 fn send_stats<W: ByteOut>(totals: &Totals, out: &mut W) -> Result<u128, WriteFault>
-    ensures ok { let before = seen (W.contents out.old) (W.Device.failed out.old) (W.Device.interrupted out.old) in
-        let after = seen (W.contents out.new) (W.Device.failed out.new) (W.Device.interrupted out.new) in
+    ensures ok { let before = W.seen out.old in
+        let after = W.seen out.new in
         IfOk result (IsWhole before after (stats_text totals.now)) }
-    ensures err { let before = seen (W.contents out.old) (W.Device.failed out.old) (W.Device.interrupted out.old) in
-        let after = seen (W.contents out.new) (W.Device.failed out.new) (W.Device.interrupted out.new) in
+    ensures err { let before = W.seen out.old in
+        let after = W.seen out.new in
         IfErr result (IsCutBy before after (stats_text totals.now)) }
     ensures kind { IfErr result (λ fault. fault.kind ≡ WriteFaultKind.WriteFailed) }
     ensures small { IfErr result (λ fault. fault.written ≤ 48 * 2 ^ 64) }
@@ -208,17 +208,17 @@ fn send_stats<W: ByteOut>(totals: &Totals, out: &mut W) -> Result<u128, WriteFau
 /// `WriteFailed` where a write failed, took nothing of bytes that were left, or was interrupted for
 /// the 1,001st time. The bytes written before a fault are the front of the text.
 pub fn write_stats<W: ByteOut>(totals: &Totals, out: &mut W) -> Result<u128, WriteFault>
-    ensures ok { let before = seen (W.contents out.old) (W.Device.failed out.old) (W.Device.interrupted out.old) in
-        let after = seen (W.contents out.new) (W.Device.failed out.new) (W.Device.interrupted out.new) in
+    ensures ok { let before = W.seen out.old in
+        let after = W.seen out.new in
         IfOk result (IsWhole before after (stats_text totals.now)) }
-    ensures err { let before = seen (W.contents out.old) (W.Device.failed out.old) (W.Device.interrupted out.old) in
-        let after = seen (W.contents out.new) (W.Device.failed out.new) (W.Device.interrupted out.new) in
+    ensures err { let before = W.seen out.old in
+        let after = W.seen out.new in
         IfErr result (IsCutBy before after (stats_text totals.now)) }
     // It takes no memory, so the device is the only cause.
     ensures kind { IfErr result (λ fault. fault.kind ≡ WriteFaultKind.WriteFailed) }
     ensures small { IfErr result (λ fault. fault.written ≤ 48 * 2 ^ 64) }
     ensures device { IfErr result (λ fault. fault.kind ≡ WriteFaultKind.WriteFailed →
-        HasGivenUp (W.Device.failed out.old) (W.Device.failed out.new) (W.Device.interrupted out.old) (W.Device.interrupted out.new)) }
+        HasGivenUp (W.seen out.old) (W.seen out.new)) }
 {
     send_stats(totals, out)
 }

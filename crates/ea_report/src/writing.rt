@@ -1,7 +1,7 @@
 //! Texts of a few pieces.
 ghost use Rattle.std.specs.Prelude.{◌≡◌, ◌<◌, ◌≤◌, ◌+◌, ◌*◌, ◌^◌, [], IfOk, IfErr, OnOk, length};
 ghost use Rattle.std.specs.List.{flat_map};
-ghost use Rattle.ea_report.specs.Sent.{IsCutBy, IsWhole, Adds, Stops, seen};
+ghost use Rattle.ea_report.specs.Sent.{IsCutBy, IsWhole, Adds, Stops};
 
 use crate::report::{WriteFault, WriteFaultKind};
 use crate::stats::Direct;
@@ -18,10 +18,10 @@ impl Direct {
         out: &mut W,
     ) -> Result<(), WriteFault>
         requires { self.old.written + length pieces.now * 2 ^ 64 + 2 ^ 64 < 2 ^ 128 }
-        ensures ok { OnOk result (Adds (seen (W.contents out.old) (W.Device.failed out.old) (W.Device.interrupted out.old)) [] self.old.written self.old.interruptions
-            (seen (W.contents out.new) (W.Device.failed out.new) (W.Device.interrupted out.new)) [] self.new.written self.new.interruptions (flat_map (λ piece. piece.now) pieces.now)) }
-        ensures err { IfErr result (λ fault. Stops (seen (W.contents out.old) (W.Device.failed out.old) (W.Device.interrupted out.old)) [] self.old.written self.old.interruptions
-            (seen (W.contents out.new) (W.Device.failed out.new) (W.Device.interrupted out.new)) fault (flat_map (λ piece. piece.now) pieces.now)) }
+        ensures ok { OnOk result (Adds (W.seen out.old) [] self.old.written self.old.interruptions
+            (W.seen out.new) [] self.new.written self.new.interruptions (flat_map (λ piece. piece.now) pieces.now)) }
+        ensures err { IfErr result (λ fault. Stops (W.seen out.old) [] self.old.written self.old.interruptions
+            (W.seen out.new) fault (flat_map (λ piece. piece.now) pieces.now)) }
         ensures device { IfErr result (λ fault. fault.kind ≡ WriteFaultKind.WriteFailed) }
         ensures bound { OnOk result (self.new.written ≤ self.old.written + length pieces.now * 2 ^ 64) }
     {
@@ -39,11 +39,11 @@ impl Direct {
 /// the 1,001st time in this call. The bytes written before a fault are the front of the text.
 pub fn write_pieces<W: ByteOut>(pieces: &[&[u8]], out: &mut W) -> Result<u128, WriteFault>
     requires few { length pieces.now ≤ 1000 }
-    ensures ok { let before = seen (W.contents out.old) (W.Device.failed out.old) (W.Device.interrupted out.old) in
-        let after = seen (W.contents out.new) (W.Device.failed out.new) (W.Device.interrupted out.new) in
+    ensures ok { let before = W.seen out.old in
+        let after = W.seen out.new in
         IfOk result (IsWhole before after (flat_map (λ piece. piece.now) pieces.now)) }
-    ensures err { let before = seen (W.contents out.old) (W.Device.failed out.old) (W.Device.interrupted out.old) in
-        let after = seen (W.contents out.new) (W.Device.failed out.new) (W.Device.interrupted out.new) in
+    ensures err { let before = W.seen out.old in
+        let after = W.seen out.new in
         IfErr result (IsCutBy before after (flat_map (λ piece. piece.now) pieces.now)) }
     // It takes no memory, so the device is the only cause.
     ensures kind { IfErr result (λ fault. fault.kind ≡ WriteFaultKind.WriteFailed) }

@@ -1,8 +1,15 @@
--- What a call does to a device's counts.
+-- What contracts see of a device, and what calls do to it.
 use Rattle.std.specs.Prelude.{◌≡◌, ◌⊎◌, ℕ, ◌+◌, ◌-◌, ◌<◌, ◌≤◌, ◌^◌, min, List, length, Option, Result, Ok, Err}
 use Rattle.std.specs.Io.KnownBytes.{Consumes}
 use Rattle.ea_text.specs.declared.device.DeviceFault.{DeviceFault}
 use Rattle.ea_text.specs.declared.device.DeviceFault.TheVariants.{Interrupted, Failed}
+
+-- The bytes that are left of a reader or that a writer took, where its type tells them, and how many calls failed and were
+-- interrupted.
+pub record Seen : Type 0 where
+  pub bytes : Option (List ℕ)
+  pub failed : ℕ
+  pub interrupted : ℕ
 
 -- One more, as far as a count of 64 bits goes.
 abbrev pub one_more : ℕ → ℕ
@@ -29,20 +36,26 @@ interruptions_after (Ok x) n = n
 interruptions_after (Err fault) n = interruptions_by fault n
 
 -- A device gave a reason to give up: a failure, or more interruptions than are borne, as far as the counts go.
-abbrev pub HasGivenUp : ℕ → ℕ → ℕ → ℕ → Type 0
-HasGivenUp failures_old failures_new interruptions_old interruptions_new =
-    (failures_old < failures_new) ⊎ (interruptions_old + 1001 ≤ interruptions_new) ⊎ (failures_new ≡ 2 ^ 64 - 1) ⊎ (interruptions_new ≡ 2 ^ 64 - 1)
+abbrev pub HasGivenUp : Seen → Seen → Type 0
+HasGivenUp old new =
+    (old.failed < new.failed) ⊎ (old.interrupted + 1001 ≤ new.interrupted)
+    ⊎ (new.failed ≡ 2 ^ 64 - 1) ⊎ (new.interrupted ≡ 2 ^ 64 - 1)
 
 -- The same exactly: one failure after interruptions that are borne, or the first interruption that is not.
-abbrev pub GivesUp : ℕ → ℕ → ℕ → ℕ → Type 0
-GivesUp failures_old failures_new interruptions_old interruptions_new =
-    ((failures_new ≡ one_more failures_old) × (interruptions_new ≤ interruptions_old + 1000))
-    ⊎ ((failures_new ≡ failures_old) × (interruptions_new ≤ interruptions_old + 1001) × ((interruptions_old + 1001 ≤ interruptions_new) ⊎ (interruptions_new ≡ 2 ^ 64 - 1)))
+abbrev pub GivesUp : Seen → Seen → Type 0
+GivesUp old new =
+    ((new.failed ≡ one_more old.failed) × (new.interrupted ≤ old.interrupted + 1000))
+    ⊎ ((new.failed ≡ old.failed) × (new.interrupted ≤ old.interrupted + 1001)
+    × ((old.interrupted + 1001 ≤ new.interrupted) ⊎ (new.interrupted ≡ 2 ^ 64 - 1)))
 
 -- No call failed, and the interruptions were borne.
-abbrev pub BearsOn : ℕ → ℕ → ℕ → ℕ → Type 0
-BearsOn failures_old failures_new interruptions_old interruptions_new = (failures_new ≡ failures_old) × (interruptions_new ≤ interruptions_old + 1000)
+abbrev pub BearsOn : Seen → Seen → Type 0
+BearsOn old new = (new.failed ≡ old.failed) × (new.interrupted ≤ old.interrupted + 1000)
+
+-- No fault was counted.
+abbrev pub AreAlike : Seen → Seen → Type 0
+AreAlike old new = (new.failed ≡ old.failed) × (new.interrupted ≡ old.interrupted)
 
 -- At most so many bytes were taken from the front of what a device had.
-abbrev pub TakesAtMost : ℕ → Option (List ℕ) → Option (List ℕ) → Type 0
-TakesAtMost most before after = (taken : List ℕ) × Consumes before after taken × (length taken ≤ most)
+abbrev pub TakesAtMost : ℕ → Seen → Seen → Type 0
+TakesAtMost most old new = (taken : List ℕ) × Consumes old.bytes new.bytes taken × (length taken ≤ most)

@@ -1,15 +1,15 @@
 -- What reading all bytes of a device did to its counts.
 use Rattle.std.specs.Prelude.{ℕ, List, codes, Result, Ok, Err}
-use Rattle.ea_text.specs.Device.{GivesUp, BearsOn}
+use Rattle.ea_text.specs.Device.{Seen, GivesUp, BearsOn}
 use Rattle.ea_text.specs.declared.whole.ReadFault.{ReadFault}
 use Rattle.ea_text.specs.declared.whole.ReadFault.TheVariants.{TooLarge, ReadFailed, OutOfMemory}
 
--- The failures before and after, and the interruptions before and after.
-abbrev pub CountsAfter : {X : Type 0} → Result X ReadFault → ℕ → ℕ → ℕ → ℕ → Type 0
-CountsAfter (Err ReadFailed) failures_old failures_new interruptions_old interruptions_new = GivesUp failures_old failures_new interruptions_old interruptions_new
-CountsAfter (Err TooLarge) failures_old failures_new interruptions_old interruptions_new = BearsOn failures_old failures_new interruptions_old interruptions_new
-CountsAfter (Err OutOfMemory) failures_old failures_new interruptions_old interruptions_new = BearsOn failures_old failures_new interruptions_old interruptions_new
-CountsAfter (Ok bytes) failures_old failures_new interruptions_old interruptions_new = BearsOn failures_old failures_new interruptions_old interruptions_new
+-- Only a read that failed, or one interruption too many, is ReadFailed; all else was borne.
+abbrev pub CountsAfter : {X : Type 0} → Result X ReadFault → Seen → Seen → Type 0
+CountsAfter (Err ReadFailed) old new = GivesUp old new
+CountsAfter (Err TooLarge) old new = BearsOn old new
+CountsAfter (Err OutOfMemory) old new = BearsOn old new
+CountsAfter (Ok bytes) old new = BearsOn old new
 
 -- The number and the name of a fault in messages.
 abbrev pub fault_number : ReadFault → ℕ

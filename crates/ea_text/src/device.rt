@@ -2,7 +2,7 @@
 ghost use Rattle.std.specs.Prelude.{◌≡◌, ℕ, ◌<◌, ◌≤◌, List, Option, None, Some, IfOk, IfSome, OnErr, length, take};
 ghost use Rattle.std.specs.Io.{ReadsAtMost, WritesAtMost};
 ghost use Rattle.std.specs.Io.KnownBytes.{ReadConsumes, WriteAppends, Consumes, IsAtEnd};
-ghost use Rattle.ea_text.specs.Device.{failures_after, interruptions_after, failures_by, interruptions_by};
+ghost use Rattle.ea_text.specs.Device.{Seen, failures_after, interruptions_after, failures_by, interruptions_by};
 
 use std::io::{Error, ErrorKind, Read, Write};
 use std::marker::Model;
@@ -18,44 +18,38 @@ pub enum DeviceFault {
 ///
 /// A call that answers a fault raises that fault's count by one, and nothing else raises one.
 pub trait Device {
-    ghost failed: { Self → ℕ };
-
-    ghost interrupted: { Self → ℕ };
+    /// What contracts see: the bytes that are left of a reader, or that a writer took, where its type
+    /// tells them, and the two counts.
+    ghost seen: { Self → Seen };
 
     /// How many calls failed.
     fn failures(&self) -> u64
-        ensures { result ≡ failed self.now };
+        ensures { result ≡ (seen self.now).failed };
 
     /// How many calls were interrupted.
     fn interruptions(&self) -> u64
-        ensures { result ≡ interrupted self.now };
+        ensures { result ≡ (seen self.now).interrupted };
 }
 
 /// What gives bytes.
 pub trait ByteIn: Device {
-    /// The bytes that are left, where the type tells them.
-    ghost remaining: { Self → Option (List ℕ) };
-
     /// Puts bytes into the front of `buf`; none only at the end, or where `buf` is empty.
     fn read(&mut self, buf: &mut [u8]) -> Result<usize, DeviceFault>
         ensures bound { ReadsAtMost result buf.new }
-        ensures bytes { ReadConsumes (remaining self.old) (remaining self.new) result buf.new }
-        ensures failed { Self.failed self.new ≡ failures_after result (Self.failed self.old) }
-        ensures interrupted { Self.interrupted self.new ≡ interruptions_after result (Self.interrupted self.old) };
+        ensures bytes { ReadConsumes (Self.seen self.old).bytes (Self.seen self.new).bytes result buf.new }
+        ensures failed { (Self.seen self.new).failed ≡ failures_after result (Self.seen self.old).failed }
+        ensures interrupted { (Self.seen self.new).interrupted ≡ interruptions_after result (Self.seen self.old).interrupted };
 }
 
 /// What takes bytes.
 pub trait ByteOut: Device {
-    /// The bytes that were taken, where the type tells them.
-    ghost contents: { Self → Option (List ℕ) };
-
     /// Takes bytes from the front of `buf`; at least one where it has any.
     fn write(&mut self, buf: &[u8]) -> Result<usize, DeviceFault>
         ensures bound { WritesAtMost result buf.now }
         ensures some { IfOk result (λ n. 0 < length buf.now → 0 < n) }
-        ensures bytes { WriteAppends (contents self.old) (contents self.new) result buf.now }
-        ensures failed { Self.failed self.new ≡ failures_after result (Self.failed self.old) }
-        ensures interrupted { Self.interrupted self.new ≡ interruptions_after result (Self.interrupted self.old) };
+        ensures bytes { WriteAppends (Self.seen self.old).bytes (Self.seen self.new).bytes result buf.now }
+        ensures failed { (Self.seen self.new).failed ≡ failures_after result (Self.seen self.old).failed }
+        ensures interrupted { (Self.seen self.new).interrupted ≡ interruptions_after result (Self.seen self.old).interrupted };
 }
 
 /// The faults of a device so far.
@@ -132,9 +126,9 @@ impl<R: Read> StdIn<R> {
 }
 
 impl<R: Read> Device for StdIn<R> {
-    ghost failed = { λ s. s.failures };
+    ghost use Rattle.ea_text.specs.Device.{Seen};
 
-    ghost interrupted = { λ s. s.interruptions };
+    ghost seen = { λ s. record { bytes = R.remaining s.inner; failed = s.failures; interrupted = s.interruptions } };
 
     fn failures(&self) -> u64 {
         self.counts.failures
@@ -146,8 +140,6 @@ impl<R: Read> Device for StdIn<R> {
 }
 
 impl<R: Read> ByteIn for StdIn<R> {
-    ghost remaining = { λ s. R.remaining s.inner };
-
     fn read(&mut self, buf: &mut [u8]) -> Result<usize, DeviceFault> {
         match self.reader.read(buf) {
             Ok(count) => Ok(count),
@@ -187,9 +179,9 @@ impl<W: Write> StdOut<W> {
 }
 
 impl<W: Write> Device for StdOut<W> {
-    ghost failed = { λ s. s.failures };
+    ghost use Rattle.ea_text.specs.Device.{Seen};
 
-    ghost interrupted = { λ s. s.interruptions };
+    ghost seen = { λ s. record { bytes = W.contents s.inner; failed = s.failures; interrupted = s.interruptions } };
 
     fn failures(&self) -> u64 {
         self.counts.failures
@@ -201,8 +193,6 @@ impl<W: Write> Device for StdOut<W> {
 }
 
 impl<W: Write> ByteOut for StdOut<W> {
-    ghost contents = { λ s. W.contents s.inner };
-
     fn write(&mut self, buf: &[u8]) -> Result<usize, DeviceFault> {
         match self.writer.write(buf) {
             Ok(count) if count > 0 || buf.is_empty() => Ok(count),

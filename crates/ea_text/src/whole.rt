@@ -1,7 +1,7 @@
 //! All bytes of a device.
 ghost use Rattle.std.specs.Prelude.{◌≡◌, ◌<◌, ◌≤◌, ◌^◌, ◌+◌, IfOk, ◌≢◌, List, ℕ, Option, IfErr, IfSome, IsOkAnd, OnErr, OnOk, vec_len, IsErrOf, length};
 ghost use Rattle.std.specs.Io.KnownBytes.{Consumes, IsAtEnd};
-ghost use Rattle.ea_text.specs.Device.{HasGivenUp, TakesAtMost};
+ghost use Rattle.ea_text.specs.Device.{AreAlike, HasGivenUp, TakesAtMost};
 ghost use Rattle.ea_text.specs.Outcome.{CountsAfter, fault_name, fault_number};
 ghost use Rattle.ea_text.specs.Piece.{failures_with, interruptions_with};
 ghost use Rattle.ea_text.specs.declared.whole.ReadFault.TheVariants.{OutOfMemory};
@@ -85,15 +85,18 @@ fn read_piece<R: ByteIn>(
     requires { 0 < length piece.old }
     // What was taken before and what is taken now stay together what the device had.
     ensures taken { IfOk result (λ _. (first : Option (List ℕ)) →
-        Consumes first (R.remaining reader.old) bytes.old.items → Consumes first (R.remaining reader.new) bytes.new.items) }
+        Consumes first (R.seen reader.old).bytes bytes.old.items →
+        Consumes first (R.seen reader.new).bytes bytes.new.items) }
     ensures some { IsOkAnd result (λ p. p ≡ Piece.Some) → length bytes.old.items < length bytes.new.items }
     ensures most { length bytes.new.items ≤ length bytes.old.items + length piece.old }
-    ensures end { IsOkAnd result (λ p. p ≡ Piece.End) → IsAtEnd (R.remaining reader.new) }
+    ensures end { IsOkAnd result (λ p. p ≡ Piece.End) → IsAtEnd (R.seen reader.new).bytes }
     ensures kept { IsOkAnd result (λ p. p ≢ Piece.Some) → bytes.new.items ≡ bytes.old.items }
-    ensures refused { OnErr result ((bytes.new.items ≡ bytes.old.items) × TakesAtMost (length piece.old) (R.remaining reader.old) (R.remaining reader.new)) }
-    ensures failed { IfOk result (λ p. R.Device.failed reader.new ≡ failures_with p (R.Device.failed reader.old)) }
-    ensures interrupted { IfOk result (λ p. R.Device.interrupted reader.new ≡ interruptions_with p (R.Device.interrupted reader.old)) }
-    ensures quiet { OnErr result ((R.Device.failed reader.new ≡ R.Device.failed reader.old) × (R.Device.interrupted reader.new ≡ R.Device.interrupted reader.old)) }
+    ensures refused { OnErr result ((bytes.new.items ≡ bytes.old.items)
+        × TakesAtMost (length piece.old) (R.seen reader.old) (R.seen reader.new)) }
+    ensures failed { IfOk result (λ p. (R.seen reader.new).failed ≡ failures_with p (R.seen reader.old).failed) }
+    ensures interrupted { IfOk result (λ p.
+        (R.seen reader.new).interrupted ≡ interruptions_with p (R.seen reader.old).interrupted) }
+    ensures quiet { OnErr result (AreAlike (R.seen reader.old) (R.seen reader.new)) }
 {
     match reader.read(piece) {
         Ok(0) => Ok(Piece::End),
@@ -112,18 +115,18 @@ fn read_piece<R: ByteIn>(
 /// `OutOfMemory` where memory for the bytes was refused. Bytes taken before a fault are lost.
 pub fn read_all<R: ByteIn>(alloc: Global, reader: &mut R, limit: u64) -> Result<Vec<u8>, ReadFault>
     // All bytes that the device had, and none is left.
-    ensures all { IfOk result (λ bytes. IfSome (R.remaining reader.old) (λ left. bytes.items ≡ left)) }
-    ensures end { OnOk result (IsAtEnd (R.remaining reader.new)) }
+    ensures all { IfOk result (λ bytes. IfSome (R.seen reader.old).bytes (λ left. bytes.items ≡ left)) }
+    ensures end { OnOk result (IsAtEnd (R.seen reader.new).bytes) }
     ensures within { IfOk result (λ bytes. length bytes.items ≤ limit) }
 
-    ensures too_large { IsErrOf result ReadFault.TooLarge → IfSome (R.remaining reader.old) (λ left. limit < length left) }
+    ensures too_large { IsErrOf result ReadFault.TooLarge → IfSome (R.seen reader.old).bytes (λ left. limit < length left) }
     ensures read_failed { IsErrOf result ReadFault.ReadFailed →
-        HasGivenUp (R.Device.failed reader.old) (R.Device.failed reader.new) (R.Device.interrupted reader.old) (R.Device.interrupted reader.new) }
+        HasGivenUp (R.seen reader.old) (R.seen reader.new) }
 
     // What is left is the end of what there was, and at most one byte beyond the limit is taken.
-    ensures left { TakesAtMost (limit + 1) (R.remaining reader.old) (R.remaining reader.new) }
+    ensures left { TakesAtMost (limit + 1) (R.seen reader.old) (R.seen reader.new) }
     // A failure or the 1,001st interruption is a fault at once, and nothing else is ReadFailed.
-    ensures counts { CountsAfter result (R.Device.failed reader.old) (R.Device.failed reader.new) (R.Device.interrupted reader.old) (R.Device.interrupted reader.new) }
+    ensures counts { CountsAfter result (R.seen reader.old) (R.seen reader.new) }
 {
     let mut piece = room(alloc, PIECE)?;
     let mut bytes = Vec::new(alloc);

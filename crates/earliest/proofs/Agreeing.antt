@@ -41,11 +41,11 @@ answered_runs_agree gr ss tp this that alike joint a b =
     let mine = run_report gr ss tp this a in
     let yours : IsRunReport gr ss tp this.options.joint this.options.depart this.options.gap this.options.walks b.written.report = rw (joint, alike.depart, alike.gap, alike.walks) (run_report gr ss tp that b) in
     let same : b.written.report ≡ a.written.report = runs_have_one_report gr ss tp this.options.joint this.options.depart this.options.gap this.options.walks b.written.report a.written.report yours mine in
-    (a.written.report, mine, a.written.appended, subst (λ report. Appends that.first.contents that.now.contents (report ++ totals_text that.options that.totals)) same b.written.appended)
+    (a.written.report, mine, a.written.appended, subst (λ report. Appends that.first.bytes that.now.bytes (report ++ totals_text that.options that.totals)) same b.written.appended)
 
 pub answered_pairs_agree : AnsweredPairsAgree
 answered_pairs_agree gr p2p tp this that alike a b =
     let mine = pair_report gr p2p tp this a in
     let yours : IsPairReport gr p2p tp this.options.depart this.options.gap this.options.walks b.written.report = rw (alike.depart, alike.gap, alike.walks) (pair_report gr p2p tp that b) in
     let same : b.written.report ≡ a.written.report = pairs_have_one_report gr p2p tp this.options.depart this.options.gap this.options.walks b.written.report a.written.report yours mine in
-    (a.written.report, mine, a.written.appended, subst (λ report. Appends that.first.contents that.now.contents (report ++ totals_text that.options that.totals)) same b.written.appended)
+    (a.written.report, mine, a.written.appended, subst (λ report. Appends that.first.bytes that.now.bytes (report ++ totals_text that.options that.totals)) same b.written.appended)

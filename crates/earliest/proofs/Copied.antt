@@ -1,5 +1,5 @@
 -- Lists of copies.
-use Rattle.std.proofs.Common.{◌≡◌, ℕ, ◌<◌, List, length, get_or, replicate, ap, sym, ◌∙◌, arith}
+use Rattle.std.proofs.Common.{◌≡◌, ℕ, ◌<◌, List, length, get_or, replicate, ap, ◌∙◌, arith}
 use Rattle.std.proofs.lemmas.List.{get_or-replicate, length-replicate}
 
 pub copy_at : {X : Type 0} (x : X) (n : ℕ) (xs : List X) → xs ≡ replicate n x → (k : ℕ) (d : X) → k < length xs → get_or xs k d ≡ x

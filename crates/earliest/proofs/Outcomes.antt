@@ -1,3 +1,4 @@
+use Rattle.ea_text.specs.Device.{Seen}
 -- What an answer comes to.
 use Rattle.std.proofs.Common.{◌≡◌, ℕ, List, refl, sym, subst, inl, inr}
 use Rattle.std.specs.Prelude.{Option, Result, Ok, Err, IfOk, IfErr}
@@ -13,7 +14,6 @@ use Rattle.ea_files.specs.Given.{Given, AreGiven, IsRoadOf, roads_of, times_of}
 use Rattle.ea_files.specs.Sound.{IsSound}
 use Rattle.ea_files.proofs.Denoting.{denoting_is_sound}
 use Rattle.ea_report.specs.declared.stats.Totals.{Totals}
-use Rattle.ea_report.specs.Sent.{Seen}
 use Rattle.ea_words.specs.declared.options.RunOptions.{RunOptions}
 use Rattle.earliest.specs.Faults.{answer_fault}
 use Rattle.earliest.specs.Fronts.{IsCutShort, IsFront, IsWritten, times_on}
@@ -57,12 +57,12 @@ module _ {X : Type 0} (asks : Asks X) (options : RunOptions) (tp : Option (Optio
     }
 
     -- The report was cut short.
-    pub failed : (gr_reading starts_reading : Reading) (IsTableFault : ℕ → FileFault → Type 0) (IsTableRead : Type 0) (first now : Seen) → AreRead gr_reading starts_reading IsTableRead → gr_reading.had ≡ gr → starts_reading.had ≡ starts → (r : Result Totals AnswerFault) → IfErr r (IsCutShort options road.network (times_on road) queries first now) → IfErr r (IsFailed asks options tp gr_reading starts_reading IsTableFault IsTableRead first now)
+    pub failed : (gr_reading starts_reading : Reading) (IsTableFault : ℕ → FileFault → Type 0) (IsTableRead : Type 0) (first now : Seen) → AreRead gr_reading starts_reading IsTableRead → gr_reading.old.bytes ≡ gr → starts_reading.old.bytes ≡ starts → (r : Result Totals AnswerFault) → IfErr r (IsCutShort options road.network (times_on road) queries first now) → IfErr r (IsFailed asks options tp gr_reading starts_reading IsTableFault IsTableRead first now)
     failed a b IsTableFault IsTableRead first now are_read same_gr same_starts (Ok totals) cut = tt
     failed a b IsTableFault IsTableRead first now are_read same_gr same_starts (Err (Write size)) cut = (there size cut.0, cut.1, are_read) where
-      there : (n : ℕ) → IsFront options road.network (times_on road) queries first.contents now.contents n → IsFrontOf asks options tp a.had b.had first.contents now.contents n
-      there n part = subst (λ o. IsFrontOf asks options tp o b.had first.contents now.contents n) (sym same_gr) (subst (λ o. IsFrontOf asks options tp gr o first.contents now.contents n) (sym same_starts) (front first.contents now.contents n part))
-    failed a b IsTableFault IsTableRead first now are_read same_gr same_starts (Err (OutOfMemory size)) cut = inr (subst (λ o. IsFrontOf asks options tp o b.had first.contents now.contents size) (sym same_gr) (subst (λ o. IsFrontOf asks options tp gr o first.contents now.contents size) (sym same_starts) (front first.contents now.contents size cut)), are_read)
+      there : (n : ℕ) → IsFront options road.network (times_on road) queries first.bytes now.bytes n → IsFrontOf asks options tp a.old.bytes b.old.bytes first.bytes now.bytes n
+      there n part = subst (λ o. IsFrontOf asks options tp o b.old.bytes first.bytes now.bytes n) (sym same_gr) (subst (λ o. IsFrontOf asks options tp gr o first.bytes now.bytes n) (sym same_starts) (front first.bytes now.bytes n part))
+    failed a b IsTableFault IsTableRead first now are_read same_gr same_starts (Err (OutOfMemory size)) cut = inr (subst (λ o. IsFrontOf asks options tp o b.old.bytes first.bytes now.bytes size) (sym same_gr) (subst (λ o. IsFrontOf asks options tp gr o first.bytes now.bytes size) (sym same_starts) (front first.bytes now.bytes size cut)), are_read)
     failed a b IsTableFault IsTableRead first now are_read same_gr same_starts (Err (Read word fault)) cut = absurd cut
     failed a b IsTableFault IsTableRead first now are_read same_gr same_starts (Err (Input word fault)) cut = absurd cut
     failed a b IsTableFault IsTableRead first now are_read same_gr same_starts (Err BadOption) cut = absurd cut

@@ -1,21 +1,16 @@
 -- What files denote are problems of their road.
-use Rattle.std.proofs.Common.{◌≡◌, ℕ, zero, suc, ◌+◌, ◌*◌, ◌<◌, ◌≤◌, Bool, true, false, List, [], ◌∷◌, length, get_or, map, refl, ap, sym, ◌∙◌, arith, subst}
-use Rattle.std.specs.Prelude.{All, Option, Some, None, unwrap_or}
+use Rattle.std.proofs.Common.{◌≡◌, ℕ, zero, suc, ◌≤◌, Bool, true, false, List, [], ◌∷◌, length, get_or, map, ap, sym, ◌∙◌, arith, subst}
+use Rattle.std.specs.Prelude.{All, Some, unwrap_or}
 use Rattle.std.proofs.lemmas.Option.{none-some}
 use Rattle.std.proofs.lemmas.List.{length-map}
-use Rattle.std.specs.List.{IsAmong}
-use Rattle.ea_text.specs.Text.{field_lines}
 use Rattle.ea_limits.specs.declared.TheConstants.{HORIZON}
 use Rattle.ea_road.specs.declared.source.Source.{Source}
-use Rattle.ea_road.specs.Roads.{Roads, IsNode, IsNetwork, top_class}
-use Rattle.ea_road.specs.Queries.{Asking, IsProblem}
-use Rattle.ea_input.specs.Sources.{DenotesSources}
-use Rattle.ea_input.specs.Pairs.{DenotesPairs}
+use Rattle.ea_road.specs.Roads.{Roads, IsNode, top_class}
+use Rattle.ea_road.specs.Queries.{IsProblem}
 use Rattle.ea_files.specs.declared.road.Road.{Road}
-use Rattle.ea_files.specs.Given.{Given, AreGiven, IsRoadOf, roads_of}
+use Rattle.ea_files.specs.Given.{Given, IsRoadOf, roads_of}
 use Rattle.ea_files.specs.Sound.{IsSound}
 use Rattle.ea_files.specs.Starts.{departure, AreWithin, asks_all, sources_from, run_problems, pair_problems}
-use Rattle.ea_files.proofs.Denoting.{denoting_is_sound, sources_are_nodes, pairs_are_nodes}
 use Rattle.ea_files.proofs.Departing.{each_from, each_pair, length-sources_from, length-pair_problems}
 use Rattle.earliest.specs.Fronts.{AreProblems, IsPosed}
 

@@ -22,7 +22,8 @@ use Rattle.ea_files.specs.Starts.{AreWithin, run_problems}
 use Rattle.ea_rank.specs.declared.summary.Summary.{Summary}
 use Rattle.ea_rank.specs.Summaries.{summary_of}
 use Rattle.ea_report.specs.Report.{line, source_line}
-use Rattle.ea_report.specs.Sent.{IsCutBy, IsReason, Seen, Stops}
+use Rattle.ea_text.specs.Device.{Seen}
+use Rattle.ea_report.specs.Sent.{IsCutBy, IsReason, Stops}
 use Rattle.ea_report.specs.declared.report.WriteFault.{WriteFault}
 use Rattle.ea_report.specs.declared.report.WriteFaultKind.TheVariants.{WriteFailed}
 use Rattle.earliest.specs.Faults.{answer_fault}
@@ -90,7 +91,7 @@ module _ (heaps seed : ℕ) (roads : Roads) (answers : ℕ → ℕ → ℕ → �
     -- They stop.
     module _ (first old now : Seen) (before interruptions : ℕ) (way : AreUnderWay heaps seed roads answers (take i all) first old before interruptions) where
       -- Nothing of them was sent.
-      nothing : (written : ℕ) → written ≡ before → now ≡ old → IsRankFront heaps seed roads answers all first.contents now.contents written
+      nothing : (written : ℕ) → written ≡ before → now ≡ old → IsRankFront heaps seed roads answers all first.bytes now.bytes written
       nothing written same still =
           let whole : way.0 ≡ way.2.sent = way.2.whole ∙ append-nil way.2.sent in
           let size : written ≡ length way.0 = same ∙ way.2.counted ∙ ap length (sym whole) in
@@ -99,7 +100,7 @@ module _ (heaps seed : ℕ) (roads : Roads) (answers : ℕ → ℕ → ℕ → �
             count = i;
             text = way.0;
             are_texts = way.1;
-            cut = (omega (arith, size), subst (λ t. Appends first.contents now.contents t) (sym front) (subst (λ (s : Seen). Appends first.contents s.contents way.2.sent) (sym still) way.2.appended));
+            cut = (omega (arith, size), subst (λ t. Appends first.bytes now.bytes t) (sym front) (subst (λ (s : Seen). Appends first.bytes s.bytes way.2.sent) (sym still) way.2.appended));
           }
 
       pub ranks_stop : (fault : AnswerFault) → StopsRanks heaps seed roads answers query old before interruptions now fault → IsRankingCut heaps seed roads answers all first now fault
@@ -152,10 +153,10 @@ module _ (heaps seed depart gap : ℕ) (tp : Option (Option (List ℕ))) where
     }
 
     -- They were cut short.
-    pub unranked : (gr ss : Reading) (IsTableFault : ℕ → FileFault → Type 0) (first now : Seen) → AreGiven DenotesSources gr.had ss.had tp given found → (r : Result (Unit {0}) AnswerFault) → IfErr r (IsRankingCut heaps seed road.network (times_on road) queries first now) → IfErr r (IsUnranked heaps seed depart gap tp gr ss IsTableFault first now)
+    pub unranked : (gr ss : Reading) (IsTableFault : ℕ → FileFault → Type 0) (first now : Seen) → AreGiven DenotesSources gr.old.bytes ss.old.bytes tp given found → (r : Result (Unit {0}) AnswerFault) → IfErr r (IsRankingCut heaps seed road.network (times_on road) queries first now) → IfErr r (IsUnranked heaps seed depart gap tp gr ss IsTableFault first now)
     unranked gr ss IsTableFault first now read (Ok done) cut = tt
-    unranked gr ss IsTableFault first now read (Err (Write written)) cut = (front gr.had ss.had first.contents now.contents written read cut.0, cut.1)
-    unranked gr ss IsTableFault first now read (Err (OutOfMemory written)) cut = inr (front gr.had ss.had first.contents now.contents written read cut)
+    unranked gr ss IsTableFault first now read (Err (Write written)) cut = (front gr.old.bytes ss.old.bytes first.bytes now.bytes written read cut.0, cut.1)
+    unranked gr ss IsTableFault first now read (Err (OutOfMemory written)) cut = inr (front gr.old.bytes ss.old.bytes first.bytes now.bytes written read cut)
     unranked gr ss IsTableFault first now read (Err (Read word fault)) cut = absurd cut
     unranked gr ss IsTableFault first now read (Err (Input word fault)) cut = absurd cut
     unranked gr ss IsTableFault first now read (Err BadOption) cut = absurd cut

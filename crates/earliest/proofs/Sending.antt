@@ -5,10 +5,10 @@ use Rattle.std.specs.Io.KnownBytes.{Appends}
 use Rattle.std.proofs.KnownBytes.{Appends-trans, Appends-nil}
 use Rattle.std.proofs.Math.Seq.{take-length, take-append-add}
 use Rattle.std.proofs.lemmas.List.{take_more}
-use Rattle.ea_text.specs.Device.{BearsOn, HasGivenUp}
+use Rattle.ea_text.specs.Device.{Seen, BearsOn, HasGivenUp}
 use Rattle.ea_road.specs.Roads.{Roads}
 use Rattle.ea_road.specs.Queries.{Asking}
-use Rattle.ea_report.specs.Sent.{IsCutAt, IsNotLess, Seen}
+use Rattle.ea_report.specs.Sent.{IsCutAt, IsNotLess}
 use Rattle.ea_report.specs.declared.stats.Totals.{Totals}
 use Rattle.ea_report.specs.Stats.{stats_text}
 use Rattle.earliest.specs.Reported.{IsReportOf, AreReported}
@@ -28,7 +28,7 @@ module _ (options : RunOptions) (roads : Roads) (answers : ℕ → ℕ → ℕ �
 
   -- None yet.
   pub sent_none : (first : Seen) → AreSent options.walks roads answers [] first first 0
-  sent_none first = record { report = []; are_reported = refl; appended = Appends-nil first.contents; counted = refl; unfailed = refl; borne = omega arith; monotone = omega arith }
+  sent_none first = record { report = []; are_reported = refl; appended = Appends-nil first.bytes; counted = refl; unfailed = refl; borne = omega arith; monotone = omega arith }
 
   -- A count that doesn't fall.
   goes_on : (first old now : ℕ) → first < 2 ^ 64 → first ≤ old → IsNotLess old now → first ≤ now
@@ -40,7 +40,7 @@ module _ (options : RunOptions) (roads : Roads) (answers : ℕ → ℕ → ℕ �
   sent_more front query first old now before written fits sent more = record {
     report = sent.report ++ more.text;
     are_reported = reported_more front query sent.report more.text sent.are_reported more.is_report;
-    appended = Appends-trans first.contents old.contents now.contents sent.report more.text sent.appended more.appended;
+    appended = Appends-trans first.bytes old.bytes now.bytes sent.report more.text sent.appended more.appended;
     counted = more.counted ∙ ap (λ (n : ℕ). n + length more.text) sent.counted ∙ sym (length-append sent.report more.text);
     unfailed = more.unfailed ∙ sent.unfailed;
     borne = omega (arith, more.borne, sent.borne, length-append front (query ∷ []));
@@ -48,7 +48,7 @@ module _ (options : RunOptions) (roads : Roads) (answers : ℕ → ℕ → ℕ �
   }
 
   -- A device that gave up later gave up.
-  pub gave_up : (first old now : Seen) → old.failed ≡ first.failed → first.interrupted ≤ old.interrupted → HasGivenUp old.failed now.failed old.interrupted now.interrupted → HasGivenUp first.failed now.failed first.interrupted now.interrupted
+  pub gave_up : (first old now : Seen) → old.failed ≡ first.failed → first.interrupted ≤ old.interrupted → HasGivenUp old now → HasGivenUp first now
   gave_up first old now same before (inl h) = inl (omega (arith, h, same))
   gave_up first old now same before (inr (inl h)) = inr (inl (omega (arith, h, before)))
   gave_up first old now same before (inr (inr (inl h))) = inr (inr (inl h))
@@ -72,17 +72,17 @@ module _ (options : RunOptions) (roads : Roads) (answers : ℕ → ℕ → ℕ �
 
     -- Its report stops.
     module _ (first old now : Seen) (before : ℕ) (sent : AreSent options.walks roads answers (take i all) first old before) where
-      stopped : (written : ℕ) → IsStopped options.walks roads answers query old now before written → IsFront options roads answers all first.contents now.contents written
+      stopped : (written : ℕ) → IsStopped options.walks roads answers query old now before written → IsFront options roads answers all first.bytes now.bytes written
       stopped written stop = of_problems (i + 1) (sent.report ++ stop.text)
           (subst (λ qs. AreReported options.walks roads answers qs (sent.report ++ stop.text)) (sym one_more) (reported_more (take i all) query sent.report stop.text sent.are_reported stop.is_report))
-          (cut_after first.contents old.contents now.contents sent.report stop.text before stop.sent written sent.appended sent.counted stop.counted stop.cut)
+          (cut_after first.bytes old.bytes now.bytes sent.report stop.text before stop.sent written sent.appended sent.counted stop.counted stop.cut)
 
-      nothing : (written : ℕ) → written ≡ before → now ≡ old → IsFront options roads answers all first.contents now.contents written
+      nothing : (written : ℕ) → written ≡ before → now ≡ old → IsFront options roads answers all first.bytes now.bytes written
       nothing written same still =
           let size : written ≡ length sent.report = same ∙ sent.counted in
           let whole : take written sent.report ≡ sent.report = ap (λ (n : ℕ). take n sent.report) size ∙ take-length sent.report in
           of_problems i sent.report sent.are_reported
-          (omega (arith, size), subst (λ t. Appends first.contents now.contents t) (sym whole) (subst (λ (s : Seen). Appends first.contents s.contents sent.report) (sym still) sent.appended))
+          (omega (arith, size), subst (λ t. Appends first.bytes now.bytes t) (sym whole) (subst (λ (s : Seen). Appends first.bytes s.bytes sent.report) (sym still) sent.appended))
 
       pub stops : (fault : AnswerFault) → IsStoppedBy options.walks roads answers query old now before fault → IsCutShort options roads answers all first now fault
       stops (Write written) stop = (stopped written stop.0, gave_up first old now sent.unfailed sent.monotone stop.1)
@@ -94,17 +94,17 @@ module _ (options : RunOptions) (roads : Roads) (answers : ℕ → ℕ → ℕ �
 
   -- The totals after all reports.
   module _ (all : List Asking) (first old now : Seen) (before : ℕ) (totals : Totals) (sent : AreSent options.walks roads answers all first old before) where
-    pub totals_cut : (size : ℕ) → options.stats ≡ true → AreTotals (settings_by options) all totals → IsCutAt old.contents now.contents (stats_text totals) size → HasGivenUp old.failed now.failed old.interrupted now.interrupted → IsCutShort options roads answers all first now (Write (before + size))
+    pub totals_cut : (size : ℕ) → options.stats ≡ true → AreTotals (settings_by options) all totals → IsCutAt old.bytes now.bytes (stats_text totals) size → HasGivenUp old now → IsCutShort options roads answers all first now (Write (before + size))
     totals_cut size told counted cut gone = (
-      of_stats sent.report totals told sent.are_reported counted (cut_after first.contents old.contents now.contents sent.report (stats_text totals) before size (before + size) sent.appended sent.counted refl cut),
+      of_stats sent.report totals told sent.are_reported counted (cut_after first.bytes old.bytes now.bytes sent.report (stats_text totals) before size (before + size) sent.appended sent.counted refl cut),
       gave_up first old now sent.unfailed sent.monotone gone,
     )
 
-    pub all_written : Appends old.contents now.contents (totals_text options totals) → BearsOn old.failed now.failed old.interrupted now.interrupted → AreTotals (settings_by options) all totals → AreBalanced totals → IsWritten options roads answers all first now totals
+    pub all_written : Appends old.bytes now.bytes (totals_text options totals) → BearsOn old now → AreTotals (settings_by options) all totals → AreBalanced totals → IsWritten options roads answers all first now totals
     all_written more bears counted balanced = record {
       report = sent.report;
       are_reported = sent.are_reported;
-      appended = Appends-trans first.contents old.contents now.contents sent.report _ sent.appended more;
+      appended = Appends-trans first.bytes old.bytes now.bytes sent.report _ sent.appended more;
       counted = counted;
       balanced = balanced;
       unfailed = bears.0 ∙ sent.unfailed;

@@ -49,12 +49,12 @@ module _ (joint : Bool) (depart gap : ℕ) (tp : Option (Option (List ℕ))) whe
   -- wasn't read.
   pub data IsFirstAtFault (gr ss report : Reading) (IsTableFault : ℕ → FileFault → Type 0) (IsTableRead : Type 0) (fault : FileFault) : Type 0 where
     in_run : IsFirstFault Ss source_format DenotesSources gr ss IsTableFault fault → IsFirstAtFault gr ss report IsTableFault IsTableRead fault
-    in_report : AreSound tp gr.had ss.had → AreRead gr ss IsTableRead → IsUnreadBy Report report fault → IsFirstAtFault gr ss report IsTableFault IsTableRead fault
+    in_report : AreSound tp gr.old.bytes ss.old.bytes → AreRead gr ss IsTableRead → IsUnreadBy Report report fault → IsFirstAtFault gr ss report IsTableFault IsTableRead fault
 
   -- Why nothing is said of a report: the first fault of the files; or a late departure; or memory. Nothing is ever written.
   abbrev pub IsUnjudged : Reading → Reading → Reading → Option (List ℕ) → (ℕ → FileFault → Type 0) → Type 0 → AnswerFault → Type 0
   IsUnjudged gr ss report left IsTableFault IsTableRead (Read word fault) = IsFirstAtFault gr ss report IsTableFault IsTableRead (file.Read word fault)
   IsUnjudged gr ss report left IsTableFault IsTableRead (Input word fault) = IsFirstAtFault gr ss report IsTableFault IsTableRead (file.Input word fault)
-  IsUnjudged gr ss report left IsTableFault IsTableRead BadOption = IsLate gr.had ss.had report left × AreRead gr ss IsTableRead
+  IsUnjudged gr ss report left IsTableFault IsTableRead BadOption = IsLate gr.old.bytes ss.old.bytes report left × AreRead gr ss IsTableRead
   IsUnjudged gr ss report left IsTableFault IsTableRead (Write written) = ⊥
   IsUnjudged gr ss report left IsTableFault IsTableRead (OutOfMemory written) = written ≡ 0

@@ -1,13 +1,13 @@
 -- What went out of a report, whole or cut short.
 use Rattle.std.specs.Prelude.{◌≡◌, ◌⊎◌, ℕ, ◌+◌, ◌*◌, ◌≤◌, Bool, true, List, [], ◌++◌, Option, if◌then◌else◌, length, take, All}
 use Rattle.std.specs.Io.KnownBytes.{Appends}
-use Rattle.ea_text.specs.Device.{HasGivenUp}
+use Rattle.ea_text.specs.Device.{Seen, HasGivenUp}
 use Rattle.ea_road.specs.Roads.{Roads}
 use Rattle.ea_road.specs.Queries.{Asking, IsProblem}
 use Rattle.ea_road.specs.TimetableLists.{TimetablesAnswer}
 use Rattle.ea_files.specs.declared.road.Road.{Road}
 use Rattle.ea_report.specs.declared.stats.Totals.{Totals}
-use Rattle.ea_report.specs.Sent.{IsCutAt, IsNotLess, Seen}
+use Rattle.ea_report.specs.Sent.{IsCutAt, IsNotLess}
 use Rattle.ea_report.specs.Stats.{stats_text}
 use Rattle.ea_words.specs.declared.options.RunOptions.{RunOptions}
 use Rattle.earliest.specs.Counted.{AreBalanced, AreTotals}
@@ -48,8 +48,8 @@ pub data IsFront
 -- A report was cut short: a front of it went out. The device gave up where writing was the cause.
 abbrev pub IsCutShort : RunOptions → Roads → (ℕ → ℕ → ℕ → ℕ → Type 0) → List Asking → Seen → Seen → AnswerFault → Type 0
 IsCutShort options roads answers problems first now (Write written) =
-    IsFront options roads answers problems first.contents now.contents written × HasGivenUp first.failed now.failed first.interrupted now.interrupted
-IsCutShort options roads answers problems first now (OutOfMemory written) = IsFront options roads answers problems first.contents now.contents written
+    IsFront options roads answers problems first.bytes now.bytes written × HasGivenUp first now
+IsCutShort options roads answers problems first now (OutOfMemory written) = IsFront options roads answers problems first.bytes now.bytes written
 IsCutShort options roads answers problems first now _ = ⊥
 
 -- ---- one problem
@@ -58,7 +58,7 @@ IsCutShort options roads answers problems first now _ = ⊥
 pub record IsSent (walks : Bool) (roads : Roads) (answers : ℕ → ℕ → ℕ → ℕ → Type 0) (query : Asking) (old now : Seen) (before written : ℕ) : Type 0 where
   pub text : List ℕ
   pub is_report : IsReportOf walks roads answers query text
-  pub appended : Appends old.contents now.contents text
+  pub appended : Appends old.bytes now.bytes text
   pub counted : written ≡ before + length text
   pub unfailed : now.failed ≡ old.failed
   pub borne : now.interrupted ≤ old.interrupted + 1000
@@ -70,11 +70,11 @@ pub record IsStopped (walks : Bool) (roads : Roads) (answers : ℕ → ℕ → �
   pub is_report : IsReportOf walks roads answers query text
   pub sent : ℕ
   pub counted : written ≡ before + sent
-  pub cut : IsCutAt old.contents now.contents text sent
+  pub cut : IsCutAt old.bytes now.bytes text sent
 
 abbrev pub IsStoppedBy : Bool → Roads → (ℕ → ℕ → ℕ → ℕ → Type 0) → Asking → Seen → Seen → ℕ → AnswerFault → Type 0
 IsStoppedBy walks roads answers query old now before (Write written) =
-    IsStopped walks roads answers query old now before written × HasGivenUp old.failed now.failed old.interrupted now.interrupted
+    IsStopped walks roads answers query old now before written × HasGivenUp old now
 IsStoppedBy walks roads answers query old now before (OutOfMemory written) = ((written ≡ before) × (now ≡ old)) ⊎ IsStopped walks roads answers query old now before written
 IsStoppedBy walks roads answers query old now before _ = ⊥
 
@@ -84,7 +84,7 @@ IsStoppedBy walks roads answers query old now before _ = ⊥
 pub record AreSent (walks : Bool) (roads : Roads) (answers : ℕ → ℕ → ℕ → ℕ → Type 0) (problems : List Asking) (first now : Seen) (written : ℕ) : Type 0 where
   pub report : List ℕ
   pub are_reported : AreReported walks roads answers problems report
-  pub appended : Appends first.contents now.contents report
+  pub appended : Appends first.bytes now.bytes report
   pub counted : written ≡ length report
   pub unfailed : now.failed ≡ first.failed
   pub borne : now.interrupted ≤ first.interrupted + length problems * 1000
@@ -95,7 +95,7 @@ pub record AreSent (walks : Bool) (roads : Roads) (answers : ℕ → ℕ → ℕ
 pub record IsWritten (options : RunOptions) (roads : Roads) (answers : ℕ → ℕ → ℕ → ℕ → Type 0) (problems : List Asking) (first now : Seen) (totals : Totals) : Type 0 where
   pub report : List ℕ
   pub are_reported : AreReported options.walks roads answers problems report
-  pub appended : Appends first.contents now.contents (report ++ totals_text options totals)
+  pub appended : Appends first.bytes now.bytes (report ++ totals_text options totals)
   pub counted : AreTotals (settings_by options) problems totals
   pub balanced : AreBalanced totals
   pub unfailed : now.failed ≡ first.failed

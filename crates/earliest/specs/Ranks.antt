@@ -2,7 +2,7 @@
 use Rattle.std.specs.Prelude.{◌≡◌, ◌⊎◌, ℕ, ◌*◌, List, [], ◌∷◌, ◌++◌, false, Option, Ok, codes, decimal, length, take, None}
 use Rattle.std.specs.List.{flat_map}
 use Rattle.std.specs.Io.KnownBytes.{Appends}
-use Rattle.ea_text.specs.Device.{BearsOn, GivesUp}
+use Rattle.ea_text.specs.Device.{Seen, BearsOn, GivesUp}
 use Rattle.ea_input.specs.Formats.{source_format}
 use Rattle.ea_input.specs.Sources.{DenotesSources}
 use Rattle.ea_road.specs.Roads.{Roads}
@@ -21,7 +21,7 @@ use Rattle.ea_rank.specs.Ranks.{popped_keys, queue_after, rank_errors}
 use Rattle.ea_rank.specs.Records.{ContainArrivals, HasRanks}
 use Rattle.ea_rank.specs.Summaries.{summary_of}
 use Rattle.ea_report.specs.Report.{line, source_line}
-use Rattle.ea_report.specs.Sent.{Adds, IsCutAt, IsUnderWay, Seen, Stops}
+use Rattle.ea_report.specs.Sent.{Adds, IsCutAt, IsUnderWay, Stops}
 use Rattle.ea_report.specs.declared.report.WriteFaultKind.TheVariants.{WriteFailed}
 use Rattle.ea_words.specs.declared.options.RunOptions.{RunOptions}
 use Rattle.earliest.specs.Workers.{words_from}
@@ -68,8 +68,8 @@ module _ (heaps seed : ℕ) (roads : Roads) (answers : ℕ → ℕ → ℕ → �
   pub record IsRanking (queries : List Asking) (first now : Seen) : Type 0 where
     pub text : List ℕ
     pub are_texts : AreRankTexts queries text
-    pub appended : Appends first.contents now.contents text
-    pub borne : BearsOn first.failed now.failed first.interrupted now.interrupted
+    pub appended : Appends first.bytes now.bytes text
+    pub borne : BearsOn first now
 
   -- The bytes that went out are the front of the lines of so many problems.
   pub record IsRankFront (queries : List Asking) (old new : Option (List ℕ)) (written : ℕ) : Type 0 where
@@ -82,8 +82,8 @@ module _ (heaps seed : ℕ) (roads : Roads) (answers : ℕ → ℕ → ℕ → �
   -- lines were more than are borne.
   abbrev pub IsRankingCut : List Asking → Seen → Seen → AnswerFault → Type 0
   IsRankingCut queries first now (Write written) =
-      IsRankFront queries first.contents now.contents written × GivesUp first.failed now.failed first.interrupted now.interrupted
-  IsRankingCut queries first now (OutOfMemory written) = IsRankFront queries first.contents now.contents written
+      IsRankFront queries first.bytes now.bytes written × GivesUp first now
+  IsRankingCut queries first now (OutOfMemory written) = IsRankFront queries first.bytes now.bytes written
   IsRankingCut queries first now _ = ⊥
 
   -- ---- one problem of many, which are sent as one text
@@ -136,6 +136,6 @@ module _ (heaps seed depart gap : ℕ) (tp : Option (Option (List ℕ))) where
   abbrev pub IsUnranked : Reading → Reading → (ℕ → FileFault → Type 0) → Seen → Seen → AnswerFault → Type 0
   IsUnranked gr ss IsTableFault first now (Read word fault) = IsFirstFault Ss source_format DenotesSources gr ss IsTableFault (file.Read word fault) × (now ≡ first)
   IsUnranked gr ss IsTableFault first now (Input word fault) = IsFirstFault Ss source_format DenotesSources gr ss IsTableFault (file.Input word fault) × (now ≡ first)
-  IsUnranked gr ss IsTableFault first now BadOption = HasLateSource gr.had ss.had × (now ≡ first)
-  IsUnranked gr ss IsTableFault first now (Write written) = IsFrontOfRanks gr.had ss.had first.contents now.contents written × GivesUp first.failed now.failed first.interrupted now.interrupted
-  IsUnranked gr ss IsTableFault first now (OutOfMemory written) = ((written ≡ 0) × (now ≡ first)) ⊎ IsFrontOfRanks gr.had ss.had first.contents now.contents written
+  IsUnranked gr ss IsTableFault first now BadOption = HasLateSource gr.old.bytes ss.old.bytes × (now ≡ first)
+  IsUnranked gr ss IsTableFault first now (Write written) = IsFrontOfRanks gr.old.bytes ss.old.bytes first.bytes now.bytes written × GivesUp first now
+  IsUnranked gr ss IsTableFault first now (OutOfMemory written) = ((written ≡ 0) × (now ≡ first)) ⊎ IsFrontOfRanks gr.old.bytes ss.old.bytes first.bytes now.bytes written

@@ -1,6 +1,6 @@
 -- What an answer writes of what its files denote, and why it doesn't.
 use Rattle.std.specs.Prelude.{◌≡◌, ◌⊎◌, ℕ, Bool, List, Option, length}
-use Rattle.ea_text.specs.Device.{HasGivenUp}
+use Rattle.ea_text.specs.Device.{Seen, HasGivenUp}
 use Rattle.ea_input.specs.Checks.{Format}
 use Rattle.ea_input.specs.Formats.{source_format, pair_format}
 use Rattle.ea_input.specs.Sources.{DenotesSources}
@@ -14,7 +14,6 @@ use Rattle.ea_files.specs.Files.{IsBorne, IsFirstFault, Reading}
 use Rattle.ea_files.specs.Given.{Given, AreGiven, roads_of, times_of}
 use Rattle.ea_files.specs.Starts.{AreWithin, run_problems, pair_problems}
 use Rattle.ea_report.specs.declared.stats.Totals.{Totals}
-use Rattle.ea_report.specs.Sent.{Seen}
 use Rattle.ea_words.specs.declared.options.RunOptions.{RunOptions}
 use Rattle.earliest.specs.Fronts.{IsFront, IsWritten}
 use Rattle.earliest.specs.declared.fault.AnswerFault.{AnswerFault}
@@ -62,11 +61,11 @@ module _ {X : Type 0} (asks : Asks X) (options : RunOptions) (tp : Option (Optio
   abbrev pub IsFailed : Reading → Reading → (ℕ → FileFault → Type 0) → Type 0 → Seen → Seen → AnswerFault → Type 0
   IsFailed gr starts IsTableFault IsTableRead first now (Read word fault) = IsFirstFault asks.word asks.format asks.DenotesStarts gr starts IsTableFault (file.Read word fault) × (now ≡ first)
   IsFailed gr starts IsTableFault IsTableRead first now (Input word fault) = IsFirstFault asks.word asks.format asks.DenotesStarts gr starts IsTableFault (file.Input word fault) × (now ≡ first)
-  IsFailed gr starts IsTableFault IsTableRead first now BadOption = HasLateStart gr.had starts.had × (now ≡ first) × AreRead gr starts IsTableRead
+  IsFailed gr starts IsTableFault IsTableRead first now BadOption = HasLateStart gr.old.bytes starts.old.bytes × (now ≡ first) × AreRead gr starts IsTableRead
   IsFailed gr starts IsTableFault IsTableRead first now (Write written) =
-      IsFrontOf gr.had starts.had first.contents now.contents written × HasGivenUp first.failed now.failed first.interrupted now.interrupted × AreRead gr starts IsTableRead
+      IsFrontOf gr.old.bytes starts.old.bytes first.bytes now.bytes written × HasGivenUp first now × AreRead gr starts IsTableRead
   IsFailed gr starts IsTableFault IsTableRead first now (OutOfMemory written) =
-      ((written ≡ 0) × (now ≡ first)) ⊎ (IsFrontOf gr.had starts.had first.contents now.contents written × AreRead gr starts IsTableRead)
+      ((written ≡ 0) × (now ≡ first)) ⊎ (IsFrontOf gr.old.bytes starts.old.bytes first.bytes now.bytes written × AreRead gr starts IsTableRead)
 
 -- A run asks each source by itself, or all together.
 abbrev pub run_asks : Bool → ℕ → ℕ → Asks (List ℕ)

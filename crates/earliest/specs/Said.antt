@@ -10,7 +10,8 @@ use Rattle.ea_files.specs.declared.fault.FileWord.{FileWord}
 use Rattle.ea_input.specs.declared.fault.FaultKind.{FaultKind}
 use Rattle.ea_input.specs.declared.fault.FaultKind.TheVariants as kind
 use Rattle.ea_files.specs.FileNames.{file_word}
-use Rattle.ea_report.specs.Sent.{IsCutAt, Seen}
+use Rattle.ea_text.specs.Device.{Seen}
+use Rattle.ea_report.specs.Sent.{IsCutAt}
 use Rattle.ea_words.specs.declared.fault.CommandFault.{CommandFault}
 use Rattle.ea_words.specs.declared.fault.CommandFault.TheVariants as command
 use Rattle.ea_check.specs.declared.fault.CheckFault.{CheckFault}
@@ -128,7 +129,7 @@ status_of (Check fault) = refused_status fault
 -- call failed, at most 1,000 were interrupted, and neither count is at its end.
 pub record IsSaid (line : List ℕ) (first now : Seen) : Type 0 where
   pub sent : ℕ
-  pub front : IsCutAt first.contents now.contents line sent
+  pub front : IsCutAt first.bytes now.bytes line sent
   pub one_failure : now.failed ≤ first.failed + 1
   pub few_interruptions : now.interrupted ≤ first.interrupted + 1001
-  pub whole : now.failed ≤ first.failed → now.failed + 1 ≤ 2 ^ 64 - 1 → now.interrupted ≤ first.interrupted + 1000 → now.interrupted + 1 ≤ 2 ^ 64 - 1 → Appends first.contents now.contents line
+  pub whole : now.failed ≤ first.failed → now.failed + 1 ≤ 2 ^ 64 - 1 → now.interrupted ≤ first.interrupted + 1000 → now.interrupted + 1 ≤ 2 ^ 64 - 1 → Appends first.bytes now.bytes line

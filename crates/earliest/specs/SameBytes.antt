@@ -1,3 +1,4 @@
+use Rattle.ea_text.specs.Device.{Seen}
 -- The report of a run, or of pairs, as a fact about its texts and options alone.
 use Rattle.std.specs.Prelude.{◌≡◌, ℕ, Bool, List, ◌++◌, Option, Some, option_map}
 use Rattle.std.specs.Io.KnownBytes.{Appends}
@@ -7,7 +8,6 @@ use Rattle.ea_input.specs.Pairs.{DenotesPairs}
 use Rattle.ea_files.specs.Given.{Given, Denotes, roads_of, times_of}
 use Rattle.ea_files.specs.Starts.{run_problems, pair_problems}
 use Rattle.ea_report.specs.declared.stats.Totals.{Totals}
-use Rattle.ea_report.specs.Sent.{Seen}
 use Rattle.ea_words.specs.declared.options.RunOptions.{RunOptions}
 use Rattle.earliest.specs.Fronts.{totals_text}
 use Rattle.earliest.specs.Reported.{AreReported}
@@ -61,7 +61,7 @@ pub record AskForOne (this that : RunOptions) : Type 0 where
 
 -- What a call sent is this report, and then its totals where it has statistics.
 abbrev pub Sends : Answering → List ℕ → Type 0
-Sends call report = Appends call.first.contents call.now.contents (report ++ totals_text call.options call.totals)
+Sends call report = Appends call.first.bytes call.now.bytes (report ++ totals_text call.options call.totals)
 
 -- Two calls that answered runs of the same texts, and asked for the same, sent one report, which is that of the run.
 abbrev pub AnsweredRunsAgree : Type 0

@@ -1,9 +1,8 @@
 //! From files to a report.
-ghost use Rattle.std.specs.Prelude.{◌≡◌, IfOk, IfErr, OnOk, option_map};
+ghost use Rattle.std.specs.Prelude.{◌≡◌, IfOk, IfErr, OnOk};
 ghost use Rattle.ea_text.specs.Device.{BearsOn};
 ghost use Rattle.ea_input.specs.Formats.{table_format};
-ghost use Rattle.ea_files.specs.Files.{IsBorneIfThere, IsFaultIfThere, reading};
-ghost use Rattle.ea_report.specs.Sent.{seen};
+ghost use Rattle.ea_files.specs.Files.{bytes_there, IsBorneIfThere, IsFaultIfThere, reading};
 ghost use Rattle.ea_words.specs.Limits.{AreOptions};
 ghost use Rattle.earliest.specs.Runs.{IsAnswered, IsFailed, run_asks, pair_asks};
 
@@ -36,16 +35,16 @@ pub fn answer<H: Threads + Sync, G: ByteIn, S: ByteIn, T: ByteIn, W: ByteOut>(
 ) -> Result<Totals, AnswerFault>
     requires options { AreOptions options.now }
     ensures answered { IfOk result (IsAnswered (run_asks options.now.joint options.now.depart options.now.gap) options.now
-        (option_map T.remaining tp.old) (G.remaining gr.old) (S.remaining ss.old)
-        (seen (W.contents out.old) (W.Device.failed out.old) (W.Device.interrupted out.old)) (seen (W.contents out.new) (W.Device.failed out.new) (W.Device.interrupted out.new))) }
-    ensures gr_borne { OnOk result (BearsOn (G.Device.failed gr.old) (G.Device.failed gr.new) (G.Device.interrupted gr.old) (G.Device.interrupted gr.new)) }
-    ensures ss_borne { OnOk result (BearsOn (S.Device.failed ss.old) (S.Device.failed ss.new) (S.Device.interrupted ss.old) (S.Device.interrupted ss.new)) }
-    ensures tp_borne { OnOk result (IsBorneIfThere T.Device.failed T.Device.interrupted tp.old tp.new) }
-    ensures failed { IfErr result (IsFailed (run_asks options.now.joint options.now.depart options.now.gap) options.now (option_map T.remaining tp.old)
-        (reading (G.remaining gr.old) (G.Device.failed gr.old) (G.Device.failed gr.new) (G.Device.interrupted gr.old) (G.Device.interrupted gr.new))
-        (reading (S.remaining ss.old) (S.Device.failed ss.old) (S.Device.failed ss.new) (S.Device.interrupted ss.old) (S.Device.interrupted ss.new))
-        (λ arcs. IsFaultIfThere T.remaining T.Device.failed T.Device.interrupted FileWord.Tp (table_format arcs) tp.old tp.new) (IsBorneIfThere T.Device.failed T.Device.interrupted tp.old tp.new)
-        (seen (W.contents out.old) (W.Device.failed out.old) (W.Device.interrupted out.old)) (seen (W.contents out.new) (W.Device.failed out.new) (W.Device.interrupted out.new))) }
+        (bytes_there T.seen tp.old) (G.seen gr.old).bytes (S.seen ss.old).bytes
+        (W.seen out.old) (W.seen out.new)) }
+    ensures gr_borne { OnOk result (BearsOn (G.seen gr.old) (G.seen gr.new)) }
+    ensures ss_borne { OnOk result (BearsOn (S.seen ss.old) (S.seen ss.new)) }
+    ensures tp_borne { OnOk result (IsBorneIfThere T.seen tp.old tp.new) }
+    ensures failed { IfErr result (IsFailed (run_asks options.now.joint options.now.depart options.now.gap) options.now (bytes_there T.seen tp.old)
+        (reading G.seen gr.old gr.new)
+        (reading S.seen ss.old ss.new)
+        (λ arcs. IsFaultIfThere T.seen FileWord.Tp (table_format arcs) tp.old tp.new) (IsBorneIfThere T.seen tp.old tp.new)
+        (W.seen out.old) (W.seen out.new)) }
 {
     let files = read_run(alloc, gr, ss, tp)?;
     if !departures_fit(files.sources.len(), options.depart, options.gap) {
@@ -74,16 +73,16 @@ pub fn answer_pairs<H: Threads + Sync, G: ByteIn, P: ByteIn, T: ByteIn, W: ByteO
 ) -> Result<Totals, AnswerFault>
     requires options { AreOptions options.now }
     ensures answered { IfOk result (IsAnswered (pair_asks options.now.depart options.now.gap) options.now
-        (option_map T.remaining tp.old) (G.remaining gr.old) (P.remaining p2p.old)
-        (seen (W.contents out.old) (W.Device.failed out.old) (W.Device.interrupted out.old)) (seen (W.contents out.new) (W.Device.failed out.new) (W.Device.interrupted out.new))) }
-    ensures gr_borne { OnOk result (BearsOn (G.Device.failed gr.old) (G.Device.failed gr.new) (G.Device.interrupted gr.old) (G.Device.interrupted gr.new)) }
-    ensures p2p_borne { OnOk result (BearsOn (P.Device.failed p2p.old) (P.Device.failed p2p.new) (P.Device.interrupted p2p.old) (P.Device.interrupted p2p.new)) }
-    ensures tp_borne { OnOk result (IsBorneIfThere T.Device.failed T.Device.interrupted tp.old tp.new) }
-    ensures failed { IfErr result (IsFailed (pair_asks options.now.depart options.now.gap) options.now (option_map T.remaining tp.old)
-        (reading (G.remaining gr.old) (G.Device.failed gr.old) (G.Device.failed gr.new) (G.Device.interrupted gr.old) (G.Device.interrupted gr.new))
-        (reading (P.remaining p2p.old) (P.Device.failed p2p.old) (P.Device.failed p2p.new) (P.Device.interrupted p2p.old) (P.Device.interrupted p2p.new))
-        (λ arcs. IsFaultIfThere T.remaining T.Device.failed T.Device.interrupted FileWord.Tp (table_format arcs) tp.old tp.new) (IsBorneIfThere T.Device.failed T.Device.interrupted tp.old tp.new)
-        (seen (W.contents out.old) (W.Device.failed out.old) (W.Device.interrupted out.old)) (seen (W.contents out.new) (W.Device.failed out.new) (W.Device.interrupted out.new))) }
+        (bytes_there T.seen tp.old) (G.seen gr.old).bytes (P.seen p2p.old).bytes
+        (W.seen out.old) (W.seen out.new)) }
+    ensures gr_borne { OnOk result (BearsOn (G.seen gr.old) (G.seen gr.new)) }
+    ensures p2p_borne { OnOk result (BearsOn (P.seen p2p.old) (P.seen p2p.new)) }
+    ensures tp_borne { OnOk result (IsBorneIfThere T.seen tp.old tp.new) }
+    ensures failed { IfErr result (IsFailed (pair_asks options.now.depart options.now.gap) options.now (bytes_there T.seen tp.old)
+        (reading G.seen gr.old gr.new)
+        (reading P.seen p2p.old p2p.new)
+        (λ arcs. IsFaultIfThere T.seen FileWord.Tp (table_format arcs) tp.old tp.new) (IsBorneIfThere T.seen tp.old tp.new)
+        (W.seen out.old) (W.seen out.new)) }
 {
     let files = read_trips(alloc, gr, p2p, tp)?;
     if !departures_fit(files.pairs.len(), options.depart, options.gap) {

@@ -1,8 +1,8 @@
 //! Reports, checked.
-ghost use Rattle.std.specs.Prelude.{◌≡◌, ◌≤◌, IfOk, IfErr, OnOk, option_map};
+ghost use Rattle.std.specs.Prelude.{◌≡◌, ◌≤◌, IfOk, IfErr, OnOk};
 ghost use Rattle.ea_text.specs.Device.{BearsOn};
 ghost use Rattle.ea_input.specs.Formats.{table_format};
-ghost use Rattle.ea_files.specs.Files.{IsBorneIfThere, IsFaultIfThere, reading};
+ghost use Rattle.ea_files.specs.Files.{bytes_there, IsBorneIfThere, IsFaultIfThere, reading};
 ghost use Rattle.ea_words.specs.Limits.{AreOptions};
 ghost use Rattle.earliest.specs.Checks.{IsJudged, IsUnjudged};
 
@@ -32,17 +32,17 @@ pub fn check_report<G: ByteIn, S: ByteIn, T: ByteIn, R: ByteIn>(
 ) -> Result<Result<(), CheckFault>, AnswerFault>
     requires options { AreOptions options.now }
     ensures judged { IfOk result (IsJudged options.now.joint options.now.depart options.now.gap
-        (option_map T.remaining tp.old) (G.remaining gr.old) (S.remaining ss.old)
-        (reading (R.remaining report.old) (R.Device.failed report.old) (R.Device.failed report.new) (R.Device.interrupted report.old) (R.Device.interrupted report.new)) (R.remaining report.new)) }
-    ensures gr_borne { OnOk result (BearsOn (G.Device.failed gr.old) (G.Device.failed gr.new) (G.Device.interrupted gr.old) (G.Device.interrupted gr.new)) }
-    ensures ss_borne { OnOk result (BearsOn (S.Device.failed ss.old) (S.Device.failed ss.new) (S.Device.interrupted ss.old) (S.Device.interrupted ss.new)) }
-    ensures tp_borne { OnOk result (IsBorneIfThere T.Device.failed T.Device.interrupted tp.old tp.new) }
-    ensures unjudged { IfErr result (IsUnjudged options.now.joint options.now.depart options.now.gap (option_map T.remaining tp.old)
-        (reading (G.remaining gr.old) (G.Device.failed gr.old) (G.Device.failed gr.new) (G.Device.interrupted gr.old) (G.Device.interrupted gr.new))
-        (reading (S.remaining ss.old) (S.Device.failed ss.old) (S.Device.failed ss.new) (S.Device.interrupted ss.old) (S.Device.interrupted ss.new))
-        (reading (R.remaining report.old) (R.Device.failed report.old) (R.Device.failed report.new) (R.Device.interrupted report.old) (R.Device.interrupted report.new))
-        (R.remaining report.new)
-        (λ arcs. IsFaultIfThere T.remaining T.Device.failed T.Device.interrupted FileWord.Tp (table_format arcs) tp.old tp.new) (IsBorneIfThere T.Device.failed T.Device.interrupted tp.old tp.new)) }
+        (bytes_there T.seen tp.old) (G.seen gr.old).bytes (S.seen ss.old).bytes
+        (reading R.seen report.old report.new) (R.seen report.new).bytes) }
+    ensures gr_borne { OnOk result (BearsOn (G.seen gr.old) (G.seen gr.new)) }
+    ensures ss_borne { OnOk result (BearsOn (S.seen ss.old) (S.seen ss.new)) }
+    ensures tp_borne { OnOk result (IsBorneIfThere T.seen tp.old tp.new) }
+    ensures unjudged { IfErr result (IsUnjudged options.now.joint options.now.depart options.now.gap (bytes_there T.seen tp.old)
+        (reading G.seen gr.old gr.new)
+        (reading S.seen ss.old ss.new)
+        (reading R.seen report.old report.new)
+        (R.seen report.new).bytes
+        (λ arcs. IsFaultIfThere T.seen FileWord.Tp (table_format arcs) tp.old tp.new) (IsBorneIfThere T.seen tp.old tp.new)) }
 {
     let files = read_run(alloc, gr, ss, tp)?;
     let text = read_report(alloc, report)?;

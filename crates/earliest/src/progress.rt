@@ -4,7 +4,7 @@ ghost use Rattle.std.specs.Io.KnownBytes.{Appends};
 ghost use Rattle.ea_text.specs.Device.{BearsOn, HasGivenUp};
 ghost use Rattle.ea_road.specs.Queries.{IsProblem};
 ghost use Rattle.ea_finish.specs.Answers.{HasArrivals, IsAnswer};
-ghost use Rattle.ea_report.specs.Sent.{IsCutAt, seen};
+ghost use Rattle.ea_report.specs.Sent.{IsCutAt};
 ghost use Rattle.ea_report.specs.Stats.{stats_text};
 ghost use Rattle.ea_report.specs.declared.stats.Totals.{Totals};
 ghost use Rattle.ea_words.specs.Limits.{AreOptions};
@@ -59,10 +59,10 @@ impl Progress {
         requires room { self.old.written ≤ 1000000 * 2 ^ 90 }
         requires arrivals { HasArrivals road.now.network (times_on road.now) query.now found.now.answer }
         requires canonical { walks ≡ true → IsAnswer road.now.network (times_on road.now) query.now found.now.answer }
-        ensures ok { OnOk result (IsSent walks road.now.network (times_on road.now) query.now (seen (W.contents out.old) (W.Device.failed out.old) (W.Device.interrupted out.old))
-            (seen (W.contents out.new) (W.Device.failed out.new) (W.Device.interrupted out.new)) self.old.written self.new.written) }
-        ensures err { IfErr result (IsStoppedBy walks road.now.network (times_on road.now) query.now (seen (W.contents out.old) (W.Device.failed out.old) (W.Device.interrupted out.old))
-            (seen (W.contents out.new) (W.Device.failed out.new) (W.Device.interrupted out.new)) self.old.written) }
+        ensures ok { OnOk result (IsSent walks road.now.network (times_on road.now) query.now (W.seen out.old)
+            (W.seen out.new) self.old.written self.new.written) }
+        ensures err { IfErr result (IsStoppedBy walks road.now.network (times_on road.now) query.now (W.seen out.old)
+            (W.seen out.new) self.old.written) }
         ensures bound { OnOk result (self.new.written ≤ self.old.written + 2 ^ 90) }
         ensures totals { self.new.totals ≡ self.old.totals }
     {
@@ -100,10 +100,10 @@ impl Progress {
         requires room { self.old.written ≤ 1000000 * 2 ^ 90 }
         requires small { (problems : ℕ) × (problems < 1000000) × AreSmall problems self.old.totals }
         requires balanced { AreBalanced self.old.totals }
-        ensures ok { OnOk result (IsSent options.now.walks road.now.network (times_on road.now) query.now (seen (W.contents out.old) (W.Device.failed out.old) (W.Device.interrupted out.old))
-            (seen (W.contents out.new) (W.Device.failed out.new) (W.Device.interrupted out.new)) self.old.written self.new.written) }
-        ensures err { IfErr result (IsStoppedBy options.now.walks road.now.network (times_on road.now) query.now (seen (W.contents out.old) (W.Device.failed out.old) (W.Device.interrupted out.old))
-            (seen (W.contents out.new) (W.Device.failed out.new) (W.Device.interrupted out.new)) self.old.written) }
+        ensures ok { OnOk result (IsSent options.now.walks road.now.network (times_on road.now) query.now (W.seen out.old)
+            (W.seen out.new) self.old.written self.new.written) }
+        ensures err { IfErr result (IsStoppedBy options.now.walks road.now.network (times_on road.now) query.now (W.seen out.old)
+            (W.seen out.new) self.old.written) }
         ensures bound { OnOk result (self.new.written ≤ self.old.written + 2 ^ 90) }
         ensures counted { OnOk result ((more : Totals) × IsTotal (settings_by options.now) query.now more × (self.new.totals ≡ plus self.old.totals more)) }
         ensures balanced { OnOk result (AreBalanced self.new.totals) }
@@ -134,10 +134,10 @@ fn report_each<H: Threads + Sync, W: ByteOut>(
     requires problems { AreProblems road.now queries.now }
     requires few { (length queries.now ≤ 1000000) × (road.now.network.nodes ≤ 67108864) }
     requires options { AreOptions options.now }
-    ensures ok { IfOk result (λ progress. AreSent options.now.walks road.now.network (times_on road.now) queries.now (seen (W.contents out.old) (W.Device.failed out.old) (W.Device.interrupted out.old))
-        (seen (W.contents out.new) (W.Device.failed out.new) (W.Device.interrupted out.new)) progress.written) }
-    ensures err { IfErr result (IsCutShort options.now road.now.network (times_on road.now) queries.now (seen (W.contents out.old) (W.Device.failed out.old) (W.Device.interrupted out.old))
-        (seen (W.contents out.new) (W.Device.failed out.new) (W.Device.interrupted out.new))) }
+    ensures ok { IfOk result (λ progress. AreSent options.now.walks road.now.network (times_on road.now) queries.now (W.seen out.old)
+        (W.seen out.new) progress.written) }
+    ensures err { IfErr result (IsCutShort options.now road.now.network (times_on road.now) queries.now (W.seen out.old)
+        (W.seen out.new)) }
     ensures bound { IfOk result (λ progress. progress.written ≤ 1000000 * 2 ^ 90) }
     ensures counted { IfOk result (λ progress. AreTotals (settings_by options.now) queries.now progress.totals) }
     ensures balanced { IfOk result (λ progress. AreBalanced progress.totals) }
@@ -161,11 +161,11 @@ fn write_totals<W: ByteOut>(
     out: &mut W,
 ) -> Result<(), AnswerFault>
     requires { progress.now.written ≤ 1000000 * 2 ^ 90 }
-    ensures ok { OnOk result (Appends (W.contents out.old) (W.contents out.new) (if stats then stats_text progress.now.totals else [])) }
-    ensures borne { OnOk result (BearsOn (W.Device.failed out.old) (W.Device.failed out.new) (W.Device.interrupted out.old) (W.Device.interrupted out.new)) }
+    ensures ok { OnOk result (Appends (W.seen out.old).bytes (W.seen out.new).bytes (if stats then stats_text progress.now.totals else [])) }
+    ensures borne { OnOk result (BearsOn (W.seen out.old) (W.seen out.new)) }
     ensures err { IfErr result (λ fault. (sent : ℕ) × (stats ≡ true) × (fault ≡ AnswerFault.Write (progress.now.written + sent))
-        × IsCutAt (W.contents out.old) (W.contents out.new) (stats_text progress.now.totals) sent
-        × HasGivenUp (W.Device.failed out.old) (W.Device.failed out.new) (W.Device.interrupted out.old) (W.Device.interrupted out.new)) }
+        × IsCutAt (W.seen out.old).bytes (W.seen out.new).bytes (stats_text progress.now.totals) sent
+        × HasGivenUp (W.seen out.old) (W.seen out.new)) }
 {
     if stats {
         match write_stats(&progress.totals, out) {
@@ -191,10 +191,10 @@ pub(crate) fn report_all<H: Threads + Sync, W: ByteOut>(
     requires problems { AreProblems road.now queries.now }
     requires few { (length queries.now ≤ 1000000) × (road.now.network.nodes ≤ 67108864) }
     requires options { AreOptions options.now }
-    ensures ok { IfOk result (IsWritten options.now road.now.network (times_on road.now) queries.now (seen (W.contents out.old) (W.Device.failed out.old) (W.Device.interrupted out.old))
-        (seen (W.contents out.new) (W.Device.failed out.new) (W.Device.interrupted out.new))) }
-    ensures err { IfErr result (IsCutShort options.now road.now.network (times_on road.now) queries.now (seen (W.contents out.old) (W.Device.failed out.old) (W.Device.interrupted out.old))
-        (seen (W.contents out.new) (W.Device.failed out.new) (W.Device.interrupted out.new))) }
+    ensures ok { IfOk result (IsWritten options.now road.now.network (times_on road.now) queries.now (W.seen out.old)
+        (W.seen out.new)) }
+    ensures err { IfErr result (IsCutShort options.now road.now.network (times_on road.now) queries.now (W.seen out.old)
+        (W.seen out.new)) }
 {
     let progress = report_each(alloc, rt, road, queries, options, out)?;
     match write_totals(&progress, options.stats, out) {

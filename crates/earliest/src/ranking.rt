@@ -1,12 +1,12 @@
 //! The rank errors of recorded runs.
-ghost use Rattle.std.specs.Prelude.{◌≡◌, ◌+◌, ◌*◌, ◌^◌, ◌≤◌, ◌++◌, [], All, IfOk, IfErr, OnOk, None, length, option_map};
+ghost use Rattle.std.specs.Prelude.{◌≡◌, ◌+◌, ◌*◌, ◌^◌, ◌≤◌, ◌++◌, [], All, IfOk, IfErr, OnOk, None, length};
 ghost use Rattle.ea_input.specs.Formats.{table_format};
-ghost use Rattle.ea_files.specs.Files.{IsBorneIfThere, IsFaultIfThere, reading};
+ghost use Rattle.ea_files.specs.Files.{bytes_there, IsBorneIfThere, IsFaultIfThere, reading};
 ghost use Rattle.ea_text.specs.Device.{BearsOn};
 ghost use Rattle.ea_road.specs.Queries.{IsProblem};
 ghost use Rattle.ea_rank.specs.Summaries.{summary_of};
 ghost use Rattle.ea_report.specs.Report.{source_line};
-ghost use Rattle.ea_report.specs.Sent.{Adds, Stops, seen};
+ghost use Rattle.ea_report.specs.Sent.{Adds, Stops};
 ghost use Rattle.ea_report.specs.declared.report.WriteFaultKind.TheVariants.{WriteFailed};
 ghost use Rattle.ea_words.specs.Limits.{AreOptions};
 ghost use Rattle.earliest.specs.Fronts.{AreProblems, times_on};
@@ -63,10 +63,10 @@ fn put_ranks<W: ByteOut>(
     out: &mut W,
 ) -> Result<(), WriteFault>
     requires { direct.old.written ≤ 1000000 * 2 ^ 70 }
-    ensures ok { OnOk result (Adds (seen (W.contents out.old) (W.Device.failed out.old) (W.Device.interrupted out.old)) [] direct.old.written direct.old.interruptions
-        (seen (W.contents out.new) (W.Device.failed out.new) (W.Device.interrupted out.new)) [] direct.new.written direct.new.interruptions (source_line source ++ rank_line summary)) }
-    ensures err { IfErr result (λ fault. Stops (seen (W.contents out.old) (W.Device.failed out.old) (W.Device.interrupted out.old)) [] direct.old.written direct.old.interruptions
-        (seen (W.contents out.new) (W.Device.failed out.new) (W.Device.interrupted out.new)) fault (source_line source ++ rank_line summary)) }
+    ensures ok { OnOk result (Adds (W.seen out.old) [] direct.old.written direct.old.interruptions
+        (W.seen out.new) [] direct.new.written direct.new.interruptions (source_line source ++ rank_line summary)) }
+    ensures err { IfErr result (λ fault. Stops (W.seen out.old) [] direct.old.written direct.old.interruptions
+        (W.seen out.new) fault (source_line source ++ rank_line summary)) }
     ensures device { IfErr result (λ fault. fault.kind ≡ WriteFailed) }
     ensures bound { OnOk result (direct.new.written ≤ direct.old.written + 2 ^ 70) }
 {
@@ -106,11 +106,11 @@ fn rank_one<W: ByteOut>(
     requires heaps { (2 ≤ heaps) × (heaps ≤ 128) }
     requires room { direct.old.written ≤ 1000000 * 2 ^ 70 }
     ensures ok { OnOk result (AddsRanks heaps seed road.now.network (times_on road.now) query.now
-        (seen (W.contents out.old) (W.Device.failed out.old) (W.Device.interrupted out.old)) direct.old.written direct.old.interruptions
-        (seen (W.contents out.new) (W.Device.failed out.new) (W.Device.interrupted out.new)) direct.new.written direct.new.interruptions) }
+        (W.seen out.old) direct.old.written direct.old.interruptions
+        (W.seen out.new) direct.new.written direct.new.interruptions) }
     ensures err { IfErr result (StopsRanks heaps seed road.now.network (times_on road.now) query.now
-        (seen (W.contents out.old) (W.Device.failed out.old) (W.Device.interrupted out.old)) direct.old.written direct.old.interruptions
-        (seen (W.contents out.new) (W.Device.failed out.new) (W.Device.interrupted out.new))) }
+        (W.seen out.old) direct.old.written direct.old.interruptions
+        (W.seen out.new)) }
     ensures bound { OnOk result (direct.new.written ≤ direct.old.written + 2 ^ 70) }
 {
     let Ok(found) = ranks_of(alloc, road, query, heaps, seed) else {
@@ -141,11 +141,11 @@ fn rank_each<W: ByteOut>(
     requires few { length queries.now ≤ 1000000 }
     requires heaps { (2 ≤ heaps) × (heaps ≤ 128) }
     ensures ok { OnOk result (IsRanking heaps seed road.now.network (times_on road.now) queries.now
-        (seen (W.contents out.old) (W.Device.failed out.old) (W.Device.interrupted out.old))
-        (seen (W.contents out.new) (W.Device.failed out.new) (W.Device.interrupted out.new))) }
+        (W.seen out.old)
+        (W.seen out.new)) }
     ensures err { IfErr result (IsRankingCut heaps seed road.now.network (times_on road.now) queries.now
-        (seen (W.contents out.old) (W.Device.failed out.old) (W.Device.interrupted out.old))
-        (seen (W.contents out.new) (W.Device.failed out.new) (W.Device.interrupted out.new))) }
+        (W.seen out.old)
+        (W.seen out.new)) }
 {
     let mut direct = Direct {
         written: 0,
@@ -176,16 +176,16 @@ pub fn rank_report<G: ByteIn, S: ByteIn, T: ByteIn, W: ByteOut>(
 ) -> Result<(), AnswerFault>
     requires options { AreOptions options.now }
     ensures ranked { OnOk result (IsRanked (heaps_of options.now) options.now.seed options.now.depart options.now.gap
-        (option_map T.remaining tp.old) (G.remaining gr.old) (S.remaining ss.old)
-        (seen (W.contents out.old) (W.Device.failed out.old) (W.Device.interrupted out.old)) (seen (W.contents out.new) (W.Device.failed out.new) (W.Device.interrupted out.new))) }
-    ensures gr_borne { OnOk result (BearsOn (G.Device.failed gr.old) (G.Device.failed gr.new) (G.Device.interrupted gr.old) (G.Device.interrupted gr.new)) }
-    ensures ss_borne { OnOk result (BearsOn (S.Device.failed ss.old) (S.Device.failed ss.new) (S.Device.interrupted ss.old) (S.Device.interrupted ss.new)) }
-    ensures tp_borne { OnOk result (IsBorneIfThere T.Device.failed T.Device.interrupted tp.old tp.new) }
-    ensures unranked { IfErr result (IsUnranked (heaps_of options.now) options.now.seed options.now.depart options.now.gap (option_map T.remaining tp.old)
-        (reading (G.remaining gr.old) (G.Device.failed gr.old) (G.Device.failed gr.new) (G.Device.interrupted gr.old) (G.Device.interrupted gr.new))
-        (reading (S.remaining ss.old) (S.Device.failed ss.old) (S.Device.failed ss.new) (S.Device.interrupted ss.old) (S.Device.interrupted ss.new))
-        (λ arcs. IsFaultIfThere T.remaining T.Device.failed T.Device.interrupted FileWord.Tp (table_format arcs) tp.old tp.new)
-        (seen (W.contents out.old) (W.Device.failed out.old) (W.Device.interrupted out.old)) (seen (W.contents out.new) (W.Device.failed out.new) (W.Device.interrupted out.new))) }
+        (bytes_there T.seen tp.old) (G.seen gr.old).bytes (S.seen ss.old).bytes
+        (W.seen out.old) (W.seen out.new)) }
+    ensures gr_borne { OnOk result (BearsOn (G.seen gr.old) (G.seen gr.new)) }
+    ensures ss_borne { OnOk result (BearsOn (S.seen ss.old) (S.seen ss.new)) }
+    ensures tp_borne { OnOk result (IsBorneIfThere T.seen tp.old tp.new) }
+    ensures unranked { IfErr result (IsUnranked (heaps_of options.now) options.now.seed options.now.depart options.now.gap (bytes_there T.seen tp.old)
+        (reading G.seen gr.old gr.new)
+        (reading S.seen ss.old ss.new)
+        (λ arcs. IsFaultIfThere T.seen FileWord.Tp (table_format arcs) tp.old tp.new)
+        (W.seen out.old) (W.seen out.new)) }
 {
     let heaps = heaps_of_run(options);
     let files = read_run(alloc, gr, ss, tp)?;

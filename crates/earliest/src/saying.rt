@@ -1,7 +1,6 @@
 //! Outcomes, told in one line and a status.
 ghost use Rattle.std.specs.Prelude.{◌≡◌, ◌≤◌, length};
 ghost use Rattle.std.specs.List.{flat_map};
-ghost use Rattle.ea_report.specs.Sent.{seen};
 ghost use Rattle.earliest.specs.Said;
 ghost use Rattle.earliest.specs.Said.{IsSaid, line_of, status_of, plain_line, file_line, text_line, written_line, check_line, command_line, command_status, answer_line, answer_status, input_line, input_status, read_line, read_status, refused_line, refused_status};
 
@@ -31,16 +30,16 @@ pub enum Outcome {
 /// Writes pieces, as far as the device takes them.
 fn put<W: ByteOut>(pieces: &[&[u8]], out: &mut W)
     requires { length pieces.now ≤ 1000 }
-    ensures { IsSaid (flat_map (λ piece. piece.now) pieces.now) (seen (W.contents out.old) (W.Device.failed out.old) (W.Device.interrupted out.old))
-        (seen (W.contents out.new) (W.Device.failed out.new) (W.Device.interrupted out.new)) }
+    ensures { IsSaid (flat_map (λ piece. piece.now) pieces.now) (W.seen out.old)
+        (W.seen out.new) }
 {
     let _ = write_pieces(pieces, out);
 }
 
 /// Writes a line of one message.
 fn put_plain<W: ByteOut>(message: &str, out: &mut W)
-    ensures { IsSaid (plain_line message.now) (seen (W.contents out.old) (W.Device.failed out.old) (W.Device.interrupted out.old))
-        (seen (W.contents out.new) (W.Device.failed out.new) (W.Device.interrupted out.new)) }
+    ensures { IsSaid (plain_line message.now) (W.seen out.old)
+        (W.seen out.new) }
 {
     let pieces = [
         b"earliest: ".as_slice(),
@@ -52,8 +51,8 @@ fn put_plain<W: ByteOut>(message: &str, out: &mut W)
 
 /// Writes the line of a file.
 fn put_file<'a, W: ByteOut>(word: &'a str, number: u8, name: &'a str, out: &mut W)
-    ensures { IsSaid (file_line word.now number name.now) (seen (W.contents out.old) (W.Device.failed out.old) (W.Device.interrupted out.old))
-        (seen (W.contents out.new) (W.Device.failed out.new) (W.Device.interrupted out.new)) }
+    ensures { IsSaid (file_line word.now number name.now) (W.seen out.old)
+        (W.seen out.new) }
 {
     let mut buffer = Buffer::new();
     let pieces = [
@@ -70,8 +69,8 @@ fn put_file<'a, W: ByteOut>(word: &'a str, number: u8, name: &'a str, out: &mut 
 
 /// Writes the line of a fault in a line of a file.
 fn put_text<'a, W: ByteOut>(word: &'a str, line: u64, number: u8, name: &'a str, out: &mut W)
-    ensures { IsSaid (text_line word.now line number name.now) (seen (W.contents out.old) (W.Device.failed out.old) (W.Device.interrupted out.old))
-        (seen (W.contents out.new) (W.Device.failed out.new) (W.Device.interrupted out.new)) }
+    ensures { IsSaid (text_line word.now line number name.now) (W.seen out.old)
+        (W.seen out.new) }
 {
     let mut line_buffer = Buffer::new();
     let mut buffer = Buffer::new();
@@ -91,8 +90,8 @@ fn put_text<'a, W: ByteOut>(word: &'a str, line: u64, number: u8, name: &'a str,
 
 /// Writes the line of a report that couldn't be written whole.
 fn put_written<W: ByteOut>(written: u128, out: &mut W)
-    ensures { IsSaid (written_line written) (seen (W.contents out.old) (W.Device.failed out.old) (W.Device.interrupted out.old))
-        (seen (W.contents out.new) (W.Device.failed out.new) (W.Device.interrupted out.new)) }
+    ensures { IsSaid (written_line written) (W.seen out.old)
+        (W.seen out.new) }
 {
     let mut buffer = Buffer::new();
     let pieces = [
@@ -105,8 +104,8 @@ fn put_written<W: ByteOut>(written: u128, out: &mut W)
 
 /// Writes the line of a report that is refused at a line.
 fn put_verdict<W: ByteOut>(verdict: &str, line: u64, out: &mut W)
-    ensures { IsSaid (check_line verdict.now line) (seen (W.contents out.old) (W.Device.failed out.old) (W.Device.interrupted out.old))
-        (seen (W.contents out.new) (W.Device.failed out.new) (W.Device.interrupted out.new)) }
+    ensures { IsSaid (check_line verdict.now line) (W.seen out.old)
+        (W.seen out.new) }
 {
     let mut buffer = Buffer::new();
     let pieces = [
@@ -122,8 +121,8 @@ fn put_verdict<W: ByteOut>(verdict: &str, line: u64, out: &mut W)
 /// Tells why words ask for nothing.
 fn say_command<W: ByteOut>(fault: &CommandFault, out: &mut W) -> u8
     ensures status { result ≡ command_status fault.now }
-    ensures line { IsSaid (command_line fault.now) (seen (W.contents out.old) (W.Device.failed out.old) (W.Device.interrupted out.old))
-        (seen (W.contents out.new) (W.Device.failed out.new) (W.Device.interrupted out.new)) }
+    ensures line { IsSaid (command_line fault.now) (W.seen out.old)
+        (W.seen out.new) }
 {
     match fault {
         CommandFault::Words { help, text } => {
@@ -145,8 +144,8 @@ fn say_command<W: ByteOut>(fault: &CommandFault, out: &mut W) -> u8
 /// Tells why a file wasn't read.
 fn say_read<W: ByteOut>(file: FileWord, fault: ReadFault, out: &mut W) -> u8
     ensures status { result ≡ read_status fault }
-    ensures line { IsSaid (read_line file fault) (seen (W.contents out.old) (W.Device.failed out.old) (W.Device.interrupted out.old))
-        (seen (W.contents out.new) (W.Device.failed out.new) (W.Device.interrupted out.new)) }
+    ensures line { IsSaid (read_line file fault) (W.seen out.old)
+        (W.seen out.new) }
 {
     match fault {
         ReadFault::TooLarge => {
@@ -167,8 +166,8 @@ fn say_read<W: ByteOut>(file: FileWord, fault: ReadFault, out: &mut W) -> u8
 /// Tells the fault of a file's text.
 fn say_input<W: ByteOut>(file: FileWord, fault: InputFault, out: &mut W) -> u8
     ensures status { result ≡ input_status fault.kind }
-    ensures line { IsSaid (input_line file fault.line fault.kind) (seen (W.contents out.old) (W.Device.failed out.old) (W.Device.interrupted out.old))
-        (seen (W.contents out.new) (W.Device.failed out.new) (W.Device.interrupted out.new)) }
+    ensures line { IsSaid (input_line file fault.line fault.kind) (W.seen out.old)
+        (W.seen out.new) }
 {
     let kind = fault.kind;
     if kind == FaultKind::OutOfMemory {
@@ -183,8 +182,8 @@ fn say_input<W: ByteOut>(file: FileWord, fault: InputFault, out: &mut W) -> u8
 /// Tells why a report is not whole.
 fn say_answer<W: ByteOut>(fault: AnswerFault, out: &mut W) -> u8
     ensures status { result ≡ answer_status fault }
-    ensures line { IsSaid (answer_line fault) (seen (W.contents out.old) (W.Device.failed out.old) (W.Device.interrupted out.old))
-        (seen (W.contents out.new) (W.Device.failed out.new) (W.Device.interrupted out.new)) }
+    ensures line { IsSaid (answer_line fault) (W.seen out.old)
+        (W.seen out.new) }
 {
     match fault {
         AnswerFault::Read { file, fault } => say_read(file, fault, out),
@@ -207,8 +206,8 @@ fn say_answer<W: ByteOut>(fault: AnswerFault, out: &mut W) -> u8
 /// Tells why a report is refused.
 fn say_check<W: ByteOut>(fault: CheckFault, out: &mut W) -> u8
     ensures status { result ≡ refused_status fault }
-    ensures line { IsSaid (refused_line fault) (seen (W.contents out.old) (W.Device.failed out.old) (W.Device.interrupted out.old))
-        (seen (W.contents out.new) (W.Device.failed out.new) (W.Device.interrupted out.new)) }
+    ensures line { IsSaid (refused_line fault) (W.seen out.old)
+        (W.seen out.new) }
 {
     match fault {
         CheckFault::BadLine(line) => put_verdict("1 BadLine", line, out),
@@ -228,8 +227,8 @@ fn say_check<W: ByteOut>(fault: CheckFault, out: &mut W) -> u8
 /// the output is at fault, 5 where a report is refused. It takes no memory.
 pub fn say<W: ByteOut>(outcome: &Outcome, out: &mut W) -> u8
     ensures status { result ≡ status_of outcome.now }
-    ensures line { IsSaid (line_of outcome.now) (seen (W.contents out.old) (W.Device.failed out.old) (W.Device.interrupted out.old))
-        (seen (W.contents out.new) (W.Device.failed out.new) (W.Device.interrupted out.new)) }
+    ensures line { IsSaid (line_of outcome.now) (W.seen out.old)
+        (W.seen out.new) }
 {
     match outcome {
         Outcome::Command(fault) => say_command(fault, out),

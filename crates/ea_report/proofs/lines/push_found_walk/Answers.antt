@@ -4,7 +4,6 @@ use Rattle.std.specs.Prelude.{Option, Result, Ok, Err, OnOk}
 use Rattle.std.specs.Option.{is_some}
 use Rattle.ea_road.specs.declared.TheConstants.{NONE}
 use Rattle.ea_road.specs.Labels.{label_of, time_of}
-use Rattle.ea_road.specs.Roads.{IsNode}
 use Rattle.ea_finish.specs.declared.link.Link.{Link}
 use Rattle.ea_finish.specs.declared.link.TheConstants.{NO_LEVEL}
 use Rattle.ea_finish.specs.Links.{link, linked_walk}

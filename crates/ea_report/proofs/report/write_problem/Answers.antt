@@ -1,10 +1,9 @@
 use Rattle.ea_report.specs.Report.{problem_text}
-use Rattle.ea_report.specs.Sent.{seen}
 use Rattle.ea_report.proofs.Pieces.{given_up}
 use Rattle.ea_report.proofs.report.write_problem.Goals as goal
 
 pub returns-clause-device : goal.returns-clause-device
 returns-clause-device g c =
-    let first = seen (g.W.ByteOut.contents c.args.out.now) (g.W.Device.failed c.args.out.now) (g.W.Device.interrupted c.args.out.now) in
-    let now = seen (g.W.ByteOut.contents c.send_problem.new.out) (g.W.Device.failed c.send_problem.new.out) (g.W.Device.interrupted c.send_problem.new.out) in
+    let first = g.W.Device.seen c.args.out.now in
+    let now = g.W.Device.seen c.send_problem.new.out in
     given_up c.send_problem.result first now (problem_text c.args.options.walks c.args.network.now.nodes c.args.query.now c.args.answer.now) c.send_problem.ensures.err

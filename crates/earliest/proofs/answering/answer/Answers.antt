@@ -1,13 +1,12 @@
 use Rattle.std.proofs.Common.{rules, ◌≤◌, ◌<◌, length, sym, ◌∙◌, subst, refl, ap}
-use Rattle.std.specs.Prelude.{All, option_map}
+use Rattle.std.specs.Prelude.{All}
 use Rattle.std.proofs.lemmas.Result.{err_from_is_err_and}
 use Rattle.ea_input.specs.Sources.{DenotesSources}
 use Rattle.ea_input.specs.Formats.{table_format}
 use Rattle.ea_files.specs.declared.fault.FileWord.TheVariants.{Tp}
-use Rattle.ea_files.specs.Files.{IsBorneIfThere, IsFaultIfThere, reading}
+use Rattle.ea_files.specs.Files.{bytes_there, IsBorneIfThere, IsFaultIfThere, reading}
 use Rattle.ea_files.specs.Starts.{AreWithin, run_problems}
 use Rattle.ea_files.proofs.Denoting.{sources_are_nodes}
-use Rattle.ea_report.specs.Sent.{seen}
 use Rattle.earliest.specs.Fronts.{AreProblems}
 use Rattle.earliest.specs.Runs.{run_asks}
 use Rattle.earliest.proofs.Outcomes.{given_is_sound, files_failed, answered, failed}
@@ -18,7 +17,7 @@ pub returns-in_err-files-clause-failed : goal.returns-in_err-files-clause-failed
 returns-in_err-files-clause-failed g c =
     let p = err_from_is_err_and c.from_residual.result c.from_residual.ensures.1 in
     let o = c.args.options.now in
-    rw (p.1, p.2) (files_failed (run_asks o.joint o.depart o.gap) o (option_map g.T.ByteIn.remaining c.args.tp.now) _ _ _ _ _ _ c.in_err-files.ensures.fault)
+    rw (p.1, p.2) (files_failed (run_asks o.joint o.depart o.gap) o (bytes_there g.T.Device.seen c.args.tp.now) _ _ _ _ _ _ c.in_err-files.ensures.fault)
 
 pub run_queries-requires-clause-nodes : goal.run_queries-requires-clause-nodes
 run_queries-requires-clause-nodes g c =
@@ -54,9 +53,9 @@ returns-clause-answered g c =
     let o = c.args.options.now in
     let within : AreWithin o.depart o.gap (length files.sources.items) = search rules in
     let queries = c.deref-2.ensures.value ∙ c.in_ok-queries.ensures ∙ ap (run_problems o.joint o.depart o.gap) c.deref.ensures.value in
-    answered (run_asks o.joint o.depart o.gap) o (option_map g.T.ByteIn.remaining c.args.tp.now) (g.G.ByteIn.remaining c.args.gr.now) (g.S.ByteIn.remaining c.args.ss.now) given.0 files.sources.items given.1 within files.road given.2
-    c.deref-2.result.now queries (seen (g.W.ByteOut.contents c.args.out.now) (g.W.Device.failed c.args.out.now) (g.W.Device.interrupted c.args.out.now))
-    (seen (g.W.ByteOut.contents c.report_all.new.out) (g.W.Device.failed c.report_all.new.out) (g.W.Device.interrupted c.report_all.new.out)) c.report_all.result c.report_all.ensures.ok
+    answered (run_asks o.joint o.depart o.gap) o (bytes_there g.T.Device.seen c.args.tp.now) (g.G.Device.seen c.args.gr.now).bytes (g.S.Device.seen c.args.ss.now).bytes given.0 files.sources.items given.1 within files.road given.2
+    c.deref-2.result.now queries (g.W.Device.seen c.args.out.now)
+    (g.W.Device.seen c.report_all.new.out) c.report_all.result c.report_all.ensures.ok
 
 pub returns-clause-failed : goal.returns-clause-failed
 returns-clause-failed g c =
@@ -65,12 +64,12 @@ returns-clause-failed g c =
     let o = c.args.options.now in
     let within : AreWithin o.depart o.gap (length files.sources.items) = search rules in
     let queries = c.deref-2.ensures.value ∙ c.in_ok-queries.ensures ∙ ap (run_problems o.joint o.depart o.gap) c.deref.ensures.value in
-    failed (run_asks o.joint o.depart o.gap) o (option_map g.T.ByteIn.remaining c.args.tp.now) (g.G.ByteIn.remaining c.args.gr.now) (g.S.ByteIn.remaining c.args.ss.now) given.0 files.sources.items given.1 within files.road given.2
+    failed (run_asks o.joint o.depart o.gap) o (bytes_there g.T.Device.seen c.args.tp.now) (g.G.Device.seen c.args.gr.now).bytes (g.S.Device.seen c.args.ss.now).bytes given.0 files.sources.items given.1 within files.road given.2
     c.deref-2.result.now queries
-    (reading (g.G.ByteIn.remaining c.args.gr.now) (g.G.Device.failed c.args.gr.now) (g.G.Device.failed c.read_run.new.gr) (g.G.Device.interrupted c.args.gr.now) (g.G.Device.interrupted c.read_run.new.gr))
-    (reading (g.S.ByteIn.remaining c.args.ss.now) (g.S.Device.failed c.args.ss.now) (g.S.Device.failed c.read_run.new.ss) (g.S.Device.interrupted c.args.ss.now) (g.S.Device.interrupted c.read_run.new.ss))
-    (λ arcs. IsFaultIfThere g.T.ByteIn.remaining g.T.Device.failed g.T.Device.interrupted Tp (table_format arcs) c.args.tp.now c.read_run.new.tp)
-    (IsBorneIfThere g.T.Device.failed g.T.Device.interrupted c.args.tp.now c.read_run.new.tp)
-    (seen (g.W.ByteOut.contents c.args.out.now) (g.W.Device.failed c.args.out.now) (g.W.Device.interrupted c.args.out.now))
-    (seen (g.W.ByteOut.contents c.report_all.new.out) (g.W.Device.failed c.report_all.new.out) (g.W.Device.interrupted c.report_all.new.out))
+    (reading g.G.Device.seen c.args.gr.now c.read_run.new.gr)
+    (reading g.S.Device.seen c.args.ss.now c.read_run.new.ss)
+    (λ arcs. IsFaultIfThere g.T.Device.seen Tp (table_format arcs) c.args.tp.now c.read_run.new.tp)
+    (IsBorneIfThere g.T.Device.seen c.args.tp.now c.read_run.new.tp)
+    (g.W.Device.seen c.args.out.now)
+    (g.W.Device.seen c.report_all.new.out)
     (c.in_ok-files.ensures.gr_borne, c.in_ok-files.ensures.ss_borne, c.in_ok-files.ensures.tp_borne) refl refl c.report_all.result c.report_all.ensures.err

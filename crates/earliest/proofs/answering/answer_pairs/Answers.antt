@@ -1,13 +1,12 @@
 use Rattle.std.proofs.Common.{rules, ℕ, ◌≤◌, ◌<◌, length, sym, ◌∙◌, subst, refl, ap}
-use Rattle.std.specs.Prelude.{All, option_map}
+use Rattle.std.specs.Prelude.{All}
 use Rattle.std.proofs.lemmas.Result.{err_from_is_err_and}
 use Rattle.ea_input.specs.Pairs.{DenotesPairs}
 use Rattle.ea_input.specs.Formats.{table_format}
 use Rattle.ea_files.specs.declared.fault.FileWord.TheVariants.{Tp}
-use Rattle.ea_files.specs.Files.{IsBorneIfThere, IsFaultIfThere, reading}
+use Rattle.ea_files.specs.Files.{bytes_there, IsBorneIfThere, IsFaultIfThere, reading}
 use Rattle.ea_files.specs.Starts.{AreWithin, pair_problems}
 use Rattle.ea_files.proofs.Denoting.{pairs_are_nodes}
-use Rattle.ea_report.specs.Sent.{seen}
 use Rattle.earliest.specs.Fronts.{AreProblems}
 use Rattle.earliest.specs.Runs.{pair_asks}
 use Rattle.earliest.proofs.Outcomes.{given_is_sound, files_failed, answered, failed}
@@ -18,7 +17,7 @@ pub returns-in_err-files-clause-failed : goal.returns-in_err-files-clause-failed
 returns-in_err-files-clause-failed g c =
     let p = err_from_is_err_and c.from_residual.result c.from_residual.ensures.1 in
     let o = c.args.options.now in
-    rw (p.1, p.2) (files_failed (pair_asks o.depart o.gap) o (option_map g.T.ByteIn.remaining c.args.tp.now) _ _ _ _ _ _ c.in_err-files.ensures.fault)
+    rw (p.1, p.2) (files_failed (pair_asks o.depart o.gap) o (bytes_there g.T.Device.seen c.args.tp.now) _ _ _ _ _ _ c.in_err-files.ensures.fault)
 
 pub pair_queries-requires-clause-pairs : goal.pair_queries-requires-clause-pairs
 pair_queries-requires-clause-pairs g c =
@@ -54,9 +53,9 @@ returns-clause-answered g c =
     let o = c.args.options.now in
     let within : AreWithin o.depart o.gap (length files.pairs.items) = search rules in
     let queries = c.deref-2.ensures.value ∙ c.in_ok-queries.ensures ∙ ap (pair_problems o.depart o.gap 0) c.deref.ensures.value in
-    answered (pair_asks o.depart o.gap) o (option_map g.T.ByteIn.remaining c.args.tp.now) (g.G.ByteIn.remaining c.args.gr.now) (g.P.ByteIn.remaining c.args.p2p.now) given.0 files.pairs.items given.1 within files.road given.2
-    c.deref-2.result.now queries (seen (g.W.ByteOut.contents c.args.out.now) (g.W.Device.failed c.args.out.now) (g.W.Device.interrupted c.args.out.now))
-    (seen (g.W.ByteOut.contents c.report_all.new.out) (g.W.Device.failed c.report_all.new.out) (g.W.Device.interrupted c.report_all.new.out)) c.report_all.result c.report_all.ensures.ok
+    answered (pair_asks o.depart o.gap) o (bytes_there g.T.Device.seen c.args.tp.now) (g.G.Device.seen c.args.gr.now).bytes (g.P.Device.seen c.args.p2p.now).bytes given.0 files.pairs.items given.1 within files.road given.2
+    c.deref-2.result.now queries (g.W.Device.seen c.args.out.now)
+    (g.W.Device.seen c.report_all.new.out) c.report_all.result c.report_all.ensures.ok
 
 pub returns-clause-failed : goal.returns-clause-failed
 returns-clause-failed g c =
@@ -65,12 +64,12 @@ returns-clause-failed g c =
     let o = c.args.options.now in
     let within : AreWithin o.depart o.gap (length files.pairs.items) = search rules in
     let queries = c.deref-2.ensures.value ∙ c.in_ok-queries.ensures ∙ ap (pair_problems o.depart o.gap 0) c.deref.ensures.value in
-    failed (pair_asks o.depart o.gap) o (option_map g.T.ByteIn.remaining c.args.tp.now) (g.G.ByteIn.remaining c.args.gr.now) (g.P.ByteIn.remaining c.args.p2p.now) given.0 files.pairs.items given.1 within files.road given.2
+    failed (pair_asks o.depart o.gap) o (bytes_there g.T.Device.seen c.args.tp.now) (g.G.Device.seen c.args.gr.now).bytes (g.P.Device.seen c.args.p2p.now).bytes given.0 files.pairs.items given.1 within files.road given.2
     c.deref-2.result.now queries
-    (reading (g.G.ByteIn.remaining c.args.gr.now) (g.G.Device.failed c.args.gr.now) (g.G.Device.failed c.read_trips.new.gr) (g.G.Device.interrupted c.args.gr.now) (g.G.Device.interrupted c.read_trips.new.gr))
-    (reading (g.P.ByteIn.remaining c.args.p2p.now) (g.P.Device.failed c.args.p2p.now) (g.P.Device.failed c.read_trips.new.p2p) (g.P.Device.interrupted c.args.p2p.now) (g.P.Device.interrupted c.read_trips.new.p2p))
-    (λ arcs. IsFaultIfThere g.T.ByteIn.remaining g.T.Device.failed g.T.Device.interrupted Tp (table_format arcs) c.args.tp.now c.read_trips.new.tp)
-    (IsBorneIfThere g.T.Device.failed g.T.Device.interrupted c.args.tp.now c.read_trips.new.tp)
-    (seen (g.W.ByteOut.contents c.args.out.now) (g.W.Device.failed c.args.out.now) (g.W.Device.interrupted c.args.out.now))
-    (seen (g.W.ByteOut.contents c.report_all.new.out) (g.W.Device.failed c.report_all.new.out) (g.W.Device.interrupted c.report_all.new.out))
+    (reading g.G.Device.seen c.args.gr.now c.read_trips.new.gr)
+    (reading g.P.Device.seen c.args.p2p.now c.read_trips.new.p2p)
+    (λ arcs. IsFaultIfThere g.T.Device.seen Tp (table_format arcs) c.args.tp.now c.read_trips.new.tp)
+    (IsBorneIfThere g.T.Device.seen c.args.tp.now c.read_trips.new.tp)
+    (g.W.Device.seen c.args.out.now)
+    (g.W.Device.seen c.report_all.new.out)
     (c.in_ok-files.ensures.gr_borne, c.in_ok-files.ensures.p2p_borne, c.in_ok-files.ensures.tp_borne) refl refl c.report_all.result c.report_all.ensures.err

@@ -1,9 +1,9 @@
 use Rattle.std.proofs.Common.{rules, ◌≡◌, ◌<◌, length, sym, ◌∙◌, subst, ap}
-use Rattle.std.specs.Prelude.{All, None, option_map}
+use Rattle.std.specs.Prelude.{All, None}
 use Rattle.std.proofs.lemmas.Result.{err_from_is_err_and}
 use Rattle.ea_input.specs.Sources.{DenotesSources}
 use Rattle.ea_road.specs.Queries.{Asking}
-use Rattle.ea_files.specs.Files.{reading}
+use Rattle.ea_files.specs.Files.{bytes_there, reading}
 use Rattle.ea_files.specs.Starts.{AreWithin, run_problems}
 use Rattle.ea_files.proofs.Denoting.{sources_are_nodes}
 use Rattle.earliest.specs.Fronts.{AreProblems}
@@ -17,7 +17,7 @@ pub returns-in_err-files-clause-unjudged : goal.returns-in_err-files-clause-unju
 returns-in_err-files-clause-unjudged g c =
     let p = err_from_is_err_and c.from_residual.result c.from_residual.ensures.1 in
     let o = c.args.options.now in
-    rw (p.1, p.2) (run_failed o.joint o.depart o.gap (option_map g.T.ByteIn.remaining c.args.tp.now) _ _ _ _ _ _ _ c.in_err-files.ensures.fault)
+    rw (p.1, p.2) (run_failed o.joint o.depart o.gap (bytes_there g.T.Device.seen c.args.tp.now) _ _ _ _ _ _ _ c.in_err-files.ensures.fault)
 
 pub run_queries-requires-clause-nodes : goal.run_queries-requires-clause-nodes
 run_queries-requires-clause-nodes g c =
@@ -45,5 +45,5 @@ returns-clause-judged g c =
     let o = c.args.options.now in
     let within : AreWithin o.depart o.gap (length files.sources.items) = search rules in
     let queries = c.deref-2.ensures.value ∙ c.in_ok-queries.ensures ∙ ap (run_problems o.joint o.depart o.gap) c.deref.ensures.value in
-    judged o.joint o.depart o.gap (option_map g.T.ByteIn.remaining c.args.tp.now) (g.G.ByteIn.remaining c.args.gr.now) (g.S.ByteIn.remaining c.args.ss.now) (reading (g.R.ByteIn.remaining c.args.report.now) (g.R.Device.failed c.args.report.now) (g.R.Device.failed c.read_report.new.report) (g.R.Device.interrupted c.args.report.now) (g.R.Device.interrupted c.read_report.new.report)) (g.R.ByteIn.remaining c.read_report.new.report) given.0 files.sources.items c.in_ok-text.text.items given.1 (record { is_text = c.in_ok-text.ensures.text; end = c.in_ok-text.ensures.end }) within files.road given.2
+    judged o.joint o.depart o.gap (bytes_there g.T.Device.seen c.args.tp.now) (g.G.Device.seen c.args.gr.now).bytes (g.S.Device.seen c.args.ss.now).bytes (reading g.R.Device.seen c.args.report.now c.read_report.new.report) (g.R.Device.seen c.read_report.new.report).bytes given.0 files.sources.items c.in_ok-text.text.items given.1 (record { is_text = c.in_ok-text.ensures.text; end = c.in_ok-text.ensures.end }) within files.road given.2
     c.deref-2.result.now queries c.deref-3.result.now c.deref-3.ensures.value c.check.result c.check.ensures

@@ -1,16 +1,15 @@
-use Rattle.ea_report.specs.Sent.{seen}
 use Rattle.earliest.specs.Fronts.{times_on}
 use Rattle.earliest.proofs.Sending.{totals_cut, all_written}
 use Rattle.earliest.proofs.progress.report_all.Goals as goal
 
 pub returns-in-Ok-clause-ok : goal.returns-in-Ok-clause-ok
 returns-in-Ok-clause-ok g c =
-    let now = seen (g.W.ByteOut.contents c.write_totals.new.out) (g.W.Device.failed c.write_totals.new.out) (g.W.Device.interrupted c.write_totals.new.out) in
+    let now = g.W.Device.seen c.write_totals.new.out in
     all_written c.args.options.now c.args.road.now.network (times_on c.args.road.now) c.args.queries.now _ _ now _ c.in_ok-progress.progress.totals c.in_ok-progress.ensures.ok c.in-Ok.ensures.ok c.in-Ok.ensures.borne c.in_ok-progress.ensures.counted c.in_ok-progress.ensures.balanced
 
 pub returns-in-Err-clause-err : goal.returns-in-Err-clause-err
 returns-in-Err-clause-err g c =
-    let now = seen (g.W.ByteOut.contents c.write_totals.new.out) (g.W.Device.failed c.write_totals.new.out) (g.W.Device.interrupted c.write_totals.new.out) in
-    let first = seen (g.W.ByteOut.contents c.args.out.now) (g.W.Device.failed c.args.out.now) (g.W.Device.interrupted c.args.out.now) in
+    let now = g.W.Device.seen c.write_totals.new.out in
+    let first = g.W.Device.seen c.args.out.now in
     let cut = c.in-Err.ensures.err in
     rw cut.2 (totals_cut c.args.options.now c.args.road.now.network (times_on c.args.road.now) c.args.queries.now first _ now c.in_ok-progress.progress.written c.in_ok-progress.progress.totals c.in_ok-progress.ensures.ok cut.0 cut.1 c.in_ok-progress.ensures.counted cut.3 cut.4)

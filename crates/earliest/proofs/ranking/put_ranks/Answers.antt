@@ -2,7 +2,7 @@ use Rattle.std.proofs.Common.{◌≡◌, ℕ, List, [], ◌++◌, subst}
 use Rattle.std.specs.Prelude.{IfErr, decimal}
 use Rattle.std.specs.List.{flat_map}
 use Rattle.ea_report.specs.Report.{source_line}
-use Rattle.ea_report.specs.Sent.{Stops, seen}
+use Rattle.ea_report.specs.Sent.{Stops}
 use Rattle.earliest.specs.Ranks.{rank_line}
 use Rattle.earliest.proofs.Ranked.{two_lines}
 use Rattle.earliest.proofs.ranking.put_ranks.Goals as goal
@@ -11,7 +11,7 @@ pub returns-clause-err : goal.returns-clause-err
 returns-clause-err g c =
     let source = c.args.source in
     let summary = c.args.summary in
-    let old = seen (g.W.ByteOut.contents c.args.out.now) (g.W.Device.failed c.args.out.now) (g.W.Device.interrupted c.args.out.now) in
-    let now = seen (g.W.ByteOut.contents c.put_pieces.new.out) (g.W.Device.failed c.put_pieces.new.out) (g.W.Device.interrupted c.put_pieces.new.out) in
+    let old = g.W.Device.seen c.args.out.now in
+    let now = g.W.Device.seen c.put_pieces.new.out in
     let text : flat_map (λ piece. piece.now) c.as_slice-7.result.now ≡ source_line source ++ rank_line summary = rw (c.as_slice-7.ensures, c.as_slice.ensures, c.as_bytes.ensures.value, c.format.ensures.text, c.as_slice-2.ensures, c.as_bytes-2.ensures.value, c.format-2.ensures.text, c.as_slice-3.ensures, c.as_bytes-3.ensures.value, c.format-3.ensures.text, c.as_slice-4.ensures, c.as_bytes-4.ensures.value, c.format-4.ensures.text, c.as_slice-5.ensures, c.as_bytes-5.ensures.value, c.format-5.ensures.text, c.as_slice-6.ensures) (two_lines (decimal source.node) (decimal source.departure) (decimal summary.pops) (decimal summary.greatest) (decimal summary.sum)) in
     subst (λ (t : List ℕ). IfErr c.put_pieces.result (λ fault. Stops old [] c.args.direct.now.written c.args.direct.now.interruptions now fault t)) text c.put_pieces.ensures.err

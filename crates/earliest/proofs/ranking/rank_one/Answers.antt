@@ -1,4 +1,3 @@
-use Rattle.ea_report.specs.Sent.{seen}
 use Rattle.earliest.specs.Fronts.{times_on}
 use Rattle.earliest.proofs.Ranked.{rank_text, stops_for_device}
 use Rattle.earliest.proofs.ranking.rank_one.Goals as goal
@@ -9,8 +8,8 @@ returns-in-Ok-put_ranks-clause-ok g c =
 
 pub returns-clause-err : goal.returns-clause-err
 returns-clause-err g c =
-    let old = seen (g.W.ByteOut.contents c.args.out.now) (g.W.Device.failed c.args.out.now) (g.W.Device.interrupted c.args.out.now) in
-    let now = seen (g.W.ByteOut.contents c.put_ranks.new.out) (g.W.Device.failed c.put_ranks.new.out) (g.W.Device.interrupted c.put_ranks.new.out) in (
+    let old = g.W.Device.seen c.args.out.now in
+    let now = g.W.Device.seen c.put_ranks.new.out in (
       _,
       rank_text c.args.heaps c.args.seed c.args.road.now.network (times_on c.args.road.now) c.args.query.now c.sources.result.now _ c.in-Ok.found.items c.deref.result.now c.of.result c.sources.ensures.sources c.requires.one.one c.in-Ok.ensures c.deref.ensures.value c.of.ensures,
       stops_for_device old now _ c.args.direct.now.written c.args.direct.now.interruptions c.in-Err.fault c.in-Err.ensures.device c.in-Err.ensures.err,

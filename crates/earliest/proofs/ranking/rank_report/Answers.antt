@@ -1,13 +1,12 @@
 use Rattle.std.proofs.Common.{rules, ℕ, ◌≤◌, ◌<◌, false, length, sym, ◌∙◌, subst, ap, arith}
-use Rattle.std.specs.Prelude.{All, IfErr, IsTrue, OnOk, option_map}
+use Rattle.std.specs.Prelude.{All, IfErr, IsTrue, OnOk}
 use Rattle.std.proofs.lemmas.Result.{err_from_is_err_and}
 use Rattle.ea_input.specs.Sources.{DenotesSources}
 use Rattle.ea_input.specs.Formats.{table_format}
 use Rattle.ea_files.specs.declared.fault.FileWord.TheVariants.{Tp}
-use Rattle.ea_files.specs.Files.{IsFaultIfThere, reading}
+use Rattle.ea_files.specs.Files.{bytes_there, IsFaultIfThere, reading}
 use Rattle.ea_files.specs.Starts.{AreWithin, run_problems}
 use Rattle.ea_files.proofs.Denoting.{sources_are_nodes}
-use Rattle.ea_report.specs.Sent.{seen}
 use Rattle.earliest.specs.Fronts.{AreProblems, times_on}
 use Rattle.earliest.specs.Ranks.{HasOneSource, IsRanking, IsRankingCut, heaps_of}
 use Rattle.earliest.proofs.Asking.{each_alone}
@@ -20,7 +19,7 @@ pub returns-in_err-files-clause-unranked : goal.returns-in_err-files-clause-unra
 returns-in_err-files-clause-unranked g c =
     let p = err_from_is_err_and c.from_residual.result c.from_residual.ensures.1 in
     let o = c.args.options.now in
-    rw (p.1, p.2) (files_at_fault (heaps_of o) o.seed o.depart o.gap (option_map g.T.ByteIn.remaining c.args.tp.now) _ _ _ _ _ c.in_err-files.ensures.fault)
+    rw (p.1, p.2) (files_at_fault (heaps_of o) o.seed o.depart o.gap (bytes_there g.T.Device.seen c.args.tp.now) _ _ _ _ _ c.in_err-files.ensures.fault)
 
 pub run_queries-requires-clause-nodes : goal.run_queries-requires-clause-nodes
 run_queries-requires-clause-nodes g c =
@@ -64,11 +63,11 @@ returns-clause-ranked g c =
     let fits : IsTrue c.departures_fit.result = search rules in
     let within : AreWithin o.depart o.gap (length files.sources.items) = λ i inside. c.departures_fit.ensures.0 fits i (omega (arith, inside, files.sources.ok.0)) in
     let queries = c.deref-2.ensures.value ∙ c.in_ok-queries.ensures ∙ ap (run_problems false o.depart o.gap) c.deref.ensures.value in
-    let first = seen (g.W.ByteOut.contents c.args.out.now) (g.W.Device.failed c.args.out.now) (g.W.Device.interrupted c.args.out.now) in
-    let now = seen (g.W.ByteOut.contents c.rank_each.new.out) (g.W.Device.failed c.rank_each.new.out) (g.W.Device.interrupted c.rank_each.new.out) in
+    let first = g.W.Device.seen c.args.out.now in
+    let now = g.W.Device.seen c.rank_each.new.out in
     let ok = subst (λ (h : ℕ). OnOk c.rank_each.result (IsRanking h o.seed files.road.network (times_on files.road) c.deref-2.result.now first now)) c.heaps_of_run-heaps.ensures.heaps c.rank_each.ensures.ok in
-    ranked (heaps_of o) o.seed o.depart o.gap (option_map g.T.ByteIn.remaining c.args.tp.now) given.0 files.sources.items within files.road given.2 c.deref-2.result.now queries
-    (g.G.ByteIn.remaining c.args.gr.now) (g.S.ByteIn.remaining c.args.ss.now) first now given.1 c.rank_each.result ok
+    ranked (heaps_of o) o.seed o.depart o.gap (bytes_there g.T.Device.seen c.args.tp.now) given.0 files.sources.items within files.road given.2 c.deref-2.result.now queries
+    (g.G.Device.seen c.args.gr.now).bytes (g.S.Device.seen c.args.ss.now).bytes first now given.1 c.rank_each.result ok
 
 pub returns-clause-unranked : goal.returns-clause-unranked
 returns-clause-unranked g c =
@@ -78,11 +77,11 @@ returns-clause-unranked g c =
     let fits : IsTrue c.departures_fit.result = search rules in
     let within : AreWithin o.depart o.gap (length files.sources.items) = λ i inside. c.departures_fit.ensures.0 fits i (omega (arith, inside, files.sources.ok.0)) in
     let queries = c.deref-2.ensures.value ∙ c.in_ok-queries.ensures ∙ ap (run_problems false o.depart o.gap) c.deref.ensures.value in
-    let first = seen (g.W.ByteOut.contents c.args.out.now) (g.W.Device.failed c.args.out.now) (g.W.Device.interrupted c.args.out.now) in
-    let now = seen (g.W.ByteOut.contents c.rank_each.new.out) (g.W.Device.failed c.rank_each.new.out) (g.W.Device.interrupted c.rank_each.new.out) in
+    let first = g.W.Device.seen c.args.out.now in
+    let now = g.W.Device.seen c.rank_each.new.out in
     let cut = subst (λ (h : ℕ). IfErr c.rank_each.result (IsRankingCut h o.seed files.road.network (times_on files.road) c.deref-2.result.now first now)) c.heaps_of_run-heaps.ensures.heaps c.rank_each.ensures.err in
-    unranked (heaps_of o) o.seed o.depart o.gap (option_map g.T.ByteIn.remaining c.args.tp.now) given.0 files.sources.items within files.road given.2 c.deref-2.result.now queries
-    (reading (g.G.ByteIn.remaining c.args.gr.now) (g.G.Device.failed c.args.gr.now) (g.G.Device.failed c.read_run.new.gr) (g.G.Device.interrupted c.args.gr.now) (g.G.Device.interrupted c.read_run.new.gr))
-    (reading (g.S.ByteIn.remaining c.args.ss.now) (g.S.Device.failed c.args.ss.now) (g.S.Device.failed c.read_run.new.ss) (g.S.Device.interrupted c.args.ss.now) (g.S.Device.interrupted c.read_run.new.ss))
-    (λ arcs. IsFaultIfThere g.T.ByteIn.remaining g.T.Device.failed g.T.Device.interrupted Tp (table_format arcs) c.args.tp.now c.read_run.new.tp)
+    unranked (heaps_of o) o.seed o.depart o.gap (bytes_there g.T.Device.seen c.args.tp.now) given.0 files.sources.items within files.road given.2 c.deref-2.result.now queries
+    (reading g.G.Device.seen c.args.gr.now c.read_run.new.gr)
+    (reading g.S.Device.seen c.args.ss.now c.read_run.new.ss)
+    (λ arcs. IsFaultIfThere g.T.Device.seen Tp (table_format arcs) c.args.tp.now c.read_run.new.tp)
     first now given.1 c.rank_each.result cut

@@ -1,11 +1,11 @@
 use Rattle.std.proofs.Common.{◌≡◌, ◌≤◌, ◌+◌, ◌*◌, ◌^◌}
 use Rattle.ea_report.specs.Report.{each_node, node_text}
-use Rattle.ea_report.specs.Sent.{Adds, seen}
+use Rattle.ea_report.specs.Sent.{Adds}
 use Rattle.ea_report.proofs.report.Pending.put_nodes.Given as goal
 
 abbrev pub invariant-loop-i : goal.invariant-loop-i
 invariant-loop-i g l = record {
   links : l.arcs.links ≡ l.answer.links;
-  added : Adds (seen (g.W.ByteOut.contents l.fn.out) (g.W.Device.failed l.fn.out) (g.W.Device.interrupted l.fn.out)) l.fn.self.text.items l.fn.self.written l.fn.self.interruptions (seen (g.W.ByteOut.contents l.out) (g.W.Device.failed l.out) (g.W.Device.interrupted l.out)) l.self.text.items l.self.written l.self.interruptions (each_node (node_text l.walks l.answer) l.i);
+  added : Adds (g.W.Device.seen l.fn.out) l.fn.self.text.items l.fn.self.written l.fn.self.interruptions (g.W.Device.seen l.out) l.self.text.items l.self.written l.self.interruptions (each_node (node_text l.walks l.answer) l.i);
   bound : l.self.written ≤ l.fn.self.written + l.i * 2 ^ 63;
 }

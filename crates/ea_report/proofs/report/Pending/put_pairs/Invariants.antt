@@ -1,11 +1,11 @@
 use Rattle.std.proofs.Common.{◌≤◌, ◌+◌, ◌*◌, ◌^◌, take}
 use Rattle.std.specs.List.{flat_map}
 use Rattle.ea_report.specs.Report.{pair_line}
-use Rattle.ea_report.specs.Sent.{Adds, seen}
+use Rattle.ea_report.specs.Sent.{Adds}
 use Rattle.ea_report.proofs.report.Pending.put_pairs.Given as goal
 
 abbrev pub invariant-loop-source : goal.invariant-loop-source
 invariant-loop-source g l = record {
-  added : Adds (seen (g.W.ByteOut.contents l.fn.out) (g.W.Device.failed l.fn.out) (g.W.Device.interrupted l.fn.out)) l.fn.self.text.items l.fn.self.written l.fn.self.interruptions (seen (g.W.ByteOut.contents l.out) (g.W.Device.failed l.out) (g.W.Device.interrupted l.out)) l.self.text.items l.self.written l.self.interruptions (flat_map (pair_line l.target) (take l.source-index l.sources));
+  added : Adds (g.W.Device.seen l.fn.out) l.fn.self.text.items l.fn.self.written l.fn.self.interruptions (g.W.Device.seen l.out) l.self.text.items l.self.written l.self.interruptions (flat_map (pair_line l.target) (take l.source-index l.sources));
   bound : l.self.written ≤ l.fn.self.written + l.source-index * 2 ^ 63;
 }

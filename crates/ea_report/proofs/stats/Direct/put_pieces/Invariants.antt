@@ -1,10 +1,10 @@
 use Rattle.std.proofs.Common.{◌≤◌, ◌+◌, ◌*◌, ◌^◌, take, []}
 use Rattle.std.specs.List.{flat_map}
-use Rattle.ea_report.specs.Sent.{Adds, seen}
+use Rattle.ea_report.specs.Sent.{Adds}
 use Rattle.ea_report.proofs.stats.Direct.put_pieces.Given as goal
 
 abbrev pub invariant-loop-piece : goal.invariant-loop-piece
 invariant-loop-piece g l = record {
-  added : Adds (seen (g.W.ByteOut.contents l.fn.out) (g.W.Device.failed l.fn.out) (g.W.Device.interrupted l.fn.out)) [] l.fn.self.written l.fn.self.interruptions (seen (g.W.ByteOut.contents l.out) (g.W.Device.failed l.out) (g.W.Device.interrupted l.out)) [] l.self.written l.self.interruptions (flat_map (λ piece. piece.now) (take l.piece-index l.pieces));
+  added : Adds (g.W.Device.seen l.fn.out) [] l.fn.self.written l.fn.self.interruptions (g.W.Device.seen l.out) [] l.self.written l.self.interruptions (flat_map (λ piece. piece.now) (take l.piece-index l.pieces));
   bound : l.self.written ≤ l.fn.self.written + l.piece-index * 2 ^ 64;
 }
