@@ -1,20 +1,24 @@
-# `make` builds the program, `make run` runs its main job, `make test` runs the whole gate (`rt ci`, then the table of tests/
-# with the program that `rt ci` has built), and `make cases` runs the table alone. `make part CRATES="ea_input"` runs the gate of
-# some crates and of those that they stand on.
-.PHONY: all run test part cases clean
+# `make` builds the program, `make run` runs its main job, `make test` runs the whole gate (`rt ci`, the edits that must be
+# refused, then the table of tests/ with the program that `rt ci` has built), and `make cases` runs the table alone.
+# `make try` runs the program with no proof, within about a minute. `make part CRATES="ea_input"` runs the gate of some crates
+# and of those that they stand on, with ABOVE=1 also of those that stand on them.
+.PHONY: all run try test part cases clean
 
 all:
-	cd crates/earliest_program && rt run > /dev/null
-	mkdir -p bin && cp crates/earliest_program/out/earliest_program bin/earliest
+	@python3 tools/build.py
 
 run: all
 	bin/earliest run examples/four-nodes.gr examples/four-nodes.ss --walks
+
+try:
+	@echo "earliest: the stored network, run with no proof (rt try); make run proves what it runs"
+	cd crates/earliest_program && rt try
 
 test:
 	python3 tests/gate.py
 
 part:
-	python3 tests/gate.py $(or $(CRATES),$(error name some crates: make part CRATES="ea_input"))
+	python3 tests/gate.py $(if $(ABOVE),--above) $(or $(CRATES),$(error name some crates: make part CRATES="ea_input"))
 
 cases: all
 	python3 tests/run.py bin/earliest

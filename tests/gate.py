@@ -1,7 +1,8 @@
-"""The whole gate: `rt ci`, and then the cases of tests/cases.txt with the program that it has built.
+"""The whole gate: `rt ci` on a copy without must-fail edits, the edits beside it and after it, and then the cases of
+tests/cases.txt with the program that `rt ci` has built. The last line counts what passed and failed of all of them.
 
-Where `rt ci` fails, its own last line is the last; else the last line counts what it passed and the cases.
-With names of crates: `rt ci` of a copy that has these crates and those that they stand on, and no others.
+With names of crates: the gate of these and of those that they stand on, and no cases; with --above before them, also of
+those that stand on them.
 """
 import os
 import re
@@ -9,67 +10,137 @@ import shutil
 import subprocess
 import sys
 import tempfile
+import threading
+import time
+from concurrent.futures import ThreadPoolExecutor
 
 sys.dont_write_bytecode = True
+import crates
+import edits
 import run
 
-ROOT = os.path.join(run.HERE, "..")
-PROGRAM = os.path.join(ROOT, "crates", "earliest_program", "out", "earliest_program")
+# Beside rt ci, which takes as much of the memory as it finds.
+LANES_BESIDE = 2
+LEFT_OUT = shutil.ignore_patterns("out", "must-fail", ".git", "bin", "__pycache__")
 
 
-def proved(root):
-    """Runs `rt ci` at the top of a repository, shows what it says, and answers its status and its last line."""
-    last = ""
-    with subprocess.Popen(["rt", "ci"], cwd=root, stdout=subprocess.PIPE, text=True, errors="replace") as ci:
-        for last in ci.stdout:
-            print(last, end="", flush=True)
-    return ci.returncode, last
+def copied(room, names):
+    """A copy of the repository in a folder, with these crates, and without edits."""
+    shutil.copytree(crates.ROOT, room, ignore=LEFT_OUT, dirs_exist_ok=True)
+    lines, _ = crates.listed()
+    for name in lines:
+        if name not in names:
+            shutil.rmtree(os.path.join(room, "crates", name))
+    with open(os.path.join(room, "crates.txt"), "w", encoding="utf-8") as file:
+        file.writelines(lines[name] for name in lines if name in names)
+    subprocess.run(["git", "init", "-q", room], check=True)
 
 
-def crates():
-    """The crates of the repository: their lines in crates.txt, and what they stand on, by name."""
-    lines, below = {}, {}
-    with open(os.path.join(ROOT, "crates.txt"), encoding="utf-8") as file:
-        for line in file:
-            words, found, stands_on = line.partition("#")[0].partition(":")
+class Proofs:
+    """A run of rt ci: what it says as it goes, which crates it has proved, and how it ended."""
+
+    def __init__(self, room):
+        self.proved, self.last, self.status = set(), "", None
+        self.process = subprocess.Popen(["rt", "ci"], cwd=room, stdout=subprocess.PIPE, text=True, errors="replace")
+        threading.Thread(target=self.follow, daemon=True).start()
+
+    def follow(self):
+        for line in self.process.stdout:
+            print(line, end="", flush=True)
+            found = re.fullmatch(r"rt: (\w+) proved\n", line)
             if found:
-                lines[words.split()[0]] = line
-                below[words.split()[0]] = stands_on.split()
-    return lines, below
+                self.proved.add(found[1])
+            self.last = line
+        self.status = self.process.wait()
 
 
-def part(names):
-    """The gate of some crates and of those that they stand on."""
-    lines, below = crates()
-    wanted, left = [], list(names)
-    while left:
-        name = left.pop()
-        if name not in wanted and name in lines:
-            wanted.append(name)
-            left += below[name]
-        elif name in names and name not in lines:
-            print(f"crates.txt names no crate {name}")
-            return 2
-    with tempfile.TemporaryDirectory(prefix="part-") as room:
-        subprocess.run(["git", "init", "-q", room], check=True)
-        shutil.copy(os.path.join(ROOT, "HANDLES"), room)
-        with open(os.path.join(room, "crates.txt"), "w", encoding="utf-8") as file:
-            file.writelines(line for name, line in lines.items() if name in wanted)
-        for name in wanted:
-            shutil.copytree(os.path.join(ROOT, "crates", name), os.path.join(room, "crates", name), ignore=shutil.ignore_patterns("out"))
-        return proved(room)[0]
+def tried(room, name, at):
+    """Whether each edit of a group was refused, and what is said of it."""
+    words = ["nice", sys.executable, os.path.join(run.HERE, "edits.py"), room, crates.ROOT, name, str(at)]
+    ran = subprocess.run(words, stdout=subprocess.PIPE, stderr=subprocess.STDOUT, text=True, errors="replace")
+    said = [line.partition(" ") for line in ran.stdout.splitlines() if re.match("refused |NOT ", line)]
+    for mark, _, text in said:
+        print("rt:", text, flush=True)
+    return said, ran.stdout if ran.returncode else ""
+
+
+def all_tried(room, names, uses, proofs):
+    """Tries the edits of these crates, each crate's once it and those below it are proved: how many were refused, how
+    many were not, and how many of those refused say little. None where the proofs failed."""
+    sizes = {name: edits.sizes(crates.ROOT, name) for name in names}
+    waiting = [(name, at) for name in names for at in range(len(sizes[name]))]
+    waiting.sort(key=lambda it: -sum(sizes[it[0]]))
+    running, given = {}, []
+    with ThreadPoolExecutor(crates.processors()) as pool:
+        while waiting or running:
+            lanes = LANES_BESIDE if proofs.status is None else crates.processors()
+            ready = [it for it in waiting if {it[0], *crates.below(it[0], uses)} & set(names) <= proofs.proved]
+            for it in ready[:max(0, lanes - len(running))]:
+                waiting.remove(it)
+                running[pool.submit(tried, room, *it)] = it
+            for ended in [it for it in running if it.done()]:
+                name, at = running.pop(ended)
+                said, why = ended.result()
+                given += said
+                if len(said) < sizes[name][at]:
+                    print(f"edits of {name} were not tried:\n{why}", flush=True)
+                    given += [("NOT", "", "")] * (sizes[name][at] - len(said))
+            if proofs.status:
+                waiting = []
+            time.sleep(0.2)
+    refused = [text for mark, _, text in given if mark == "refused"]
+    little = sum("says little of the contract" in text for text in refused)
+    return len(refused) - little, len(given) - len(refused), little
+
+
+def proved(room, names):
+    """Runs rt ci and the edits in a copy: how many passed and failed; none where rt ci failed."""
+    _, uses = crates.listed()
+    proofs = Proofs(room)
+    refused, unrefused, little = all_tried(room, names, uses, proofs)
+    while proofs.status is None:
+        time.sleep(0.2)
+    counts = re.fullmatch(r"(\d+) passed, (\d+) failed\n?", proofs.last)
+    if proofs.status or not counts or int(counts[2]):
+        return None
+    ill = [path for name in names for path in edits.ill_named(crates.ROOT, name)]
+    for path in ill:
+        print(f"{path}: an edit stands right in must-fail/, and its name ends in .edit")
+    print(f"edits: {refused} refused, {unrefused} not refused, {little} refused only because a proof names what they took away")
+    return int(counts[1]) + refused, unrefused + little + len(ill)
+
+
+def wanted(names, is_above):
+    """The named crates, those below them and, where that is asked for, those above them, in the order of crates.txt."""
+    lines, uses = crates.listed()
+    for name in names:
+        if name not in lines:
+            sys.exit(f"crates.txt names no crate {name}")
+    tops = {*names, *[it for name in names if is_above for it in crates.above(name, uses)]}
+    found = tops | {it for name in tops for it in crates.below(name, uses)}
+    return [name for name in lines if name in found]
 
 
 def main():
-    if sys.argv[1:]:
-        return part(sys.argv[1:])
-    status, last = proved(ROOT)
-    counts = re.fullmatch(r"(\d+) passed, (\d+) failed\n?", last)
-    if status or not counts or int(counts[2]):
-        return status or 1
-    passed, failed = run.run_all(PROGRAM)
-    print(f"cases of the program: {passed} passed, {failed} failed")
-    print(f"{int(counts[1]) + passed} passed, {failed} failed")
+    words = sys.argv[1:]
+    is_above = words[:1] == ["--above"]
+    asked = words[is_above:]
+    names = wanted(asked, is_above) if asked else list(crates.listed()[0])
+    with tempfile.TemporaryDirectory(prefix="gate-") as room:
+        copied(room, names)
+        begun = time.monotonic()
+        counts = proved(room, names)
+        print(f"proofs and edits took {time.monotonic() - begun:.0f} s")
+        if not counts:
+            print("0 passed, 1 failed")
+            return 1
+        passed, failed = counts
+        if not asked:
+            program = os.path.join(room, "crates", "earliest_program", "out", "earliest_program")
+            well, ill = run.run_all(program)
+            print(f"cases of the program: {well} passed, {ill} failed")
+            passed, failed = passed + well, failed + ill
+    print(f"{passed} passed, {failed} failed")
     return 1 if failed else 0
 
 

@@ -7,9 +7,12 @@ import resource
 import shlex
 import subprocess
 import sys
+import tempfile
 
 sys.dont_write_bytecode = True
-import schedules
+import large
+import opening
+import road_network
 
 HERE = os.path.dirname(os.path.abspath(__file__))
 EXAMPLES = os.path.join(HERE, "..", "examples")
@@ -44,15 +47,15 @@ def ran(program, words, out=subprocess.PIPE):
 
 def into_devices(program):
     """What the program does where its output can't be written: a full device, and a pipe that nobody reads."""
-    words = ["run", "four-nodes.gr", "four-nodes.ss"]
-    with open("/dev/full", "wb") as full:
-        yield "into a full device", ran(program, words, full)
-    reader, writer = os.pipe()
-    os.close(reader)
-    try:
-        yield "into a closed pipe", ran(program, words, writer)
-    finally:
-        os.close(writer)
+    for words in ("run four-nodes.gr four-nodes.ss", "pairs four-nodes.gr four-nodes.p2p", "rank four-nodes.gr four-nodes.ss"):
+        with open("/dev/full", "wb") as full:
+            yield f"into a full device: {words}", ran(program, words.split(), full)
+        reader, writer = os.pipe()
+        os.close(reader)
+        try:
+            yield f"into a closed pipe: {words}", ran(program, words.split(), writer)
+        finally:
+            os.close(writer)
 
 
 def no_text(program):
@@ -70,6 +73,36 @@ def scarce(program):
     return run.returncode, run.stdout, run.stderr
 
 
+def held(program):
+    """What the program does with a short file that announces the most arcs, where memory is far less than these would take."""
+    def limit():
+        resource.setrlimit(resource.RLIMIT_DATA, (2**26, 2**26))
+
+    with tempfile.NamedTemporaryFile("w", suffix=".gr") as file:
+        file.write("p sp 4 268435456\na 1 2 7\n")
+        file.flush()
+        run = subprocess.run([program, "run", file.name, "four-nodes.ss"], cwd=EXAMPLES, stdin=subprocess.DEVNULL, capture_output=True, timeout=60, preexec_fn=limit)
+    return run.returncode, run.stdout, run.stderr
+
+
+def alike(program):
+    """Pairs of runs whose outputs are to be equal, or different: seeds and numbers of heaps matter for statistics and rank
+    errors, and of the heaps only how many there are."""
+    road = "road.gr road.ss --tp road.tp --depart 1000"
+    for command, this, that, equal in (
+        ("run", "--stats --workers 1 --heaps 8 --seed 1", "--stats --workers 1 --heaps 8 --seed 2", False),
+        ("run", "--stats --workers 1 --heaps 8 --seed 2", "--stats --workers 1 --heaps 8 --seed 2", True),
+        ("run", "--stats --workers 1 --heaps 2", "--stats --workers 1 --heaps 8", False),
+        ("run", "--workers 1 --heaps 8 --seed 1", "--workers 16 --heaps 2 --seed 2 --turns 9", True),
+        ("rank", "--workers 1 --heaps 8 --seed 1", "--workers 1 --heaps 8 --seed 2", False),
+        ("rank", "--workers 2 --heaps 2", "--workers 1 --heaps 4", True),
+        ("rank", "--workers 4 --heaps 2", "--workers 1 --heaps 4", False),
+    ):
+        first, second = (ran(program, [command, *road.split(), *words.split()]) for words in (this, that))
+        was = first[0], second[0], first[1] == second[1], len(first[1]) > 0
+        yield f"{command} {road}: {this} beside {that}", was, (0, 0, equal, True)
+
+
 def run_all(program):
     """Runs all cases, tells which fail, and answers how many passed and failed."""
     program = os.path.abspath(program)
@@ -79,7 +112,11 @@ def run_all(program):
     refused = b"error: invalid UTF-8 was detected in one or more arguments\n\nFor more information, try '--help'.\n"
     results += [(name, result, (2, b"", refused)) for name, result in no_text(program)]
     results.append(("words beyond memory", scarce(program), (3, b"", b"earliest: 13 OutOfMemory\n")))
-    results += schedules.results(program)
+    results.append(("memory for what a file announces", held(program), (1, b"", b"earliest: gr 0: 8 TooFewLines\n")))
+    results += [(shlex.join(words), ran(program, words), wanted) for words, wanted in opening.cases()]
+    results += alike(program)
+    results += road_network.results(program)
+    results += large.results(program, EXAMPLES)
     failed = [(name, was) for name, was, want in results if was != want]
     for name, was in failed:
         print("failed:", name, *was)

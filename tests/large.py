@@ -1,0 +1,87 @@
+"""Networks at the size of real use, whose answers are known by a formula: the program has to answer them, within seconds."""
+import os
+import subprocess
+import tempfile
+
+NODES = 1_000_000
+STAR_NODES = 2_000_000
+STAR_ARCS = 5_000_000
+CLASSES = 65_535
+
+
+def write(folder, name, parts):
+    """Writes a file, part by part."""
+    with open(os.path.join(folder, name), "w", encoding="ascii") as file:
+        file.writelines(parts)
+
+
+def write_path(folder):
+    """A path over all nodes, each arc taking 1; its source, and the pair of its ends."""
+    arcs = "".join(f"a {node} {node + 1} 1\n" for node in range(1, NODES))
+    write(folder, "path.gr", [f"p sp {NODES} {NODES - 1}\n", arcs])
+    write(folder, "path.ss", ["p aux sp ss 1\ns 1\n"])
+    write(folder, "path.p2p", [f"p aux sp p2p 1\nq 1 {NODES}\n"])
+
+
+def path_report():
+    """The arrival at node V is V - 1."""
+    return "s 1 0\n" + "".join(f"d {node} {node - 1}\n" for node in range(1, NODES + 1))
+
+
+def path_pair_report():
+    """Its walk goes over all arcs."""
+    arcs = " ".join(map(str, range(1, NODES)))
+    return f"q 1 {NODES} 0\nd {NODES} {NODES - 1}\nw {NODES} {NODES - 1} {arcs}\n"
+
+
+def write_star(folder):
+    """From node 1 an arc to each other node, left at a second of its own, and as many slow arcs between neighbours."""
+    near = "".join(f"a 1 {node} {node}\n" for node in range(2, STAR_NODES + 1))
+    slow = "".join(f"a {2 + at % (STAR_NODES - 2)} {3 + at % (STAR_NODES - 2)} 4294967295\n" for at in range(STAR_ARCS - STAR_NODES + 1))
+    write(folder, "star.gr", [f"p sp {STAR_NODES} {STAR_ARCS}\n", near, slow])
+    write(folder, "star.ss", ["p aux sp ss 1\ns 1\n"])
+    kinds = "".join(f"k {number} every 65536 {number - 1}\n" for number in range(1, CLASSES + 1))
+    classes = "".join(f"t {node - 1} {(node - 2) % CLASSES + 1}\n" for node in range(2, STAR_NODES + 1))
+    write(folder, "star.tp", [f"p tp {CLASSES} {STAR_NODES - 1}\n", kinds, classes])
+
+
+def star_report():
+    """The arc to node V leaves at (V - 2) mod 65,535 and takes V."""
+    return "s 1 0\nd 1 0\n" + "".join(f"d {node} {(node - 2) % CLASSES + node}\n" for node in range(2, STAR_NODES + 1))
+
+
+def write_sources(folder):
+    """A node without arcs, and as many sources there as a file may have; four nodes from 10,000 sources."""
+    write(folder, "one.gr", ["p sp 1 0\n"])
+    write(folder, "million.ss", ["p aux sp ss 1000000\n", "s 1\n" * 1_000_000])
+    write(folder, "many.ss", ["p aux sp ss 10000\n", "s 1\ns 4\n" * 5_000])
+
+
+def many_report():
+    """What the nodes 1 and 4 of four-nodes.gr reach, again and again."""
+    return "s 1 0\nd 1 0\nd 2 5\nd 3 2\nd 4 6\ns 4 0\nd 1 inf\nd 2 inf\nd 3 inf\nd 4 0\n" * 5_000
+
+
+def results(program, examples):
+    """For each call its words, what it gave and what it must give."""
+    with tempfile.TemporaryDirectory(prefix="earliest-") as folder:
+        def ran(words, wanted):
+            run = subprocess.run([program, *words.split()], cwd=folder, stdin=subprocess.DEVNULL, capture_output=True, timeout=100)
+            was = (run.returncode, len(run.stdout), run.stdout == wanted.encode(), run.stderr)
+            return f"large: {words}", was, (0, len(wanted), True, b"")
+
+        write_path(folder)
+        yield ran("run path.gr path.ss", path_report())
+        yield ran("run path.gr path.ss --workers 16 --heaps 8", path_report())
+        yield ran("pairs path.gr path.p2p --walks", path_pair_report())
+        yield ran("rank path.gr path.ss --workers 16 --heaps 8", f"s 1 0\nr {NODES} 0 0\n")
+        write(folder, "path.report", [path_report()])
+        yield ran("check path.gr path.ss path.report", "ok\n")
+        write_star(folder)
+        yield ran("run star.gr star.ss --tp star.tp", star_report())
+        write_sources(folder)
+        yield ran("run one.gr million.ss --joint", "s 1 0\n" * 1_000_000 + "d 1 0\n")
+        four_nodes = os.path.join(examples, "four-nodes.gr")
+        yield ran(f"run {four_nodes} many.ss --workers 1", many_report())
+        write(folder, "many.report", [many_report()])
+        yield ran(f"check {four_nodes} many.ss many.report", "ok\n")

@@ -1,0 +1,19 @@
+"""Files that can't be opened: of each command, each file missing and each two, and which of them is told."""
+import itertools
+
+# The words of each command with its files, in the order in which they are opened: the file's word, and what names it.
+COMMANDS = {
+    "run": (["run", "{gr}", "{ss}", "--tp", "{tp}"], ("gr", "ss", "tp")),
+    "pairs": (["pairs", "{gr}", "{p2p}", "--tp", "{tp}"], ("gr", "p2p", "tp")),
+    "rank": (["rank", "{gr}", "{ss}", "--tp", "{tp}"], ("gr", "ss", "tp")),
+    "check": (["check", "{gr}", "{ss}", "{report}", "--tp", "{tp}"], ("gr", "ss", "tp", "report")),
+}
+THERE = {"gr": "every-ten.gr", "ss": "four-nodes.ss", "p2p": "every-ten.p2p", "tp": "every-ten.tp", "report": "every-ten.report"}
+
+
+def cases():
+    """Words, and what they must give: the first missing file in the order of opening is told, and nothing is read."""
+    for words, files in COMMANDS.values():
+        for missing in itertools.chain(itertools.combinations(files, 1), itertools.combinations(files, 2)):
+            names = {word: "nothing" if word in missing else name for word, name in THERE.items()}
+            yield [word.format(**names) for word in words], (4, b"", f"earliest: {missing[0]}: 15 OpenFailed\n".encode())
