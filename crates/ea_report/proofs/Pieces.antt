@@ -1,4 +1,4 @@
--- Bytes sent piece by piece, and interruptions counted.
+-- Texts on their way to a device.
 use Rattle.std.proofs.Common.{◌≡◌, ℕ, zero, suc, ◌+◌, ◌-◌, ◌^◌, ◌<◌, ◌≤◌, List, [], ◌∷◌, ◌++◌, length, take, drop, refl, ap, ap₂, sym, ◌∙◌, inl, inr, arith, subst, length-drop, length-append, append-nil, append_assoc, get_or}
 use Rattle.std.proofs.Math.Seq.{take-add, take-length, take-append-add}
 use Rattle.std.proofs.lemmas.List.{take-append-le}
@@ -8,7 +8,8 @@ use Rattle.std.specs.List.{flat_map}
 use Rattle.std.specs.Io.KnownBytes.{Appends}
 use Rattle.std.proofs.KnownBytes.{Appends-trans, Appends-nil}
 use Rattle.ea_text.specs.Device.{Seen, one_more, GivesUp, HasGivenUp}
-use Rattle.ea_report.specs.Sent.{AreCounted, HasBorne, IsNotLess, IsCutAt, IsCutBy, IsReason, IsUnderWay, IsWhole, Adds, Stops}
+use Rattle.ea_report.specs.Delivery.{Delivery, all_sent, with_more}
+use Rattle.ea_report.specs.Sent.{AreCounted, HasBorne, IsNotLess, IsCutAt, IsCutBy, IsReason, Delivers, IsWhole, Adds, Cuts, Stops}
 use Rattle.ea_report.specs.declared.report.WriteFault.{WriteFault}
 use Rattle.ea_report.specs.declared.report.WriteFaultKind.TheVariants.{WriteFailed}
 use native.Mathlib.Decide.{dec_le}
@@ -45,33 +46,33 @@ interrupted_gives_up first old now unfailed more h =
     inr (unfailed ∙ h.0, counted.0, counted.1)
 
 -- All that was pending is sent.
-pub under_way_sent : (first old now : Seen) (pending text : List ℕ) (written before after : ℕ) → Appends old.bytes now.bytes pending
-    → ((start : Seen) → HasBorne start old before → HasBorne start now after)
-    → IsUnderWay first old pending written before text → IsUnderWay first now [] (written + length pending) after text
-under_way_sent first old now pending text written before after sent more way = record {
-  sent = way.sent ++ pending;
-  appended = Appends-trans first.bytes old.bytes now.bytes way.sent pending way.appended sent;
-  whole = way.whole ∙ sym (append-nil (way.sent ++ pending));
-  counted = rw (way.counted, length-append way.sent pending) refl;
+pub delivery_sent : (first old now : Seen) (d : Delivery) (after : ℕ) (text : List ℕ) → Appends old.bytes now.bytes d.pending
+    → ((start : Seen) → HasBorne start old d.interruptions → HasBorne start now after)
+    → Delivers first old d text → Delivers first now (all_sent (d.written + length d.pending) after) text
+delivery_sent first old now d after text sent more way = record {
+  sent = way.sent ++ d.pending;
+  appended = Appends-trans first.bytes old.bytes now.bytes way.sent d.pending way.appended sent;
+  whole = way.whole ∙ sym (append-nil (way.sent ++ d.pending));
+  counted = rw (way.counted, length-append way.sent d.pending) refl;
   borne = more first way.borne;
 }
 
 -- Only a front of what was pending is sent.
-pub under_way_cut : (first old now : Seen) (pending text : List ℕ) (written borne sent : ℕ) → IsCutAt old.bytes now.bytes pending sent
-    → ((start : Seen) → HasBorne start old borne → GivesUp start now)
-    → IsUnderWay first old pending written borne text → IsCutBy first now text (record { written = written + sent; kind = WriteFailed })
-under_way_cut first old now pending text written borne sent cut reason way =
-    let front : take (written + sent) text ≡ way.sent ++ take sent pending = rw (way.counted, way.whole) (take-append-add way.sent pending sent) in (
-      (rw (way.counted, way.whole, length-append way.sent pending) (omega (arith, cut.0)), subst (λ t. Appends first.bytes now.bytes t) (sym front) (Appends-trans first.bytes old.bytes now.bytes way.sent (take sent pending) way.appended cut.1)),
+pub delivery_cut : (first old now : Seen) (d : Delivery) (text : List ℕ) (sent : ℕ) → IsCutAt old.bytes now.bytes d.pending sent
+    → ((start : Seen) → HasBorne start old d.interruptions → GivesUp start now)
+    → Delivers first old d text → IsCutBy first now text (record { written = d.written + sent; kind = WriteFailed })
+delivery_cut first old now d text sent cut reason way =
+    let front : take (d.written + sent) text ≡ way.sent ++ take sent d.pending = rw (way.counted, way.whole) (take-append-add way.sent d.pending sent) in (
+      (rw (way.counted, way.whole, length-append way.sent d.pending) (omega (arith, cut.0)), subst (λ t. Appends first.bytes now.bytes t) (sym front) (Appends-trans first.bytes old.bytes now.bytes way.sent (take sent d.pending) way.appended cut.1)),
       reason first way.borne,
     )
 
 -- More is pending.
-pub under_way_more : (first now : Seen) (pending text more : List ℕ) (written borne : ℕ) → IsUnderWay first now pending written borne text → IsUnderWay first now (pending ++ more) written borne (text ++ more)
-under_way_more first now pending text more written borne way = record {
+pub delivery_more : (first now : Seen) (d : Delivery) (text more : List ℕ) → Delivers first now d text → Delivers first now (with_more d more) (text ++ more)
+delivery_more first now d text more way = record {
   sent = way.sent;
   appended = way.appended;
-  whole = ap (λ t. t ++ more) way.whole ∙ append_assoc way.sent pending more;
+  whole = ap (λ t. t ++ more) way.whole ∙ append_assoc way.sent d.pending more;
   counted = way.counted;
   borne = way.borne;
 }
@@ -100,26 +101,26 @@ each_node-next text i =
     ap (each_node text) next ∙ ap (λ n. each_node text i ++ text n) (sym next)
 
 -- A text that stops where more of it is pending stops as the longer text.
-pub stops_after : {T : Type 0} (r : Result T WriteFault) (old new : Seen) (pending pending_more more : List ℕ) (written borne : ℕ) → pending_more ≡ pending ++ more
-    → IfErr r (λ fault. (first : Seen) (text : List ℕ) → IsUnderWay first old pending_more written borne text → IsCutBy first new text fault)
-    → IfErr r (λ fault. Stops old pending written borne new fault more)
-stops_after (Ok x) old new pending pending_more more written borne e h = tt
-stops_after (Err fault) old new pending pending_more more written borne e h = λ first text way.
-    h first (text ++ more) (rw e (under_way_more first old pending text more written borne way))
+pub stops_after : {T : Type 0} (r : Result T WriteFault) (old new : Seen) (d : Delivery) (pending more : List ℕ) → pending ≡ d.pending ++ more
+    → IfErr r (Cuts old (record d { pending = pending }) new)
+    → IfErr r (λ fault. Stops old d new fault more)
+stops_after (Ok x) old new d pending more e h = tt
+stops_after (Err fault) old new d pending more e h = λ first text way.
+    h first (text ++ more) (rw e (delivery_more first old d text more way))
 
 -- Nothing was added yet.
-pub adds_none : (old : Seen) (pending : List ℕ) (written borne : ℕ) → Adds old pending written borne old pending written borne []
-adds_none old pending written borne = λ first text way. rw (append-nil text) way
+pub adds_none : (old : Seen) (d : Delivery) → Adds old d old d []
+adds_none old d = λ first text way. rw (append-nil text) way
 
 -- More and more.
-pub adds_more : (a b c : Seen) (p q r : List ℕ) (m n o i j k : ℕ) (more next : List ℕ) → Adds a p m i b q n j more → Adds b q n j c r o k next → Adds a p m i c r o k (more ++ next)
-adds_more a b c p q r m n o i j k more next f g = λ first text way. subst (λ t. IsUnderWay first c r o k t) (append_assoc text more next) (g first (text ++ more) (f first text way))
+pub adds_more : (a b c : Seen) (d e f : Delivery) (more next : List ℕ) → Adds a d b e more → Adds b e c f next → Adds a d c f (more ++ next)
+adds_more a b c d e f more next one two = λ first text way. subst (λ t. Delivers first c f t) (append_assoc text more next) (two first (text ++ more) (one first text way))
 
 -- More, and then it stops; and what was still to come doesn't matter.
-pub stops_more : (a b c : Seen) (p q : List ℕ) (m n i j : ℕ) (fault : WriteFault) (more next rest whole : List ℕ) → whole ≡ (more ++ next) ++ rest → Adds a p m i b q n j more → Stops b q n j c fault next → Stops a p m i c fault whole
-stops_more a b c p q m n i j fault more next rest whole e f g = λ first text way.
-    let cut = cut_more first c ((text ++ more) ++ next) rest fault (g first (text ++ more) (f first text way)) in
-    let same : ((text ++ more) ++ next) ++ rest ≡ text ++ whole = rw e (simp append_assoc) in
+pub stops_more : (a b c : Seen) (d e : Delivery) (fault : WriteFault) (more next rest whole : List ℕ) → whole ≡ (more ++ next) ++ rest → Adds a d b e more → Stops b e c fault next → Stops a d c fault whole
+stops_more a b c d e fault more next rest whole is adds stops = λ first text way.
+    let cut = cut_more first c ((text ++ more) ++ next) rest fault (stops first (text ++ more) (adds first text way)) in
+    let same : ((text ++ more) ++ next) ++ rest ≡ text ++ whole = rw is (simp append_assoc) in
     subst (λ t. IsCutBy first c t fault) same cut
 
 -- A text of many parts, at one of them.
@@ -133,9 +134,11 @@ flat_map-next f [] i d h = absurd (omega arith)
 flat_map-next f (x ∷ xs) zero d h = append-nil (f x)
 flat_map-next f (x ∷ xs) (suc i) d h = ap (λ t. f x ++ t) (flat_map-next f xs i d (omega arith)) ∙ simp append_assoc
 
--- At the start nothing is under way.
-pub way_start : (now : Seen) (pending : List ℕ) (written borne : ℕ) → pending ≡ [] → written ≡ 0 → borne ≡ 0 → IsUnderWay now now pending written borne []
-way_start now pending written borne e z c = record { sent = []; appended = Appends-nil now.bytes; whole = sym e; counted = z; borne = (refl, (omega arith, inl (omega arith))) }
+-- At the start nothing is sent or pending.
+pub delivery_starts : (now : Seen) (d : Delivery) → d ≡ all_sent 0 0 → Delivers now now d []
+delivery_starts now d e =
+    let start : Delivers now now (all_sent 0 0) [] = record { sent = []; appended = Appends-nil now.bytes; whole = refl; counted = refl; borne = (refl, (omega arith, inl (omega arith))) } in
+    subst (λ t. Delivers now now t []) (sym e) start
 
 -- A count that goes on doesn't fall.
 not_less : (old new count : ℕ) → AreCounted old new count → IsNotLess old new
@@ -143,42 +146,43 @@ not_less old new count (few, inl h) = inl (omega (arith, h))
 not_less old new count (few, inr h) = inr h
 
 -- At the end all is sent.
-pub way_end : (first now : Seen) (pending text : List ℕ) (written borne : ℕ) → pending ≡ [] → borne ≤ 1000 → IsUnderWay first now pending written borne text → IsWhole first now text written
-way_end first now pending text written borne e few way =
+pub delivery_ends : (first now : Seen) (d : Delivery) (text : List ℕ) → d.pending ≡ [] → d.interruptions ≤ 1000 → Delivers first now d text → IsWhole first now text d.written
+delivery_ends first now d text e few way =
     let same : text ≡ way.sent = way.whole ∙ ap (λ p. way.sent ++ p) e ∙ append-nil way.sent in
-    (way.counted ∙ ap length (sym same), subst (λ t. Appends first.bytes now.bytes t) (sym same) way.appended, (way.borne.0, omega (arith, few, way.borne.1.0)), not_less first.interrupted now.interrupted borne way.borne.1)
+    (way.counted ∙ ap length (sym same), subst (λ t. Appends first.bytes now.bytes t) (sym same) way.appended, (way.borne.0, omega (arith, few, way.borne.1.0)), not_less first.interrupted now.interrupted d.interruptions way.borne.1)
 
 -- Bytes that were sent at once.
 pub adds_sent : (old now : Seen) (bytes : List ℕ) (written count before after : ℕ) → count ≡ length bytes → Appends old.bytes now.bytes bytes
     → ((start : Seen) → HasBorne start old before → HasBorne start now after)
-    → Adds old [] written before now [] (written + count) after bytes
+    → Adds old (all_sent written before) now (all_sent (written + count) after) bytes
 adds_sent old now bytes written count before after size sent more = λ first text way.
-    subst (λ n. IsUnderWay first now [] (written + n) after (text ++ bytes)) (sym size) (under_way_sent first old now bytes (text ++ bytes) written before after sent more (under_way_more first old [] text bytes written before way))
+    let pending = with_more (all_sent written before) bytes in
+    subst (λ n. Delivers first now (all_sent (written + n) after) (text ++ bytes)) (sym size)
+    (delivery_sent first old now pending after (text ++ bytes) sent more (delivery_more first old (all_sent written before) text bytes way))
 
 pub stops_sent : (old now : Seen) (bytes : List ℕ) (written borne sent : ℕ) → IsCutAt old.bytes now.bytes bytes sent
     → ((start : Seen) → HasBorne start old borne → GivesUp start now)
-    → Stops old [] written borne now (record { written = written + sent; kind = WriteFailed }) bytes
+    → Stops old (all_sent written borne) now (record { written = written + sent; kind = WriteFailed }) bytes
 stops_sent old now bytes written borne sent cut reason = λ first text way.
-    under_way_cut first old now bytes (text ++ bytes) written borne sent cut reason (under_way_more first old [] text bytes written borne way)
+    let pending = with_more (all_sent written borne) bytes in
+    delivery_cut first old now pending (text ++ bytes) sent cut reason (delivery_more first old (all_sent written borne) text bytes way)
 
 -- The same where the outcome of the later part isn't known yet.
-pub adds_join : {T : Type 0} (r : Result T WriteFault) (a b c : Seen) (m n o i j k : ℕ) (more next whole : List ℕ) → whole ≡ more ++ next → Adds a [] m i b [] n j more → OnOk r (Adds b [] n j c [] o k next) → OnOk r (Adds a [] m i c [] o k whole)
-adds_join (Ok x) a b c m n o i j k more next whole e f g = rw e (adds_more a b c [] [] [] m n o i j k more next f g)
-adds_join (Err fault) a b c m n o i j k more next whole e f g = tt
+pub adds_join : {T : Type 0} (r : Result T WriteFault) (a b c : Seen) (d e f : Delivery) (more next whole : List ℕ) → whole ≡ more ++ next → Adds a d b e more → OnOk r (Adds b e c f next) → OnOk r (Adds a d c f whole)
+adds_join (Ok x) a b c d e f more next whole is one two = rw is (adds_more a b c d e f more next one two)
+adds_join (Err fault) a b c d e f more next whole is one two = tt
 
-pub stops_join : {T : Type 0} (r : Result T WriteFault) (a b c : Seen) (m n i j : ℕ) (more next rest whole : List ℕ) → whole ≡ (more ++ next) ++ rest → Adds a [] m i b [] n j more → IfErr r (λ fault. Stops b [] n j c fault next) → IfErr r (λ fault. Stops a [] m i c fault whole)
-stops_join (Ok x) a b c m n i j more next rest whole e f g = tt
-stops_join (Err fault) a b c m n i j more next rest whole e f g = stops_more a b c [] [] m n i j fault more next rest whole e f g
+pub stops_join : {T : Type 0} (r : Result T WriteFault) (a b c : Seen) (d e : Delivery) (more next rest whole : List ℕ) → whole ≡ (more ++ next) ++ rest → Adds a d b e more → IfErr r (λ fault. Stops b e c fault next) → IfErr r (λ fault. Stops a d c fault whole)
+stops_join (Ok x) a b c d e more next rest whole is adds stops = tt
+stops_join (Err fault) a b c d e more next rest whole is adds stops = stops_more a b c d e fault more next rest whole is adds stops
 
--- The same where something is pending.
-pub stops_then : {T : Type 0} (r : Result T WriteFault) (a b c : Seen) (p q : List ℕ) (m n i j : ℕ) (more next : List ℕ) → Adds a p m i b q n j more → IfErr r (λ fault. Stops b q n j c fault next) → IfErr r (λ fault. Stops a p m i c fault (more ++ next))
-stops_then (Ok x) a b c p q m n i j more next f g = tt
-stops_then (Err fault) a b c p q m n i j more next f g = stops_more a b c p q m n i j fault more next [] (more ++ next) (sym (append-nil (more ++ next))) f g
+pub stops_then : {T : Type 0} (r : Result T WriteFault) (a b c : Seen) (d e : Delivery) (more next : List ℕ) → Adds a d b e more → IfErr r (λ fault. Stops b e c fault next) → IfErr r (λ fault. Stops a d c fault (more ++ next))
+stops_then r a b c d e more next adds stops = stops_join r a b c d e more next [] (more ++ next) (sym (append-nil (more ++ next))) adds stops
 
 -- A text that stops early stops as the longer text.
-pub stops_early : (a c : Seen) (p : List ℕ) (m i : ℕ) (fault : WriteFault) (more rest : List ℕ) → Stops a p m i c fault more → Stops a p m i c fault (more ++ rest)
-stops_early a c p m i fault more rest f = λ first text way.
-    subst (λ t. IsCutBy first c t fault) (append_assoc text more rest) (cut_more first c (text ++ more) rest fault (f first text way))
+pub stops_early : (a c : Seen) (d : Delivery) (fault : WriteFault) (more rest : List ℕ) → Stops a d c fault more → Stops a d c fault (more ++ rest)
+stops_early a c d fault more rest stops = λ first text way.
+    subst (λ t. IsCutBy first c t fault) (append_assoc text more rest) (cut_more first c (text ++ more) rest fault (stops first text way))
 
 -- A device that is the cause shows it.
 shown : (old new : Seen) → GivesUp old new → HasGivenUp old new

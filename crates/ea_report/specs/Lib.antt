@@ -3,3 +3,5 @@ pub mod Asked
 pub mod Sent
 pub mod Stats
 pub mod Walks
+pub mod Delivery
+pub mod Deliverers

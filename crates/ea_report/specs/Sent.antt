@@ -2,6 +2,7 @@
 use Rattle.std.specs.Prelude.{◌≡◌, ◌⊎◌, ℕ, ◌+◌, ◌-◌, ◌^◌, ◌≤◌, List, ◌++◌, Option, length, take}
 use Rattle.std.specs.Io.KnownBytes.{Appends}
 use Rattle.ea_text.specs.Device.{Seen, BearsOn, GivesUp}
+use Rattle.ea_report.specs.Delivery.{Delivery}
 use Rattle.ea_report.specs.declared.report.WriteFault.{WriteFault}
 use Rattle.ea_report.specs.declared.report.WriteFaultKind.{WriteFaultKind}
 use Rattle.ea_report.specs.declared.report.WriteFaultKind.TheVariants.{WriteFailed, OutOfMemory}
@@ -18,13 +19,13 @@ AreCounted old new count = (new ≤ old + count) × ((old + count ≤ new) ⊎ (
 abbrev pub HasBorne : Seen → Seen → ℕ → Type 0
 HasBorne first now count = (now.failed ≡ first.failed) × AreCounted first.interrupted now.interrupted count
 
--- A text is under way: its front was sent, so many bytes, and the rest is pending. No call failed, and so many were interrupted.
-pub record IsUnderWay (first now : Seen) (pending : List ℕ) (written interruptions : ℕ) (text : List ℕ) : Type 0 where
+-- A text is delivered: its front was sent, so many bytes, and the rest is pending. No call failed, and so many were interrupted.
+pub record Delivers (first now : Seen) (delivery : Delivery) (text : List ℕ) : Type 0 where
   pub sent : List ℕ
   pub appended : Appends first.bytes now.bytes sent
-  pub whole : text ≡ sent ++ pending
-  pub counted : written ≡ length sent
-  pub borne : HasBorne first now interruptions
+  pub whole : text ≡ sent ++ delivery.pending
+  pub counted : delivery.written ≡ length sent
+  pub borne : HasBorne first now delivery.interruptions
 
 -- What the device showed is why a text was not written whole: for WriteFailed its first failure, or the first interruption
 -- that is not borne; for want of memory neither.
@@ -45,12 +46,22 @@ abbrev pub IsWhole : Seen → Seen → List ℕ → ℕ → Type 0
 IsWhole first now text written =
     (written ≡ length text) × Appends first.bytes now.bytes text × BearsOn first now × IsNotLess first.interrupted now.interrupted
 
--- More of a text was added: whatever text was under way, the text with more at its end is under way now.
-abbrev pub Adds : Seen → List ℕ → ℕ → ℕ → Seen → List ℕ → ℕ → ℕ → List ℕ → Type 0
-Adds old pending_old written_old borne_old new pending_new written_new borne_new more =
-    (first : Seen) (text : List ℕ) → IsUnderWay first old pending_old written_old borne_old text → IsUnderWay first new pending_new written_new borne_new (text ++ more)
+-- What was delivered goes on to be delivered.
+abbrev pub GoesOn : Seen → Delivery → Seen → Delivery → Type 0
+GoesOn old delivery now delivery_now =
+    (first : Seen) (text : List ℕ) → Delivers first old delivery text → Delivers first now delivery_now text
 
--- More of a text was to be added: whatever text was under way, the text with more at its end is cut.
-abbrev pub Stops : Seen → List ℕ → ℕ → ℕ → Seen → WriteFault → List ℕ → Type 0
-Stops old pending_old written_old borne_old new fault more =
-    (first : Seen) (text : List ℕ) → IsUnderWay first old pending_old written_old borne_old text → IsCutBy first new (text ++ more) fault
+-- What was delivered is cut.
+abbrev pub Cuts : Seen → Delivery → Seen → WriteFault → Type 0
+Cuts old delivery now fault =
+    (first : Seen) (text : List ℕ) → Delivers first old delivery text → IsCutBy first now text fault
+
+-- More of a text was added: whatever text was delivered, the text with more at its end is delivered now.
+abbrev pub Adds : Seen → Delivery → Seen → Delivery → List ℕ → Type 0
+Adds old delivery now delivery_now more =
+    (first : Seen) (text : List ℕ) → Delivers first old delivery text → Delivers first now delivery_now (text ++ more)
+
+-- More of a text was to be added: whatever text was delivered, the text with more at its end is cut.
+abbrev pub Stops : Seen → Delivery → Seen → WriteFault → List ℕ → Type 0
+Stops old delivery now fault more =
+    (first : Seen) (text : List ℕ) → Delivers first old delivery text → IsCutBy first now (text ++ more) fault

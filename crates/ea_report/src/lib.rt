@@ -1,15 +1,18 @@
 //! Reports as text.
 #![tactic(auto)]
 
+mod direct;
 mod lines;
+mod pending;
 mod report;
 mod sending;
 mod stats;
 mod walks;
 mod writing;
 
+pub use direct::Direct;
 pub use report::{ReportOptions, WriteFault, WriteFaultKind, write_problem};
-pub use stats::{Direct, Totals, write_stats};
+pub use stats::{Totals, write_stats};
 pub use walks::ArcTexts;
 pub use writing::write_pieces;
 

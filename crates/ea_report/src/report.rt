@@ -2,13 +2,16 @@
 ghost use Rattle.std.specs.Prelude.{◌≡◌, ◌<◌, ◌≤◌, ◌+◌, ◌^◌, ◌*◌, ◌++◌, ℕ, [], List, None, OnOk, IfOk, IfErr, length, true};
 ghost use Rattle.std.specs.List.{flat_map};
 ghost use Rattle.ea_report.specs.Report.{source_line, pair_line, node_text, each_node, problem_text};
-ghost use Rattle.ea_report.specs.Sent.{IsCutBy, IsUnderWay, IsWhole, Adds, Stops};
+ghost use Rattle.ea_report.specs.Delivery.{all_sent};
+ghost use Rattle.ea_report.specs.Deliverers.{delivery_of};
+ghost use Rattle.ea_report.specs.Sent.{Adds, Cuts, GoesOn, IsCutBy, IsWhole, Stops};
 ghost use Rattle.ea_report.specs.Asked.{IsOf};
-ghost use Rattle.ea_text.specs.Device.{Seen, HasGivenUp};
+ghost use Rattle.ea_text.specs.Device.{HasGivenUp};
 ghost use Rattle.ea_road.specs.Queries.{IsAskedBy};
 ghost use Rattle.ea_road.specs.Roads.{IsNode};
 
 use crate::lines::{push_node, push_pair, push_source};
+use crate::pending::Pending;
 use crate::sending::send;
 use crate::walks::ArcTexts;
 use ea_finish::Answer;
@@ -39,20 +42,9 @@ pub struct WriteFault {
 /// From how many bytes on what is pending is sent.
 const PIECE: usize = 65_536;
 
-/// A text that is under way to a device.
-#[derive(Drop)]
-struct Pending {
-    text: Vec<u8>,
-    written: u128,
-    interruptions: u64,
-    ghost borne: { interruptions ≤ 1000 },
-}
-
 impl Pending {
     fn new(alloc: Global) -> Self
-        ensures empty { result.text.items ≡ [] }
-        ensures none { result.written ≡ 0 }
-        ensures calm { result.interruptions ≡ 0 }
+        ensures { delivery_of result ≡ all_sent 0 0 }
     {
         Pending {
             text: Vec::new(alloc),
@@ -73,12 +65,9 @@ impl Pending {
     /// Sends what is pending.
     fn flush<W: ByteOut>(&mut self, out: &mut W) -> Result<(), WriteFault>
         requires { self.old.written + 2 ^ 63 < 2 ^ 128 }
-        ensures ok { OnOk result ((first : Seen) (text : List ℕ) →
-            IsUnderWay first (W.seen out.old) self.old.text.items self.old.written self.old.interruptions text →
-            IsUnderWay first (W.seen out.new) self.new.text.items self.new.written self.new.interruptions text) }
-        ensures err { IfErr result (λ fault. (first : Seen) (text : List ℕ) →
-            IsUnderWay first (W.seen out.old) self.old.text.items self.old.written self.old.interruptions text →
-            IsCutBy first (W.seen out.new) text fault) }
+        ensures ok { OnOk result (GoesOn (W.seen out.old) (delivery_of self.old)
+            (W.seen out.new) (delivery_of self.new)) }
+        ensures err { IfErr result (Cuts (W.seen out.old) (delivery_of self.old) (W.seen out.new)) }
         ensures empty { OnOk result (self.new.text.items ≡ []) }
         ensures bound { self.new.written ≤ self.old.written + 2 ^ 63 }
         ensures small { IfErr result (λ fault. fault.written ≤ self.old.written + 2 ^ 63) }
@@ -99,12 +88,9 @@ impl Pending {
     /// Sends what is pending where it is much, after a line was added to it.
     fn flush_large<W: ByteOut>(&mut self, out: &mut W) -> Result<(), WriteFault>
         requires { self.old.written + 2 ^ 63 < 2 ^ 128 }
-        ensures ok { OnOk result ((first : Seen) (text : List ℕ) →
-            IsUnderWay first (W.seen out.old) self.old.text.items self.old.written self.old.interruptions text →
-            IsUnderWay first (W.seen out.new) self.new.text.items self.new.written self.new.interruptions text) }
-        ensures err { IfErr result (λ fault. (first : Seen) (text : List ℕ) →
-            IsUnderWay first (W.seen out.old) self.old.text.items self.old.written self.old.interruptions text →
-            IsCutBy first (W.seen out.new) text fault) }
+        ensures ok { OnOk result (GoesOn (W.seen out.old) (delivery_of self.old)
+            (W.seen out.new) (delivery_of self.new)) }
+        ensures err { IfErr result (Cuts (W.seen out.old) (delivery_of self.old) (W.seen out.new)) }
         ensures bound { self.new.written ≤ self.old.written + 2 ^ 63 }
         ensures small { IfErr result (λ fault. fault.written ≤ self.old.written + 2 ^ 63) }
     {
@@ -118,9 +104,9 @@ impl Pending {
     /// Adds the line of a source.
     fn put_source<W: ByteOut>(&mut self, source: Source, out: &mut W) -> Result<(), WriteFault>
         requires { self.old.written + 2 ^ 63 < 2 ^ 128 }
-        ensures ok { OnOk result (Adds (W.seen out.old) self.old.text.items self.old.written self.old.interruptions
-            (W.seen out.new) self.new.text.items self.new.written self.new.interruptions (source_line source)) }
-        ensures err { IfErr result (λ fault. Stops (W.seen out.old) self.old.text.items self.old.written self.old.interruptions
+        ensures ok { OnOk result (Adds (W.seen out.old) (delivery_of self.old)
+            (W.seen out.new) (delivery_of self.new) (source_line source)) }
+        ensures err { IfErr result (λ fault. Stops (W.seen out.old) (delivery_of self.old)
             (W.seen out.new) fault (source_line source)) }
         ensures bound { self.new.written ≤ self.old.written + 2 ^ 63 }
         ensures small { IfErr result (λ fault. fault.written ≤ self.old.written + 2 ^ 63) }
@@ -139,9 +125,9 @@ impl Pending {
         out: &mut W,
     ) -> Result<(), WriteFault>
         requires { self.old.written + 2 ^ 63 < 2 ^ 128 }
-        ensures ok { OnOk result (Adds (W.seen out.old) self.old.text.items self.old.written self.old.interruptions
-            (W.seen out.new) self.new.text.items self.new.written self.new.interruptions (pair_line target source)) }
-        ensures err { IfErr result (λ fault. Stops (W.seen out.old) self.old.text.items self.old.written self.old.interruptions
+        ensures ok { OnOk result (Adds (W.seen out.old) (delivery_of self.old)
+            (W.seen out.new) (delivery_of self.new) (pair_line target source)) }
+        ensures err { IfErr result (λ fault. Stops (W.seen out.old) (delivery_of self.old)
             (W.seen out.new) fault (pair_line target source)) }
         ensures bound { self.new.written ≤ self.old.written + 2 ^ 63 }
         ensures small { IfErr result (λ fault. fault.written ≤ self.old.written + 2 ^ 63) }
@@ -167,9 +153,9 @@ impl Pending {
         requires walks { walks ≡ true → answer.now.walks ≡ true }
         requires links { arcs.old.links ≡ answer.now.links }
         ensures links { arcs.new.links ≡ arcs.old.links }
-        ensures ok { OnOk result (Adds (W.seen out.old) self.old.text.items self.old.written self.old.interruptions
-            (W.seen out.new) self.new.text.items self.new.written self.new.interruptions (node_text walks answer.now node)) }
-        ensures err { IfErr result (λ fault. Stops (W.seen out.old) self.old.text.items self.old.written self.old.interruptions
+        ensures ok { OnOk result (Adds (W.seen out.old) (delivery_of self.old)
+            (W.seen out.new) (delivery_of self.new) (node_text walks answer.now node)) }
+        ensures err { IfErr result (λ fault. Stops (W.seen out.old) (delivery_of self.old)
             (W.seen out.new) fault (node_text walks answer.now node)) }
         ensures bound { self.new.written ≤ self.old.written + 2 ^ 63 }
         ensures small { IfErr result (λ fault. fault.written ≤ self.old.written + 2 ^ 63) }
@@ -193,9 +179,9 @@ impl Pending {
         requires node { IsNode answer.now.nodes node }
         requires asked { IsAskedBy answer.now.target node }
         requires walks { walks ≡ true → answer.now.walks ≡ true }
-        ensures ok { OnOk result (Adds (W.seen out.old) self.old.text.items self.old.written self.old.interruptions
-            (W.seen out.new) self.new.text.items self.new.written self.new.interruptions (node_text walks answer.now node)) }
-        ensures err { IfErr result (λ fault. Stops (W.seen out.old) self.old.text.items self.old.written self.old.interruptions
+        ensures ok { OnOk result (Adds (W.seen out.old) (delivery_of self.old)
+            (W.seen out.new) (delivery_of self.new) (node_text walks answer.now node)) }
+        ensures err { IfErr result (λ fault. Stops (W.seen out.old) (delivery_of self.old)
             (W.seen out.new) fault (node_text walks answer.now node)) }
         ensures bound { self.new.written ≤ self.old.written + 2 ^ 63 }
         ensures small { IfErr result (λ fault. fault.written ≤ self.old.written + 2 ^ 63) }
@@ -207,9 +193,9 @@ impl Pending {
     /// Adds the lines of sources.
     fn put_sources<W: ByteOut>(&mut self, sources: &[Source], out: &mut W) -> Result<(), WriteFault>
         requires { self.old.written + length sources.now * 2 ^ 63 + 2 ^ 63 < 2 ^ 128 }
-        ensures ok { OnOk result (Adds (W.seen out.old) self.old.text.items self.old.written self.old.interruptions
-            (W.seen out.new) self.new.text.items self.new.written self.new.interruptions (flat_map source_line sources.now)) }
-        ensures err { IfErr result (λ fault. Stops (W.seen out.old) self.old.text.items self.old.written self.old.interruptions
+        ensures ok { OnOk result (Adds (W.seen out.old) (delivery_of self.old)
+            (W.seen out.new) (delivery_of self.new) (flat_map source_line sources.now)) }
+        ensures err { IfErr result (λ fault. Stops (W.seen out.old) (delivery_of self.old)
             (W.seen out.new) fault (flat_map source_line sources.now)) }
         ensures bound { self.new.written ≤ self.old.written + length sources.now * 2 ^ 63 }
         ensures small { IfErr result (λ fault. fault.written ≤ self.old.written + length sources.now * 2 ^ 63) }
@@ -228,9 +214,9 @@ impl Pending {
         out: &mut W,
     ) -> Result<(), WriteFault>
         requires { self.old.written + length sources.now * 2 ^ 63 + 2 ^ 63 < 2 ^ 128 }
-        ensures ok { OnOk result (Adds (W.seen out.old) self.old.text.items self.old.written self.old.interruptions
-            (W.seen out.new) self.new.text.items self.new.written self.new.interruptions (flat_map (pair_line target) sources.now)) }
-        ensures err { IfErr result (λ fault. Stops (W.seen out.old) self.old.text.items self.old.written self.old.interruptions
+        ensures ok { OnOk result (Adds (W.seen out.old) (delivery_of self.old)
+            (W.seen out.new) (delivery_of self.new) (flat_map (pair_line target) sources.now)) }
+        ensures err { IfErr result (λ fault. Stops (W.seen out.old) (delivery_of self.old)
             (W.seen out.new) fault (flat_map (pair_line target) sources.now)) }
         ensures bound { self.new.written ≤ self.old.written + length sources.now * 2 ^ 63 }
         ensures small { IfErr result (λ fault. fault.written ≤ self.old.written + length sources.now * 2 ^ 63) }
@@ -254,9 +240,9 @@ impl Pending {
         requires nodes { answer.now.nodes ≡ nodes }
         requires all { answer.now.target ≡ None }
         requires walks { walks ≡ true → answer.now.walks ≡ true }
-        ensures ok { OnOk result (Adds (W.seen out.old) self.old.text.items self.old.written self.old.interruptions
-            (W.seen out.new) self.new.text.items self.new.written self.new.interruptions (each_node (node_text walks answer.now) nodes)) }
-        ensures err { IfErr result (λ fault. Stops (W.seen out.old) self.old.text.items self.old.written self.old.interruptions
+        ensures ok { OnOk result (Adds (W.seen out.old) (delivery_of self.old)
+            (W.seen out.new) (delivery_of self.new) (each_node (node_text walks answer.now) nodes)) }
+        ensures err { IfErr result (λ fault. Stops (W.seen out.old) (delivery_of self.old)
             (W.seen out.new) fault (each_node (node_text walks answer.now) nodes)) }
         ensures bound { self.new.written ≤ self.old.written + nodes * 2 ^ 63 }
         ensures small { IfErr result (λ fault. fault.written ≤ self.old.written + nodes * 2 ^ 63) }
@@ -291,9 +277,9 @@ impl Pending {
         requires nodes { answer.now.nodes ≡ nodes }
         requires all { answer.now.target ≡ None }
         requires walks { walks ≡ true → answer.now.walks ≡ true }
-        ensures ok { OnOk result (Adds (W.seen out.old) self.old.text.items self.old.written self.old.interruptions
-            (W.seen out.new) self.new.text.items self.new.written self.new.interruptions (flat_map source_line sources.now ++ each_node (node_text walks answer.now) nodes)) }
-        ensures err { IfErr result (λ fault. Stops (W.seen out.old) self.old.text.items self.old.written self.old.interruptions
+        ensures ok { OnOk result (Adds (W.seen out.old) (delivery_of self.old)
+            (W.seen out.new) (delivery_of self.new) (flat_map source_line sources.now ++ each_node (node_text walks answer.now) nodes)) }
+        ensures err { IfErr result (λ fault. Stops (W.seen out.old) (delivery_of self.old)
             (W.seen out.new) fault (flat_map source_line sources.now ++ each_node (node_text walks answer.now) nodes)) }
         ensures bound { self.new.written ≤ (length sources.now + nodes) * 2 ^ 63 }
         ensures room { self.new.written < 2 ^ 127 + 2 ^ 96 }
@@ -319,9 +305,9 @@ impl Pending {
         requires node { IsNode answer.now.nodes target }
         requires asked { IsAskedBy answer.now.target target }
         requires walks { walks ≡ true → answer.now.walks ≡ true }
-        ensures ok { OnOk result (Adds (W.seen out.old) self.old.text.items self.old.written self.old.interruptions
-            (W.seen out.new) self.new.text.items self.new.written self.new.interruptions (flat_map (pair_line target) sources.now ++ node_text walks answer.now target)) }
-        ensures err { IfErr result (λ fault. Stops (W.seen out.old) self.old.text.items self.old.written self.old.interruptions
+        ensures ok { OnOk result (Adds (W.seen out.old) (delivery_of self.old)
+            (W.seen out.new) (delivery_of self.new) (flat_map (pair_line target) sources.now ++ node_text walks answer.now target)) }
+        ensures err { IfErr result (λ fault. Stops (W.seen out.old) (delivery_of self.old)
             (W.seen out.new) fault (flat_map (pair_line target) sources.now ++ node_text walks answer.now target)) }
         ensures bound { self.new.written ≤ (length sources.now + 1) * 2 ^ 63 }
         ensures room { self.new.written < 2 ^ 127 + 2 ^ 96 }
@@ -346,9 +332,9 @@ impl Pending {
         requires start { self.old.written ≡ 0 }
         requires of { IsOf network.now query.now answer.now }
         requires walks { walks ≡ true → answer.now.walks ≡ true }
-        ensures ok { OnOk result (Adds (W.seen out.old) self.old.text.items self.old.written self.old.interruptions
-            (W.seen out.new) self.new.text.items self.new.written self.new.interruptions (problem_text walks network.now.nodes query.now answer.now)) }
-        ensures err { IfErr result (λ fault. Stops (W.seen out.old) self.old.text.items self.old.written self.old.interruptions
+        ensures ok { OnOk result (Adds (W.seen out.old) (delivery_of self.old)
+            (W.seen out.new) (delivery_of self.new) (problem_text walks network.now.nodes query.now answer.now)) }
+        ensures err { IfErr result (λ fault. Stops (W.seen out.old) (delivery_of self.old)
             (W.seen out.new) fault (problem_text walks network.now.nodes query.now answer.now)) }
         ensures bound { self.new.written ≤ (network.now.nodes + length query.now.sources + 1) * 2 ^ 63 }
         ensures room { self.new.written < 2 ^ 127 + 2 ^ 96 }

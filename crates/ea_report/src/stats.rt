@@ -4,10 +4,11 @@ ghost use Rattle.std.specs.List.{flat_map};
 ghost use Rattle.ea_report.specs.Stats.{total_line, number_end, stats_text};
 ghost use Rattle.ea_report.specs.Report.{spaced};
 ghost use Rattle.ea_text.specs.Device.{HasGivenUp};
+ghost use Rattle.ea_report.specs.Deliverers.{direct_delivery};
 ghost use Rattle.ea_report.specs.Sent.{IsCutBy, IsWhole, Adds, Stops};
 
+use crate::direct::Direct;
 use crate::report::{WriteFault, WriteFaultKind};
-use crate::sending::send;
 use ea_input::ByteOut;
 use itoa::Buffer;
 
@@ -32,49 +33,13 @@ pub struct Totals {
     pub finish: u128,
 }
 
-/// A text that is sent to a device piece by piece, with one count of interruptions over all of it. It begins with both
-/// numbers 0, and keeps nothing back.
-#[derive(Drop)]
-pub struct Direct {
-    /// How many bytes were sent.
-    pub written: u128,
-    /// How many calls were interrupted: 1,000 are borne.
-    pub interruptions: u64,
-    pub ghost borne: { interruptions ≤ 1000 },
-}
-
-impl Direct {
-    /// Sends bytes.
-    pub(crate) fn put<W: ByteOut>(&mut self, bytes: &[u8], out: &mut W) -> Result<(), WriteFault>
-        requires { self.old.written + 2 ^ 64 < 2 ^ 128 }
-        ensures ok { OnOk result (Adds (W.seen out.old) [] self.old.written self.old.interruptions
-            (W.seen out.new) [] self.new.written self.new.interruptions bytes.now) }
-        ensures err { IfErr result (λ fault. Stops (W.seen out.old) [] self.old.written self.old.interruptions
-            (W.seen out.new) fault bytes.now) }
-        ensures device { IfErr result (λ fault. fault.kind ≡ WriteFaultKind.WriteFailed) }
-        ensures bound { self.new.written ≤ self.old.written + 2 ^ 64 }
-        ensures small { IfErr result (λ fault. fault.written ≤ self.old.written + 2 ^ 64) }
-    {
-        match send(out, bytes, &mut self.interruptions) {
-            Ok(()) => {
-                self.written += bytes.len() as u128;
-                Ok(())
-            }
-            Err(sent) => Err(WriteFault {
-                written: self.written + sent as u128,
-                kind: WriteFaultKind::WriteFailed,
-            }),
-        }
-    }
-}
-
 impl Direct {
     /// Sends a field after a space.
     fn put_field<W: ByteOut>(&mut self, field: &[u8], out: &mut W) -> Result<(), WriteFault>
         requires { self.old.written + 2 * 2 ^ 64 < 2 ^ 128 }
-        ensures ok { OnOk result (Adds (W.seen out.old) [] self.old.written self.old.interruptions
-            (W.seen out.new) [] self.new.written self.new.interruptions (spaced field.now)) }
-        ensures err { IfErr result (λ fault. Stops (W.seen out.old) [] self.old.written self.old.interruptions
+        ensures ok { OnOk result (Adds (W.seen out.old) (direct_delivery self.old)
+            (W.seen out.new) (direct_delivery self.new) (spaced field.now)) }
+        ensures err { IfErr result (λ fault. Stops (W.seen out.old) (direct_delivery self.old)
             (W.seen out.new) fault (spaced field.now)) }
         ensures device { IfErr result (λ fault. fault.kind ≡ WriteFaultKind.WriteFailed) }
         ensures bound { self.new.written ≤ self.old.written + 2 * 2 ^ 64 }
@@ -96,9 +61,9 @@ impl Direct {
         out: &mut W,
     ) -> Result<(), WriteFault>
         requires { self.old.written + 6 * 2 ^ 64 < 2 ^ 128 }
-        ensures ok { OnOk result (Adds (W.seen out.old) [] self.old.written self.old.interruptions
-            (W.seen out.new) [] self.new.written self.new.interruptions (total_line (name.now, total))) }
-        ensures err { IfErr result (λ fault. Stops (W.seen out.old) [] self.old.written self.old.interruptions
+        ensures ok { OnOk result (Adds (W.seen out.old) (direct_delivery self.old)
+            (W.seen out.new) (direct_delivery self.new) (total_line (name.now, total))) }
+        ensures err { IfErr result (λ fault. Stops (W.seen out.old) (direct_delivery self.old)
             (W.seen out.new) fault (total_line (name.now, total))) }
         ensures device { IfErr result (λ fault. fault.kind ≡ WriteFaultKind.WriteFailed) }
         ensures bound { self.new.written ≤ self.old.written + 6 * 2 ^ 64 }
@@ -118,9 +83,9 @@ impl Direct {
         out: &mut W,
     ) -> Result<(), WriteFault>
         requires { self.old.written + 5 * 2 ^ 64 < 2 ^ 128 }
-        ensures ok { OnOk result (Adds (W.seen out.old) [] self.old.written self.old.interruptions
-            (W.seen out.new) [] self.new.written self.new.interruptions (spaced name.now ++ number_end total)) }
-        ensures err { IfErr result (λ fault. Stops (W.seen out.old) [] self.old.written self.old.interruptions
+        ensures ok { OnOk result (Adds (W.seen out.old) (direct_delivery self.old)
+            (W.seen out.new) (direct_delivery self.new) (spaced name.now ++ number_end total)) }
+        ensures err { IfErr result (λ fault. Stops (W.seen out.old) (direct_delivery self.old)
             (W.seen out.new) fault (spaced name.now ++ number_end total)) }
         ensures device { IfErr result (λ fault. fault.kind ≡ WriteFaultKind.WriteFailed) }
         ensures bound { self.new.written ≤ self.old.written + 5 * 2 ^ 64 }
@@ -135,9 +100,9 @@ impl Direct {
     /// Sends a number after a space, and the end of its line.
     fn put_number<W: ByteOut>(&mut self, number: u128, out: &mut W) -> Result<(), WriteFault>
         requires { self.old.written + 3 * 2 ^ 64 < 2 ^ 128 }
-        ensures ok { OnOk result (Adds (W.seen out.old) [] self.old.written self.old.interruptions
-            (W.seen out.new) [] self.new.written self.new.interruptions (number_end number)) }
-        ensures err { IfErr result (λ fault. Stops (W.seen out.old) [] self.old.written self.old.interruptions
+        ensures ok { OnOk result (Adds (W.seen out.old) (direct_delivery self.old)
+            (W.seen out.new) (direct_delivery self.new) (number_end number)) }
+        ensures err { IfErr result (λ fault. Stops (W.seen out.old) (direct_delivery self.old)
             (W.seen out.new) fault (number_end number)) }
         ensures device { IfErr result (λ fault. fault.kind ≡ WriteFaultKind.WriteFailed) }
         ensures bound { self.new.written ≤ self.old.written + 3 * 2 ^ 64 }
@@ -158,9 +123,9 @@ impl Direct {
     /// Sends the lines of totals.
     fn put_totals<W: ByteOut>(&mut self, rows: &[Row<'_>], out: &mut W) -> Result<(), WriteFault>
         requires { self.old.written + length rows.now * (6 * 2 ^ 64) + 6 * 2 ^ 64 < 2 ^ 128 }
-        ensures ok { OnOk result (Adds (W.seen out.old) [] self.old.written self.old.interruptions
-            (W.seen out.new) [] self.new.written self.new.interruptions (flat_map (λ row. total_line (row.0.now, row.1)) rows.now)) }
-        ensures err { IfErr result (λ fault. Stops (W.seen out.old) [] self.old.written self.old.interruptions
+        ensures ok { OnOk result (Adds (W.seen out.old) (direct_delivery self.old)
+            (W.seen out.new) (direct_delivery self.new) (flat_map (λ row. total_line (row.0.now, row.1)) rows.now)) }
+        ensures err { IfErr result (λ fault. Stops (W.seen out.old) (direct_delivery self.old)
             (W.seen out.new) fault (flat_map (λ row. total_line (row.0.now, row.1)) rows.now)) }
         ensures device { IfErr result (λ fault. fault.kind ≡ WriteFaultKind.WriteFailed) }
         ensures small { IfErr result (λ fault. fault.written ≤ self.old.written + length rows.now * (6 * 2 ^ 64)) }

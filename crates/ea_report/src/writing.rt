@@ -1,11 +1,38 @@
 //! Texts of a few pieces.
 ghost use Rattle.std.specs.Prelude.{◌≡◌, ◌<◌, ◌≤◌, ◌+◌, ◌*◌, ◌^◌, [], IfOk, IfErr, OnOk, length};
 ghost use Rattle.std.specs.List.{flat_map};
+ghost use Rattle.ea_report.specs.Deliverers.{direct_delivery};
 ghost use Rattle.ea_report.specs.Sent.{IsCutBy, IsWhole, Adds, Stops};
 
+use crate::direct::Direct;
 use crate::report::{WriteFault, WriteFaultKind};
-use crate::stats::Direct;
+use crate::sending::send;
 use ea_input::ByteOut;
+
+impl Direct {
+    /// Sends bytes.
+    pub(crate) fn put<W: ByteOut>(&mut self, bytes: &[u8], out: &mut W) -> Result<(), WriteFault>
+        requires { self.old.written + 2 ^ 64 < 2 ^ 128 }
+        ensures ok { OnOk result (Adds (W.seen out.old) (direct_delivery self.old)
+            (W.seen out.new) (direct_delivery self.new) bytes.now) }
+        ensures err { IfErr result (λ fault. Stops (W.seen out.old) (direct_delivery self.old)
+            (W.seen out.new) fault bytes.now) }
+        ensures device { IfErr result (λ fault. fault.kind ≡ WriteFaultKind.WriteFailed) }
+        ensures bound { self.new.written ≤ self.old.written + 2 ^ 64 }
+        ensures small { IfErr result (λ fault. fault.written ≤ self.old.written + 2 ^ 64) }
+    {
+        match send(out, bytes, &mut self.interruptions) {
+            Ok(()) => {
+                self.written += bytes.len() as u128;
+                Ok(())
+            }
+            Err(sent) => Err(WriteFault {
+                written: self.written + sent as u128,
+                kind: WriteFaultKind::WriteFailed,
+            }),
+        }
+    }
+}
 
 impl Direct {
     /// Sends more pieces of the text, one after the other and with no memory.
@@ -18,9 +45,9 @@ impl Direct {
         out: &mut W,
     ) -> Result<(), WriteFault>
         requires { self.old.written + length pieces.now * 2 ^ 64 + 2 ^ 64 < 2 ^ 128 }
-        ensures ok { OnOk result (Adds (W.seen out.old) [] self.old.written self.old.interruptions
-            (W.seen out.new) [] self.new.written self.new.interruptions (flat_map (λ piece. piece.now) pieces.now)) }
-        ensures err { IfErr result (λ fault. Stops (W.seen out.old) [] self.old.written self.old.interruptions
+        ensures ok { OnOk result (Adds (W.seen out.old) (direct_delivery self.old)
+            (W.seen out.new) (direct_delivery self.new) (flat_map (λ piece. piece.now) pieces.now)) }
+        ensures err { IfErr result (λ fault. Stops (W.seen out.old) (direct_delivery self.old)
             (W.seen out.new) fault (flat_map (λ piece. piece.now) pieces.now)) }
         ensures device { IfErr result (λ fault. fault.kind ≡ WriteFaultKind.WriteFailed) }
         ensures bound { OnOk result (self.new.written ≤ self.old.written + length pieces.now * 2 ^ 64) }

@@ -23,12 +23,13 @@ use Rattle.ea_rank.specs.declared.summary.Summary.{Summary}
 use Rattle.ea_rank.specs.Summaries.{summary_of}
 use Rattle.ea_report.specs.Report.{line, source_line}
 use Rattle.ea_text.specs.Device.{Seen}
+use Rattle.ea_report.specs.Delivery.{Delivery, all_sent}
 use Rattle.ea_report.specs.Sent.{IsCutBy, IsReason, Stops}
 use Rattle.ea_report.specs.declared.report.WriteFault.{WriteFault}
 use Rattle.ea_report.specs.declared.report.WriteFaultKind.TheVariants.{WriteFailed}
 use Rattle.earliest.specs.Faults.{answer_fault}
 use Rattle.earliest.specs.Fronts.{times_on}
-use Rattle.earliest.specs.Ranks.{AddsRanks, AreRanks, AreRankTexts, AreUnderWay, IsFrontOfRanks, IsRanked, IsRankFront, IsRanking, IsRankingCut, IsRankText, IsUnranked, StopsRanks, rank_line}
+use Rattle.earliest.specs.Ranks.{AddsRanks, AreRanks, AreRankTexts, AreDelivered, IsFrontOfRanks, IsRanked, IsRankFront, IsRanking, IsRankingCut, IsRankText, IsUnranked, StopsRanks, rank_line}
 use Rattle.earliest.specs.declared.fault.AnswerFault.{AnswerFault}
 use Rattle.earliest.specs.declared.fault.AnswerFault.TheVariants.{Read, Input, BadOption, Write, OutOfMemory}
 
@@ -58,8 +59,8 @@ only_line (source ∷ []) d one = append-nil (source_line source)
 only_line (source ∷ other ∷ sources) d one = absurd (omega (arith, one))
 
 -- A text that stopped for the device alone.
-pub stops_for_device : (old new : Seen) (text : List ℕ) (written borne : ℕ) (fault : WriteFault) → fault.kind ≡ WriteFailed → Stops old [] written borne new fault text → Stops old [] written borne new (record { written = fault.written; kind = WriteFailed }) text
-stops_for_device old new text written borne fault device stops = λ first before way.
+pub stops_for_device : (old new : Seen) (text : List ℕ) (d : Delivery) (fault : WriteFault) → fault.kind ≡ WriteFailed → Stops old d new fault text → Stops old d new (record { written = fault.written; kind = WriteFailed }) text
+stops_for_device old new text d fault device stops = λ first before way.
     let cut = stops first before way in
     (cut.0, subst (λ kind. IsReason kind first new) device cut.1)
 
@@ -84,12 +85,12 @@ module _ (heaps seed : ℕ) (roads : Roads) (answers : ℕ → ℕ → ℕ → �
     one_more = take_more all i query inside ∙ ap (λ q. take i all ++ q ∷ []) (sym at)
 
     -- The next problem's lines go out.
-    pub next_under_way : (first old now : Seen) (before interruptions written borne : ℕ) → AreUnderWay heaps seed roads answers (take i all) first old before interruptions → AddsRanks heaps seed roads answers query old before interruptions now written borne → AreUnderWay heaps seed roads answers (take (i + 1) all) first now written borne
-    next_under_way first old now before interruptions written borne way more =
+    pub next_delivered : (first old now : Seen) (d e : Delivery) → AreDelivered heaps seed roads answers (take i all) first old d → AddsRanks heaps seed roads answers query old d now e → AreDelivered heaps seed roads answers (take (i + 1) all) first now e
+    next_delivered first old now d e way more =
         (way.0 ++ more.0, subst (λ qs. AreRankTexts heaps seed roads answers qs (way.0 ++ more.0)) (sym one_more) (texts_more (take i all) query way.0 more.0 way.1 more.1), more.2 first way.0 way.2)
 
     -- They stop.
-    module _ (first old now : Seen) (before interruptions : ℕ) (way : AreUnderWay heaps seed roads answers (take i all) first old before interruptions) where
+    module _ (first old now : Seen) (before interruptions : ℕ) (way : AreDelivered heaps seed roads answers (take i all) first old (all_sent before interruptions)) where
       -- Nothing of them was sent.
       nothing : (written : ℕ) → written ≡ before → now ≡ old → IsRankFront heaps seed roads answers all first.bytes now.bytes written
       nothing written same still =
@@ -103,7 +104,7 @@ module _ (heaps seed : ℕ) (roads : Roads) (answers : ℕ → ℕ → ℕ → �
             cut = (omega (arith, size), subst (λ t. Appends first.bytes now.bytes t) (sym front) (subst (λ (s : Seen). Appends first.bytes s.bytes way.2.sent) (sym still) way.2.appended));
           }
 
-      pub ranks_stop : (fault : AnswerFault) → StopsRanks heaps seed roads answers query old before interruptions now fault → IsRankingCut heaps seed roads answers all first now fault
+      pub ranks_stop : (fault : AnswerFault) → StopsRanks heaps seed roads answers query old (all_sent before interruptions) now fault → IsRankingCut heaps seed roads answers all first now fault
       ranks_stop (Write written) stop =
           let text : List ℕ = way.0 ++ stop.0 in
           let cut : IsCutBy first now text (record { written = written; kind = WriteFailed }) = stop.2 first way.0 way.2 in (

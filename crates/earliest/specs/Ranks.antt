@@ -21,7 +21,8 @@ use Rattle.ea_rank.specs.Ranks.{popped_keys, queue_after, rank_errors}
 use Rattle.ea_rank.specs.Records.{ContainArrivals, HasRanks}
 use Rattle.ea_rank.specs.Summaries.{summary_of}
 use Rattle.ea_report.specs.Report.{line, source_line}
-use Rattle.ea_report.specs.Sent.{Adds, IsCutAt, IsUnderWay, Stops}
+use Rattle.ea_report.specs.Delivery.{Delivery}
+use Rattle.ea_report.specs.Sent.{Adds, Delivers, IsCutAt, Stops}
 use Rattle.ea_report.specs.declared.report.WriteFaultKind.TheVariants.{WriteFailed}
 use Rattle.ea_words.specs.declared.options.RunOptions.{RunOptions}
 use Rattle.earliest.specs.Workers.{words_from}
@@ -89,21 +90,20 @@ module _ (heaps seed : ℕ) (roads : Roads) (answers : ℕ → ℕ → ℕ → �
   -- ---- one problem of many, which are sent as one text
 
   -- Its lines were sent.
-  abbrev pub AddsRanks : Asking → Seen → ℕ → ℕ → Seen → ℕ → ℕ → Type 0
-  AddsRanks query old written interruptions now written_now interruptions_now =
-      (text : List ℕ) × IsRankText query text × Adds old [] written interruptions now [] written_now interruptions_now text
+  abbrev pub AddsRanks : Asking → Seen → Delivery → Seen → Delivery → Type 0
+  AddsRanks query old delivery now delivery_now =
+      (text : List ℕ) × IsRankText query text × Adds old delivery now delivery_now text
 
   -- The device gave up in its lines; or memory was refused before them.
-  abbrev pub StopsRanks : Asking → Seen → ℕ → ℕ → Seen → AnswerFault → Type 0
-  StopsRanks query old written interruptions now (Write sent) =
-      (text : List ℕ) × IsRankText query text × Stops old [] written interruptions now (record { written = sent; kind = WriteFailed }) text
-  StopsRanks query old written interruptions now (OutOfMemory sent) = (sent ≡ written) × (now ≡ old)
-  StopsRanks query old written interruptions now _ = ⊥
+  abbrev pub StopsRanks : Asking → Seen → Delivery → Seen → AnswerFault → Type 0
+  StopsRanks query old delivery now (Write sent) =
+      (text : List ℕ) × IsRankText query text × Stops old delivery now (record { written = sent; kind = WriteFailed }) text
+  StopsRanks query old delivery now (OutOfMemory sent) = (sent ≡ delivery.written) × (now ≡ old)
+  StopsRanks query old delivery now _ = ⊥
 
-  -- The lines of problems are under way.
-  abbrev pub AreUnderWay : List Asking → Seen → Seen → ℕ → ℕ → Type 0
-  AreUnderWay queries first now written interruptions =
-      (text : List ℕ) × AreRankTexts queries text × IsUnderWay first now [] written interruptions text
+  -- The lines of problems are delivered.
+  abbrev pub AreDelivered : List Asking → Seen → Seen → Delivery → Type 0
+  AreDelivered queries first now delivery = (text : List ℕ) × AreRankTexts queries text × Delivers first now delivery text
 
 -- ---- from files
 

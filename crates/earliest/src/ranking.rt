@@ -6,6 +6,7 @@ ghost use Rattle.ea_text.specs.Device.{BearsOn};
 ghost use Rattle.ea_road.specs.Queries.{IsProblem};
 ghost use Rattle.ea_rank.specs.Summaries.{summary_of};
 ghost use Rattle.ea_report.specs.Report.{source_line};
+ghost use Rattle.ea_report.specs.Deliverers.{direct_delivery};
 ghost use Rattle.ea_report.specs.Sent.{Adds, Stops};
 ghost use Rattle.ea_report.specs.declared.report.WriteFaultKind.TheVariants.{WriteFailed};
 ghost use Rattle.ea_words.specs.Limits.{AreOptions};
@@ -63,9 +64,9 @@ fn put_ranks<W: ByteOut>(
     out: &mut W,
 ) -> Result<(), WriteFault>
     requires { direct.old.written ≤ 1000000 * 2 ^ 70 }
-    ensures ok { OnOk result (Adds (W.seen out.old) [] direct.old.written direct.old.interruptions
-        (W.seen out.new) [] direct.new.written direct.new.interruptions (source_line source ++ rank_line summary)) }
-    ensures err { IfErr result (λ fault. Stops (W.seen out.old) [] direct.old.written direct.old.interruptions
+    ensures ok { OnOk result (Adds (W.seen out.old) (direct_delivery direct.old)
+        (W.seen out.new) (direct_delivery direct.new) (source_line source ++ rank_line summary)) }
+    ensures err { IfErr result (λ fault. Stops (W.seen out.old) (direct_delivery direct.old)
         (W.seen out.new) fault (source_line source ++ rank_line summary)) }
     ensures device { IfErr result (λ fault. fault.kind ≡ WriteFailed) }
     ensures bound { OnOk result (direct.new.written ≤ direct.old.written + 2 ^ 70) }
@@ -106,10 +107,10 @@ fn rank_one<W: ByteOut>(
     requires heaps { (2 ≤ heaps) × (heaps ≤ 128) }
     requires room { direct.old.written ≤ 1000000 * 2 ^ 70 }
     ensures ok { OnOk result (AddsRanks heaps seed road.now.network (times_on road.now) query.now
-        (W.seen out.old) direct.old.written direct.old.interruptions
-        (W.seen out.new) direct.new.written direct.new.interruptions) }
+        (W.seen out.old) (direct_delivery direct.old)
+        (W.seen out.new) (direct_delivery direct.new)) }
     ensures err { IfErr result (StopsRanks heaps seed road.now.network (times_on road.now) query.now
-        (W.seen out.old) direct.old.written direct.old.interruptions
+        (W.seen out.old) (direct_delivery direct.old)
         (W.seen out.new)) }
     ensures bound { OnOk result (direct.new.written ≤ direct.old.written + 2 ^ 70) }
 {

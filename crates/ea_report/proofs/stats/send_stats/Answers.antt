@@ -1,22 +1,24 @@
 use Rattle.std.proofs.Common.{◌≡◌, refl, [], subst, ℕ, List}
 use Rattle.std.specs.List.{flat_map}
+use Rattle.ea_report.specs.Delivery.{all_sent}
+use Rattle.ea_report.specs.Deliverers.{direct_delivery}
 use Rattle.ea_report.specs.Stats.{total_line, stats_text}
 use Rattle.ea_report.specs.Sent.{IsCutBy, IsWhole}
-use Rattle.ea_report.proofs.Pieces.{way_start, way_end}
+use Rattle.ea_report.proofs.Pieces.{delivery_starts, delivery_ends}
 use Rattle.ea_report.proofs.stats.send_stats.Goals as goal
 
 pub returns-in-Ok-clause-ok : goal.returns-in-Ok-clause-ok
 returns-in-Ok-clause-ok g c =
     let text : flat_map (λ row. total_line (row.0.now, row.1)) c.as_slice-9.result.now ≡ stats_text c.args.totals.now = rw (c.as_slice-9.ensures, c.as_slice.ensures, c.as_slice-2.ensures, c.as_slice-3.ensures, c.as_slice-4.ensures, c.as_slice-5.ensures, c.as_slice-6.ensures, c.as_slice-7.ensures, c.as_slice-8.ensures) refl in
     let first = (g.W.Device.seen c.args.out.now) in
-    let start = way_start first [] 0 0 refl refl refl in
+    let start = delivery_starts first (all_sent 0 0) refl in
     let now = (g.W.Device.seen c.put_totals.new.out) in
-    subst (λ (t : List ℕ). IsWhole first now t c.put_totals.new.self.written) text (way_end first now [] _ _ _ refl c.put_totals.new.self.borne (c.in-Ok.ensures.ok first [] start))
+    subst (λ (t : List ℕ). IsWhole first now t c.put_totals.new.self.written) text (delivery_ends first now (direct_delivery c.put_totals.new.self) _ refl c.put_totals.new.self.borne (c.in-Ok.ensures.ok first [] start))
 
 pub returns-in-Err-clause-err : goal.returns-in-Err-clause-err
 returns-in-Err-clause-err g c =
     let text : flat_map (λ row. total_line (row.0.now, row.1)) c.as_slice-9.result.now ≡ stats_text c.args.totals.now = rw (c.as_slice-9.ensures, c.as_slice.ensures, c.as_slice-2.ensures, c.as_slice-3.ensures, c.as_slice-4.ensures, c.as_slice-5.ensures, c.as_slice-6.ensures, c.as_slice-7.ensures, c.as_slice-8.ensures) refl in
     let first = (g.W.Device.seen c.args.out.now) in
     let now = (g.W.Device.seen c.put_totals.new.out) in
-    let start = way_start first [] 0 0 refl refl refl in
+    let start = delivery_starts first (all_sent 0 0) refl in
     subst (λ (t : List ℕ). IsCutBy first now t c.in-Err.fault) text (c.in-Err.ensures.err first [] start)

@@ -1,7 +1,7 @@
 use Rattle.std.proofs.Common.{arith}
 use Rattle.std.proofs.lemmas.Result.{err_from_is_err_and}
 use Rattle.earliest.specs.Fronts.{times_on}
-use Rattle.earliest.proofs.Ranked.{next_under_way, ranks_stop}
+use Rattle.earliest.proofs.Ranked.{next_delivered, ranks_stop}
 use Rattle.earliest.proofs.ranking.rank_each.Goals as goal
 
 pub returns-in_err-rank_one-clause-err : goal.returns-in_err-rank_one-clause-err
@@ -16,6 +16,6 @@ loop-query-preserved g c =
     let inv = c.loop-query.invariant in
     let first = g.W.Device.seen c.args.out.now in
     record {
-      way = next_under_way c.args.heaps c.args.seed c.args.road.now.network (times_on c.args.road.now) c.args.queries.now i c.query-item.result c.loop-query-test.true c.query-item.is first _ _ _ _ _ _ inv.way c.in_ok-rank_one.ensures.ok;
+      way = next_delivered c.args.heaps c.args.seed c.args.road.now.network (times_on c.args.road.now) c.args.queries.now i c.query-item.result c.loop-query-test.true c.query-item.is first _ _ _ _ inv.way c.in_ok-rank_one.ensures.ok;
       bound = omega (arith, c.in_ok-rank_one.ensures.bound, inv.bound);
     }

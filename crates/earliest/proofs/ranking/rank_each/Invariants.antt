@@ -1,10 +1,11 @@
 use Rattle.std.proofs.Common.{◌≤◌, ◌*◌, ◌^◌, take}
+use Rattle.ea_report.specs.Deliverers.{direct_delivery}
 use Rattle.earliest.specs.Fronts.{times_on}
-use Rattle.earliest.specs.Ranks.{AreUnderWay}
+use Rattle.earliest.specs.Ranks.{AreDelivered}
 use Rattle.earliest.proofs.ranking.rank_each.Given as goal
 
 abbrev pub invariant-loop-query : goal.invariant-loop-query
 invariant-loop-query g l = record {
-  way : AreUnderWay l.heaps l.seed l.road.network (times_on l.road) (take l.query-index l.queries) (g.W.Device.seen l.fn.out) (g.W.Device.seen l.out) l.direct.written l.direct.interruptions;
+  way : AreDelivered l.heaps l.seed l.road.network (times_on l.road) (take l.query-index l.queries) (g.W.Device.seen l.fn.out) (g.W.Device.seen l.out) (direct_delivery l.direct);
   bound : l.direct.written ≤ l.query-index * 2 ^ 70;
 }

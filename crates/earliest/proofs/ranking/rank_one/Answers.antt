@@ -1,3 +1,4 @@
+use Rattle.ea_report.specs.Deliverers.{direct_delivery}
 use Rattle.earliest.specs.Fronts.{times_on}
 use Rattle.earliest.proofs.Ranked.{rank_text, stops_for_device}
 use Rattle.earliest.proofs.ranking.rank_one.Goals as goal
@@ -12,5 +13,5 @@ returns-clause-err g c =
     let now = g.W.Device.seen c.put_ranks.new.out in (
       _,
       rank_text c.args.heaps c.args.seed c.args.road.now.network (times_on c.args.road.now) c.args.query.now c.sources.result.now _ c.in-Ok.found.items c.deref.result.now c.of.result c.sources.ensures.sources c.requires.one.one c.in-Ok.ensures c.deref.ensures.value c.of.ensures,
-      stops_for_device old now _ c.args.direct.now.written c.args.direct.now.interruptions c.in-Err.fault c.in-Err.ensures.device c.in-Err.ensures.err,
+      stops_for_device old now _ (direct_delivery c.args.direct.now) c.in-Err.fault c.in-Err.ensures.device c.in-Err.ensures.err,
     )

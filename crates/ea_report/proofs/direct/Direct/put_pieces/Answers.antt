@@ -1,0 +1,12 @@
+use Rattle.std.proofs.Common.{arith, take, drop, suc, []}
+use Rattle.std.proofs.lemmas.Result.{err_from_is_err_and}
+use Rattle.std.specs.List.{flat_map}
+use Rattle.ea_report.proofs.Pieces.{stops_more, flat_map-at}
+use Rattle.ea_report.proofs.direct.Direct.put_pieces.Goals as goal
+
+pub returns-in_err-put-clause-err : goal.returns-in_err-put-clause-err
+returns-in_err-put-clause-err g c =
+    let p = err_from_is_err_and c.from_residual.result c.from_residual.ensures.1 in
+    let i = c.loop-piece.piece-index in
+    let pieces = c.args.pieces.now in
+    rw (p.1, p.2) (stops_more _ _ _ _ _ _ (flat_map (λ piece. piece.now) (take i pieces)) _ (flat_map (λ piece. piece.now) (drop (suc i) pieces)) _ (flat_map-at (λ piece. piece.now) pieces i _ (omega arith)) c.loop-piece.invariant.added c.in_err-put.ensures.err)
