@@ -1,11 +1,6 @@
 pub mod Copied
 pub mod Counting
 pub mod Sending
-pub mod Posing
-pub mod Outcomes
-pub mod Telling
-pub mod Asking
 pub mod Verdicts
 pub mod OneReport
 pub mod Agreeing
-pub mod Ranked

@@ -1,23 +1,25 @@
 -- Reports that went out, one after the other.
 use Rattle.std.proofs.Common.{◌≡◌, ℕ, ◌+◌, ◌^◌, ◌<◌, ◌≤◌, true, List, [], ◌∷◌, ◌++◌, length, take, get_or, refl, ap, sym, ◌∙◌, arith, subst, inl, inr, append-nil, append_assoc, length-append}
-use Rattle.std.specs.Prelude.{Option}
+use Rattle.std.specs.Prelude.{Option, Some}
 use Rattle.std.specs.Io.KnownBytes.{Appends}
 use Rattle.std.proofs.KnownBytes.{Appends-trans, Appends-nil}
 use Rattle.std.proofs.Math.Seq.{take-length, take-append-add}
 use Rattle.std.proofs.lemmas.List.{take_more}
-use Rattle.ea_text.specs.Device.{Seen, BearsOn, HasGivenUp}
+use Rattle.std.proofs.lemmas.Option.{slice_get_read}
+use Rattle.ea_text.specs.Device.{Seen, BearsOn, GivesUp}
 use Rattle.ea_road.specs.Roads.{Roads}
 use Rattle.ea_road.specs.Queries.{Asking}
 use Rattle.ea_report.specs.Sent.{IsCutAt, IsNotLess}
 use Rattle.ea_report.specs.declared.stats.Totals.{Totals}
 use Rattle.ea_report.specs.Stats.{stats_text}
 use Rattle.earliest.specs.Reported.{IsReportOf, AreReported}
-use Rattle.earliest.specs.Fronts.{IsFront, of_problems, of_stats, IsCutShort, IsSent, IsStopped, IsStoppedBy, IsWritten, AreSent, totals_text}
+use Rattle.earliest.specs.Fronts.{in_problem, in_totals, IsCutShort, IsSent, IsStoppedBy, IsWritten, AreSent, totals_text}
 use Rattle.ea_words.specs.declared.options.RunOptions.{RunOptions}
 use Rattle.earliest.specs.Counted.{AreBalanced, AreTotals}
 use Rattle.earliest.specs.Workers.{settings_by}
-use Rattle.earliest.specs.declared.fault.AnswerFault.{AnswerFault}
-use Rattle.earliest.specs.declared.fault.AnswerFault.TheVariants.{Read, Input, BadOption, Write, OutOfMemory}
+use Rattle.ea_outcomes.proofs.Outcomes.{IsCutting}
+use Rattle.ea_outcomes.specs.declared.fault.AnswerFault.{AnswerFault}
+use Rattle.ea_outcomes.specs.declared.fault.AnswerFault.TheVariants.{Read, Input, BadOption, Write, OutOfMemory}
 
 module _ (options : RunOptions) (roads : Roads) (answers : ℕ → ℕ → ℕ → ℕ → Type 0) where
   -- One more report.
@@ -47,20 +49,6 @@ module _ (options : RunOptions) (roads : Roads) (answers : ℕ → ℕ → ℕ �
     monotone = goes_on first.interrupted old.interrupted now.interrupted fits sent.monotone more.not_less;
   }
 
-  -- A device that gave up later gave up.
-  pub gave_up : (first old now : Seen) → old.failed ≡ first.failed → first.interrupted ≤ old.interrupted → HasGivenUp old now → HasGivenUp first now
-  gave_up first old now same before (inl h) = inl (omega (arith, h, same))
-  gave_up first old now same before (inr (inl h)) = inr (inl (omega (arith, h, before)))
-  gave_up first old now same before (inr (inr (inl h))) = inr (inr (inl h))
-  gave_up first old now same before (inr (inr (inr h))) = inr (inr (inr h))
-
-  -- A front of what comes after what went out.
-  pub cut_after : (first old now : Option (List ℕ)) (report text : List ℕ) (before sent written : ℕ) → Appends first old report → before ≡ length report → written ≡ before + sent → IsCutAt old now text sent → IsCutAt first now (report ++ text) written
-  cut_after first old now report text before sent written appended counted total cut =
-      let size : written ≡ length report + sent = total ∙ ap (λ (n : ℕ). n + sent) counted in
-      let front : take written (report ++ text) ≡ report ++ take sent text = ap (λ (n : ℕ). take n (report ++ text)) size ∙ take-append-add report text sent in
-      (omega (arith, size, cut.0, length-append report text), subst (λ t. Appends first now t) (sym front) (Appends-trans first old now report (take sent text) appended cut.1))
-
   -- The next problem of a list.
   module _ (all : List Asking) (i : ℕ) (query : Asking) (inside : i < length all) (at : query ≡ get_or all i query) where
     one_more : take (i + 1) all ≡ take i all ++ query ∷ []
@@ -71,34 +59,24 @@ module _ (options : RunOptions) (roads : Roads) (answers : ℕ → ℕ → ℕ �
     sent_next first old now before written fits sent more = subst (λ qs. AreSent options.walks roads answers qs first now written) (sym one_more) (sent_more (take i all) query first old now before written fits sent more)
 
     -- Its report stops.
-    module _ (first old now : Seen) (before : ℕ) (sent : AreSent options.walks roads answers (take i all) first old before) where
-      stopped : (written : ℕ) → IsStopped options.walks roads answers query old now before written → IsFront options roads answers all first.bytes now.bytes written
-      stopped written stop = of_problems (i + 1) (sent.report ++ stop.text)
-          (subst (λ qs. AreReported options.walks roads answers qs (sent.report ++ stop.text)) (sym one_more) (reported_more (take i all) query sent.report stop.text sent.are_reported stop.is_report))
-          (cut_after first.bytes old.bytes now.bytes sent.report stop.text before stop.sent written sent.appended sent.counted stop.counted stop.cut)
-
-      nothing : (written : ℕ) → written ≡ before → now ≡ old → IsFront options roads answers all first.bytes now.bytes written
-      nothing written same still =
-          let size : written ≡ length sent.report = same ∙ sent.counted in
-          let whole : take written sent.report ≡ sent.report = ap (λ (n : ℕ). take n sent.report) size ∙ take-length sent.report in
-          of_problems i sent.report sent.are_reported
-          (omega (arith, size), subst (λ t. Appends first.bytes now.bytes t) (sym whole) (subst (λ (s : Seen). Appends first.bytes s.bytes sent.report) (sym still) sent.appended))
-
-      pub stops : (fault : AnswerFault) → IsStoppedBy options.walks roads answers query old now before fault → IsCutShort options roads answers all first now fault
-      stops (Write written) stop = (stopped written stop.0, gave_up first old now sent.unfailed sent.monotone stop.1)
-      stops (OutOfMemory written) (inl still) = nothing written still.0 still.1
-      stops (OutOfMemory written) (inr stop) = stopped written stop
-      stops (Read file fault) stop = absurd stop
-      stops (Input file fault) stop = absurd stop
-      stops BadOption stop = absurd stop
+    pub stops : (first old now : Seen) (before : ℕ) → AreSent options.walks roads answers (take i all) first old before → (fault : AnswerFault) → IsStoppedBy options.walks roads answers query old now before fault → IsCutShort options roads answers all first now fault
+    stops first old now before sent fault stop = in_problem i query old before (slice_get_read all (length all) i query refl inside at) sent stop
 
   -- The totals after all reports.
   module _ (all : List Asking) (first old now : Seen) (before : ℕ) (totals : Totals) (sent : AreSent options.walks roads answers all first old before) where
-    pub totals_cut : (size : ℕ) → options.stats ≡ true → AreTotals (settings_by options) all totals → IsCutAt old.bytes now.bytes (stats_text totals) size → HasGivenUp old now → IsCutShort options roads answers all first now (Write (before + size))
-    totals_cut size told counted cut gone = (
-      of_stats sent.report totals told sent.are_reported counted (cut_after first.bytes old.bytes now.bytes sent.report (stats_text totals) before size (before + size) sent.appended sent.counted refl cut),
-      gave_up first old now sent.unfailed sent.monotone gone,
-    )
+    pub totals_cut : (size : ℕ) → options.stats ≡ true → AreTotals (settings_by options) all totals → IsCutAt old.bytes now.bytes (stats_text totals) size → GivesUp old now → IsCutShort options roads answers all first now (Write (before + size))
+    totals_cut size told counted cut gone = in_totals (before + size) refl (record {
+      asked = told;
+      old = old;
+      before = before;
+      sent = sent;
+      totals = totals;
+      counted = counted;
+      size = size;
+      is_written = refl;
+      cut = cut;
+      gives_up = gone;
+    })
 
     pub all_written : Appends old.bytes now.bytes (totals_text options totals) → BearsOn old now → AreTotals (settings_by options) all totals → AreBalanced totals → IsWritten options roads answers all first now totals
     all_written more bears counted balanced = record {
@@ -110,3 +88,14 @@ module _ (options : RunOptions) (roads : Roads) (answers : ℕ → ℕ → ℕ �
       unfailed = bears.0 ∙ sent.unfailed;
       borne = omega (arith, bears.1, sent.borne);
     }
+
+-- What cuts a report short is the device or memory.
+pub cuts_short : (options : RunOptions) (roads : Roads) (answers : ℕ → ℕ → ℕ → ℕ → Type 0) (problems : List Asking) (first now : Seen) (fault : AnswerFault) → IsCutShort options roads answers problems first now fault → IsCutting fault
+cuts_short options roads answers problems first now fault (in_totals written is cut) = subst IsCutting (sym is) tt
+cuts_short options roads answers problems first now fault (in_problem count query old before at sent stop) = by fault stop where
+  by : (f : AnswerFault) → IsStoppedBy options.walks roads answers query old now before f → IsCutting f
+  by (Write written) stop = tt
+  by (OutOfMemory written) stop = tt
+  by (Read file fault) stop = stop
+  by (Input file fault) stop = stop
+  by BadOption stop = stop

@@ -1,11 +1,9 @@
 -- What went out of a report, whole or cut short.
-use Rattle.std.specs.Prelude.{◌≡◌, ◌⊎◌, ℕ, ◌+◌, ◌*◌, ◌≤◌, Bool, true, List, [], ◌++◌, Option, if◌then◌else◌, length, take, All}
+use Rattle.std.specs.Prelude.{◌≡◌, ◌⊎◌, ℕ, ◌+◌, ◌*◌, ◌≤◌, Bool, true, List, [], ◌++◌, Some, if◌then◌else◌, length, slice_get, take}
 use Rattle.std.specs.Io.KnownBytes.{Appends}
-use Rattle.ea_text.specs.Device.{Seen, HasGivenUp}
+use Rattle.ea_text.specs.Device.{BearsOn, GivesUp, Seen}
 use Rattle.ea_road.specs.Roads.{Roads}
-use Rattle.ea_road.specs.Queries.{Asking, IsProblem}
-use Rattle.ea_road.specs.TimetableLists.{TimetablesAnswer}
-use Rattle.ea_files.specs.declared.road.Road.{Road}
+use Rattle.ea_road.specs.Queries.{Asking}
 use Rattle.ea_report.specs.declared.stats.Totals.{Totals}
 use Rattle.ea_report.specs.Sent.{IsCutAt, IsNotLess}
 use Rattle.ea_report.specs.Stats.{stats_text}
@@ -13,44 +11,12 @@ use Rattle.ea_words.specs.declared.options.RunOptions.{RunOptions}
 use Rattle.earliest.specs.Counted.{AreBalanced, AreTotals}
 use Rattle.earliest.specs.Reported.{IsReportOf, AreReported}
 use Rattle.earliest.specs.Workers.{settings_by}
-use Rattle.earliest.specs.declared.fault.AnswerFault.{AnswerFault}
-use Rattle.earliest.specs.declared.fault.AnswerFault.TheVariants.{Write, OutOfMemory}
-
--- Queries are problems of a road, each with a million sources at most.
-abbrev pub IsPosed : Road → Asking → Type 0
-IsPosed road query = IsProblem road.network (length road.times.list.items) query × (length query.sources ≤ 1000000)
-
-abbrev pub AreProblems : Road → List Asking → Type 0
-AreProblems road queries = All (IsPosed road) queries
-
--- When the arcs of a road arrive.
-abbrev pub times_on : Road → ℕ → ℕ → ℕ → ℕ → Type 0
-times_on road class weight departure arrival = TimetablesAnswer road.times.list.items class weight departure arrival
+use Rattle.ea_outcomes.specs.declared.fault.AnswerFault.{AnswerFault}
+use Rattle.ea_outcomes.specs.declared.fault.AnswerFault.TheVariants.{Write, OutOfMemory}
 
 -- With statistics the totals stand after the reports.
 abbrev pub totals_text : RunOptions → Totals → List ℕ
 totals_text options totals = if options.stats then stats_text totals else []
-
--- The bytes that went out are the front of a report: of the reports of so many problems; or, with statistics, of all problems'
--- and the totals of such runs.
-pub data IsFront
-    (options : RunOptions)
-    (roads : Roads)
-    (answers : ℕ → ℕ → ℕ → ℕ → Type 0)
-    (problems : List Asking)
-    (old new : Option (List ℕ))
-    (written : ℕ)
-    : Type 0 where
-  of_problems : (count : ℕ) (report : List ℕ) → AreReported options.walks roads answers (take count problems) report → IsCutAt old new report written → IsFront options roads answers problems old new written
-  of_stats : (report : List ℕ) (totals : Totals) → options.stats ≡ true → AreReported options.walks roads answers problems report → AreTotals (settings_by options) problems totals
-      → IsCutAt old new (report ++ stats_text totals) written → IsFront options roads answers problems old new written
-
--- A report was cut short: a front of it went out. The device gave up where writing was the cause.
-abbrev pub IsCutShort : RunOptions → Roads → (ℕ → ℕ → ℕ → ℕ → Type 0) → List Asking → Seen → Seen → AnswerFault → Type 0
-IsCutShort options roads answers problems first now (Write written) =
-    IsFront options roads answers problems first.bytes now.bytes written × HasGivenUp first now
-IsCutShort options roads answers problems first now (OutOfMemory written) = IsFront options roads answers problems first.bytes now.bytes written
-IsCutShort options roads answers problems first now _ = ⊥
 
 -- ---- one problem
 
@@ -72,10 +38,13 @@ pub record IsStopped (walks : Bool) (roads : Roads) (answers : ℕ → ℕ → �
   pub counted : written ≡ before + sent
   pub cut : IsCutAt old.bytes now.bytes text sent
 
+-- Why: the device's first failure or its first interruption that isn't borne, in this report; or memory was refused, before
+-- anything of it was written or later, and the device bore it.
 abbrev pub IsStoppedBy : Bool → Roads → (ℕ → ℕ → ℕ → ℕ → Type 0) → Asking → Seen → Seen → ℕ → AnswerFault → Type 0
 IsStoppedBy walks roads answers query old now before (Write written) =
-    IsStopped walks roads answers query old now before written × HasGivenUp old now
-IsStoppedBy walks roads answers query old now before (OutOfMemory written) = ((written ≡ before) × (now ≡ old)) ⊎ IsStopped walks roads answers query old now before written
+    IsStopped walks roads answers query old now before written × GivesUp old now
+IsStoppedBy walks roads answers query old now before (OutOfMemory written) =
+    ((written ≡ before) × (now ≡ old)) ⊎ (IsStopped walks roads answers query old now before written × BearsOn old now)
 IsStoppedBy walks roads answers query old now before _ = ⊥
 
 -- ---- many
@@ -100,3 +69,24 @@ pub record IsWritten (options : RunOptions) (roads : Roads) (answers : ℕ → �
   pub balanced : AreBalanced totals
   pub unfailed : now.failed ≡ first.failed
   pub borne : now.interrupted ≤ first.interrupted + (length problems + 1) * 1000
+
+-- ---- cut short
+
+-- The reports of all problems went out, and of the totals of runs of them only a front: the device gave up there.
+pub record AreTotalsCut (options : RunOptions) (roads : Roads) (answers : ℕ → ℕ → ℕ → ℕ → Type 0) (problems : List Asking) (first now : Seen) (written : ℕ) : Type 0 where
+  pub asked : options.stats ≡ true
+  pub old : Seen
+  pub before : ℕ
+  pub sent : AreSent options.walks roads answers problems first old before
+  pub totals : Totals
+  pub counted : AreTotals (settings_by options) problems totals
+  pub size : ℕ
+  pub is_written : written ≡ before + size
+  pub cut : IsCutAt old.bytes now.bytes (stats_text totals) size
+  pub gives_up : GivesUp old now
+
+-- What went out was cut short: the reports of so many problems went out whole, and the next one's stopped; or the totals did.
+pub data IsCutShort (options : RunOptions) (roads : Roads) (answers : ℕ → ℕ → ℕ → ℕ → Type 0) (problems : List Asking) (first now : Seen) (fault : AnswerFault) : Type 0 where
+  in_problem : (count : ℕ) (query : Asking) (old : Seen) (before : ℕ) → slice_get problems count ≡ Some query
+      → AreSent options.walks roads answers (take count problems) first old before → IsStoppedBy options.walks roads answers query old now before fault → IsCutShort options roads answers problems first now fault
+  in_totals : (written : ℕ) → fault ≡ Write written → AreTotalsCut options roads answers problems first now written → IsCutShort options roads answers problems first now fault

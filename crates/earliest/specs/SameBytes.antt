@@ -11,7 +11,8 @@ use Rattle.ea_report.specs.declared.stats.Totals.{Totals}
 use Rattle.ea_words.specs.declared.options.RunOptions.{RunOptions}
 use Rattle.earliest.specs.Fronts.{totals_text}
 use Rattle.earliest.specs.Reported.{AreReported}
-use Rattle.earliest.specs.Runs.{IsAnswered, run_asks, pair_asks}
+use Rattle.ea_outcomes.specs.Asked.{Files, IsAnswered, tp_had}
+use Rattle.earliest.specs.Runs.{run_asks, pair_asks}
 
 -- The report of a run of these texts, from these departures on. No word of workers, heaps, turns or seed occurs here.
 pub record IsRunReport (gr ss : List ℕ) (tp : Option (List ℕ)) (joint : Bool) (depart gap : ℕ) (walks : Bool) (report : List ℕ) : Type 0 where
@@ -38,20 +39,29 @@ PairsHaveOneReport = (gr p2p : List ℕ) (tp : Option (List ℕ)) (depart gap : 
 
 -- ---- two calls
 
--- A call that answered: its options, its output before and after, and the totals that it gave.
+-- A call that answered: its options, its files, its output before and after, and the totals that it gave.
 pub record Answering : Type 0 where
   pub options : RunOptions
+  pub files : Files
   pub first : Seen
   pub now : Seen
   pub totals : Totals
 
+-- The readers of files had these texts: of the network, of the starts, and of the timetables where there are any.
+pub record HadTexts (gr starts : List ℕ) (tp : Option (List ℕ)) (files : Files) : Type 0 where
+  pub of_gr : files.gr.old.bytes ≡ Some gr
+  pub of_starts : files.starts.old.bytes ≡ Some starts
+  pub of_tp : tp_had files ≡ option_map Some tp
+
 -- It answered a run of these texts.
-abbrev pub AnswersRun : List ℕ → List ℕ → Option (List ℕ) → Answering → Type 0
-AnswersRun gr ss tp call = IsAnswered (run_asks call.options.joint call.options.depart call.options.gap) call.options (option_map Some tp) (Some gr) (Some ss) call.first call.now call.totals
+pub record AnswersRun (gr ss : List ℕ) (tp : Option (List ℕ)) (call : Answering) : Type 0 where
+  pub texts : HadTexts gr ss tp call.files
+  pub answered : IsAnswered (run_asks call.options) call.files call.first call.now call.totals
 
 -- It answered these texts' pairs.
-abbrev pub AnswersPairs : List ℕ → List ℕ → Option (List ℕ) → Answering → Type 0
-AnswersPairs gr p2p tp call = IsAnswered (pair_asks call.options.depart call.options.gap) call.options (option_map Some tp) (Some gr) (Some p2p) call.first call.now call.totals
+pub record AnswersPairs (gr p2p : List ℕ) (tp : Option (List ℕ)) (call : Answering) : Type 0 where
+  pub texts : HadTexts gr p2p tp call.files
+  pub answered : IsAnswered (pair_asks call.options) call.files call.first call.now call.totals
 
 -- Two calls ask for the same report. Statistics, workers, heaps, turns, seeds and outputs may differ.
 pub record AskForOne (this that : RunOptions) : Type 0 where

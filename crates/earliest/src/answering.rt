@@ -1,15 +1,14 @@
 //! From files to a report.
-ghost use Rattle.std.specs.Prelude.{◌≡◌, IfOk, IfErr, OnOk};
-ghost use Rattle.ea_text.specs.Device.{BearsOn};
-ghost use Rattle.ea_input.specs.Formats.{table_format};
-ghost use Rattle.ea_files.specs.Files.{bytes_there, IsBorneIfThere, IsFaultIfThere, reading};
+ghost use Rattle.std.specs.Prelude.{IfOk, IfErr};
+ghost use Rattle.ea_files.specs.Files.{reading};
+ghost use Rattle.ea_outcomes.specs.Asked.{IsAnswered, IsFailed, files_of};
 ghost use Rattle.ea_words.specs.Limits.{AreOptions};
-ghost use Rattle.earliest.specs.Runs.{IsAnswered, IsFailed, run_asks, pair_asks};
+ghost use Rattle.earliest.specs.Runs.{run_asks, pair_asks};
 
-use crate::fault::AnswerFault;
 use crate::progress::report_all;
-use ea_files::{FileWord, departures_fit, pair_queries, read_run, read_trips, run_queries};
+use ea_files::{departures_fit, pair_queries, read_run, read_trips, run_queries};
 use ea_input::{ByteIn, ByteOut};
+use ea_outcomes::AnswerFault;
 use ea_report::Totals;
 use ea_words::RunOptions;
 use std::alloc::Global;
@@ -34,16 +33,11 @@ pub fn answer<H: Threads + Sync, G: ByteIn, S: ByteIn, T: ByteIn, W: ByteOut>(
     out: &mut W,
 ) -> Result<Totals, AnswerFault>
     requires options { AreOptions options.now }
-    ensures answered { IfOk result (IsAnswered (run_asks options.now.joint options.now.depart options.now.gap) options.now
-        (bytes_there T.seen tp.old) (G.seen gr.old).bytes (S.seen ss.old).bytes
+    ensures answered { IfOk result (IsAnswered (run_asks options.now)
+        (files_of (reading G.seen gr.old gr.new) (reading S.seen ss.old ss.new) T.seen tp.old tp.new)
         (W.seen out.old) (W.seen out.new)) }
-    ensures gr_borne { OnOk result (BearsOn (G.seen gr.old) (G.seen gr.new)) }
-    ensures ss_borne { OnOk result (BearsOn (S.seen ss.old) (S.seen ss.new)) }
-    ensures tp_borne { OnOk result (IsBorneIfThere T.seen tp.old tp.new) }
-    ensures failed { IfErr result (IsFailed (run_asks options.now.joint options.now.depart options.now.gap) options.now (bytes_there T.seen tp.old)
-        (reading G.seen gr.old gr.new)
-        (reading S.seen ss.old ss.new)
-        (λ arcs. IsFaultIfThere T.seen FileWord.Tp (table_format arcs) tp.old tp.new) (IsBorneIfThere T.seen tp.old tp.new)
+    ensures failed { IfErr result (IsFailed (run_asks options.now)
+        (files_of (reading G.seen gr.old gr.new) (reading S.seen ss.old ss.new) T.seen tp.old tp.new)
         (W.seen out.old) (W.seen out.new)) }
 {
     let files = read_run(alloc, gr, ss, tp)?;
@@ -72,16 +66,11 @@ pub fn answer_pairs<H: Threads + Sync, G: ByteIn, P: ByteIn, T: ByteIn, W: ByteO
     out: &mut W,
 ) -> Result<Totals, AnswerFault>
     requires options { AreOptions options.now }
-    ensures answered { IfOk result (IsAnswered (pair_asks options.now.depart options.now.gap) options.now
-        (bytes_there T.seen tp.old) (G.seen gr.old).bytes (P.seen p2p.old).bytes
+    ensures answered { IfOk result (IsAnswered (pair_asks options.now)
+        (files_of (reading G.seen gr.old gr.new) (reading P.seen p2p.old p2p.new) T.seen tp.old tp.new)
         (W.seen out.old) (W.seen out.new)) }
-    ensures gr_borne { OnOk result (BearsOn (G.seen gr.old) (G.seen gr.new)) }
-    ensures p2p_borne { OnOk result (BearsOn (P.seen p2p.old) (P.seen p2p.new)) }
-    ensures tp_borne { OnOk result (IsBorneIfThere T.seen tp.old tp.new) }
-    ensures failed { IfErr result (IsFailed (pair_asks options.now.depart options.now.gap) options.now (bytes_there T.seen tp.old)
-        (reading G.seen gr.old gr.new)
-        (reading P.seen p2p.old p2p.new)
-        (λ arcs. IsFaultIfThere T.seen FileWord.Tp (table_format arcs) tp.old tp.new) (IsBorneIfThere T.seen tp.old tp.new)
+    ensures failed { IfErr result (IsFailed (pair_asks options.now)
+        (files_of (reading G.seen gr.old gr.new) (reading P.seen p2p.old p2p.new) T.seen tp.old tp.new)
         (W.seen out.old) (W.seen out.new)) }
 {
     let files = read_trips(alloc, gr, p2p, tp)?;

@@ -1,15 +1,14 @@
 //! Reports, checked.
-ghost use Rattle.std.specs.Prelude.{◌≡◌, ◌≤◌, IfOk, IfErr, OnOk};
-ghost use Rattle.ea_text.specs.Device.{BearsOn};
-ghost use Rattle.ea_input.specs.Formats.{table_format};
-ghost use Rattle.ea_files.specs.Files.{bytes_there, IsBorneIfThere, IsFaultIfThere, reading};
+ghost use Rattle.std.specs.Prelude.{IfOk, IfErr};
+ghost use Rattle.ea_files.specs.Files.{reading};
+ghost use Rattle.ea_outcomes.specs.Asked.{files_of};
 ghost use Rattle.ea_words.specs.Limits.{AreOptions};
 ghost use Rattle.earliest.specs.Checks.{IsJudged, IsUnjudged};
 
-use crate::fault::AnswerFault;
 use ea_check::{CheckFault, check};
-use ea_files::{FileWord, departures_fit, read_report, read_run, run_queries};
+use ea_files::{departures_fit, read_report, read_run, run_queries};
 use ea_input::ByteIn;
+use ea_outcomes::AnswerFault;
 use ea_words::RunOptions;
 use std::alloc::Global;
 
@@ -31,18 +30,12 @@ pub fn check_report<G: ByteIn, S: ByteIn, T: ByteIn, R: ByteIn>(
     report: &mut R,
 ) -> Result<Result<(), CheckFault>, AnswerFault>
     requires options { AreOptions options.now }
-    ensures judged { IfOk result (IsJudged options.now.joint options.now.depart options.now.gap
-        (bytes_there T.seen tp.old) (G.seen gr.old).bytes (S.seen ss.old).bytes
-        (reading R.seen report.old report.new) (R.seen report.new).bytes) }
-    ensures gr_borne { OnOk result (BearsOn (G.seen gr.old) (G.seen gr.new)) }
-    ensures ss_borne { OnOk result (BearsOn (S.seen ss.old) (S.seen ss.new)) }
-    ensures tp_borne { OnOk result (IsBorneIfThere T.seen tp.old tp.new) }
-    ensures unjudged { IfErr result (IsUnjudged options.now.joint options.now.depart options.now.gap (bytes_there T.seen tp.old)
-        (reading G.seen gr.old gr.new)
-        (reading S.seen ss.old ss.new)
-        (reading R.seen report.old report.new)
-        (R.seen report.new).bytes
-        (λ arcs. IsFaultIfThere T.seen FileWord.Tp (table_format arcs) tp.old tp.new) (IsBorneIfThere T.seen tp.old tp.new)) }
+    ensures judged { IfOk result (IsJudged options.now
+        (files_of (reading G.seen gr.old gr.new) (reading S.seen ss.old ss.new) T.seen tp.old tp.new)
+        (reading R.seen report.old report.new)) }
+    ensures unjudged { IfErr result (IsUnjudged options.now
+        (files_of (reading G.seen gr.old gr.new) (reading S.seen ss.old ss.new) T.seen tp.old tp.new)
+        (reading R.seen report.old report.new)) }
 {
     let files = read_run(alloc, gr, ss, tp)?;
     let text = read_report(alloc, report)?;

@@ -3,13 +3,10 @@
 
 mod answering;
 mod checking;
-mod fault;
 pub mod laws;
 mod progress;
-mod ranking;
 #[cfg(test)]
 mod reports_tests;
-mod saying;
 mod solving;
 mod totals;
 
@@ -17,8 +14,7 @@ pub use answering::{answer, answer_pairs};
 pub use checking::check_report;
 pub use ea_check::CheckFault;
 pub use ea_files::{FileFault, FileWord};
+pub use ea_outcomes::{AnswerFault, Outcome, say};
+pub use ea_ranking::rank_report;
 pub use ea_report::Totals;
 pub use ea_words::{Command, CommandFault, RunOptions};
-pub use fault::AnswerFault;
-pub use ranking::rank_report;
-pub use saying::{Outcome, say};

@@ -1,7 +1,7 @@
 //! Reports of problems, written one after the other.
 ghost use Rattle.std.specs.Prelude.{◌≡◌, ◌≤◌, ◌<◌, ◌+◌, ◌*◌, ◌^◌, ℕ, [], IfOk, IfErr, OnOk, if◌then◌else◌, length, true};
 ghost use Rattle.std.specs.Io.KnownBytes.{Appends};
-ghost use Rattle.ea_text.specs.Device.{BearsOn, HasGivenUp};
+ghost use Rattle.ea_text.specs.Device.{BearsOn, GivesUp};
 ghost use Rattle.ea_road.specs.Queries.{IsProblem};
 ghost use Rattle.ea_finish.specs.Answers.{HasArrivals, IsAnswer};
 ghost use Rattle.ea_report.specs.Sent.{IsCutAt};
@@ -9,15 +9,16 @@ ghost use Rattle.ea_report.specs.Stats.{stats_text};
 ghost use Rattle.ea_report.specs.declared.stats.Totals.{Totals};
 ghost use Rattle.ea_words.specs.Limits.{AreOptions};
 ghost use Rattle.earliest.specs.Counted.{AreBalanced, AreSmall, AreTotals, IsTotal, plus};
-ghost use Rattle.earliest.specs.Faults;
-ghost use Rattle.earliest.specs.Fronts.{AreProblems, AreSent, IsCutShort, IsSent, IsStoppedBy, IsWritten, times_on};
+ghost use Rattle.ea_outcomes.specs.Faults;
+ghost use Rattle.ea_outcomes.specs.Posed.{AreProblems, times_on};
+ghost use Rattle.earliest.specs.Fronts.{AreSent, IsCutShort, IsSent, IsStoppedBy, IsWritten};
 ghost use Rattle.earliest.specs.Workers.{settings_by};
 
-use crate::fault::AnswerFault;
 use crate::solving::{Found, find};
 use crate::totals::{add_totals, no_totals};
 use ea_files::Road;
 use ea_input::ByteOut;
+use ea_outcomes::AnswerFault;
 use ea_report::{ReportOptions, Totals, WriteFault, WriteFaultKind, write_problem, write_stats};
 use ea_road::Query;
 use ea_words::RunOptions;
@@ -165,7 +166,7 @@ fn write_totals<W: ByteOut>(
     ensures borne { OnOk result (BearsOn (W.seen out.old) (W.seen out.new)) }
     ensures err { IfErr result (λ fault. (sent : ℕ) × (stats ≡ true) × (fault ≡ AnswerFault.Write (progress.now.written + sent))
         × IsCutAt (W.seen out.old).bytes (W.seen out.new).bytes (stats_text progress.now.totals) sent
-        × HasGivenUp (W.seen out.old) (W.seen out.new)) }
+        × GivesUp (W.seen out.old) (W.seen out.new)) }
 {
     if stats {
         match write_stats(&progress.totals, out) {

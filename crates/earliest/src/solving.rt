@@ -7,7 +7,8 @@ ghost use Rattle.ea_engine.specs.Tallies.{IsTally};
 ghost use Rattle.ea_finish.specs.Answers.{HasArrivals, IsAnswer};
 ghost use Rattle.ea_words.specs.Limits.{AreOptions};
 ghost use Rattle.earliest.specs.Counted.{AreBalanced, AreSmall, IsTotal, totals_by};
-ghost use Rattle.earliest.specs.Workers.{generators_from, settings_by};
+ghost use Rattle.ea_ranking.specs.Generators.{generators_from};
+ghost use Rattle.earliest.specs.Workers.{settings_by};
 
 use crate::totals::work_of;
 use ea_engine::{Answer, Counters, Flow, NoGate, Settings, Turn, solve, solve_arrivals};

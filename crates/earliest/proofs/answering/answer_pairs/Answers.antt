@@ -1,23 +1,28 @@
-use Rattle.std.proofs.Common.{rules, ℕ, ◌≤◌, ◌<◌, length, sym, ◌∙◌, subst, refl, ap}
-use Rattle.std.specs.Prelude.{All}
+use Rattle.std.proofs.Common.{rules, ℕ, ◌≤◌, ◌<◌, length, sym, ◌∙◌, subst, refl, ap, arith}
+use Rattle.std.specs.Prelude.{All, IsTrue}
 use Rattle.std.proofs.lemmas.Result.{err_from_is_err_and}
 use Rattle.ea_input.specs.Pairs.{DenotesPairs}
-use Rattle.ea_input.specs.Formats.{table_format}
-use Rattle.ea_files.specs.declared.fault.FileWord.TheVariants.{Tp}
-use Rattle.ea_files.specs.Files.{bytes_there, IsBorneIfThere, IsFaultIfThere, reading}
+use Rattle.ea_input.specs.Formats.{pair_format}
+use Rattle.ea_files.specs.declared.fault.FileWord.TheVariants.{P2p}
+use Rattle.ea_files.specs.Files.{reading}
 use Rattle.ea_files.specs.Starts.{AreWithin, pair_problems}
 use Rattle.ea_files.proofs.Denoting.{pairs_are_nodes}
-use Rattle.earliest.specs.Fronts.{AreProblems}
+use Rattle.ea_outcomes.specs.Posed.{AreProblems}
 use Rattle.earliest.specs.Runs.{pair_asks}
-use Rattle.earliest.proofs.Outcomes.{given_is_sound, files_failed, answered, failed}
-use Rattle.earliest.proofs.Posing.{pairs_are_posed, few_pairs, few_nodes}
+use Rattle.ea_outcomes.specs.Asked.{files_of}
+use Rattle.ea_outcomes.proofs.Outcomes.{answered, failed, files_failed, first_there, given_is_sound, sound_there}
+use Rattle.earliest.proofs.Sending.{cuts_short}
+use Rattle.ea_outcomes.proofs.Posing.{pairs_are_posed, few_pairs, few_nodes}
 use Rattle.earliest.proofs.answering.answer_pairs.Goals as goal
 
 pub returns-in_err-files-clause-failed : goal.returns-in_err-files-clause-failed
 returns-in_err-files-clause-failed g c =
     let p = err_from_is_err_and c.from_residual.result c.from_residual.ensures.1 in
     let o = c.args.options.now in
-    rw (p.1, p.2) (files_failed (pair_asks o.depart o.gap) o (bytes_there g.T.Device.seen c.args.tp.now) _ _ _ _ _ _ c.in_err-files.ensures.fault)
+    let gr = reading g.G.Device.seen c.args.gr.now c.read_trips.new.gr in
+    let starts = reading g.P.Device.seen c.args.p2p.now c.read_trips.new.p2p in
+    rw (p.1, p.2) (files_failed (pair_asks o) (files_of gr starts g.T.Device.seen c.args.tp.now c.read_trips.new.tp) _ _
+    (first_there g.T.Device.seen P2p pair_format DenotesPairs gr starts c.args.tp.now c.read_trips.new.tp _ c.in_err-files.ensures.fault))
 
 pub pair_queries-requires-clause-pairs : goal.pair_queries-requires-clause-pairs
 pair_queries-requires-clause-pairs g c =
@@ -49,27 +54,48 @@ report_all-requires-clause-few g c κs lent =
 pub returns-clause-answered : goal.returns-clause-answered
 returns-clause-answered g c =
     let given = c.in_ok-files.ensures.given in
-    let files = c.in_ok-files.files in
+    let found = c.in_ok-files.files in
     let o = c.args.options.now in
-    let within : AreWithin o.depart o.gap (length files.pairs.items) = search rules in
+    let within : AreWithin o.depart o.gap (length found.pairs.items) = search rules in
     let queries = c.deref-2.ensures.value ∙ c.in_ok-queries.ensures ∙ ap (pair_problems o.depart o.gap 0) c.deref.ensures.value in
-    answered (pair_asks o.depart o.gap) o (bytes_there g.T.Device.seen c.args.tp.now) (g.G.Device.seen c.args.gr.now).bytes (g.P.Device.seen c.args.p2p.now).bytes given.0 files.pairs.items given.1 within files.road given.2
-    c.deref-2.result.now queries (g.W.Device.seen c.args.out.now)
-    (g.W.Device.seen c.report_all.new.out) c.report_all.result c.report_all.ensures.ok
+    let gr = reading g.G.Device.seen c.args.gr.now c.read_trips.new.gr in
+    let starts = reading g.P.Device.seen c.args.p2p.now c.read_trips.new.p2p in
+    let files = files_of gr starts g.T.Device.seen c.args.tp.now c.read_trips.new.tp in
+    let sound = sound_there (pair_asks o) g.T.Device.seen gr starts c.args.tp.now c.read_trips.new.tp given.0 found.pairs.items given.1 c.in_ok-files.ensures.gr_borne c.in_ok-files.ensures.p2p_borne c.in_ok-files.ensures.tp_borne in
+    let first = g.W.Device.seen c.args.out.now in
+    let now = g.W.Device.seen c.report_all.new.out in
+    answered (pair_asks o) files given.0 found.pairs.items sound within found.road given.2 c.deref-2.result.now queries first now c.report_all.result c.report_all.ensures.ok
 
 pub returns-clause-failed : goal.returns-clause-failed
 returns-clause-failed g c =
     let given = c.in_ok-files.ensures.given in
-    let files = c.in_ok-files.files in
+    let found = c.in_ok-files.files in
     let o = c.args.options.now in
-    let within : AreWithin o.depart o.gap (length files.pairs.items) = search rules in
+    let within : AreWithin o.depart o.gap (length found.pairs.items) = search rules in
     let queries = c.deref-2.ensures.value ∙ c.in_ok-queries.ensures ∙ ap (pair_problems o.depart o.gap 0) c.deref.ensures.value in
-    failed (pair_asks o.depart o.gap) o (bytes_there g.T.Device.seen c.args.tp.now) (g.G.Device.seen c.args.gr.now).bytes (g.P.Device.seen c.args.p2p.now).bytes given.0 files.pairs.items given.1 within files.road given.2
-    c.deref-2.result.now queries
-    (reading g.G.Device.seen c.args.gr.now c.read_trips.new.gr)
-    (reading g.P.Device.seen c.args.p2p.now c.read_trips.new.p2p)
-    (λ arcs. IsFaultIfThere g.T.Device.seen Tp (table_format arcs) c.args.tp.now c.read_trips.new.tp)
-    (IsBorneIfThere g.T.Device.seen c.args.tp.now c.read_trips.new.tp)
-    (g.W.Device.seen c.args.out.now)
-    (g.W.Device.seen c.report_all.new.out)
-    (c.in_ok-files.ensures.gr_borne, c.in_ok-files.ensures.p2p_borne, c.in_ok-files.ensures.tp_borne) refl refl c.report_all.result c.report_all.ensures.err
+    let gr = reading g.G.Device.seen c.args.gr.now c.read_trips.new.gr in
+    let starts = reading g.P.Device.seen c.args.p2p.now c.read_trips.new.p2p in
+    let files = files_of gr starts g.T.Device.seen c.args.tp.now c.read_trips.new.tp in
+    let sound = sound_there (pair_asks o) g.T.Device.seen gr starts c.args.tp.now c.read_trips.new.tp given.0 found.pairs.items given.1 c.in_ok-files.ensures.gr_borne c.in_ok-files.ensures.p2p_borne c.in_ok-files.ensures.tp_borne in
+    let first = g.W.Device.seen c.args.out.now in
+    let now = g.W.Device.seen c.report_all.new.out in
+    failed (pair_asks o) files given.0 found.pairs.items sound within found.road given.2 c.deref-2.result.now queries (cuts_short o) first now c.report_all.result c.report_all.ensures.err
+
+pub returns-then-not-departures_fit-clause-failed : goal.returns-then-not-departures_fit-clause-failed
+returns-then-not-departures_fit-clause-failed g c =
+    let given = c.in_ok-files.ensures.given in
+    let found = c.in_ok-files.files in
+    let o = c.args.options.now in
+    let gr = reading g.G.Device.seen c.args.gr.now c.read_trips.new.gr in
+    let starts = reading g.P.Device.seen c.args.p2p.now c.read_trips.new.p2p in
+    let late : AreWithin o.depart o.gap (length found.pairs.items) → ⊥ =
+    λ within. let fits : IsTrue c.departures_fit.result = c.departures_fit.ensures.1 (λ i inside. within i (omega (arith, inside, found.pairs.ok.0))) in search rules
+    in (
+      record {
+        given = given.0;
+        found = found.pairs.items;
+        sound = sound_there (pair_asks o) g.T.Device.seen gr starts c.args.tp.now c.read_trips.new.tp given.0 found.pairs.items given.1 c.in_ok-files.ensures.gr_borne c.in_ok-files.ensures.p2p_borne c.in_ok-files.ensures.tp_borne;
+        late = late;
+      },
+      refl,
+    )

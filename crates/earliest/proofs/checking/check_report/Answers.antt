@@ -1,23 +1,45 @@
-use Rattle.std.proofs.Common.{rules, ◌≡◌, ◌<◌, length, sym, ◌∙◌, subst, ap}
-use Rattle.std.specs.Prelude.{All, None}
+use Rattle.std.proofs.Common.{rules, ◌≡◌, ◌<◌, length, sym, ◌∙◌, subst, ap, arith}
+use Rattle.std.specs.Prelude.{All, IsTrue, None}
 use Rattle.std.proofs.lemmas.Result.{err_from_is_err_and}
 use Rattle.ea_input.specs.Sources.{DenotesSources}
 use Rattle.ea_road.specs.Queries.{Asking}
-use Rattle.ea_files.specs.Files.{bytes_there, reading}
+use Rattle.ea_input.specs.Formats.{source_format}
+use Rattle.ea_files.specs.declared.fault.FileWord.TheVariants.{Ss}
+use Rattle.ea_files.specs.Files.{reading}
 use Rattle.ea_files.specs.Starts.{AreWithin, run_problems}
 use Rattle.ea_files.proofs.Denoting.{sources_are_nodes}
-use Rattle.earliest.specs.Fronts.{AreProblems}
-use Rattle.earliest.proofs.Asking.{each_asked, none_aimed}
-use Rattle.earliest.proofs.Outcomes.{given_is_sound}
-use Rattle.earliest.proofs.Posing.{run_is_posed}
-use Rattle.earliest.proofs.Verdicts.{judged, run_failed}
+use Rattle.ea_outcomes.specs.Posed.{AreProblems}
+use Rattle.ea_outcomes.proofs.Asking.{each_asked, none_aimed}
+use Rattle.ea_outcomes.specs.Asked.{files_of}
+use Rattle.ea_outcomes.proofs.Outcomes.{first_there, given_is_sound, sound_there}
+use Rattle.earliest.specs.Checks.{in_report, in_run}
+use Rattle.earliest.specs.Runs.{run_asks}
+use Rattle.ea_outcomes.proofs.Posing.{run_is_posed}
+use Rattle.earliest.proofs.Verdicts.{judged, unread}
 use Rattle.earliest.proofs.checking.check_report.Goals as goal
 
 pub returns-in_err-files-clause-unjudged : goal.returns-in_err-files-clause-unjudged
 returns-in_err-files-clause-unjudged g c =
     let p = err_from_is_err_and c.from_residual.result c.from_residual.ensures.1 in
     let o = c.args.options.now in
-    rw (p.1, p.2) (run_failed o.joint o.depart o.gap (bytes_there g.T.Device.seen c.args.tp.now) _ _ _ _ _ _ _ c.in_err-files.ensures.fault)
+    let gr = reading g.G.Device.seen c.args.gr.now c.read_run.new.gr in
+    let ss = reading g.S.Device.seen c.args.ss.now c.read_run.new.ss in
+    let files = files_of gr ss g.T.Device.seen c.args.tp.now c.read_run.new.tp in
+    let report = reading g.R.Device.seen c.args.report.now c.args.report.now in
+    rw (p.1, p.2) (unread o files report _ (in_run (first_there g.T.Device.seen Ss source_format DenotesSources gr ss c.args.tp.now c.read_run.new.tp _ c.in_err-files.ensures.fault)))
+
+pub returns-in_err-text-clause-unjudged : goal.returns-in_err-text-clause-unjudged
+returns-in_err-text-clause-unjudged g c =
+    let p = err_from_is_err_and c.from_residual-in_err-text.result c.from_residual-in_err-text.ensures.1 in
+    let given = c.in_ok-files.ensures.given in
+    let found = c.in_ok-files.files in
+    let o = c.args.options.now in
+    let gr = reading g.G.Device.seen c.args.gr.now c.read_run.new.gr in
+    let ss = reading g.S.Device.seen c.args.ss.now c.read_run.new.ss in
+    let files = files_of gr ss g.T.Device.seen c.args.tp.now c.read_run.new.tp in
+    let report = reading g.R.Device.seen c.args.report.now c.read_report.new.report in
+    let sound = sound_there (run_asks o) g.T.Device.seen gr ss c.args.tp.now c.read_run.new.tp given.0 found.sources.items given.1 c.in_ok-files.ensures.gr_borne c.in_ok-files.ensures.ss_borne c.in_ok-files.ensures.tp_borne in
+    rw (p.1, p.2) (unread o files report _ (in_report (given.0, found.sources.items, sound) c.in_err-text.ensures.fault))
 
 pub run_queries-requires-clause-nodes : goal.run_queries-requires-clause-nodes
 run_queries-requires-clause-nodes g c =
@@ -41,9 +63,34 @@ check-requires g c =
 pub returns-clause-judged : goal.returns-clause-judged
 returns-clause-judged g c =
     let given = c.in_ok-files.ensures.given in
-    let files = c.in_ok-files.files in
+    let found = c.in_ok-files.files in
     let o = c.args.options.now in
-    let within : AreWithin o.depart o.gap (length files.sources.items) = search rules in
+    let within : AreWithin o.depart o.gap (length found.sources.items) = search rules in
     let queries = c.deref-2.ensures.value ∙ c.in_ok-queries.ensures ∙ ap (run_problems o.joint o.depart o.gap) c.deref.ensures.value in
-    judged o.joint o.depart o.gap (bytes_there g.T.Device.seen c.args.tp.now) (g.G.Device.seen c.args.gr.now).bytes (g.S.Device.seen c.args.ss.now).bytes (reading g.R.Device.seen c.args.report.now c.read_report.new.report) (g.R.Device.seen c.read_report.new.report).bytes given.0 files.sources.items c.in_ok-text.text.items given.1 (record { is_text = c.in_ok-text.ensures.text; end = c.in_ok-text.ensures.end }) within files.road given.2
+    let gr = reading g.G.Device.seen c.args.gr.now c.read_run.new.gr in
+    let ss = reading g.S.Device.seen c.args.ss.now c.read_run.new.ss in
+    let files = files_of gr ss g.T.Device.seen c.args.tp.now c.read_run.new.tp in
+    let report = reading g.R.Device.seen c.args.report.now c.read_report.new.report in
+    let sound = sound_there (run_asks o) g.T.Device.seen gr ss c.args.tp.now c.read_run.new.tp given.0 found.sources.items given.1 c.in_ok-files.ensures.gr_borne c.in_ok-files.ensures.ss_borne c.in_ok-files.ensures.tp_borne in
+    judged o files report given.0 found.sources.items c.in_ok-text.text.items sound within (record { is_text = c.in_ok-text.ensures.text; end = c.in_ok-text.ensures.end }) found.road given.2
     c.deref-2.result.now queries c.deref-3.result.now c.deref-3.ensures.value c.check.result c.check.ensures
+
+pub returns-then-not-departures_fit-clause-unjudged : goal.returns-then-not-departures_fit-clause-unjudged
+returns-then-not-departures_fit-clause-unjudged g c =
+    let given = c.in_ok-files.ensures.given in
+    let found = c.in_ok-files.files in
+    let o = c.args.options.now in
+    let gr = reading g.G.Device.seen c.args.gr.now c.read_run.new.gr in
+    let ss = reading g.S.Device.seen c.args.ss.now c.read_run.new.ss in
+    let files = files_of gr ss g.T.Device.seen c.args.tp.now c.read_run.new.tp in
+    let late : AreWithin o.depart o.gap (length found.sources.items) → ⊥ =
+    λ within. let fits : IsTrue c.departures_fit.result = c.departures_fit.ensures.1 (λ i inside. within i (omega (arith, inside, found.sources.ok.0))) in search rules
+    in (
+      record {
+        given = given.0;
+        found = found.sources.items;
+        sound = sound_there (run_asks o) g.T.Device.seen gr ss c.args.tp.now c.read_run.new.tp given.0 found.sources.items given.1 c.in_ok-files.ensures.gr_borne c.in_ok-files.ensures.ss_borne c.in_ok-files.ensures.tp_borne;
+        late = late;
+      },
+      (c.in_ok-text.text.items, record { is_text = c.in_ok-text.ensures.text; end = c.in_ok-text.ensures.end }),
+    )

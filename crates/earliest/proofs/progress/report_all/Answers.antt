@@ -1,4 +1,4 @@
-use Rattle.earliest.specs.Fronts.{times_on}
+use Rattle.ea_outcomes.specs.Posed.{times_on}
 use Rattle.earliest.proofs.Sending.{totals_cut, all_written}
 use Rattle.earliest.proofs.progress.report_all.Goals as goal
 

@@ -1,6 +1,6 @@
 use Rattle.std.proofs.Common.{arith}
 use Rattle.std.proofs.lemmas.Result.{err_from_is_err_and}
-use Rattle.earliest.specs.Fronts.{times_on}
+use Rattle.ea_outcomes.specs.Posed.{times_on}
 use Rattle.earliest.specs.Workers.{settings_by}
 use Rattle.earliest.proofs.Counting.{totals_next}
 use Rattle.earliest.proofs.Sending.{stops, sent_next}

@@ -1,6 +1,7 @@
 use Rattle.std.proofs.Common.{◌≤◌, ◌<◌, ◌*◌, ◌^◌, take}
 use Rattle.earliest.specs.Counted.{AreBalanced, AreSmall, AreTotals}
-use Rattle.earliest.specs.Fronts.{AreSent, times_on}
+use Rattle.ea_outcomes.specs.Posed.{times_on}
+use Rattle.earliest.specs.Fronts.{AreSent}
 use Rattle.earliest.specs.Workers.{settings_by}
 use Rattle.earliest.proofs.progress.report_each.Given as goal
 

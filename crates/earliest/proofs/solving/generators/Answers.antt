@@ -1,6 +1,6 @@
 use Rattle.std.proofs.Common.{rules, arith, suc, ap, ap₂, ◌≡◌, ◌∙◌, ◌+◌, ◌++◌, ◌∷◌, [], List, ℕ}
 use Rattle.std.specs.Prelude.{vec_len}
-use Rattle.earliest.specs.Workers.{generator_from, generators_from, seed_of_worker}
+use Rattle.ea_ranking.specs.Generators.{generator_from, generators_from, seed_of_worker}
 use Rattle.earliest.proofs.solving.generators.Goals as goal
 
 pub loop-i-preserved : goal.loop-i-preserved

@@ -1,6 +1,6 @@
 use Rattle.std.proofs.Common.{◌≡◌}
 use Rattle.std.specs.Prelude.{vec_len}
-use Rattle.earliest.specs.Workers.{generators_from}
+use Rattle.ea_ranking.specs.Generators.{generators_from}
 use Rattle.earliest.proofs.solving.generators.Given as goal
 
 abbrev pub invariant-loop-i : goal.invariant-loop-i

@@ -1,0 +1,4 @@
+pub mod Posing
+pub mod Asking
+pub mod Outcomes
+pub mod Telling

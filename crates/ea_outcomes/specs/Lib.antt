@@ -1,0 +1,4 @@
+pub mod Faults
+pub mod Posed
+pub mod Asked
+pub mod Said
