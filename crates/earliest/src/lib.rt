@@ -5,8 +5,6 @@ mod answering;
 mod checking;
 pub mod laws;
 mod progress;
-#[cfg(test)]
-mod reports_tests;
 mod solving;
 mod totals;
 

@@ -2,8 +2,8 @@
 ghost use Rattle.std.specs.Prelude.{◌≤◌};
 ghost use Rattle.ea_words.specs.Limits.{AreOptions};
 
-use crate::{AnswerFault, CheckFault, FileWord, RunOptions, check_report, rank_report};
 use ea_input::{FaultKind, InputFault, ReadFault, StdIn, StdOut};
+use earliest::{AnswerFault, CheckFault, FileWord, RunOptions, check_report, rank_report};
 use std::alloc::Global;
 use std::io::{self, Error, ErrorKind, Read, Write};
 use std::test::Fail;

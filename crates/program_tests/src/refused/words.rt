@@ -1,6 +1,6 @@
 //! Words whose growths are refused.
-use crate::counts::{Came, Count};
-use crate::scarce::{Held, pieces};
+use crate::refused::counts::{Came, Count};
+use crate::refused::scarce::{Held, pieces};
 use earliest::{Command, CommandFault, RunOptions};
 use std::alloc::Global;
 use std::test::Fail;

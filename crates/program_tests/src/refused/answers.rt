@@ -1,10 +1,10 @@
 //! Answers of runs and of pairs whose growths are refused.
 ghost use Rattle.ea_words.specs.Limits.{AreOptions};
 
-use crate::counts::{Came, Count};
-use crate::devices::{Greedy, Taking};
-use crate::given::{FOUR_NODES, FROM_ONE, NO_ARCS, holds, unreached, walks_by};
-use crate::scarce::{Held, pieces};
+use crate::refused::counts::{Came, Count};
+use crate::refused::devices::{Greedy, Taking};
+use crate::refused::given::{FOUR_NODES, FROM_ONE, NO_ARCS, holds, unreached, walks_by};
+use crate::refused::scarce::{Held, pieces};
 use ea_input::{StdIn, StdOut};
 use earliest::{AnswerFault, RunOptions, Totals, answer, answer_pairs};
 use std::alloc::Global;

@@ -1,5 +1,5 @@
 //! Devices of std that take all memory but for a piece.
-use crate::scarce::Held;
+use crate::refused::scarce::Held;
 use std::io::{self, Read, Write};
 
 /// A reader that takes memory where it tells that its bytes are at an end.

@@ -1,0 +1,20 @@
+//! Tests of the calls that the program makes: the worked examples from files to reports, failing devices, refused memory, checked
+//! reports and rank errors.
+#![tactic(auto)]
+
+#[cfg(test)]
+mod asked;
+#[cfg(test)]
+mod checked_and_ranked;
+#[cfg(test)]
+mod devices;
+#[cfg(test)]
+mod refused;
+#[cfg(test)]
+mod reports;
+#[cfg(test)]
+mod said;
+#[cfg(test)]
+mod same_bytes;
+#[cfg(test)]
+mod statistics;
