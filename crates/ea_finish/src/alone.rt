@@ -6,7 +6,7 @@ ghost use Rattle.ea_finish.specs.Answers.{HasArrivals, IsAnswer};
 use crate::answer::Answer;
 use crate::confirming::unwind_noted;
 use crate::finishing::finish;
-use crate::levels::Levels;
+use crate::levels::{Levels, Untracked};
 use crate::open::Open;
 use crate::searching::search;
 use crate::unwinding::{unwind, without_walks};
@@ -25,8 +25,10 @@ pub fn solve_alone<T: TravelTimes>(
     ensures { IfOk result (IsAnswer network.now (T.answers times.now) query.now) }
 {
     let todo = Open::reserve(alloc, network.nodes())?;
-    let levels = Levels::reserve(alloc, network.nodes())?;
-    let (table, todo, levels) = search(alloc, network, times, query, todo, levels)?;
+    let mut levels = Levels::reserve(alloc, network.nodes())?;
+    // In so narrow a window hardly a node is scanned before its label and its level are right.
+    let width = network.mean_weight() / 8;
+    let (table, todo) = search(alloc, network, times, query, todo, width, &mut levels)?;
     let finished = finish(network, times, query, table, todo);
     if levels.are_many() {
         return Ok(unwind_noted(network, times, query, finished, levels.as_slice()));
@@ -46,10 +48,14 @@ pub fn arrivals_alone<T: TravelTimes>(
     ensures none { IfOk result (λ answer. answer.walks ≡ false) }
 {
     let todo = Open::reserve_without_walks(alloc, network.nodes())?;
-    let none = Levels::none(alloc);
-    let (table, todo, _) = search(alloc, network, times, query, todo, none)?;
-    let finished = finish(network, times, query, table, todo);
-    Ok(without_walks(network, times, query, finished))
+    let width = network.mean_weight();
+    let (table, todo) = search(alloc, network, times, query, todo, width, &mut Untracked)?;
+    Ok(without_walks(
+        network,
+        times,
+        query,
+        finish(network, times, query, table, todo),
+    ))
 }
 
 /// `solve_alone` by a caller's closure from class, weight and departure to the arrival, for classes up to the greatest.

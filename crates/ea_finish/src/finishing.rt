@@ -21,27 +21,9 @@ pub struct Finished {
     pub todo: Open,
 }
 
-/// Notes the level of a node whose label fell.
-fn note<K: Track, W: Opens>(track: &K, todo: &mut W, node: u32)
-    ensures { todo.new ≡ todo.old }
-{
-    if let Some(level) = track.level() {
-        todo.note(node, level);
-    }
-}
-
-/// Notes the level of a node whose label is reached again.
-fn note_again<K: Track, W: Opens>(track: &K, todo: &mut W, node: u32)
-    ensures { todo.new ≡ todo.old }
-{
-    if let Some(level) = track.level() {
-        todo.note_lower(node, level);
-    }
-}
-
 /// Offers a time to a node: a label above it falls to it, and the node is opened.
 pub(crate) fn lower<K: Track, W: Opens>(
-    track: &K,
+    track: &mut K,
     table: &mut [u64],
     todo: &mut W,
     node: u32,
@@ -54,12 +36,13 @@ pub(crate) fn lower<K: Track, W: Opens>(
     ensures room { W.room todo.new ≡ W.room todo.old }
 {
     let place = node as usize - 1;
-    if time < table[place] {
+    let before = table[place];
+    if time < before {
         table[place] = time;
         todo.open(node, time);
-        note(track, todo, node);
-    } else if time == table[place] {
-        note_again(track, todo, node);
+        track.fell(node);
+    } else if time == before {
+        track.met(node);
     }
 }
 
@@ -70,7 +53,7 @@ fn follow<T: TravelTimes, K: Track, W: Opens>(
     number: u32,
     arc: Arc,
     departure: u64,
-    track: &K,
+    track: &mut K,
     table: &mut [u64],
     todo: &mut W,
 )
@@ -101,7 +84,7 @@ pub(crate) fn scan<T: TravelTimes, K: Track, W: Opens>(
     times: &T,
     node: u32,
     departure: u64,
-    track: &K,
+    track: &mut K,
     table: &mut [u64],
     todo: &mut W,
 )
@@ -168,12 +151,13 @@ pub fn finish<T: TravelTimes>(
 {
     let _ = network.nodes();
     let target = query.target();
+    let mut track = Untracked;
     while let Some(node) = todo.take() {
         let departure = table[node as usize - 1];
         let last = latest(target, &table).min(HORIZON);
         if departure <= last {
             scan(
-                network, times, node, departure, &Untracked, &mut table, &mut todo,
+                network, times, node, departure, &mut track, &mut table, &mut todo,
             );
         }
     }

@@ -3,10 +3,19 @@
 use crate::link::NO_LEVEL;
 use std::alloc::{AllocError, Global};
 
-/// Whether a scan notes levels, which is known where it is compiled.
+/// What a search notes of levels, which is known where it is compiled.
 pub(crate) trait Track {
-    /// The level to which the arcs lead that are followed.
-    fn level(&self) -> Option<u32>;
+    /// The nodes whose labels fall from now on are those of sources.
+    fn begin(&mut self);
+
+    /// The nodes whose labels fall from now on are heads of the arcs from this one.
+    fn leave(&mut self, node: u32);
+
+    /// A node's label fell.
+    fn fell(&mut self, node: u32);
+
+    /// A node's label was reached again.
+    fn met(&mut self, node: u32);
 }
 
 /// No levels are noted.
@@ -14,27 +23,21 @@ pub(crate) trait Track {
 pub(crate) struct Untracked;
 
 impl Track for Untracked {
-    fn level(&self) -> Option<u32> {
-        None
-    }
+    fn begin(&mut self) {}
+
+    fn leave(&mut self, _node: u32) {}
+
+    fn fell(&mut self, _node: u32) {}
+
+    fn met(&mut self, _node: u32) {}
 }
 
-/// The heads come to this level.
-#[derive(Drop)]
-pub(crate) struct Tracked {
-    pub(crate) level: u32,
-}
-
-impl Track for Tracked {
-    fn level(&self) -> Option<u32> {
-        Some(self.level)
-    }
-}
-
-/// A level for each node, or nothing where no walks are asked for.
+/// A level for each node.
 #[derive(Drop)]
 pub(crate) struct Levels {
     noted: Vec<u32>,
+    /// The level to which the arcs lead that are followed.
+    above: u32,
     falls: usize,
 }
 
@@ -42,15 +45,11 @@ impl Levels {
     /// Room for the levels of so many nodes.
     pub(crate) fn reserve(alloc: Global, nodes: u32) -> Result<Levels, AllocError> {
         let noted = vec![in alloc; NO_LEVEL; nodes as usize]?;
-        Ok(Levels { noted, falls: 0 })
-    }
-
-    /// No room, so nothing is noted.
-    pub(crate) fn none(alloc: Global) -> Levels {
-        Levels {
-            noted: Vec::new(alloc),
+        Ok(Levels {
+            noted,
+            above: 0,
             falls: 0,
-        }
+        })
     }
 
     /// The levels, that of node 1 first.
@@ -62,25 +61,30 @@ impl Levels {
     pub(crate) fn are_many(&self) -> bool {
         self.falls >= self.noted.len() / 4
     }
+}
 
-    /// The level to which the arcs from a node lead.
-    pub(crate) fn above(&self, node: u32) -> Option<u32> {
-        let level = self.noted.get((node as usize).wrapping_sub(1))?;
-        Some(level.saturating_add(1))
+impl Track for Levels {
+    fn begin(&mut self) {
+        self.above = 0;
     }
 
-    /// Notes the level of a node whose label fell.
-    pub(crate) fn note(&mut self, node: u32, level: u32) {
+    fn leave(&mut self, node: u32) {
+        self.above = match self.noted.get((node as usize).wrapping_sub(1)) {
+            Some(level) => level.saturating_add(1),
+            None => 0,
+        };
+    }
+
+    fn fell(&mut self, node: u32) {
         if let Some(noted) = self.noted.get_mut((node as usize).wrapping_sub(1)) {
-            *noted = level;
+            *noted = self.above;
             self.falls = self.falls.saturating_add(1);
         }
     }
 
-    /// Notes another level of a node, where it is lower.
-    pub(crate) fn note_lower(&mut self, node: u32, level: u32) {
+    fn met(&mut self, node: u32) {
         if let Some(noted) = self.noted.get_mut((node as usize).wrapping_sub(1)) {
-            *noted = level.min(*noted);
+            *noted = self.above.min(*noted);
         }
     }
 }

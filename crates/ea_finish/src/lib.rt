@@ -11,6 +11,7 @@ mod link;
 mod open;
 mod opens;
 mod searching;
+mod touching;
 mod unwinding;
 mod waiting;
 
@@ -25,3 +26,5 @@ pub use unwinding::{find_links, unwind, without_walks};
 mod slow_walks;
 #[cfg(test)]
 mod tests;
+#[cfg(test)]
+mod traps;

@@ -135,8 +135,4 @@ impl Opens for Open {
     fn open(&mut self, node: u32, _time: u64) {
         self.add(node);
     }
-
-    fn note(&mut self, _node: u32, _level: u32) {}
-
-    fn note_lower(&mut self, _node: u32, _level: u32) {}
 }

@@ -19,13 +19,6 @@ pub(crate) trait Opens {
         ensures room { room self.new ≡ room self.old }
         ensures size { size self.new ≤ size self.old + 1 }
         ensures opened { (label : ℕ → ℕ) → label node ≡ time → waits self.new label node }
-        ensures kept { (before after : ℕ → ℕ) (other : ℕ) → after other ≡ before other → waits self.old before other → waits self.new after other };
-
-    /// Notes the level of a node whose label fell.
-    fn note(&mut self, node: u32, level: u32)
-        ensures { self.new ≡ self.old };
-
-    /// Notes another level of a node, where it is lower.
-    fn note_lower(&mut self, node: u32, level: u32)
-        ensures { self.new ≡ self.old };
+        ensures kept { (old new : ℕ → ℕ) (other : ℕ) → new other ≡ old other
+            → waits self.old old other → waits self.new new other };
 }

@@ -16,7 +16,11 @@ const FOUR_NODES: [Row; 5] = [
     (3, 4, 9, 0),
 ];
 
-fn network_of(alloc: Global, nodes: u32, rows: &[Row]) -> Result<Option<Network>, AllocError> {
+pub(crate) fn network_of(
+    alloc: Global,
+    nodes: u32,
+    rows: &[Row],
+) -> Result<Option<Network>, AllocError> {
     let mut arcs = Vec::new(alloc);
     for (tail, head, weight, class) in rows {
         arcs.push(Arc {
@@ -33,7 +37,7 @@ fn network_of(alloc: Global, nodes: u32, rows: &[Row]) -> Result<Option<Network>
 }
 
 /// Class 0 is plain, class 1 leaves every 10, class 2 every 100.
-fn timetables(alloc: Global) -> Result<Timetables, AllocError> {
+pub(crate) fn timetables(alloc: Global) -> Result<Timetables, AllocError> {
     let kinds = [
         RawKind::Every {
             period: 10,

@@ -14,6 +14,7 @@ use crate::answer::Answer;
 use crate::finishing::Finished;
 use crate::link::{Link, NO_LEVEL};
 use crate::open::Open;
+use crate::touching::{AHEAD, touch_arcs, touch_heads, touch_links, touch_places};
 use crate::waiting::Waiting;
 use ea_road::{Arc, HORIZON, Network, Query, Source, TravelTimes};
 
@@ -134,6 +135,32 @@ pub(crate) fn sow(table: &[u64], source: Source, links: &mut [Link], waiting: &m
     }
 }
 
+/// How far ahead memory was read of the nodes that wait.
+#[derive(Drop)]
+struct Ahead {
+    /// How many nodes are taken before the next ones are read.
+    left: usize,
+    /// What was read. It is looked at where nothing rests on it, so that no read is left out.
+    seen: u64,
+}
+
+impl Ahead {
+    /// Reads ahead what the nodes that wait will need, if it is time.
+    fn look(&mut self, network: &Network, table: &[u64], links: &[Link], waiting: &Waiting) {
+        if self.left > 0 && self.seen != u64::MAX {
+            self.left -= 1;
+            return;
+        }
+        self.left = AHEAD;
+        let nodes = waiting.next();
+        let places = touch_places(network, table, &nodes);
+        let arcs = touch_arcs(network, &nodes);
+        let labels = touch_heads(network, table, &nodes);
+        let levels = touch_links(network, links, &nodes);
+        self.seen ^= places ^ arcs ^ labels ^ levels;
+    }
+}
+
 /// Finds the levels of nodes and the ends of their canonical walks, over the times of any table, be they least or
 /// not. It takes no memory.
 pub fn find_links<T: TravelTimes>(
@@ -155,8 +182,10 @@ pub fn find_links<T: TravelTimes>(
     for source in sources {
         sow(table, *source, &mut links, &mut waiting);
     }
+    let mut ahead = Ahead { left: 0, seen: 0 };
     while let Some(node) = waiting.take() {
         spread(network, times, table, node, &mut links, &mut waiting);
+        ahead.look(network, table, &links, &waiting);
     }
     links
 }

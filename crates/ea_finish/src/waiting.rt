@@ -1,5 +1,6 @@
 ghost use Rattle.std.specs.Prelude.{◌≡◌, ℕ, ◌<◌, ◌≤◌, ◌+◌, [], ◌∷◌, ◌++◌, length, Contains, IfOk, IfSome, MatchOption, ◌⊎◌};
 
+use crate::touching::{AHEAD, Nodes};
 use std::alloc::{AllocError, Global};
 use std::collections::VecDeque;
 use std::marker::Model;
@@ -67,6 +68,17 @@ impl Waiting {
         let node = self.queue.pop_front()?;
         self.marked[node as usize - 1] = false;
         Some(node)
+    }
+
+    /// Some of the nodes that are taken next.
+    pub(crate) fn next(&self) -> Nodes {
+        let mut nodes = [0; AHEAD];
+        for place in 0..AHEAD {
+            if let Some(node) = self.queue.get(place) {
+                nodes[place] = *node;
+            }
+        }
+        nodes
     }
 
     /// Takes all nodes out.

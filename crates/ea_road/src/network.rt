@@ -18,6 +18,8 @@ pub struct Network {
     numbers: Vec<u32>,
     /// The arcs themselves, in the order of `numbers`.
     by_tail: Vec<Arc>,
+    /// The mean weight of the arcs.
+    mean: u64,
 }
 
 impl Model for Network {
@@ -45,6 +47,7 @@ impl Network {
         requires { IsNetwork (record { nodes = nodes; arcs = arcs.items }) }
         ensures { IfOk result (λ network. network ≡ record { nodes = nodes; arcs = arcs.items }) }
     {
+        let mean = mean_weight(&arcs);
         let mut starts = ends_by_tail(alloc, nodes, &arcs)?;
         let (numbers, by_tail) = place_by_tail(alloc, nodes, &arcs, &mut starts)?;
         Ok(Network {
@@ -53,6 +56,7 @@ impl Network {
             starts,
             numbers,
             by_tail,
+            mean,
         })
     }
 
@@ -81,6 +85,12 @@ impl Network {
             top = arc.class.max(top);
         }
         top
+    }
+
+    /// The mean weight of the arcs, rounded down; 0 with no arc. A search may choose by it how it goes on; nothing is promised
+    /// of it.
+    pub fn mean_weight(&self) -> u64 {
+        self.mean
     }
 
     /// The number of nodes.
@@ -134,6 +144,15 @@ impl Network {
             arcs: &self.by_tail[from..to],
         }
     }
+}
+
+/// The mean weight of arcs, rounded down.
+fn mean_weight(arcs: &[Arc]) -> u64 {
+    let mut total = 0u64;
+    for arc in arcs {
+        total = total.wrapping_add(u64::from(arc.weight));
+    }
+    total / (arcs.len() as u64).max(1)
 }
 
 /// Whether an arc's ends are nodes.

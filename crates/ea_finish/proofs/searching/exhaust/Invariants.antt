@@ -1,5 +1,5 @@
-use Rattle.std.proofs.Common.{◌≡◌, ◌+◌, sum, length}
-use Rattle.ea_finish.specs.Frontiers.{WaitsAt}
+use Rattle.std.proofs.Common.{◌≡◌, ◌+◌, sum}
+use Rattle.ea_finish.specs.Frontiers.{WaitsAt, entries_in}
 use Rattle.ea_finish.specs.Scans.{Underway}
 use Rattle.ea_finish.specs.Underway.{entry}
 use Rattle.ea_finish.proofs.searching.exhaust.Given as goal
@@ -13,4 +13,4 @@ invariant-loop-key g l = record {
 
 -- each lowering takes one from the sum at least, and adds one entry at most
 abbrev pub decreases-loop-key : goal.decreases-loop-key
-decreases-loop-key g l = sum l.table.items + length l.frontier.entries
+decreases-loop-key g l = sum l.table.items + entries_in l.frontier

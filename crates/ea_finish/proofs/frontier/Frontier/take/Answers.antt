@@ -1,11 +1,11 @@
-use Rattle.std.proofs.Common.{heap_items}
-use Rattle.ea_finish.proofs.Fronts.{popped_entries, popped_takes}
+use Rattle.std.proofs.Common.{subst}
+use Rattle.ea_finish.specs.Frontiers.{Frontage, KeepsWaiting}
+use Rattle.ea_finish.specs.Underway.{entry}
+use Rattle.ea_finish.proofs.Fronts.{then_lowest}
 use Rattle.ea_finish.proofs.frontier.Frontier.take.Goals as goal
-
-pub invariant_of-self-2 : goal.invariant_of-self-2
-invariant_of-self-2 c =
-    popped_entries (λ r. r.0) (heap_items c.self.inside.heap) (heap_items c.pop.new.self) c.in_ok-entry.field-0 c.self.inside.todo.nodes c.in_ok-entry.ensures.permutation c.self.invariant
 
 pub returns : goal.returns
 returns c =
-    rw (← c.self.view_is) (popped_takes (λ r. r.0) (heap_items c.self.inside.heap) (heap_items c.pop.new.self) c.in_ok-entry.field-0 c.self.inside.todo c.in_ok-entry.ensures.permutation c.self.invariant)
+    let label = entry c.args.table.now in
+    let P : Frontage → Type 0 = λ f. KeepsWaiting label f c.refill.new.self in
+    then_lowest label _ _ _ c.pop_lowest.result (subst P c.in_default.ensures.0 c.refill.ensures) c.pop_lowest.ensures

@@ -1,0 +1,198 @@
+//! Tests: how many nodes a search scans where one window holds the whole network, beside the search by single times, which is
+//! Dijkstra's method.
+ghost use Rattle.std.specs.Prelude.{◌<◌};
+
+use crate::levels::Track;
+use crate::open::Open;
+use crate::searching::search;
+use crate::tests::{Row, network_of, timetables};
+use ea_road::{Query, Source, is_problem};
+use std::alloc::{AllocError, Global};
+use std::test::Fail;
+
+const HEAVY: u32 = u32::MAX;
+
+/// Counts the nodes that are scanned.
+#[derive(Drop)]
+struct Counting {
+    count: u64,
+}
+
+impl Track for Counting {
+    fn begin(&mut self) {}
+
+    fn leave(&mut self, _node: u32) {
+        self.count = self.count.wrapping_add(1);
+    }
+
+    fn fell(&mut self, _node: u32) {}
+
+    fn met(&mut self, _node: u32) {}
+}
+
+/// The next of a row of random words, below a bound.
+fn below(state: &mut u64, bound: u32) -> u32 {
+    *state = state.wrapping_add(0x9E37_79B9_7F4A_7C15);
+    let mut z = *state;
+    z = (z ^ (z >> 30)).wrapping_mul(0xBF58_476D_1CE4_E5B9);
+    z = (z ^ (z >> 27)).wrapping_mul(0x94D0_49BB_1331_11EB);
+    ((z ^ (z >> 31)) % u64::from(bound.max(1))) as u32
+}
+
+/// How many scans a search from node 1 takes by windows of the mean weight, and by single times; none where the rows do not
+/// make a network.
+fn scans(alloc: Global, nodes: u32, rows: &[Row]) -> Result<Option<(u64, u64)>, AllocError> {
+    let Some(network) = network_of(alloc, nodes, rows)? else {
+        return Ok(None);
+    };
+    let times = timetables(alloc)?;
+    let source = Source {
+        node: 1,
+        departure: 0,
+    };
+    let query = Query::new(vec![in alloc; source]?);
+    if !is_problem(&network, times.classes(), &query) {
+        return Ok(None);
+    }
+    let mut wide = Counting { count: 0 };
+    let todo = Open::reserve_without_walks(alloc, network.nodes())?;
+    let width = network.mean_weight();
+    let _ = search(alloc, &network, &times, &query, todo, width, &mut wide)?;
+    let mut single = Counting { count: 0 };
+    let todo = Open::reserve_without_walks(alloc, network.nodes())?;
+    let _ = search(alloc, &network, &times, &query, todo, 0, &mut single)?;
+    Ok(Some((wide.count, single.count)))
+}
+
+/// Whether each node is scanned once by single times, and all together at most twice as often by windows.
+fn are_few(scans: Option<(u64, u64)>, nodes: u64) -> bool {
+    match scans {
+        Some((wide, single)) => single <= nodes && wide <= single.saturating_mul(2),
+        None => false,
+    }
+}
+
+/// A ring in both directions, with weights below a bound, and one heavy arc.
+fn ring(alloc: Global, nodes: u32, bound: u32, class: u32) -> Result<Vec<Row>, AllocError> {
+    let mut state = 1;
+    let mut rows = Vec::new(alloc);
+    rows.push((1, nodes, HEAVY, 0))?;
+    for node in 1..nodes {
+        rows.push((node, node + 1, below(&mut state, bound), class))?;
+        rows.push((node + 1, node, below(&mut state, bound), class))?;
+    }
+    Ok(rows)
+}
+
+/// Random arcs, of which every so many is heavy.
+fn random(
+    alloc: Global,
+    nodes: u32,
+    arcs: u32,
+    bound: u32,
+    every: u32,
+    class: u32,
+) -> Result<Vec<Row>, AllocError> {
+    let mut state = 2;
+    let mut rows = Vec::new(alloc);
+    for number in 0..arcs {
+        let tail = below(&mut state, nodes).wrapping_add(1);
+        let head = below(&mut state, nodes).wrapping_add(1);
+        let light = below(&mut state, bound);
+        let heavy = below(&mut state, every) == 0 || number == 0;
+        rows.push((tail, head, if heavy { HEAVY } else { light }, class))?;
+    }
+    Ok(rows)
+}
+
+/// A square of nodes, each with arcs to its neighbours right and below and back, and one heavy arc.
+fn grid(alloc: Global, side: u16, bound: u32) -> Result<Vec<Row>, AllocError> {
+    let mut state = 3;
+    let mut rows = Vec::new(alloc);
+    rows.push((1, 2, HEAVY, 0))?;
+    let side = u32::from(side);
+    for row in 0..side {
+        for column in 0..side {
+            let node = row.wrapping_mul(side).wrapping_add(column).wrapping_add(1);
+            if column.wrapping_add(1) < side {
+                let right = node.wrapping_add(1);
+                rows.push((node, right, below(&mut state, bound), 0))?;
+                rows.push((right, node, below(&mut state, bound), 0))?;
+            }
+            if row.wrapping_add(1) < side {
+                let down = node.wrapping_add(side);
+                rows.push((node, down, below(&mut state, bound), 0))?;
+                rows.push((down, node, below(&mut state, bound), 0))?;
+            }
+        }
+    }
+    Ok(rows)
+}
+
+/// Twenty-four forks in a row, where the long way round each costs as much as all that follows, and a tail of many nodes: a
+/// stack would scan the tail 2^24 times.
+fn forks(alloc: Global, tail: u16) -> Result<Vec<Row>, AllocError> {
+    let mut rows = Vec::new(alloc);
+    let mut weight = 1u32 << 24;
+    let mut node = 1u32;
+    for _ in 0..24u32 {
+        let middle = node.wrapping_add(1);
+        let next = node.wrapping_add(2);
+        rows.push((node, middle, 0, 0))?;
+        rows.push((middle, next, 0, 0))?;
+        rows.push((node, next, weight, 0))?;
+        weight /= 2;
+        node = next;
+    }
+    for _ in 0..tail {
+        let next = node.wrapping_add(1);
+        rows.push((node, next, 0, 0))?;
+        node = next;
+    }
+    rows.push((1, node, HEAVY, 0))?;
+    Ok(rows)
+}
+
+#[test]
+fn one_heavy_arc_in_a_ring(rt: HostRuntime) -> Result<(), Fail> {
+    for bound in [1, 100, 1_000_000] {
+        for class in [0, 1, 2] {
+            let rows = ring(rt.alloc(), 2000, bound, class)?;
+            let found = scans(rt.alloc(), 2000, &rows)?;
+            assert!(rt; are_few(found, 2000), "{found:?}");
+        }
+    }
+    Ok(())
+}
+
+#[test]
+fn heavy_arcs_in_random_networks(rt: HostRuntime) -> Result<(), Fail> {
+    for bound in [1, 100, 1_000_000] {
+        for every in [10, u32::MAX] {
+            for class in [0, 2] {
+                let rows = random(rt.alloc(), 2000, 8000, bound, every, class)?;
+                let found = scans(rt.alloc(), 2000, &rows)?;
+                assert!(rt; are_few(found, 2000), "{found:?}");
+            }
+        }
+    }
+    Ok(())
+}
+
+#[test]
+fn one_heavy_arc_in_a_grid(rt: HostRuntime) -> Result<(), Fail> {
+    for bound in [1, 100, 1_000_000] {
+        let rows = grid(rt.alloc(), 45, bound)?;
+        let found = scans(rt.alloc(), 2025, &rows)?;
+        assert!(rt; are_few(found, 2025), "{found:?}");
+    }
+    Ok(())
+}
+
+#[test]
+fn weights_that_double(rt: HostRuntime) -> Result<(), Fail> {
+    let rows = forks(rt.alloc(), 2000)?;
+    let found = scans(rt.alloc(), 2049, &rows)?;
+    assert!(rt; are_few(found, 2049), "{found:?}");
+    Ok(())
+}
