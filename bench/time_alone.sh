@@ -9,13 +9,13 @@ mkdir -p "$scratch"
 rustc -O -C target-cpu=x86-64-v2 "$here/dijkstra.rs" -o "$scratch/dijkstra"
 rm -rf "$scratch/ws"
 mkdir -p "$scratch/ws/crates/alone"
-for crate in ea_text ea_input ea_road ea_finish; do
+for crate in ea_limits ea_text ea_input ea_road ea_finish; do
     if [ -d "$here/../crates/$crate" ]; then
         cp -r "$here/../crates/$crate" "$scratch/ws/crates"
     fi
 done
 mkdir -p "$scratch/ws/crates/alone"/src && cp "$here/alone/program/main.rt.txt" "$scratch/ws/crates/alone"/src/main.rt
-grep -E '^(ea_text|ea_input|ea_road|ea_finish)\b' "$here/../crates.txt" > "$scratch/ws/crates.txt"
+grep -E '^(ea_limits|ea_text|ea_input|ea_road|ea_finish)\b' "$here/../crates.txt" > "$scratch/ws/crates.txt"
 echo 'alone: ea_input ea_road ea_finish anyhow' >> "$scratch/ws/crates.txt"
 "$generator" 250000 "$scratch/road250000"
 "$generator" 2500000 "$scratch/road2500000"

@@ -81,7 +81,7 @@ fn confirm<T: TravelTimes>(
     ensures passed { (link links.old arc.tail).level + 1 < NO_LEVEL → (v : ℕ) → Tight network.now (T.answers times.now) table.now arc.tail number v → Precedes (record { level = (link links.old arc.tail).level + 1; arc = number; from = arc.tail }) (link links.new v) → ⊥ }
     ensures nodes { waiting.new.nodes ≡ waiting.old.nodes }
 {
-    let _ = network.nodes();
+    network.keeps_limits();
     let departure = table[arc.tail as usize - 1];
     let level = links[arc.tail as usize - 1].level;
     if departure <= HORIZON && level < NO_LEVEL - 1 {
@@ -168,7 +168,7 @@ fn confirm_levels<T: TravelTimes>(
     ensures nodes { waiting.new.nodes ≡ waiting.old.nodes }
     ensures links { IsTrue result → AreLinks network.now (T.answers times.now) sources.now (IsLabel (label_of table.now)) links.new }
 {
-    let _ = network.nodes();
+    network.keeps_limits();
     preset(levels, links);
     if !confirm_sources(table, sources, links, waiting) {
         return false;

@@ -66,7 +66,7 @@ fn follow<T: TravelTimes, K: Track, W: Opens>(
     ensures spent { sum table.new + W.size todo.new ≤ sum table.old + W.size todo.old }
     ensures room { W.room todo.new ≡ W.room todo.old }
 {
-    let _ = network.nodes();
+    network.keeps_limits();
     let _ = number;
     // No arc arrives before it is left.
     if table[arc.head as usize - 1] <= departure {
@@ -149,7 +149,7 @@ pub fn finish<T: TravelTimes>(
         → time ≤ limit query.now.target (label_of result.table.items)
         → label_of result.table.items node ≡ time }
 {
-    let _ = network.nodes();
+    network.keeps_limits();
     let target = query.target();
     let mut track = Untracked;
     while let Some(node) = todo.take() {

@@ -53,7 +53,7 @@ fn exhaust<T: TravelTimes, K: Track>(
     ensures nodes { frontier.new.todo.nodes ≡ frontier.old.todo.nodes }
     ensures walks { frontier.new.todo.walks ≡ frontier.old.todo.walks }
 {
-    let _ = network.nodes();
+    network.keeps_limits();
     let target = query.target();
     while let Some((key, node)) = frontier.take(network, table) {
         let last = latest(target, table).min(HORIZON);
@@ -80,7 +80,7 @@ pub(crate) fn search<T: TravelTimes, K: Track>(
     ensures nodes { IfOk result (λ found. found.1.nodes ≡ todo.nodes) }
     ensures walks { IfOk result (λ found. found.1.walks ≡ todo.walks) }
 {
-    let _ = network.nodes();
+    network.keeps_limits();
     let mut frontier = Frontier::new(alloc, todo, width)?;
     let mut table = begin(alloc, network, times, query, track, &mut frontier)?;
     exhaust(network, times, query, track, &mut table, &mut frontier);

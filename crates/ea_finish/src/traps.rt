@@ -39,6 +39,36 @@ fn below(state: &mut u64, bound: u32) -> u32 {
     ((z ^ (z >> 31)) % u64::from(bound.max(1))) as u32
 }
 
+/// How many nodes a search from node 1 scans for a pair, by windows of the mean weight; none where the rows do not make a
+/// network.
+fn pair_scans(
+    alloc: Global,
+    nodes: u32,
+    rows: &[Row],
+    target: u32,
+) -> Result<Option<u64>, AllocError> {
+    let Some(network) = network_of(alloc, nodes, rows)? else {
+        return Ok(None);
+    };
+    if target == 0 {
+        return Ok(None);
+    }
+    let times = timetables(alloc)?;
+    let source = Source {
+        node: 1,
+        departure: 0,
+    };
+    let query = Query::pair(source, target);
+    if !is_problem(&network, times.classes(), &query) {
+        return Ok(None);
+    }
+    let mut counting = Counting { count: 0 };
+    let todo = Open::reserve_without_walks(alloc, network.nodes())?;
+    let width = network.mean_weight();
+    let _ = search(alloc, &network, &times, &query, todo, width, &mut counting)?;
+    Ok(Some(counting.count))
+}
+
 /// How many scans a search from node 1 takes by windows of the mean weight, and by single times; none where the rows do not
 /// make a network.
 fn scans(alloc: Global, nodes: u32, rows: &[Row]) -> Result<Option<(u64, u64)>, AllocError> {
@@ -50,7 +80,7 @@ fn scans(alloc: Global, nodes: u32, rows: &[Row]) -> Result<Option<(u64, u64)>, 
         node: 1,
         departure: 0,
     };
-    let query = Query::new(vec![in alloc; source]?);
+    let query = Query::from_one(source);
     if !is_problem(&network, times.classes(), &query) {
         return Ok(None);
     }
@@ -194,5 +224,18 @@ fn weights_that_double(rt: HostRuntime) -> Result<(), Fail> {
     let rows = forks(rt.alloc(), 2000)?;
     let found = scans(rt.alloc(), 2049, &rows)?;
     assert!(rt; are_few(found, 2049), "{found:?}");
+    Ok(())
+}
+
+#[test]
+fn a_pair_ends_at_its_target(rt: HostRuntime) -> Result<(), Fail> {
+    let mut rows = Vec::new(rt.alloc());
+    for node in 1..2000u32 {
+        rows.push((node, node + 1, 10, 0))?;
+    }
+    for target in [2, 50] {
+        let found = pair_scans(rt.alloc(), 2000, &rows, target)?;
+        assert!(rt; found == Some(u64::from(target)), "{found:?}");
+    }
     Ok(())
 }

@@ -59,7 +59,7 @@ pub(crate) fn pass<T: TravelTimes>(
     ensures passed { (v : ℕ) → Tight network.now (T.answers times.now) table.now new.from new.arc v → Precedes new (link links.new v) → ⊥ }
     ensures nodes { waiting.new.nodes ≡ waiting.old.nodes }
 {
-    let _ = network.nodes();
+    network.keeps_limits();
     let least = table[arc.head as usize - 1];
     // No arc arrives before it is left.
     if least < departure {
@@ -177,7 +177,7 @@ pub fn find_links<T: TravelTimes>(
     requires room { (todo.nodes ≡ network.now.nodes) × (todo.walks ≡ true) }
     ensures { AreLinks network.now (T.answers times.now) sources.now (IsLabel (label_of table.now)) result.items }
 {
-    let _ = network.nodes();
+    network.keeps_limits();
     let (mut waiting, mut links) = todo.into_parts();
     for source in sources {
         sow(table, *source, &mut links, &mut waiting);

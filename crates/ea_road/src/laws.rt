@@ -53,7 +53,7 @@ pub fn fixed_labels_are_least<T: TravelTimes>(
         → time ≤ limit query.now.target (label_of table.now)
         → label_of table.now node ≡ time }
 {
-    let _ = network.nodes();
+    network.keeps_limits();
 }
 
 /// Where labels are so, each node with a least arrival up to the target's label has a level.
@@ -71,7 +71,7 @@ pub fn reached_nodes_have_levels<T: TravelTimes>(
         → (level : ℕ) × IsLevel network.now (T.answers times.now) query.now.sources
         (IsLeastAt network.now (T.answers times.now) query.now.sources) node level }
 {
-    let _ = network.nodes();
+    network.keeps_limits();
 }
 
 /// Where labels are so, each node with a least arrival up to the target's label has exactly one canonical walk, and that
@@ -101,7 +101,7 @@ pub fn reached_nodes_have_one_canonical_walk<T: TravelTimes>(
         (IsLeastAt network.now (T.answers times.now) query.now.sources) node walk
         → Attains network.now (T.answers times.now) query.now.sources walk node time }
 {
-    let _ = network.nodes();
+    network.keeps_limits();
 }
 
 /// The last arc of a canonical walk has the lowest number of the tight arcs that lead to its node from a node one level

@@ -3,6 +3,7 @@ ghost use Rattle.ea_road.specs.Roads.{AreSideBySide, FitsNodes, IsArc, IsNetwork
 
 use crate::arc::Arc;
 use crate::index::{ends_by_tail, place_by_tail};
+use ea_limits::{MOST_ARCS, MOST_NODES};
 use std::alloc::{AllocError, Global};
 use std::marker::Model;
 
@@ -65,7 +66,7 @@ impl Network {
     pub fn fits(nodes: u32, arcs: &[Arc]) -> bool
         ensures { IsTrue result ↔ IsNetwork (record { nodes = nodes; arcs = arcs.now }) }
     {
-        if nodes == 0 || nodes > 67_108_864 || arcs.len() > 268_435_456 {
+        if nodes == 0 || nodes > MOST_NODES || arcs.len() > MOST_ARCS as usize {
             return false;
         }
         for arc in arcs {
@@ -99,6 +100,13 @@ impl Network {
         ensures network { IsNetwork self.now }
     {
         self.nodes
+    }
+
+    /// That the limits hold, and that each arc's ends are nodes, for proofs. It does nothing when it runs.
+    pub fn keeps_limits(&self)
+        ensures { IsNetwork self.now }
+    {
+        let _ = self.nodes();
     }
 
     /// The arcs, in the order of their numbers.

@@ -12,10 +12,11 @@ pub struct Query {
     asked: Asked,
 }
 
-/// The two forms of a query.
+/// The forms of a query.
 #[derive(Drop)]
 enum Asked {
     All(Vec<Source>),
+    One([Source; 1]),
     Pair([Source; 1], u32),
 }
 
@@ -39,6 +40,16 @@ impl Query {
     {
         Query {
             asked: Asked::All(sources),
+        }
+    }
+
+    /// Asks for all nodes, from one source. It takes no memory.
+    pub fn from_one(source: Source) -> Query
+        requires { IsSource source }
+        ensures { result ≡ record { sources = source ∷ []; target = None } }
+    {
+        Query {
+            asked: Asked::One([source]),
         }
     }
 
@@ -72,6 +83,7 @@ impl Query {
     {
         match &self.asked {
             Asked::All(sources) => sources,
+            Asked::One(source) => source,
             Asked::Pair(source, _) => source,
         }
     }
@@ -83,6 +95,7 @@ impl Query {
     {
         match &self.asked {
             Asked::All(_) => None,
+            Asked::One(_) => None,
             Asked::Pair(_, target) => Some(*target),
         }
     }

@@ -16,4 +16,4 @@ returns-clause-links g c = λ ready.
     let confirmed = c.confirm_arcs.ensures.confirmed c.if-not-confirm_arcs.false c.args.sources.now first in
     let settled = Settled-confirmed _ _ _ _ _ confirmed (c.are_ready.ensures.0 ready) in
     let sown = AreSown-lower _ _ _ _ _ begun.sown (λ v. (let same = c.confirm_arcs.ensures.levels c.if-not-confirm_arcs.false v in omega arith)) in
-    are_links c.args.network.now _ _ c.args.sources.now c.nodes.ensures.network c.requires.classes (g.met.T.TravelTimes.fifo c.args.times.now) c.requires.sources c.args.table.now c.requires.places.0 c.confirm_arcs.new.links settled sown
+    are_links c.args.network.now _ _ c.args.sources.now c.keeps_limits.ensures c.requires.classes (g.met.T.TravelTimes.fifo c.args.times.now) c.requires.sources c.args.table.now c.requires.places.0 c.confirm_arcs.new.links settled sown

@@ -14,7 +14,7 @@ use Rattle.ea_finish.proofs.finishing.finish.Goals as goal
 
 pub loop-node-init : goal.loop-node-init
 loop-node-init g c = record {
-  underway = underway_of c.args.network.now _ _ c.args.query.now c.nodes.ensures.network c.requires.problem c.args.table.items c.requires.underway.places c.args.todo.waiting c.requires.underway;
+  underway = underway_of c.args.network.now _ _ c.args.query.now c.keeps_limits.ensures c.requires.problem c.args.table.items c.requires.underway.places c.args.todo.waiting c.requires.underway;
   room = c.requires.room;
   walks = search rules;
 }
@@ -46,7 +46,7 @@ loop-node-preserved g c =
     let room = c.loop-node.invariant.room in
     let places = before.places in
     let at_label : c.index-departure.result.now ≡ entry table node = get_or_read table (node - 1) c.index-departure.result.now (omega arith) c.index-departure.ensures NONE ∙ sym (entry-at table node is_node.0) in
-    let limited = rw (c.target-target.ensures.target, c.deref.ensures.value, ← same_limit c.args.network.now (g.T.TravelTimes.answers c.args.times.now) _ c.args.query.now c.nodes.ensures.network c.requires.problem table places) at c.latest.ensures in
+    let limited = rw (c.target-target.ensures.target, c.deref.ensures.value, ← same_limit c.args.network.now (g.T.TravelTimes.answers c.args.times.now) _ c.args.query.now c.keeps_limits.ensures c.requires.problem table places) at c.latest.ensures in
     record {
       underway = elim (cases_lt (limit c.args.query.now.target (entry table)) (entry table node)) [
         | inl above ↦ Underway-above _ _ _ _ node table _ _ before (λ v there. Contains-cons_cases node v _ there) above
@@ -61,7 +61,7 @@ returns-clause-finished g c =
     let under = rw c.in_default.ensures.taken.0 at c.loop-node.invariant.underway in
     record {
       places = under.places;
-      fixed = fixed_of c.args.network.now _ _ c.args.query.now c.nodes.ensures.network c.requires.problem c.loop-node.table.items under.places under;
+      fixed = fixed_of c.args.network.now _ _ c.args.query.now c.keeps_limits.ensures c.requires.problem c.loop-node.table.items under.places under;
       nobody = rw c.in_default.ensures.taken.1 c.in_default.ensures.taken.0;
       room = c.in_default.ensures.room.0 ∙ c.loop-node.invariant.room;
     }
@@ -69,11 +69,11 @@ returns-clause-finished g c =
 pub returns-clause-least : goal.returns-clause-least
 returns-clause-least g c =
     let under = rw c.in_default.ensures.taken.0 at c.loop-node.invariant.underway in
-    let fixed = fixed_of c.args.network.now _ _ c.args.query.now c.nodes.ensures.network c.requires.problem c.loop-node.table.items under.places under in
-    λ node is_node asked. asked_labels_are_least c.args.network.now _ _ c.args.query.now (label_of c.loop-node.table.items) c.nodes.ensures.network c.requires.problem.classed (g.met.T.TravelTimes.fifo c.args.times.now) fixed node is_node asked
+    let fixed = fixed_of c.args.network.now _ _ c.args.query.now c.keeps_limits.ensures c.requires.problem c.loop-node.table.items under.places under in
+    λ node is_node asked. asked_labels_are_least c.args.network.now _ _ c.args.query.now (label_of c.loop-node.table.items) c.keeps_limits.ensures c.requires.problem.classed (g.met.T.TravelTimes.fifo c.args.times.now) fixed node is_node asked
 
 pub returns-clause-exact : goal.returns-clause-exact
 returns-clause-exact g c =
     let under = rw c.in_default.ensures.taken.0 at c.loop-node.invariant.underway in
-    let fixed = fixed_of c.args.network.now _ _ c.args.query.now c.nodes.ensures.network c.requires.problem c.loop-node.table.items under.places under in
-    λ node time is_node least low. (least_is_label c.args.network.now _ _ c.args.query.now (label_of c.loop-node.table.items) c.nodes.ensures.network c.requires.problem.classed (g.met.T.TravelTimes.fifo c.args.times.now) fixed node time is_node low least).0
+    let fixed = fixed_of c.args.network.now _ _ c.args.query.now c.keeps_limits.ensures c.requires.problem c.loop-node.table.items under.places under in
+    λ node time is_node least low. (least_is_label c.args.network.now _ _ c.args.query.now (label_of c.loop-node.table.items) c.keeps_limits.ensures c.requires.problem.classed (g.met.T.TravelTimes.fifo c.args.times.now) fixed node time is_node low least).0

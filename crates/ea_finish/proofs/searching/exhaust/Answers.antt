@@ -36,7 +36,7 @@ loop-key-preserved g c =
     let taken = rw c.deref.ensures.value at c.in-Some.ensures in
     let places = before.places in
     let at_label : c.index.result.now ≡ entry table node = get_or_read table (node - 1) c.index.result.now (omega (arith, taken.node, places, c.loop-key.invariant.nodes, c.requires.room)) c.index.ensures NONE ∙ sym (entry-at table node taken.node.0) in
-    let limited = rw (c.target-target.ensures.target, c.deref-in-Some.ensures.value, ← same_limit c.args.network.now (g.T.TravelTimes.answers c.args.times.now) _ c.args.query.now c.nodes.ensures.network c.requires.problem table places) at c.latest.ensures in
+    let limited = rw (c.target-target.ensures.target, c.deref-in-Some.ensures.value, ← same_limit c.args.network.now (g.T.TravelTimes.answers c.args.times.now) _ c.args.query.now c.keeps_limits.ensures c.requires.problem table places) at c.latest.ensures in
     record {
       underway = elim c.else-key-index.either [
         | inl late ↦ elim (cases_lt (limit c.args.query.now.target (entry table)) (entry table node)) [

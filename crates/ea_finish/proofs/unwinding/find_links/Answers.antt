@@ -50,13 +50,13 @@ pub spread-requires-clause-level : goal.spread-requires-clause-level
 spread-requires-clause-level g c =
     let before = rw c.in-Some.ensures.taken at c.loop-node.invariant.linking in
     let bound = before.bounded c.in-Some.node (before.waits c.in-Some.node (0, omega arith, refl)) in
-    let few = c.nodes.ensures.network.nodes_limit in
+    let few = c.keeps_limits.ensures.nodes_limit in
     rw c.deref_mut-in-Some.ensures.value (omega arith)
 
 pub loop-node-preserved : goal.loop-node-preserved
 loop-node-preserved g c =
     let before = rw c.in-Some.ensures.taken at c.loop-node.invariant.linking in
-    let few = c.nodes.ensures.network.nodes_limit in
+    let few = c.keeps_limits.ensures.nodes_limit in
     let offers = rw c.deref_mut-in-Some.ensures.value at c.spread.ensures.offers in
     let spent = rw c.deref_mut-in-Some.ensures.value at c.spread.ensures.spent in
     let linking = Linking-spread _ _ _ _ c.in-Some.node _ _ _ _ (omega arith) before offers spent in
@@ -70,5 +70,5 @@ loop-node-preserved g c =
 pub returns : goal.returns
 returns g c =
     let linking = rw c.in_default.ensures.taken.0 at c.loop-node.invariant.linking in
-    let few = c.nodes.ensures.network.nodes_limit in
-    are_links c.args.network.now _ _ c.args.sources.now c.nodes.ensures.network c.requires.classes (g.met.T.TravelTimes.fifo c.args.times.now) c.requires.sources c.args.table.now c.requires.places c.loop-node.links.items (Settled-linking _ _ _ _ _ (omega arith) linking) c.loop-node.invariant.sown
+    let few = c.keeps_limits.ensures.nodes_limit in
+    are_links c.args.network.now _ _ c.args.sources.now c.keeps_limits.ensures c.requires.classes (g.met.T.TravelTimes.fifo c.args.times.now) c.requires.sources c.args.table.now c.requires.places c.loop-node.links.items (Settled-linking _ _ _ _ _ (omega arith) linking) c.loop-node.invariant.sown

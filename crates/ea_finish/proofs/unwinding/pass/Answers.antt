@@ -7,14 +7,14 @@ use Rattle.ea_finish.proofs.unwinding.pass.Goals as goal
 
 pub arrive-arrival-requires : goal.arrive-arrival-requires
 arrive-arrival-requires g c =
-    rw c.from.ensures (is_question c.args.network.now _ c.args.new.arc c.args.departure c.args.arc c.nodes.ensures.network c.requires.classes c.requires.arc c.requires.departure.0)
+    rw c.from.ensures (is_question c.args.network.now _ c.args.new.arc c.args.departure c.args.arc c.keeps_limits.ensures c.requires.classes c.requires.arc c.requires.departure.0)
 
 pub returns-then-arrival-least-clause-offers : goal.returns-then-arrival-least-clause-offers
 returns-then-arrival-least-clause-offers g c =
     let table = c.args.table.now in
     let arc = c.args.arc in
     let answer = rw c.from.ensures at c.arrive-arrival.ensures in
-    let node = (c.nodes.ensures.network.each_fits c.args.new.arc arc c.requires.arc).head in
+    let node = (c.keeps_limits.ensures.each_fits c.args.new.arc arc c.requires.arc).head in
     let at_head : c.arrive-arrival.result ≡ entry table arc.head = c.if-arrival-least.true ∙ entry_read table arc.head node.from_one (omega (arith, node.to_last, c.requires.places.0)) in
     let tight = Tight-arc _ _ table c.args.new.from c.args.new.arc c.args.departure c.arrive-arrival.result arc c.requires.arc c.requires.tail answer c.requires.departure.0 c.if-arrival-le-HORIZON.true c.requires.departure.1 at_head in
     let offers = rw c.requires.nodes at c.relink.ensures.offers in
@@ -30,9 +30,9 @@ returns-else-arrival-le-HORIZON-clause-passed g c = λ v tight better.
     let table = c.args.table.now in
     let arc = c.args.arc in
     let answer = rw c.from.ensures at c.arrive-arrival.ensures in
-    let node = (c.nodes.ensures.network.each_fits c.args.new.arc arc c.requires.arc).head in
+    let node = (c.keeps_limits.ensures.each_fits c.args.new.arc arc c.requires.arc).head in
     let fifo = g.met.T.TravelTimes.fifo c.args.times.now in
-    let here = tight-arrival _ _ _ table c.args.new.from c.args.new.arc v c.args.departure c.arrive-arrival.result arc c.nodes.ensures.network c.requires.classes fifo c.requires.arc c.requires.departure.0 c.requires.departure.1 answer tight in
+    let here = tight-arrival _ _ _ table c.args.new.from c.args.new.arc v c.args.departure c.arrive-arrival.result arc c.keeps_limits.ensures c.requires.classes fifo c.requires.arc c.requires.departure.0 c.requires.departure.1 answer tight in
     let read : get_or table (arc.head - 1) 0 ≡ entry table v = entry_read table arc.head node.from_one (omega (arith, node.to_last, c.requires.places.0)) ∙ ap (entry table) here.0 in
     elim c.else-arrival-le-HORIZON.either [
       | inl other ↦ absurd (other.1 (here.1 ∙ sym read))
@@ -43,7 +43,7 @@ pub returns-then-least-departure-clause-passed : goal.returns-then-least-departu
 returns-then-least-departure-clause-passed g c = λ v tight better.
     let table = c.args.table.now in
     let arc = c.args.arc in
-    let network = c.nodes.ensures.network in
+    let network = c.keeps_limits.ensures in
     let node = (network.each_fits c.args.new.arc arc c.requires.arc).head in
     let fifo = g.met.T.TravelTimes.fifo c.args.times.now in
     let head = step-head _ _ c.args.new.from (entry table c.args.new.from) c.args.new.arc v (entry table v) arc c.requires.arc tight.step in

@@ -6,7 +6,7 @@ use Rattle.ea_road.proofs.laws.reached_nodes_have_one_canonical_walk.Goals as go
 pub returns-clause-some : goal.returns-clause-some
 returns-clause-some g c =
     let it = c.requires in
-    λ node time is_node least low. least_walk c.args.network.now _ _ c.args.query.now (label_of c.args.table.now) c.nodes.ensures.network it.problem (g.met.T.TravelTimes.fifo c.args.times.now) it.fixed node time is_node least low
+    λ node time is_node least low. least_walk c.args.network.now _ _ c.args.query.now (label_of c.args.table.now) c.keeps_limits.ensures it.problem (g.met.T.TravelTimes.fifo c.args.times.now) it.fixed node time is_node least low
 
 pub returns-clause-one : goal.returns-clause-one
 returns-clause-one g c = λ node walk other this that.
