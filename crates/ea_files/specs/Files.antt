@@ -1,5 +1,6 @@
 -- What readers give, and why they give nothing.
 use Rattle.std.specs.Prelude.{◌≡◌, ◌⊎◌, ℕ, ◌<◌, ◌≤◌, ◌^◌, List, length, Option, Some, None, IfSome, option_map}
+use Rattle.ea_limits.specs.declared.TheConstants.{MOST_BYTES}
 use Rattle.ea_text.specs.Device.{Seen, BearsOn, GivesUp}
 use Rattle.ea_text.specs.Text.{field_lines}
 use Rattle.ea_text.specs.declared.whole.ReadFault.{ReadFault}
@@ -40,10 +41,10 @@ reading seen old new = record { old = seen old; new = seen new }
 abbrev pub IsBorne : Reading → Type 0
 IsBorne reading = BearsOn reading.old reading.new
 
--- A file's text, as it was read: all bytes that the reader had, at most 2^33, and the device bore it.
+-- A file's text, as it was read: all bytes that the reader had, at most MOST_BYTES, and the device bore it.
 pub record IsTextOf (reading : Reading) (text : List ℕ) : Type 0 where
   pub all : IsAll reading.old.bytes text
-  pub few : length text ≤ 2 ^ 33
+  pub few : length text ≤ MOST_BYTES
   pub borne : IsBorne reading
 
 -- The same of a file that may be left out: there is a text just where there is a reader.
@@ -58,9 +59,9 @@ IsBorneIfThere seen None None = Unit {0}
 IsBorneIfThere seen (Some old) (Some new) = BearsOn (seen old) (seen new)
 IsBorneIfThere seen _ _ = ⊥
 
--- Why a file wasn't read: it has more than 2^33 bytes, or its device gave up, just then.
+-- Why a file wasn't read: it has more than MOST_BYTES, or its device gave up, just then.
 abbrev pub IsUnread : Reading → ReadFault → Type 0
-IsUnread reading TooLarge = IfSome reading.old.bytes (λ left. 2 ^ 33 < length left) × IsBorne reading
+IsUnread reading TooLarge = IfSome reading.old.bytes (λ left. MOST_BYTES < length left) × IsBorne reading
 IsUnread reading ReadFailed = GivesUp reading.old reading.new
 IsUnread reading no_memory = ⊥
 

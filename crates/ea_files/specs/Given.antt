@@ -1,5 +1,6 @@
 -- What the files give: a network, and when its arcs arrive.
 use Rattle.std.specs.Prelude.{◌≡◌, ℕ, ◌≤◌, ◌^◌, List, [], ◌∷◌, length, slice_index_or, map, Option, Some, None, IfSome}
+use Rattle.ea_limits.specs.declared.TheConstants.{MOST_BYTES}
 use Rattle.ea_text.specs.Text.{field_lines}
 use Rattle.ea_input.specs.Graph.{Graph, DenotesGraph}
 use Rattle.ea_input.specs.Table.{Table, DenotesTable}
@@ -51,7 +52,7 @@ pub record IsRoadOf (given : Given) (road : Road) : Type 0 where
   pub network : road.network ≡ roads_of given
   pub kinds : map (λ table. table.kind) road.times.list.items ≡ given.table.kinds
 
--- What readers gave, each at most 2^33 bytes, denotes this: a graph with timetables, where there is a file of them, and where
+-- What readers gave, each at most MOST_BYTES, denotes this: a graph with timetables, where there is a file of them, and where
 -- searches start.
 pub record AreGiven {X : Type 0}
     (DenotesStarts : ℕ → List (List (List ℕ)) → X → Type 0)
@@ -66,8 +67,8 @@ pub record AreGiven {X : Type 0}
   pub all_gr : IsAll gr gr_text
   pub all_starts : IsAll starts starts_text
   pub all_tp : IsAllIfThere tp tp_text
-  pub few_gr : length gr_text ≤ 2 ^ 33
-  pub few_starts : length starts_text ≤ 2 ^ 33
-  pub few_tp : IfSome tp_text (λ text. length text ≤ 2 ^ 33)
+  pub few_gr : length gr_text ≤ MOST_BYTES
+  pub few_starts : length starts_text ≤ MOST_BYTES
+  pub few_tp : IfSome tp_text (λ text. length text ≤ MOST_BYTES)
   pub denoted : Denotes gr_text tp_text given
   pub starts_denoted : DenotesStarts given.graph.nodes (field_lines starts_text) found

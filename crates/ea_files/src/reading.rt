@@ -12,14 +12,12 @@ ghost use Rattle.ea_files.specs.Files.{IsFaultIn, IsFaultIfThere, IsTextIfThere,
 ghost use Rattle.ea_files.specs.Given.{IsTableOf};
 
 use crate::fault::{FileFault, FileWord};
+use ea_limits::MOST_BYTES;
 use ea_input::{
     ByteIn, FaultKind, InputFault, RawGraph, RawTable, ReadFault, read_all, read_gr, read_p2p,
     read_ss, read_tp,
 };
 use std::alloc::Global;
-
-/// How many bytes a file has at most: 2^33.
-const LARGEST: u64 = 8_589_934_592;
 
 /// All bytes of a file.
 fn text_of<R: ByteIn>(alloc: Global, file: FileWord, reader: &mut R) -> Result<Vec<u8>, FileFault>
@@ -27,7 +25,7 @@ fn text_of<R: ByteIn>(alloc: Global, file: FileWord, reader: &mut R) -> Result<V
     ensures end { OnOk result (IsAtEnd (R.seen reader.new).bytes) }
     ensures fault { IfErr result (IsUnreadBy file (reading R.seen reader.old reader.new)) }
 {
-    match read_all(alloc, reader, LARGEST) {
+    match read_all(alloc, reader, MOST_BYTES) {
         Ok(bytes) => Ok(bytes),
         Err(ReadFault::OutOfMemory) => Err(FileFault::OutOfMemory),
         Err(fault) => Err(FileFault::Read { file, fault }),

@@ -3,6 +3,7 @@ use Rattle.std.specs.Prelude.{ℕ, ◌+◌, ◌-◌, ◌||◌, not, Bool, true, 
 use Rattle.std.specs.Option.{option_map_or}
 use Rattle.std.specs.List.{list_any}
 use Rattle.std.specs.Str.{bytes_eq}
+use Rattle.ea_limits.specs.declared.TheConstants.{HORIZON, MOST_ARCS, MOST_CLASSES, MOST_NODES, MOST_PERIOD, MOST_STARTS}
 use Rattle.ea_input.specs.Checks.{Line, Format, begins_with, value_of, lies_in, words_fit}
 
 abbrev pub is_problem : Line → Bool
@@ -21,7 +22,7 @@ graph_arcs _ = 0
 -- The second to fourth fields of a line: those of a problem line, or those of an arc.
 abbrev pub graph_ranges : Bool → ℕ → Line → List Bool
 graph_ranges problem nodes (word ∷ x ∷ y ∷ z ∷ []) =
-    if problem then lies_in 1 67108864 y ∷ lies_in 0 268435456 z ∷ []
+    if problem then lies_in 1 MOST_NODES y ∷ lies_in 0 MOST_ARCS z ∷ []
     else (lies_in 1 nodes x ∷ lies_in 1 nodes y ∷ lies_in 0 4294967295 z ∷ [])
 graph_ranges problem nodes _ = []
 
@@ -47,7 +48,7 @@ list_format kind word fields nodes = record {
   kind_fits = λ line. not (is_problem line) || words_fit (codes "aux" ∷ codes "sp" ∷ kind ∷ []) (drop 1 line);
   field_count = λ line. if is_problem line then 5 else (1 + fields);
   numbers = λ line. drop (if is_problem line then 4 else 1) line;
-  in_range = λ before line. if is_problem line then map (lies_in 0 1000000) (drop 4 line) else map (lies_in 1 nodes) (drop 1 line);
+  in_range = λ before line. if is_problem line then map (lies_in 0 MOST_STARTS) (drop 4 line) else map (lies_in 1 nodes) (drop 1 line);
   announced = λ problem w. list_count problem;
 }
 
@@ -92,18 +93,18 @@ kind_numbers _ = []
 
 -- An interval `B E` of times.
 abbrev pub interval_ranges : List ℕ → List ℕ → List Bool → List Bool
-interval_ranges b e others = lies_in 0 281474976710654 b ∷ lies_in (value_of b + 1) 281474976710655 e ∷ others
+interval_ranges b e others = lies_in 0 (HORIZON - 1) b ∷ lies_in (value_of b + 1) HORIZON e ∷ others
 
 -- The numbers of the line of a kind that has this number.
 abbrev pub kind_ranges : ℕ → Line → List Bool
 kind_ranges number (k ∷ j ∷ name ∷ []) = lies_in number number j ∷ []
 kind_ranges number (k ∷ j ∷ name ∷ x ∷ y ∷ []) =
-    lies_in number number j ∷ (if bytes_eq name (codes "every") then lies_in 1 4294967296 x ∷ lies_in 0 (value_of x - 1) y ∷ [] else interval_ranges x y [])
-kind_ranges number (k ∷ j ∷ name ∷ b ∷ e ∷ x ∷ []) = lies_in number number j ∷ interval_ranges b e (lies_in 0 4294967296 x ∷ [])
+    lies_in number number j ∷ (if bytes_eq name (codes "every") then lies_in 1 MOST_PERIOD x ∷ lies_in 0 (value_of x - 1) y ∷ [] else interval_ranges x y [])
+kind_ranges number (k ∷ j ∷ name ∷ b ∷ e ∷ x ∷ []) = lies_in number number j ∷ interval_ranges b e (lies_in 0 MOST_PERIOD x ∷ [])
 kind_ranges number _ = []
 
 abbrev pub size_ranges : Line → List Bool
-size_ranges (p ∷ tp ∷ k ∷ t ∷ []) = lies_in 0 65535 k ∷ lies_in 0 268435456 t ∷ []
+size_ranges (p ∷ tp ∷ k ∷ t ∷ []) = lies_in 0 MOST_CLASSES k ∷ lies_in 0 MOST_ARCS t ∷ []
 size_ranges _ = []
 
 -- The numbers of a line `t E J` of a graph with so many arcs and a file of so many kinds.

@@ -2,6 +2,7 @@
 use Rattle.std.specs.Prelude.{◌≡◌, ℕ, List, [], ◌∷◌, ◌++◌, length, codes, nat_lt, if◌then◌else◌, Option, Some, None, Result, Ok, Err}
 use Rattle.std.specs.Str.{bytes_eq}
 use Rattle.std.specs.Option.{ok_or}
+use Rattle.ea_limits.specs.declared.TheConstants.{MOST_ARCS, MOST_NODES}
 use Rattle.ea_text.specs.Text.{is_comment, speaking}
 use Rattle.ea_input.specs.Range.{IsNumberIn}
 use Rattle.ea_input.specs.Fault.{◌>>=◌, numeral, within}
@@ -24,7 +25,7 @@ pub record Graph : Type 0 where
 -- A line `p sp N M` of a graph of these nodes and so many arcs.
 abbrev pub IsProblemLine : List (List ℕ) → ℕ → ℕ → Type 0
 IsProblemLine (word ∷ kind ∷ n ∷ m ∷ []) nodes arcs =
-    (word ≡ codes "p") × (kind ≡ codes "sp") × IsNumberIn 1 67108864 n nodes × IsNumberIn 0 268435456 m arcs
+    (word ≡ codes "p") × (kind ≡ codes "sp") × IsNumberIn 1 MOST_NODES n nodes × IsNumberIn 0 MOST_ARCS m arcs
 IsProblemLine _ nodes arcs = ⊥
 
 -- A line `a U V W` of an arc among these nodes.
@@ -55,8 +56,8 @@ unfoldable pub size_read : List ℕ → List ℕ → Result GraphSize FaultKind
 size_read n m = do
   nodes ← numeral n
   arcs ← numeral m
-  nodes ← within 1 67108864 nodes
-  arcs ← within 0 268435456 arcs
+  nodes ← within 1 MOST_NODES nodes
+  arcs ← within 0 MOST_ARCS arcs
   Ok (record { nodes = nodes; arcs = arcs })
 
 -- The numbers of a problem line.

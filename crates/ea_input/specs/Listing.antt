@@ -2,6 +2,7 @@
 use Rattle.std.specs.Prelude.{◌≡◌, ℕ, List, [], ◌∷◌, ◌++◌, length, codes, nat_lt, if◌then◌else◌, Option, Some, None, Result, Ok, Err}
 use Rattle.std.specs.Str.{bytes_eq}
 use Rattle.std.specs.Option.{ok_or}
+use Rattle.ea_limits.specs.declared.TheConstants.{MOST_STARTS}
 use Rattle.ea_text.specs.Text.{is_comment, speaking}
 use Rattle.ea_input.specs.Fault.{◌>>=◌, numeral, within}
 use Rattle.ea_input.specs.Range.{IsNumberIn}
@@ -15,7 +16,7 @@ use Rattle.ea_input.specs.declared.listing.ListLine.TheVariants.{Silent, Problem
 -- A line `p aux sp KIND N` that announces so many lines.
 abbrev pub IsCountLine : List ℕ → List (List ℕ) → ℕ → Type 0
 IsCountLine kind (word ∷ aux ∷ sp ∷ third ∷ n ∷ []) count =
-    (word ≡ codes "p") × (aux ≡ codes "aux") × (sp ≡ codes "sp") × (third ≡ kind) × IsNumberIn 0 1000000 n count
+    (word ≡ codes "p") × (aux ≡ codes "aux") × (sp ≡ codes "sp") × (third ≡ kind) × IsNumberIn 0 MOST_STARTS n count
 IsCountLine kind _ count = ⊥
 
 -- A line of this word, whose other fields are those of an item.
@@ -53,7 +54,7 @@ only_number low high _ = Err FieldCount
 
 -- The number of lines that the fields behind `p` announce.
 unfoldable pub announced : List ℕ → List (List ℕ) → Result ℕ FaultKind
-announced kind fields = after_kinds (codes "aux" ∷ codes "sp" ∷ kind ∷ []) fields >>= λ numbers. only_number 0 1000000 numbers
+announced kind fields = after_kinds (codes "aux" ∷ codes "sp" ∷ kind ∷ []) fields >>= λ numbers. only_number 0 MOST_STARTS numbers
 
 -- The fields behind `p`, where no problem line came before.
 unfoldable pub problem_line : {A : Type 0} → List ℕ → Option ℕ → List (List ℕ) → Result (ListLine A) FaultKind

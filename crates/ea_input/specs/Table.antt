@@ -2,6 +2,7 @@
 use Rattle.std.specs.Prelude.{◌≡◌, ◌⊎◌, ℕ, ◌+◌, ◌-◌, List, [], ◌∷◌, ◌++◌, length, codes, nat_lt, if◌then◌else◌, Option, Some, None, Result, Ok, Err}
 use Rattle.std.specs.Str.{bytes_eq}
 use Rattle.std.specs.Option.{ok_or}
+use Rattle.ea_limits.specs.declared.TheConstants.{HORIZON, MOST_ARCS, MOST_CLASSES, MOST_PERIOD}
 use Rattle.ea_text.specs.Text.{is_comment, speaking}
 use Rattle.ea_input.specs.Fault.{◌>>=◌, numeral, within}
 use Rattle.ea_input.specs.Range.{IsNumberIn}
@@ -26,16 +27,16 @@ pub record Table : Type 0 where
 -- A line `p tp K T` that announces so many kinds and assignments.
 abbrev pub IsTableProblem : List (List ℕ) → ℕ → ℕ → Type 0
 IsTableProblem (word ∷ tp ∷ k ∷ t ∷ []) kinds assigned =
-    (word ≡ codes "p") × (tp ≡ codes "tp") × IsNumberIn 0 65535 k kinds × IsNumberIn 0 268435456 t assigned
+    (word ≡ codes "p") × (tp ≡ codes "tp") × IsNumberIn 0 MOST_CLASSES k kinds × IsNumberIn 0 MOST_ARCS t assigned
 IsTableProblem _ kinds assigned = ⊥
 
 -- The fields from a kind's word on are this kind.
 abbrev pub IsKind : List (List ℕ) → RawKind → Type 0
 IsKind (name ∷ []) Plain = name ≡ codes "plain"
-IsKind (name ∷ p ∷ o ∷ []) (Every period offset) = (name ≡ codes "every") × IsNumberIn 1 4294967296 p period × IsNumberIn 0 (period - 1) o offset
-IsKind (name ∷ b ∷ e ∷ []) (Closed lo hi) = (name ≡ codes "closed") × IsNumberIn 0 281474976710654 b lo × IsNumberIn (lo + 1) 281474976710655 e hi
+IsKind (name ∷ p ∷ o ∷ []) (Every period offset) = (name ≡ codes "every") × IsNumberIn 1 MOST_PERIOD p period × IsNumberIn 0 (period - 1) o offset
+IsKind (name ∷ b ∷ e ∷ []) (Closed lo hi) = (name ≡ codes "closed") × IsNumberIn 0 (HORIZON - 1) b lo × IsNumberIn (lo + 1) HORIZON e hi
 IsKind (name ∷ b ∷ e ∷ x ∷ []) (Rush lo hi extra) =
-    (name ≡ codes "rush") × IsNumberIn 0 281474976710654 b lo × IsNumberIn (lo + 1) 281474976710655 e hi × IsNumberIn 0 4294967296 x extra
+    (name ≡ codes "rush") × IsNumberIn 0 (HORIZON - 1) b lo × IsNumberIn (lo + 1) HORIZON e hi × IsNumberIn 0 MOST_PERIOD x extra
 IsKind _ kind = ⊥
 
 -- A line `k J ..` of the kind with this number.
@@ -69,8 +70,8 @@ unfoldable pub size_read : List ℕ → List ℕ → Result TableSize FaultKind
 size_read k t = do
   kinds ← numeral k
   assigned ← numeral t
-  kinds ← within 0 65535 kinds
-  assigned ← within 0 268435456 assigned
+  kinds ← within 0 MOST_CLASSES kinds
+  assigned ← within 0 MOST_ARCS assigned
   Ok (record { kinds = kinds; assigned = assigned })
 
 unfoldable pub size_of : List (List ℕ) → Result TableSize FaultKind
@@ -95,8 +96,8 @@ two_read a b = do
 -- From when to when a kind's rule holds.
 unfoldable pub interval_within : ℕ → ℕ → Result (ℕ × ℕ) FaultKind
 interval_within b e = do
-  lo ← within 0 281474976710654 b
-  hi ← within (lo + 1) 281474976710655 e
+  lo ← within 0 (HORIZON - 1) b
+  hi ← within (lo + 1) HORIZON e
   Ok (lo, hi)
 
 -- The number of a kind's line.
@@ -110,7 +111,7 @@ plain_of number j _ = Err FieldCount
 unfoldable pub every_within : ℕ → ℕ → ℕ → ℕ → Result RawKind FaultKind
 every_within number j p o = do
   j ← within number number j
-  period ← within 1 4294967296 p
+  period ← within 1 MOST_PERIOD p
   offset ← within 0 (period - 1) o
   Ok (Every period offset)
 
@@ -144,7 +145,7 @@ unfoldable pub rush_within : ℕ → ℕ → ℕ → ℕ → ℕ → Result RawK
 rush_within number j b e x = do
   j ← within number number j
   interval ← interval_within b e
-  extra ← within 0 4294967296 x
+  extra ← within 0 MOST_PERIOD x
   Ok (Rush interval.0 interval.1 extra)
 
 unfoldable pub rush_read : ℕ → List ℕ → List ℕ → List ℕ → List ℕ → Result RawKind FaultKind

@@ -16,6 +16,7 @@ use crate::fault::{FaultKind, InputFault};
 use crate::plain::{ArcNumbers, leading_arc};
 use crate::range::{numeral, within};
 use crate::reading::{LineReader, read_text};
+use ea_limits::{MOST_ARCS, MOST_NODES};
 use ea_text as text;
 use std::alloc::Global;
 
@@ -48,8 +49,8 @@ fn size_read(nodes: &[u8], arcs: &[u8]) -> Result<GraphSize, FaultKind>
 {
     let nodes = numeral(nodes)?;
     let arcs = numeral(arcs)?;
-    let nodes = within(1, 67_108_864, nodes)?;
-    let arcs = within(0, 268_435_456, arcs)?;
+    let nodes = within(1, MOST_NODES, nodes)?;
+    let arcs = within(0, MOST_ARCS, arcs)?;
     Ok(GraphSize { nodes, arcs })
 }
 

@@ -5,6 +5,7 @@ ghost use Rattle.ea_input.specs.Borrowed.{result_now};
 
 use crate::fault::FaultKind;
 use crate::range::{numeral, within};
+use ea_limits::MOST_STARTS;
 
 /// What a line says.
 #[derive(Clone, Copy)]
@@ -58,7 +59,7 @@ fn announced(kind: &[u8], fields: &[&[u8]]) -> Result<u32, FaultKind>
     ensures { result ≡ spec.announced kind.now (map (λ field. field.now) fields.now) }
 {
     let numbers = after_kinds(kind, fields)?;
-    only_number(0, 1_000_000, numbers)
+    only_number(0, MOST_STARTS, numbers)
 }
 
 #[tactic(auto, unfolding(crate::specs::Listing::problem_line))]

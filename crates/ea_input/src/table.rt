@@ -17,7 +17,7 @@ use crate::listing::after_kind;
 use crate::plain::{EntryNumbers, leading_entry};
 use crate::range::{numeral, within, within_wide};
 use crate::reading::{LineReader, read_text};
-use ea_limits::HORIZON;
+use ea_limits::{HORIZON, MOST_ARCS, MOST_CLASSES, MOST_PERIOD};
 use ea_text as text;
 use std::alloc::Global;
 
@@ -57,8 +57,8 @@ fn size_read(kinds: &[u8], assigned: &[u8]) -> Result<TableSize, FaultKind>
 {
     let kinds = numeral(kinds)?;
     let assigned = numeral(assigned)?;
-    let kinds = within(0, 65_535, kinds)?;
-    let assigned = within(0, 268_435_456, assigned)?;
+    let kinds = within(0, MOST_CLASSES, kinds)?;
+    let assigned = within(0, MOST_ARCS, assigned)?;
     Ok(TableSize { kinds, assigned })
 }
 
@@ -127,7 +127,7 @@ fn every_within(number: u64, found: u128, period: u128, offset: u128) -> Result<
     ensures { result ≡ spec.every_within number found period offset }
 {
     within_wide(number, number, found)?;
-    let period = within_wide(1, 4_294_967_296, period)?;
+    let period = within_wide(1, MOST_PERIOD, period)?;
     let offset = within_wide(0, period - 1, offset)?;
     Ok(RawKind::Every { period, offset })
 }
@@ -191,7 +191,7 @@ fn rush_within(
 {
     within_wide(number, number, found)?;
     let (lo, hi) = interval_within(lo, hi)?;
-    let extra = within_wide(0, 4_294_967_296, extra)?;
+    let extra = within_wide(0, MOST_PERIOD, extra)?;
     Ok(RawKind::Rush { lo, hi, extra })
 }
 

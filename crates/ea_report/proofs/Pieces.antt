@@ -43,7 +43,7 @@ failed_gives_up first old now count e same few h = inl (e ∙ ap one_more h.0, o
 pub interrupted_gives_up : (first old now : Seen) → now.failed ≡ old.failed → now.interrupted ≡ one_more old.interrupted → HasBorne first old 1000 → GivesUp first now
 interrupted_gives_up first old now unfailed more h =
     let counted = counted_more first.interrupted old.interrupted now.interrupted 1000 more h.1 in
-    inr (unfailed ∙ h.0, counted.0, counted.1)
+    inr (unfailed ∙ h.0, omega (arith, counted.0), elim counted.1 [ inl more ↦ inl (omega (arith, more)) | inr end ↦ inr end ])
 
 -- All that was pending is sent.
 pub delivery_sent : (first old now : Seen) (d : Delivery) (after : ℕ) (text : List ℕ) → Appends old.bytes now.bytes d.pending

@@ -1,5 +1,6 @@
 //! A text that is sent at once.
 ghost use Rattle.std.specs.Prelude.{◌≤◌};
+ghost use Rattle.ea_limits.specs.declared.TheConstants.{MOST_INTERRUPTIONS};
 
 /// A text that is sent to a device piece by piece, with one count of interruptions over all of it. It begins with both
 /// numbers 0, and keeps nothing back.
@@ -9,5 +10,5 @@ pub struct Direct {
     pub written: u128,
     /// How many calls were interrupted: 1,000 are borne.
     pub interruptions: u64,
-    pub ghost borne: { interruptions ≤ 1000 },
+    pub ghost borne: { interruptions ≤ MOST_INTERRUPTIONS },
 }

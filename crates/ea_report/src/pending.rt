@@ -1,5 +1,6 @@
 //! A text that is gathered before it is sent.
 ghost use Rattle.std.specs.Prelude.{◌≤◌};
+ghost use Rattle.ea_limits.specs.declared.TheConstants.{MOST_INTERRUPTIONS};
 
 /// A text on its way to a device in large pieces.
 #[derive(Drop)]
@@ -10,5 +11,5 @@ pub(crate) struct Pending {
     pub written: u128,
     /// How many calls were interrupted: 1,000 are borne.
     pub interruptions: u64,
-    pub ghost borne: { interruptions ≤ 1000 },
+    pub ghost borne: { interruptions ≤ MOST_INTERRUPTIONS },
 }

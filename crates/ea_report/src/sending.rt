@@ -4,9 +4,8 @@ ghost use Rattle.std.specs.Io.KnownBytes.{Appends};
 ghost use Rattle.ea_text.specs.Device.{Seen, GivesUp};
 ghost use Rattle.ea_report.specs.Sent.{IsCutAt, HasBorne};
 
+use ea_limits::MOST_INTERRUPTIONS;
 use ea_input::{ByteOut, DeviceFault};
-
-pub(crate) const BORNE_INTERRUPTIONS: u64 = 1_000;
 
 /// Sends all bytes, after so many interruptions. An error says how many were sent.
 pub(crate) fn send<W: ByteOut>(
@@ -14,11 +13,11 @@ pub(crate) fn send<W: ByteOut>(
     bytes: &[u8],
     interruptions: &mut u64,
 ) -> Result<(), usize>
-    requires { interruptions.old ≤ 1000 }
+    requires { interruptions.old ≤ MOST_INTERRUPTIONS }
     ensures ok { OnOk result (Appends (W.seen out.old).bytes (W.seen out.new).bytes bytes.now) }
     ensures err { IfErr result (λ sent. IsCutAt (W.seen out.old).bytes (W.seen out.new).bytes
         bytes.now sent) }
-    ensures borne { interruptions.new ≤ 1000 }
+    ensures borne { interruptions.new ≤ MOST_INTERRUPTIONS }
     // Whatever was counted before, the count goes on; and an error has a reason.
     ensures counted { OnOk result ((first : Seen) →
         HasBorne first (W.seen out.old) interruptions.old → HasBorne first (W.seen out.new) interruptions.new) }
@@ -31,7 +30,7 @@ pub(crate) fn send<W: ByteOut>(
             Ok(count) => sent += count,
             Err(DeviceFault::Failed) => return Err(sent),
             Err(DeviceFault::Interrupted) => {
-                if *interruptions == BORNE_INTERRUPTIONS {
+                if *interruptions == MOST_INTERRUPTIONS {
                     return Err(sent);
                 }
                 *interruptions += 1;

@@ -1,6 +1,7 @@
 -- What contracts see of a device, and what calls do to it.
 use Rattle.std.specs.Prelude.{◌≡◌, ◌⊎◌, ℕ, ◌+◌, ◌-◌, ◌<◌, ◌≤◌, ◌^◌, min, List, length, Option, Result, Ok, Err}
 use Rattle.std.specs.Io.KnownBytes.{Consumes}
+use Rattle.ea_limits.specs.declared.TheConstants.{MOST_INTERRUPTIONS}
 use Rattle.ea_text.specs.declared.device.DeviceFault.{DeviceFault}
 use Rattle.ea_text.specs.declared.device.DeviceFault.TheVariants.{Interrupted, Failed}
 
@@ -38,19 +39,19 @@ interruptions_after (Err fault) n = interruptions_by fault n
 -- A device gave a reason to give up: a failure, or more interruptions than are borne, as far as the counts go.
 abbrev pub HasGivenUp : Seen → Seen → Type 0
 HasGivenUp old new =
-    (old.failed < new.failed) ⊎ (old.interrupted + 1001 ≤ new.interrupted)
+    (old.failed < new.failed) ⊎ (old.interrupted + MOST_INTERRUPTIONS < new.interrupted)
     ⊎ (new.failed ≡ 2 ^ 64 - 1) ⊎ (new.interrupted ≡ 2 ^ 64 - 1)
 
 -- The same exactly: one failure after interruptions that are borne, or the first interruption that is not.
 abbrev pub GivesUp : Seen → Seen → Type 0
 GivesUp old new =
-    ((new.failed ≡ one_more old.failed) × (new.interrupted ≤ old.interrupted + 1000))
-    ⊎ ((new.failed ≡ old.failed) × (new.interrupted ≤ old.interrupted + 1001)
-    × ((old.interrupted + 1001 ≤ new.interrupted) ⊎ (new.interrupted ≡ 2 ^ 64 - 1)))
+    ((new.failed ≡ one_more old.failed) × (new.interrupted ≤ old.interrupted + MOST_INTERRUPTIONS))
+    ⊎ ((new.failed ≡ old.failed) × (new.interrupted ≤ old.interrupted + MOST_INTERRUPTIONS + 1)
+    × ((old.interrupted + MOST_INTERRUPTIONS < new.interrupted) ⊎ (new.interrupted ≡ 2 ^ 64 - 1)))
 
 -- No call failed, and the interruptions were borne.
 abbrev pub BearsOn : Seen → Seen → Type 0
-BearsOn old new = (new.failed ≡ old.failed) × (new.interrupted ≤ old.interrupted + 1000)
+BearsOn old new = (new.failed ≡ old.failed) × (new.interrupted ≤ old.interrupted + MOST_INTERRUPTIONS)
 
 -- No fault was counted.
 abbrev pub AreAlike : Seen → Seen → Type 0

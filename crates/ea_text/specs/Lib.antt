@@ -3,3 +3,4 @@ pub mod Device
 pub mod Piece
 pub mod Outcome
 pub mod Opened
+pub mod Errors

@@ -1,5 +1,5 @@
 use super::*;
-use std::io::{self, Error, ErrorKind, Read};
+use std::io::{self, Error, ErrorKind, Read, Write};
 use std::test::Fail;
 
 /// A reader of std that gives a text by pieces, is interrupted before it gives anything, and
@@ -108,6 +108,49 @@ fn interruptions(rt: HostRuntime) {
     );
     assert_eq!(rt; too_many.interruptions(), 1001);
     assert_eq!(rt; too_many.failures(), 0);
+}
+
+/// A reader and a writer of std that answers an error of one kind.
+#[derive(Drop)]
+struct Refusing {
+    kind: ErrorKind,
+}
+
+impl Read for Refusing {
+    fn read(&mut self, _buf: &mut [u8]) -> io::Result<usize> {
+        Err(Error::from(self.kind))
+    }
+}
+
+impl Write for Refusing {
+    fn write(&mut self, _buf: &[u8]) -> io::Result<usize> {
+        Err(Error::from(self.kind))
+    }
+
+    fn flush(&mut self) -> io::Result<()> {
+        Ok(())
+    }
+}
+
+#[test]
+fn only_an_interruption_is_one(rt: HostRuntime) {
+    for (kind, fault, failures) in [
+        (ErrorKind::Interrupted, DeviceFault::Interrupted, 0),
+        (ErrorKind::WouldBlock, DeviceFault::Failed, 1),
+        (ErrorKind::TimedOut, DeviceFault::Failed, 1),
+        (ErrorKind::UnexpectedEof, DeviceFault::Failed, 1),
+        (ErrorKind::BrokenPipe, DeviceFault::Failed, 1),
+    ] {
+        let mut reader = StdIn::new(Refusing { kind });
+        let mut room = [0u8; 2];
+        assert_eq!(rt; reader.read(room.as_mut_slice()), Err(fault));
+        assert_eq!(rt; reader.failures(), failures);
+        assert_eq!(rt; reader.interruptions(), 1 - failures);
+        let mut writer = StdOut::new(Refusing { kind });
+        assert_eq!(rt; writer.write(b"ab"), Err(fault));
+        assert_eq!(rt; writer.failures(), failures);
+        assert_eq!(rt; writer.interruptions(), 1 - failures);
+    }
 }
 
 #[test]

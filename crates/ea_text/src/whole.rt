@@ -7,6 +7,7 @@ ghost use Rattle.ea_text.specs.Piece.{failures_with, interruptions_with};
 ghost use Rattle.ea_text.specs.declared.whole.ReadFault.TheVariants.{OutOfMemory};
 
 use crate::device::{ByteIn, DeviceFault};
+use ea_limits::MOST_INTERRUPTIONS;
 use std::alloc::{AllocError, Global};
 use thiserror::Error;
 
@@ -58,9 +59,6 @@ impl From<AllocError> for ReadFault {
 
 /// How many bytes one read asks for at most.
 const PIECE: usize = 65_536;
-
-/// How many interruptions are borne; the next one is a fault.
-const BORNE_INTERRUPTIONS: u64 = 1_000;
 
 /// Room for a piece.
 fn room(alloc: Global, len: usize) -> Result<Vec<u8>, AllocError>
@@ -136,7 +134,7 @@ pub fn read_all<R: ByteIn>(alloc: Global, reader: &mut R, limit: u64) -> Result<
         match read_piece(reader, &mut piece.as_mut_slice()[..wanted], &mut bytes)? {
             Piece::Some => {}
             Piece::End => return Ok(bytes),
-            Piece::Fault(DeviceFault::Interrupted) if interruptions < BORNE_INTERRUPTIONS => {
+            Piece::Fault(DeviceFault::Interrupted) if interruptions < MOST_INTERRUPTIONS => {
                 interruptions += 1;
             }
             Piece::Fault(_) => return Err(ReadFault::ReadFailed),

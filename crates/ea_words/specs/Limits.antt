@@ -1,17 +1,18 @@
 -- The limits of options.
 use Rattle.std.specs.Prelude.{◌≤◌}
+use Rattle.ea_limits.specs.declared.TheConstants.{HORIZON, LEAST_HEAPS, MOST_HEAPS, MOST_TURNS, MOST_WORKERS}
 use Rattle.ea_words.specs.declared.options.RunOptions.{RunOptions}
 use Rattle.ea_words.specs.declared.options.Command.{Command}
 use Rattle.ea_words.specs.declared.options.Command.TheVariants.{Stored, Run, Pairs, Rank, Check}
 
 pub record AreOptions (options : RunOptions) : Type 0 where
   pub some_worker : 1 ≤ options.workers
-  pub workers : options.workers ≤ 16
-  pub two_heaps : 2 ≤ options.heaps
-  pub heaps : options.heaps ≤ 8
-  pub turns : options.turns ≤ 1000000000
-  pub depart : options.depart ≤ 281474976710655
-  pub gap : options.gap ≤ 281474976710655
+  pub workers : options.workers ≤ MOST_WORKERS
+  pub two_heaps : LEAST_HEAPS ≤ options.heaps
+  pub heaps : options.heaps ≤ MOST_HEAPS
+  pub turns : options.turns ≤ MOST_TURNS
+  pub depart : options.depart ≤ HORIZON
+  pub gap : options.gap ≤ HORIZON
 
 -- The options of a command are within them.
 abbrev pub HasLimits : Command → Type 0

@@ -2,6 +2,7 @@
 -- the others, with the defaults and limits of each option.
 use Rattle.std.specs.Prelude.{Bool, true, false, List, codes, Option, Some, None, option_and_then, option_map, if◌then◌else◌}
 use Rattle.std.specs.Str.{bytes_eq}
+use Rattle.ea_limits.specs.declared.TheConstants.{HORIZON, LEAST_HEAPS, MOST_HEAPS, MOST_TURNS, MOST_WORKERS}
 use Rattle.clap.specs.Words.{App, Row, Text, first_of, matches_of}
 use Rattle.ea_words.specs.declared.meaning.Names.{Names}
 use Rattle.ea_words.specs.declared.options.RunOptions.{RunOptions}
@@ -17,12 +18,12 @@ o >>= f = option_and_then f o
 -- The numbers of the options, where each is a number within its limits.
 unfoldable pub options_of : List Row → Option RunOptions
 options_of rows = do
-  workers ← option_of (codes "workers") 4 1 16 rows
-  heaps ← option_of (codes "heaps") 2 2 8 rows
-  turns ← option_of (codes "turns") 1000000 0 1000000000 rows
+  workers ← option_of (codes "workers") 4 1 MOST_WORKERS rows
+  heaps ← option_of (codes "heaps") 2 LEAST_HEAPS MOST_HEAPS rows
+  turns ← option_of (codes "turns") 1000000 0 MOST_TURNS rows
   seed ← option_of (codes "seed") 1 0 18446744073709551615 rows
-  depart ← option_of (codes "depart") 0 0 281474976710655 rows
-  gap ← option_of (codes "gap") 0 0 281474976710655 rows
+  depart ← option_of (codes "depart") 0 0 HORIZON rows
+  gap ← option_of (codes "gap") 0 0 HORIZON rows
   Some (record {
     joint = is_given (codes "joint") rows;
     walks = is_given (codes "walks") rows;

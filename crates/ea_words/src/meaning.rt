@@ -14,7 +14,7 @@ use crate::options::{Command, RunOptions};
 use crate::values::{has_flag, option_number, text_of};
 use clap::error::ErrorKind;
 use clap::{ArgMatches, Error};
-use ea_limits::HORIZON;
+use ea_limits::{HORIZON, LEAST_HEAPS, MOST_HEAPS, MOST_TURNS, MOST_WORKERS};
 use std::alloc::Global;
 use std::convert::AsStr;
 
@@ -24,9 +24,9 @@ fn options_in(matches: &ArgMatches<'_>) -> Option<RunOptions>
     ensures options { result ≡ options_of (rows_of (found_of matches.now)) }
     ensures limits { IfSome result AreOptions }
 {
-    let workers = option_number(matches, "workers", 4, 1, 16)?;
-    let heaps = option_number(matches, "heaps", 2, 2, 8)?;
-    let turns = option_number(matches, "turns", 1_000_000, 0, 1_000_000_000)?;
+    let workers = option_number(matches, "workers", 4, 1, u64::from(MOST_WORKERS))?;
+    let heaps = option_number(matches, "heaps", 2, u64::from(LEAST_HEAPS), u64::from(MOST_HEAPS))?;
+    let turns = option_number(matches, "turns", 1_000_000, 0, MOST_TURNS)?;
     let seed = option_number(matches, "seed", 1, 0, u64::MAX)?;
     let depart = option_number(matches, "depart", 0, 0, HORIZON)?;
     let gap = option_number(matches, "gap", 0, 0, HORIZON)?;

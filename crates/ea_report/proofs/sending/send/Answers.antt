@@ -30,10 +30,10 @@ loop-sent-preserved g c =
           borne_more first old now _ said.failed said.interrupted (c.loop-sent.invariant.counted first h);
     }
 
-pub returns-then-interruptions-eq-BORNE_INTERRUPTIONS-clause-given_up : goal.returns-then-interruptions-eq-BORNE_INTERRUPTIONS-clause-given_up
-returns-then-interruptions-eq-BORNE_INTERRUPTIONS-clause-given_up g c = λ first h.
+pub returns-then-interruptions-eq-MOST_INTERRUPTIONS-clause-given_up : goal.returns-then-interruptions-eq-MOST_INTERRUPTIONS-clause-given_up
+returns-then-interruptions-eq-MOST_INTERRUPTIONS-clause-given_up g c = λ first h.
     let said = rw c.in-Err-Interrupted.field-0-is at c.in-Err-Interrupted.ensures in
-    let counted = rw c.if-interruptions-eq-BORNE_INTERRUPTIONS.true at (c.loop-sent.invariant.counted first h) in
+    let counted = rw c.if-interruptions-eq-MOST_INTERRUPTIONS.true at (c.loop-sent.invariant.counted first h) in
     let old = g.W.Device.seen c.loop-sent.out in
     let now = g.W.Device.seen c.write.new.self in
     interrupted_gives_up first old now said.failed said.interrupted counted
