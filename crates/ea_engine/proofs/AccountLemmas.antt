@@ -1,10 +1,9 @@
 -- Closed accounts: work keeps them, and so do seeds; two joined seats have one.
-use Rattle.std.proofs.Common.{◌≡◌, ℕ, List, [], ◌∷◌, ◌++◌, map, sym, ap, arith, subst, inl, inr, ◌⊎◌, Option}
+use Rattle.std.proofs.Common.{◌≡◌, ℕ, List, [], ◌∷◌, ◌++◌, map, sym, ap, arith, subst, inl, inr, ◌⊎◌}
 use Rattle.std.specs.Prelude.{Contains, All}
 use Rattle.std.specs.Option.{option_to_list}
 use Rattle.std.proofs.lemmas.List.{map-append}
 use Rattle.std.proofs.lemmas.List.Elements.{All-head, All-tail, Contains-append_cases, Contains-append_left, Contains-append_right}
-use Rattle.ea_road.specs.Roads.{Roads}
 use Rattle.ea_labels.specs.declared.record.Bound.{Bound}
 use Rattle.ea_labels.specs.declared.record.SeatRecord.{SeatRecord}
 use Rattle.ea_labels.specs.Core.{bound, seen, lowered, joined}
@@ -12,6 +11,7 @@ use Rattle.ea_pool.specs.declared.entry.Entry.{Entry}
 use Rattle.ea_pool.specs.declared.account.Account.{Account}
 use Rattle.ea_pool.specs.Pools.{SameBooks, Pushes}
 use Rattle.ea_lists.proofs.Totals.{total-append}
+use Rattle.ea_engine.specs.Problems.{Problem}
 use Rattle.ea_engine.specs.declared.turn.Turn.{Turn}
 use Rattle.ea_engine.specs.declared.turn.Hand.{Hand}
 use Rattle.ea_engine.specs.declared.turn.Flow.{Flow}
@@ -34,17 +34,17 @@ cases_of a b c d x h = elim (Contains-append_cases (a ++ b) (c ++ d) x h) [
   | inr two ↦ elim (Contains-append_cases c d x two) [ inl p ↦ inl (Contains-append_right a c x p) | inr p ↦ inr (Contains-append_right b d x p) ]
 ]
 
-module _ (roads : Roads) (answers : ℕ → ℕ → ℕ → ℕ → Type 0) (target : Option ℕ) where
+module _ (problem : Problem) where
   IsClosedEntry-more : (bs cs : List Bound) (hand hand' : List Entry) (e : Entry) → ((b : Bound) → Contains bs b → Contains cs b) → ((x : Entry) → Contains hand x → Contains hand' x)
-      → IsClosedEntry roads answers target bs hand e → IsClosedEntry roads answers target cs hand' e
+      → IsClosedEntry problem bs hand e → IsClosedEntry problem cs hand' e
   IsClosedEntry-more bs cs hand hand' e stays held h = elim h [
     | inl back ↦ inl (held e back)
     | inr (inl stale) ↦ inr (inl (IsStale-more bs cs stays e stale))
-    | inr (inr (inl scanned)) ↦ inr (inr (inl (IsScanned-more bs cs stays roads answers e scanned)))
-    | inr (inr (inr cut)) ↦ inr (inr (inr (IsCut-more bs cs stays target e cut)))
+    | inr (inr (inl scanned)) ↦ inr (inr (inl (IsScanned-more bs cs stays problem e scanned)))
+    | inr (inr (inr cut)) ↦ inr (inr (inr (IsCut-more bs cs stays problem.query.target e cut)))
   ]
 
-  closed_by_kind : (bs : List Bound) (hand : List Entry) (k : TurnKind) (key node : ℕ) (e : Entry) → IsClosedAs roads answers target bs hand k (entry_at key node) → Contains (popped_as k key node) e → IsClosedEntry roads answers target bs hand e
+  closed_by_kind : (bs : List Bound) (hand : List Entry) (k : TurnKind) (key node : ℕ) (e : Entry) → IsClosedAs problem bs hand k (entry_at key node) → Contains (popped_as k key node) e → IsClosedEntry problem bs hand e
   closed_by_kind bs hand Empty key node e h inside = absurd (omega (arith, inside.1))
   closed_by_kind bs hand Busy key node e h inside = absurd (omega (arith, inside.1))
   closed_by_kind bs hand Stale key node e h inside = rw (sym (contains_one (entry_at key node) e inside)) (inr (inl h))
@@ -52,16 +52,16 @@ module _ (roads : Roads) (answers : ℕ → ℕ → ℕ → ℕ → Type 0) (tar
   closed_by_kind bs hand Refused key node e h inside = rw (sym (contains_one (entry_at key node) e inside)) (inl h)
   closed_by_kind bs hand Cut key node e h inside = rw (sym (contains_one (entry_at key node) e inside)) (inr (inr (inr h)))
 
-  closed_in_all : (bs : List Bound) (hand : List Entry) (ts : List Told) → All (λ t. IsClosedTurn roads answers target bs hand t.0) ts → (e : Entry) → Contains (popped_in_all ts) e → IsClosedEntry roads answers target bs hand e
+  closed_in_all : (bs : List Bound) (hand : List Entry) (ts : List Told) → All (λ t. IsClosedTurn problem bs hand t.0) ts → (e : Entry) → Contains (popped_in_all ts) e → IsClosedEntry problem bs hand e
   closed_in_all bs hand [] all e inside = absurd (omega (arith, inside.1))
   closed_in_all bs hand (t ∷ ts) all e inside = elim (Contains-append_cases (popped_in_all ts) (popped_as t.0.kind t.0.key t.0.node) e inside) [
-    | inl later ↦ closed_in_all bs hand ts (All-tail (λ (u : Told). IsClosedTurn roads answers target bs hand u.0) t ts all) e later
-    | inr here ↦ closed_by_kind bs hand t.0.kind t.0.key t.0.node e (All-head (λ (u : Told). IsClosedTurn roads answers target bs hand u.0) t ts all) here
+    | inl later ↦ closed_in_all bs hand ts (All-tail (λ (u : Told). IsClosedTurn problem bs hand u.0) t ts all) e later
+    | inr here ↦ closed_by_kind bs hand t.0.kind t.0.key t.0.node e (All-head (λ (u : Told). IsClosedTurn problem bs hand u.0) t ts all) here
   ]
 
   -- a word was seen
   pub closed_noted : (r s : SeatRecord) (a : Account) (node time : ℕ) (back refused : List Entry) → s ≡ seen r node time
-      → IsClosedAccount roads answers target r a back refused → IsClosedAccount roads answers target s a back refused
+      → IsClosedAccount problem r a back refused → IsClosedAccount problem s a back refused
   closed_noted r s a node time back refused e h = record {
     own = λ f. rw (ap (λ (x : SeatRecord). x.lowerings) e) (h.own f);
     closed = λ x inside. IsClosedEntry-more r.bounds s.bounds back back x (λ b k. Contains-kept (bound node time) r.bounds s.bounds b (ap (λ (z : SeatRecord). z.bounds) e) k) (λ y k. k) (h.closed x inside);
@@ -69,7 +69,7 @@ module _ (roads : Roads) (answers : ℕ → ℕ → ℕ → ℕ → Type 0) (tar
 
   -- a label was lowered and its entry pushed
   pub closed_pushed : (r s : SeatRecord) (a b : Account) (node from to : ℕ) (back refused : List Entry) → s ≡ lowered r node from to → Pushes a (entry_at to node) b
-      → IsClosedAccount roads answers target r a back refused → IsClosedAccount roads answers target s b back refused
+      → IsClosedAccount problem r a back refused → IsClosedAccount problem s b back refused
   closed_pushed r s a b node from to back refused e p h = record {
     own = λ f. rw (ap (λ (x : SeatRecord). x.lowerings) e, p.1) (omega (arith, h.own f));
     closed = λ x inside. IsClosedEntry-more r.bounds s.bounds back back x (λ y k. Contains-kept (bound node to) r.bounds s.bounds y (ap (λ (z : SeatRecord). z.bounds) e) k) (λ y k. k) (h.closed x (rw p.2 at inside));
@@ -77,7 +77,7 @@ module _ (roads : Roads) (answers : ℕ → ℕ → ℕ → ℕ → Type 0) (tar
 
   -- a label was lowered and its entry handed back
   pub closed_refused : (r s : SeatRecord) (a b : Account) (node from to : ℕ) (back refused : List Entry) → s ≡ lowered r node from to → SameBooks a b
-      → IsClosedAccount roads answers target r a back refused → IsClosedAccount roads answers target s b back (entry_at to node ∷ refused)
+      → IsClosedAccount problem r a back refused → IsClosedAccount problem s b back (entry_at to node ∷ refused)
   closed_refused r s a b node from to back refused e p h = record {
     own = λ f. rw (ap (λ (x : SeatRecord). x.lowerings) e, p.1) (omega (arith, h.own f, total-append f a.pushed refused, total-append f a.pushed (entry_at to node ∷ refused)));
     closed = λ x inside. IsClosedEntry-more r.bounds s.bounds back back x (λ y k. Contains-kept (bound node to) r.bounds s.bounds y (ap (λ (z : SeatRecord). z.bounds) e) k) (λ y k. k) (h.closed x (rw p.2 at inside));
@@ -85,9 +85,9 @@ module _ (roads : Roads) (answers : ℕ → ℕ → ℕ → ℕ → Type 0) (tar
 
   -- a worker's turns
   pub closed_worked : {T : Type 0} (shows : T → Turn → Flow → T → Type 0) (heaps : ℕ) (from to : Kit) (budget : ℕ) (tracer tracer' : T) (counters : Counters) (hand : Hand) (back refused : List Entry)
-      → IsWork roads answers target shows heaps from to budget tracer tracer' counters hand
-      → IsClosedAccount roads answers target from.labels from.account back refused
-      → IsClosedAccount roads answers target to.labels to.account (back ++ option_to_list hand.popped) (refused ++ option_to_list hand.refused)
+      → IsWork problem shows heaps from to budget tracer tracer' counters hand
+      → IsClosedAccount problem from.labels from.account back refused
+      → IsClosedAccount problem to.labels to.account (back ++ option_to_list hand.popped) (refused ++ option_to_list hand.refused)
   closed_worked shows heaps from to budget tracer tracer' counters hand back refused w h =
       let p = w.progress in
       let none = option_to_list hand.refused in
@@ -113,8 +113,8 @@ module _ (roads : Roads) (answers : ℕ → ℕ → ℕ → ℕ → Type 0) (tar
   -- two joined seats
   pub closed_joined : (r s both : SeatRecord) (a b sum : Account) (back back' refused refused' : List Entry)
       → both ≡ joined r s → sum.pushed ≡ a.pushed ++ b.pushed → sum.popped ≡ a.popped ++ b.popped
-      → IsClosedAccount roads answers target r a back refused → IsClosedAccount roads answers target s b back' refused'
-      → IsClosedAccount roads answers target both sum (back ++ back') (refused ++ refused')
+      → IsClosedAccount problem r a back refused → IsClosedAccount problem s b back' refused'
+      → IsClosedAccount problem both sum (back ++ back') (refused ++ refused')
   closed_joined r s both a b sum back back' refused refused' e pushed popped h k = record {
     own = λ f. rw (ap (λ (x : SeatRecord). x.lowerings) e, pushed, map-append entry_of s.lowerings r.lowerings)
         (omega (

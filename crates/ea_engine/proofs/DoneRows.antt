@@ -1,32 +1,30 @@
 -- From the row before the workers run to the row in which they are done.
-use Rattle.std.proofs.Common.{◌≡◌, ℕ, zero, suc, ◌+◌, ◌<◌, ◌≤◌, List, [], ◌∷◌, ◌++◌, map, length, get_or, take, drop, length-drop, All, refl, sym, ◌∙◌, ap, arith, subst, length-append, Option}
+use Rattle.std.proofs.Common.{◌≡◌, ℕ, zero, suc, ◌+◌, ◌<◌, ◌≤◌, List, [], ◌∷◌, ◌++◌, map, length, get_or, take, drop, length-drop, All, refl, sym, ◌∙◌, ap, arith, subst, length-append}
 use Rattle.std.specs.Prelude.{sum_by}
 use Rattle.rand_core.specs.Stream.{Stream}
-use Rattle.ea_road.specs.declared.source.Source.{Source}
-use Rattle.ea_road.specs.Roads.{Roads}
-use Rattle.ea_labels.specs.declared.record.SeatRecord.{SeatRecord}
-use Rattle.ea_pool.specs.declared.account.Account.{Account}
+use Rattle.ea_engine.specs.Problems.{Problem}
 use Rattle.ea_engine.specs.declared.row.Place.{Place}
 use Rattle.ea_engine.specs.declared.row.Place.TheVariants as place
-use Rattle.ea_engine.specs.declared.seats.Seats.{Seats}
+use Rattle.ea_engine.specs.declared.means.Seats.{Seats}
+use Rattle.ea_engine.specs.Seated.{Tables, AreSeatsOf}
 use Rattle.ea_engine.specs.declared.turn.Flow.{Flow}
 use Rattle.ea_engine.specs.declared.turn.Turn.{Turn}
 use Rattle.ea_engine.specs.declared.work_loop.WorkerEnd.{WorkerEnd}
 use Rattle.ea_engine.specs.Ends.{AreFresh, IsEndPlace}
-use Rattle.ea_engine.specs.Reports.{IsReport, AreReports, IsSeatedRow}
+use Rattle.ea_engine.specs.Reports.{IsReport, AreReports}
 use Rattle.ea_engine.specs.Rowed.{all_done, IsFirstEnd, IsSeeded, AreSeated, IsDoneRow}
-use Rattle.ea_engine.specs.Rows.{IsReady, IsReadyRow, IsRun, IsRunRow}
+use Rattle.ea_engine.specs.Rows.{IsReady, IsReadyRow, IsRun, IsRunRow, IsSeatedRow}
 use Rattle.ea_pool.specs.declared.TheConstants.{SHARES}
 use Rattle.ea_engine.specs.Tallies.{busy_by_all, empty_by_all}
 use Rattle.ea_engine.specs.Turns.{popped_in_all}
-use Rattle.ea_engine.specs.Worked.{Kit, kit}
+use Rattle.ea_engine.specs.Worked.{Kit}
 use Rattle.ea_engine.proofs.AccountLemmas.{closed_worked}
 use Rattle.ea_engine.proofs.Multisets.{same_length}
 use Rattle.std.proofs.lemmas.List.{take_all}
 use Rattle.ea_engine.proofs.BoundLemmas.{IsReachedBy-more}
 use Rattle.ea_engine.proofs.RowedLemmas.{nothing_after}
 
-all_done-at : {S Q R T : Type 0} (ends : List (WorkerEnd S Q R T)) (k : ℕ) (d : Place S Q R T) (end : WorkerEnd S Q R T) → k < length ends → get_or (all_done ends) k d ≡ place.Done (get_or ends k end)
+all_done-at : {K R T : Type 0} (ends : List (WorkerEnd K R T)) (k : ℕ) (d : Place K R T) (end : WorkerEnd K R T) → k < length ends → get_or (all_done ends) k d ≡ place.Done (get_or ends k end)
 all_done-at [] k d end lt = absurd (omega (arith, lt))
 all_done-at (e ∷ ends) zero d end lt = refl
 all_done-at (e ∷ ends) (suc k) d end lt = all_done-at ends k d end (omega (arith, lt))
@@ -47,68 +45,66 @@ pub some_of : {X : Type 0} (xs : List X) → 0 < length xs → X
 some_of [] lt = absurd (omega (arith, lt))
 some_of (x ∷ xs) lt = x
 
-module _ {S Q R T : Type 0} (record_of : S → SeatRecord) (account_of : Q → Account) (fits_labels : S → Type 0) (fits_pool : Q → Type 0)
-    (roads : Roads) (answers : ℕ → ℕ → ℕ → ℕ → Type 0) (target : Option ℕ) (sources : List Source)
-    (shows : T → Turn → Flow → T → Type 0) (stream : R → Stream) (heaps budget : ℕ) where
-  abbrev Runs : Place S Q R T → Place S Q R T → Type 0
-  Runs = IsRun roads answers target shows record_of account_of stream fits_labels fits_pool heaps budget
+module _ {K R T : Type 0} (problem : Problem) (tables : Tables)
+    (stream : R → Stream) (shows : T → Turn → Flow → T → Type 0) (budget : ℕ) where
+  abbrev Runs : Place K R T → Place K R T → Type 0
+  Runs = IsRun problem tables stream shows budget
 
-  abbrev place_of : Seats S Q → R → T → Place S Q R T
-  place_of seats rng tracer = place.Ready (record { label_seat = seats.label_seat; pool_seat = seats.pool_seat; rng = rng; tracer = tracer })
+  abbrev place_of : Seats K → R → T → Place K R T
+  place_of seats rng tracer =
+      place.Ready (record { means = record { label_seat = seats.label_seat; pool_seat = seats.pool_seat; rng = rng }; tracer = tracer })
 
   -- a worker that began with fresh seats
-  end_of_fresh : (seats : Seats S Q) (rng : R) (tracer : T) (p : Place S Q R T) → AreFresh record_of account_of fits_labels fits_pool seats → Runs (place_of seats rng tracer) p
-      → IsEndPlace record_of account_of fits_labels fits_pool roads answers target p
+  end_of_fresh : (seats : Seats K) (rng : R) (tracer : T) (p : Place K R T) → AreFresh tables seats → Runs (place_of seats rng tracer) p
+      → IsEndPlace problem tables p
   end_of_fresh seats rng tracer (place.Ready r) fresh run = absurd run
   end_of_fresh seats rng tracer place.Running fresh run = absurd run
   end_of_fresh seats rng tracer (place.Done end) fresh run =
-      let w = run.2 in
-      let start : Kit = kit (record_of seats.label_seat) (account_of seats.pool_seat) (stream rng) in
+      let w = run.1 in
+      let start : Kit = record { labels = seats.label_seat.history; account = seats.pool_seat.account; words = stream rng } in
       record {
-        label_fits = run.0;
-        pool_fits = run.1;
-        closed = closed_worked roads answers target shows heaps start _ budget tracer end.tracer end.counters end.hand [] [] w
+        fit = run.0;
+        closed = closed_worked problem shows tables.pool.heaps start _ budget tracer end.tracer end.counters end.hand [] [] w
             (record { own = λ f. rw (fresh.lowerings, fresh.pushed) refl; closed = λ e inside. absurd (omega (arith, (rw fresh.popped at inside).1)) });
         inside = w.hand_inside;
-        pushed_is = omega (arith, ap length w.progress.pushed_are, length-append w.progress.pushed (account_of seats.pool_seat).pushed, ap length fresh.pushed, w.pushed_is);
+        pushed_is = omega (arith, ap length w.progress.pushed_are, length-append w.progress.pushed seats.pool_seat.account.pushed, ap length fresh.pushed, w.pushed_is);
         pushed_few = w.pushed_few;
-        popped_is = omega (arith, ap length w.progress.popped_are, length-append (popped_in_all w.turns) (account_of seats.pool_seat).popped, ap length fresh.popped, w.popped_is);
+        popped_is = omega (arith, ap length w.progress.popped_are, length-append (popped_in_all w.turns) seats.pool_seat.account.popped, ap length fresh.popped, w.popped_is);
         returned_is = w.returned_is;
         label_share = w.progress.label_shares ∙ fresh.label_share;
         pool_share = w.progress.pool_shares ∙ fresh.pool_share;
       }
 
-  pub record First (seats : Seats S Q) (seeded : ℕ) (waiting : List ℕ) (p : Place S Q R T) : Type 0 where
-    pub end : WorkerEnd S Q R T
+  pub record First (seats : Seats K) (seeded : ℕ) (waiting : List ℕ) (p : Place K R T) : Type 0 where
+    pub end : WorkerEnd K R T
     pub is : p ≡ place.Done end
-    pub first : IsFirstEnd record_of account_of fits_labels fits_pool roads answers target sources seeded waiting end
-    pub label_shares : (record_of end.label_seat).shares ≡ (record_of seats.label_seat).shares
-    pub pool_shares : (account_of end.pool_seat).shares ≡ (account_of seats.pool_seat).shares
+    pub first : IsFirstEnd problem tables seeded waiting end
+    pub label_shares : end.label_seat.history.shares ≡ seats.label_seat.history.shares
+    pub pool_shares : end.pool_seat.account.shares ≡ seats.pool_seat.account.shares
 
-  end_of_first : (seats : Seats S Q) (rng : R) (tracer : T) (seeded : ℕ) (waiting : List ℕ) (p : Place S Q R T) → IsSeeded record_of account_of fits_labels fits_pool roads answers target sources seeded waiting seats → Runs (place_of seats rng tracer) p → First seats seeded waiting p
+  end_of_first : (seats : Seats K) (rng : R) (tracer : T) (seeded : ℕ) (waiting : List ℕ) (p : Place K R T) → IsSeeded problem tables seeded waiting seats → Runs (place_of seats rng tracer) p → First seats seeded waiting p
   end_of_first seats rng tracer seeded waiting (place.Ready r) began run = absurd run
   end_of_first seats rng tracer seeded waiting place.Running began run = absurd run
   end_of_first seats rng tracer seeded waiting (place.Done end) began run =
-      let w = run.2 in
+      let w = run.1 in
       let h = began.gathered in
-      let start : Kit = kit (record_of seats.label_seat) (account_of seats.pool_seat) (stream rng) in
+      let start : Kit = record { labels = seats.label_seat.history; account = seats.pool_seat.account; words = stream rng } in
       record {
         end = end;
         is = refl;
         first = record {
-          label_fits = run.0;
-          pool_fits = run.1;
+          fit = run.0;
           handed = record {
             back = h.back;
             refused = h.refused;
-            closed = closed_worked roads answers target shows heaps start _ budget tracer end.tracer end.counters end.hand h.back h.refused w h.closed;
+            closed = closed_worked problem shows tables.pool.heaps start _ budget tracer end.tracer end.counters end.hand h.back h.refused w h.closed;
             waits = h.waits;
           };
           inside = w.hand_inside;
-          offered = λ source among. IsReachedBy-more (record_of seats.label_seat).bounds (record_of end.label_seat).bounds w.progress.bounds_stay source.node source.departure (began.offered source among);
-          pushed_is = omega (arith, ap length w.progress.pushed_are, length-append w.progress.pushed (account_of seats.pool_seat).pushed, began.pushed, w.pushed_is);
+          offered = λ source among. IsReachedBy-more seats.label_seat.history.bounds end.label_seat.history.bounds w.progress.bounds_stay source.node source.departure (began.offered source among);
+          pushed_is = omega (arith, ap length w.progress.pushed_are, length-append w.progress.pushed seats.pool_seat.account.pushed, began.pushed, w.pushed_is);
           pushed_few = omega (arith, w.pushed_few);
-          popped_is = omega (arith, ap length w.progress.popped_are, length-append (popped_in_all w.turns) (account_of seats.pool_seat).popped, ap length began.popped, w.popped_is);
+          popped_is = omega (arith, ap length w.progress.popped_are, length-append (popped_in_all w.turns) seats.pool_seat.account.popped, ap length began.popped, w.popped_is);
           returned_is = w.returned_is;
         };
         label_shares = w.progress.label_shares;
@@ -116,26 +112,26 @@ module _ {S Q R T : Type 0} (record_of : S → SeatRecord) (account_of : Q → A
       }
 
   -- the whole row
-  module _ (main : Seats S Q) (fresh : List (Seats S Q)) (rngs : List R) (tracers : List T) (row row' : List (Place S Q R T)) (rng : R) (tracer : T)
-      (seated : IsSeatedRow (main ∷ fresh) rngs tracers row) (ran : IsRunRow roads answers target shows record_of account_of stream fits_labels fits_pool heaps budget row row')
+  module _ (main : Seats K) (fresh : List (Seats K)) (rngs : List R) (tracers : List T) (row row' : List (Place K R T)) (rng : R) (tracer : T)
+      (seated : IsSeatedRow (main ∷ fresh) rngs tracers row) (ran : IsRunRow problem tables stream shows budget row row')
       (length_is : length row ≡ suc (length fresh)) (length'_is : length row' ≡ length row)
-      (all_fresh : All (AreFresh record_of account_of fits_labels fits_pool) fresh) where
-    runs_at : (k : ℕ) (d : Place S Q R T) → k < length row → Runs (place_of (get_or (main ∷ fresh) k main) (get_or rngs k rng) (get_or tracers k tracer)) (get_or row' k d)
+      (all_fresh : All (AreFresh tables) fresh) where
+    runs_at : (k : ℕ) (d : Place K R T) → k < length row → Runs (place_of (get_or (main ∷ fresh) k main) (get_or rngs k rng) (get_or tracers k tracer)) (get_or row' k d)
     runs_at k d lt = subst (λ p. Runs p (get_or row' k d)) (seated k main rng tracer d lt) (ran k d lt)
 
-    others_done : (p' : Place S Q R T) (others : List (Place S Q R T)) → row' ≡ p' ∷ others → All (IsEndPlace record_of account_of fits_labels fits_pool roads answers target) others
+    others_done : (p' : Place K R T) (others : List (Place K R T)) → row' ≡ p' ∷ others → All (IsEndPlace problem tables) others
     others_done p' others e k d lt =
         let inside : suc k < length row = omega (arith, ap length e, lt) in
         let at : get_or row' (suc k) d ≡ get_or others k d = ap (λ ps. get_or ps (suc k) d) e in
-        subst (λ p. IsEndPlace record_of account_of fits_labels fits_pool roads answers target p) at
+        subst (λ p. IsEndPlace problem tables p) at
         (end_of_fresh (get_or fresh k main) (get_or rngs (suc k) rng) (get_or tracers (suc k) tracer) (get_or row' (suc k) d) (all_fresh k main (omega arith)) (runs_at (suc k) d inside))
 
-    pub done_row : (seeded : ℕ) (waiting : List ℕ) → IsSeeded record_of account_of fits_labels fits_pool roads answers target sources seeded waiting main
-        → (record_of main.label_seat).shares + length fresh ≡ 64 → (account_of main.pool_seat).shares + length fresh ≡ 64
-        → IsDoneRow record_of account_of fits_labels fits_pool roads answers target sources seeded waiting row'
+    pub done_row : (seeded : ℕ) (waiting : List ℕ) → IsSeeded problem tables seeded waiting main
+        → main.label_seat.history.shares + length fresh ≡ 64 → main.pool_seat.account.shares + length fresh ≡ 64
+        → IsDoneRow problem tables seeded waiting row'
     done_row seeded waiting began label_shares pool_shares = go row' refl
       where
-        go : (ps : List (Place S Q R T)) → row' ≡ ps → IsDoneRow record_of account_of fits_labels fits_pool roads answers target sources seeded waiting row'
+        go : (ps : List (Place K R T)) → row' ≡ ps → IsDoneRow problem tables seeded waiting row'
         go [] e = absurd (omega (arith, ap length e))
         go (p ∷ others) e =
             let here : Runs (place_of main (get_or rngs 0 rng) (get_or tracers 0 tracer)) p = subst (λ ps. Runs (place_of main (get_or rngs 0 rng) (get_or tracers 0 tracer)) (get_or ps 0 p)) e (runs_at 0 p (omega arith)) in
@@ -150,65 +146,64 @@ module _ {S Q R T : Type 0} (record_of : S → SeatRecord) (account_of : Q → A
               pool_shares = omega (arith, first.pool_shares, pool_shares, ap length e);
             }
 
-  pub seated_done : (rngs : List R) (tracers : List T) (row row' : List (Place S Q R T)) (rng : R) (tracer : T) (seeded : ℕ) (waiting : List ℕ)
-      → AreSeated record_of account_of fits_labels fits_pool roads answers target sources seeded waiting rngs tracers row
-      → IsRunRow roads answers target shows record_of account_of stream fits_labels fits_pool heaps budget row row' → length row' ≡ length row
-      → IsDoneRow record_of account_of fits_labels fits_pool roads answers target sources seeded waiting row'
+  pub seated_done : (rngs : List R) (tracers : List T) (row row' : List (Place K R T)) (rng : R) (tracer : T) (seeded : ℕ) (waiting : List ℕ)
+      → AreSeated problem tables seeded waiting rngs tracers row
+      → IsRunRow problem tables stream shows budget row row' → length row' ≡ length row
+      → IsDoneRow problem tables seeded waiting row'
   seated_done rngs tracers row row' rng tracer seeded waiting a ran same =
       done_row a.main a.fresh rngs tracers row row' rng tracer a.seated ran (omega (arith, a.length_is)) same a.all_fresh seeded waiting a.seeds a.label_shares a.pool_shares
 
   -- so the workers may start
-  pub ready_row : (callable : T → Type 0) (rngs : List R) (tracers : List T) (row : List (Place S Q R T)) (rng : R) (tracer : T) (seeded : ℕ) (waiting : List ℕ)
-      → AreSeated record_of account_of fits_labels fits_pool roads answers target sources seeded waiting rngs tracers row → All callable tracers → length row ≤ length tracers
-      → IsReadyRow fits_labels fits_pool callable row
+  pub ready_row : (callable : T → Type 0) (rngs : List R) (tracers : List T) (row : List (Place K R T)) (rng : R) (tracer : T) (seeded : ℕ) (waiting : List ℕ)
+      → AreSeated problem tables seeded waiting rngs tracers row → All callable tracers → length row ≤ length tracers
+      → IsReadyRow tables callable row
   ready_row callable rngs tracers row rng tracer seeded waiting a may few k d lt =
       let seats = get_or (a.main ∷ a.fresh) k a.main in
-      subst (λ p. IsReady fits_labels fits_pool callable p) (sym (a.seated k a.main rng tracer d lt)) (
-        (fits k (omega (arith, lt, a.length_is))).0,
-        (fits k (omega (arith, lt, a.length_is))).1,
+      subst (λ p. IsReady tables callable p) (sym (a.seated k a.main rng tracer d lt)) (
+        fits k (omega (arith, lt, a.length_is)),
         may k tracer (omega (arith, lt, few)),
       )
     where
-      fits : (j : ℕ) → j < suc (length a.fresh) → fits_labels (get_or (a.main ∷ a.fresh) j a.main).label_seat × fits_pool (get_or (a.main ∷ a.fresh) j a.main).pool_seat
-      fits zero lower = (a.seeds.label_fits, a.seeds.pool_fits)
-      fits (suc j) lower = let h = a.all_fresh j a.main (omega (arith, lower)) in (h.label_fits, h.pool_fits)
+      fits : (j : ℕ) → j < suc (length a.fresh) → AreSeatsOf tables (get_or (a.main ∷ a.fresh) j a.main).label_seat (get_or (a.main ∷ a.fresh) j a.main).pool_seat
+      fits zero lower = a.seeds.fit
+      fits (suc j) lower = (a.all_fresh j a.main (omega (arith, lower))).fit
 
   -- what each worker reports
-  report_of : (p : Place S Q R T) (end : WorkerEnd S Q R T) (r : R) (t : T) (seats : Seats S Q) → p ≡ place.Done end → Runs (place_of seats r t) p
+  report_of : (p : Place K R T) (end : WorkerEnd K R T) (r : R) (t : T) (seats : Seats K) → p ≡ place.Done end → Runs (place_of seats r t) p
       → IsReport shows budget (stream r) (stream end.rng) t end.tracer end.counters
   report_of p end r t seats done run =
-      let w = (subst (λ q. Runs (place_of seats r t) q) done run).2 in
+      let w = (subst (λ q. Runs (place_of seats r t) q) done run).1 in
       record { turns = w.turns; lawful = w.lawful; shown = w.shown; counted = w.counted; words_are = w.progress.words_are }
 
-  pub reports_of_row : (rngs : List R) (tracers : List T) (row row' : List (Place S Q R T)) (ends : List (WorkerEnd S Q R T)) (seeded : ℕ) (waiting : List ℕ) (end : WorkerEnd S Q R T)
-      → AreSeated record_of account_of fits_labels fits_pool roads answers target sources seeded waiting rngs tracers row
-      → IsRunRow roads answers target shows record_of account_of stream fits_labels fits_pool heaps budget row row' → length row ≡ length rngs → length ends ≡ length rngs
+  pub reports_of_row : (rngs : List R) (tracers : List T) (row row' : List (Place K R T)) (ends : List (WorkerEnd K R T)) (seeded : ℕ) (waiting : List ℕ) (end : WorkerEnd K R T)
+      → AreSeated problem tables seeded waiting rngs tracers row
+      → IsRunRow problem tables stream shows budget row row' → length row ≡ length rngs → length ends ≡ length rngs
       → row' ≡ all_done ends
       → AreReports stream shows budget rngs (map (λ e. e.rng) ends) tracers (map (λ e. e.tracer) ends) (map (λ e. e.counters) ends)
   reports_of_row rngs tracers row row' ends seeded waiting end a ran len count done k c r t lt =
       let inside : k < length row = omega (arith, lt, len) in
       let among : k < length ends = omega (arith, lt, count) in
-      let d : Place S Q R T = place.Running in
+      let d : Place K R T = place.Running in
       let run = subst (λ p. Runs p (get_or row' k d)) (a.seated k a.main r t d inside) (ran k d inside) in
       let at : get_or row' k d ≡ place.Done (get_or ends k end) = ap (λ ps. get_or ps k d) done ∙ all_done-at ends k d end among in
-      rw (get_or-map (λ (e : WorkerEnd S Q R T). e.rng) ends k end r among, get_or-map (λ (e : WorkerEnd S Q R T). e.tracer) ends k end t among, get_or-map (λ (e : WorkerEnd S Q R T). e.counters) ends k end c among)
+      rw (get_or-map (λ (e : WorkerEnd K R T). e.rng) ends k end r among, get_or-map (λ (e : WorkerEnd K R T). e.tracer) ends k end t among, get_or-map (λ (e : WorkerEnd K R T). e.counters) ends k end c among)
       (report_of (get_or row' k d) (get_or ends k end) (get_or rngs k r) (get_or tracers k t) (get_or (a.main ∷ a.fresh) k a.main) at run)
 
   -- what a worker tells that runs alone
-  pub lone_of_row : (rngs : List R) (tracers : List T) (row row' : List (Place S Q R T)) (ends : List (WorkerEnd S Q R T)) (rng : R) (tracer : T) (seeded : ℕ) (waiting : List ℕ)
-      → AreSeated record_of account_of fits_labels fits_pool roads answers target sources seeded waiting rngs tracers row
-      → IsRunRow roads answers target shows record_of account_of stream fits_labels fits_pool heaps budget row row' → length row ≡ 1 → row' ≡ all_done ends → length ends ≡ 1
-      → (busy_by_all (map (λ end. end.counters) ends) ≡ 0) × (heaps ≡ 2 → 0 < empty_by_all (map (λ end. end.counters) ends) → seeded + sum_by (λ end. end.counters.pushed) ends ≡ sum_by (λ end. end.counters.popped) ends)
+  pub lone_of_row : (rngs : List R) (tracers : List T) (row row' : List (Place K R T)) (ends : List (WorkerEnd K R T)) (rng : R) (tracer : T) (seeded : ℕ) (waiting : List ℕ)
+      → AreSeated problem tables seeded waiting rngs tracers row
+      → IsRunRow problem tables stream shows budget row row' → length row ≡ 1 → row' ≡ all_done ends → length ends ≡ 1
+      → (busy_by_all (map (λ end. end.counters) ends) ≡ 0) × (tables.pool.heaps ≡ 2 → 0 < empty_by_all (map (λ end. end.counters) ends) → seeded + sum_by (λ end. end.counters.pushed) ends ≡ sum_by (λ end. end.counters.popped) ends)
   lone_of_row rngs tracers row row' [] rng tracer seeded waiting a ran len done one = absurd (omega (arith, one))
   lone_of_row rngs tracers row row' (end ∷ other ∷ ends) rng tracer seeded waiting a ran len done one = absurd (omega (arith, one))
   lone_of_row rngs tracers row row' (end ∷ []) rng tracer seeded waiting a ran len done one =
-      let d : Place S Q R T = place.Running in
+      let d : Place K R T = place.Running in
       let inside : 0 < length row = omega (arith, len) in
       let run = subst (λ p. Runs p (get_or row' 0 d)) (a.seated 0 a.main rng tracer d inside) (ran 0 d inside) in
-      let w = (subst (λ q. Runs (place_of a.main (get_or rngs 0 rng) (get_or tracers 0 tracer)) q) (ap (λ ps. get_or ps 0 d) done) run).2 in
-      let whole : (account_of a.main.pool_seat).shares ≡ SHARES = omega (arith, a.pool_shares, a.length_is, len) in
-      let account = account_of a.main.pool_seat in
-      let end_account = account_of end.pool_seat in (
+      let w = (subst (λ q. Runs (place_of a.main (get_or rngs 0 rng) (get_or tracers 0 tracer)) q) (ap (λ ps. get_or ps 0 d) done) run).1 in
+      let whole : a.main.pool_seat.account.shares ≡ SHARES = omega (arith, a.pool_shares, a.length_is, len) in
+      let account = a.main.pool_seat.account in
+      let end_account = end.pool_seat.account in (
         omega (arith, w.never_busy whole),
         λ two some. omega (
           arith,

@@ -1,13 +1,13 @@
 -- One more worker's seats are joined, and the nodes of its hand wait.
-use Rattle.std.proofs.Common.{◌≡◌, ℕ, List, ◌++◌, inl, inr, Option}
+use Rattle.std.proofs.Common.{◌≡◌, ℕ, List, ◌++◌, inl, inr}
 use Rattle.std.specs.Prelude.{Contains, IfSome}
 use Rattle.std.specs.Option.{option_to_list}
 use Rattle.std.proofs.lemmas.List.Elements.{Contains-append_cases, Contains-append_left, Contains-append_right}
-use Rattle.ea_road.specs.Roads.{Roads}
 use Rattle.ea_labels.specs.declared.record.SeatRecord.{SeatRecord}
 use Rattle.ea_labels.specs.Core.{joined}
 use Rattle.ea_pool.specs.declared.account.Account.{Account}
 use Rattle.ea_pool.specs.declared.entry.Entry.{Entry}
+use Rattle.ea_engine.specs.Problems.{Problem}
 use Rattle.ea_engine.specs.declared.turn.Hand.{Hand}
 use Rattle.ea_engine.specs.Closed.{IsClosedAccount}
 use Rattle.ea_engine.specs.Gathered.{IsGathered}
@@ -34,17 +34,17 @@ waits_hand back refused hand before after waits kept popped held entry inside =
       ]
     ]
 
-module _ (roads : Roads) (answers : ℕ → ℕ → ℕ → ℕ → Type 0) (target : Option ℕ) where
+module _ (problem : Problem) where
   pub gathered_joined : (r s both : SeatRecord) (a b sum : Account) (hand : Hand) (before after : List ℕ)
       → both ≡ joined r s → sum.pushed ≡ a.pushed ++ b.pushed → sum.popped ≡ a.popped ++ b.popped
-      → IsGathered roads answers target r a before
-      → IsClosedAccount roads answers target s b (option_to_list hand.popped) (option_to_list hand.refused)
+      → IsGathered problem r a before
+      → IsClosedAccount problem s b (option_to_list hand.popped) (option_to_list hand.refused)
       → ((node : ℕ) → Contains before node → Contains after node)
       → IfSome hand.popped (λ e. Contains after e.node) → IfSome hand.refused (λ e. Contains after e.node)
-      → IsGathered roads answers target both sum after
+      → IsGathered problem both sum after
   gathered_joined r s both a b sum hand before after e pushed popped h k kept on off = record {
     back = h.back ++ option_to_list hand.popped;
     refused = h.refused ++ option_to_list hand.refused;
-    closed = closed_joined roads answers target r s both a b sum h.back (option_to_list hand.popped) h.refused (option_to_list hand.refused) e pushed popped h.closed k;
+    closed = closed_joined problem r s both a b sum h.back (option_to_list hand.popped) h.refused (option_to_list hand.refused) e pushed popped h.closed k;
     waits = waits_hand h.back h.refused hand before after h.waits kept on off;
   }

@@ -3,8 +3,7 @@ use Rattle.std.proofs.Common.{◌≡◌, ◌≢◌, ℕ, zero, suc, ◌<◌, ◌
 use Rattle.std.specs.Prelude.{Contains, Any}
 use Rattle.std.proofs.lemmas.List.Elements.{Contains-append_cases, Contains-append_left, Contains-append_right}
 use Rattle.ea_road.specs.declared.TheConstants.{NONE}
-use Rattle.ea_road.specs.declared.source.Source.{Source}
-use Rattle.ea_road.specs.Roads.{Roads, IsNode}
+use Rattle.ea_road.specs.Roads.{IsNode}
 use Rattle.ea_road.specs.Arrivals.{Reaches}
 use Rattle.ea_road.specs.Labels.{label_of, limit, Satisfies}
 use Rattle.ea_finish.specs.Underway.{IsUnderway}
@@ -12,6 +11,7 @@ use Rattle.ea_labels.specs.declared.record.Bound.{Bound}
 use Rattle.ea_labels.specs.declared.record.SeatRecord.{SeatRecord}
 use Rattle.ea_pool.specs.declared.entry.Entry.{Entry}
 use Rattle.ea_pool.specs.declared.account.Account.{Account}
+use Rattle.ea_engine.specs.Problems.{Problem}
 use Rattle.ea_engine.specs.Closed.{entry_at, entry_of, IsReachedBy, IsReachedBefore, IsCut}
 use Rattle.ea_engine.specs.Opened.{IsOver, AreOffered}
 use Rattle.ea_labels.proofs.Lawful.{words_lowered, words_least, word_known}
@@ -22,11 +22,11 @@ Contains-map f [] i x lt e = absurd (omega (arith, lt))
 Contains-map f (y ∷ xs) zero x lt e = (0, omega arith, ap f e)
 Contains-map f (y ∷ xs) (suc i) x lt e = Contains-later (f y) (f x) (map f xs) (Contains-map f xs i x (omega (arith, lt)) e)
 
-module _ (known : ℕ → ℕ → Type 0) (roads : Roads) (answers : ℕ → ℕ → ℕ → ℕ → Type 0) (target : Option ℕ)
+module _ (known : ℕ → ℕ → Type 0) (problem : Problem)
     (table : List ℕ) (history : SeatRecord) (account : Account) (left back refused : List Entry)
-    (over : IsOver known roads answers target table history account left back refused) where
+    (over : IsOver known problem table history account left back refused) where
   bounded : (i : ℕ) (bound : Bound) → i < length history.bounds → get_or history.bounds i bound ≡ bound → label_of table bound.node ≤ bound.time
-  bounded i bound lt at = subst (λ (b : Bound). label_of table b.node ≤ b.time) at (words_least known roads.nodes table history over.labels i bound lt)
+  bounded i bound lt at = subst (λ (b : Bound). label_of table b.node ≤ b.time) at (words_least known problem.network.nodes table history over.labels i bound lt)
 
   -- the label of a node is at most what a bound says
   at_most : (node time : ℕ) → IsReachedBy history.bounds node time → label_of table node ≤ time
@@ -40,9 +40,9 @@ module _ (known : ℕ → ℕ → Type 0) (roads : Roads) (answers : ℕ → ℕ
   cut (Some t) entry reached = below t entry.key reached
 
   Left : ℕ → Type 0
-  Left node = Satisfies roads answers (label_of table) node (label_of table node)
+  Left node = Satisfies problem.network problem.answers (label_of table) node (label_of table node)
       ⊎ Contains (left ++ back ++ refused) (entry_at (label_of table node) node)
-      ⊎ (limit target (label_of table) < label_of table node)
+      ⊎ (limit problem.query.target (label_of table) < label_of table node)
 
   -- the entry of a label was popped
   popped : (node : ℕ) → Contains account.popped (entry_at (label_of table node) node) → Left node
@@ -51,7 +51,7 @@ module _ (known : ℕ → ℕ → Type 0) (roads : Roads) (answers : ℕ → ℕ
     | inl handed ↦ inr (inl (Contains-append_left (left ++ back) refused _ (Contains-append_right left back _ handed)))
     | inr (inl stale) ↦ absurd (omega (arith, below node (label_of table node) stale))
     | inr (inr (inl scanned)) ↦ inl (λ number arc arrival is_arc tail answer within. at_most arc.head arrival (scanned number arc is_arc tail arrival answer within))
-    | inr (inr (inr reached)) ↦ inr (inr (cut target (entry_at (label_of table node) node) reached))
+    | inr (inr (inr reached)) ↦ inr (inr (cut problem.query.target (entry_at (label_of table node) node) reached))
   ]
 
   pushed : (node : ℕ) → Contains account.pushed (entry_at (label_of table node) node) → Left node
@@ -72,24 +72,24 @@ module _ (known : ℕ → ℕ → Type 0) (roads : Roads) (answers : ℕ → ℕ
         | inr handed ↦ inr (inl (Contains-append_right (left ++ back) refused entry handed))
       ]
 
-  pub nothing_is_lost : (node : ℕ) → IsNode roads.nodes node → label_of table node ≢ NONE
-      → Satisfies roads answers (label_of table) node (label_of table node)
+  pub nothing_is_lost : (node : ℕ) → IsNode problem.network.nodes node → label_of table node ≢ NONE
+      → Satisfies problem.network problem.answers (label_of table) node (label_of table node)
       ⊎ Contains (left ++ back ++ refused) (entry_at (label_of table node) node)
-      ⊎ (limit target (label_of table) < label_of table node)
+      ⊎ (limit problem.query.target (label_of table) < label_of table node)
   unfolding Left
-  nothing_is_lost node is some = elim (words_lowered known roads.nodes table history over.labels node (is.from_one, is.to_last)) [
+  nothing_is_lost node is some = elim (words_lowered known problem.network.nodes table history over.labels node (is.from_one, is.to_last)) [
     | inl none ↦ absurd (some none)
     | inr low ↦ lowered node low
   ]
 
-  module _ (sources : List Source) (names : (node time : ℕ) → known node time → Reaches roads answers sources node time)
-      (offered : AreOffered sources history) (waiting : List ℕ) (waits : (entry : Entry) → Contains (left ++ back ++ refused) entry → Contains waiting entry.node) where
-    pub may_finish : IsUnderway roads answers (record { sources = sources; target = target }) table waiting
+  module _ (names : (node time : ℕ) → known node time → Reaches problem.network problem.answers problem.query.sources node time)
+      (offered : AreOffered problem.query.sources history) (waiting : List ℕ) (waits : (entry : Entry) → Contains (left ++ back ++ refused) entry → Contains waiting entry.node) where
+    pub may_finish : IsUnderway problem.network problem.answers problem.query table waiting
     may_finish = record {
       places = over.labels.one_word_per_node;
       labels = record {
         at_sources = λ source among. at_most source.node source.departure (offered source among);
-        reached = λ node is some. elim (word_known known roads.nodes table (history ∷ []) node over.labels (is.from_one, is.to_last)) [
+        reached = λ node is some. elim (word_known known problem.network.nodes table (history ∷ []) node over.labels (is.from_one, is.to_last)) [
           | inl none ↦ absurd (some none)
           | inr knows ↦ names node (label_of table node) knows
         ];

@@ -1,11 +1,11 @@
 -- Turns that found nothing, and turns after a pop.
-use Rattle.std.proofs.Common.{◌≡◌, ℕ, ◌≤◌, ◌^◌, zero-add, true, List, [], ◌∷◌, ◌++◌, length, refl, sym, ◌∙◌, ap, subst, arith, Option, None}
+use Rattle.std.proofs.Common.{◌≡◌, ℕ, ◌≤◌, ◌^◌, zero-add, true, List, [], ◌∷◌, ◌++◌, length, refl, sym, ◌∙◌, ap, subst, arith, None}
 use Rattle.std.specs.Prelude.{Contains}
 use Rattle.std.specs.Option.{option_to_list}
 use Rattle.std.proofs.lemmas.Bool.{false≢true}
 use Rattle.rand_core.specs.Stream.{Stream, next_u64}
-use Rattle.ea_road.specs.Roads.{Roads}
 use Rattle.ea_pool.specs.declared.entry.Entry.{Entry}
+use Rattle.ea_engine.specs.Problems.{Problem}
 use Rattle.ea_engine.specs.declared.turn.Turn.{Turn}
 use Rattle.ea_engine.specs.declared.turn.Hand.{Hand}
 use Rattle.ea_engine.specs.declared.turn.TurnKind.{TurnKind}
@@ -72,8 +72,8 @@ IsLoneAs-popped Scanned heaps key node a e is left = subst (λ x. heaps ≡ 2 �
 IsLoneAs-popped Refused heaps key node a e is left = subst (λ x. heaps ≡ 2 → IsLeastLeft x a) (sym (head_is (entry_at key node) e is)) left
 IsLoneAs-popped Cut heaps key node a e is left = subst (λ x. heaps ≡ 2 → IsLeastLeft x a) (sym (head_is (entry_at key node) e is)) left
 
-module _ (roads : Roads) (answers : ℕ → ℕ → ℕ → ℕ → Type 0) (target : Option ℕ) (heaps : ℕ) where
-  IsClosedAs-idle : (bs : List Bound) (hand : List Entry) (k : TurnKind) (e : Entry) → is_idle k ≡ true → IsClosedAs roads answers target bs hand k e
+module _ (problem : Problem) (heaps : ℕ) where
+  IsClosedAs-idle : (bs : List Bound) (hand : List Entry) (k : TurnKind) (e : Entry) → is_idle k ≡ true → IsClosedAs problem bs hand k e
   IsClosedAs-idle bs hand Empty e i = tt
   IsClosedAs-idle bs hand Busy e i = tt
   IsClosedAs-idle bs hand Stale e i = absurd (false≢true i)
@@ -81,7 +81,7 @@ module _ (roads : Roads) (answers : ℕ → ℕ → ℕ → ℕ → Type 0) (tar
   IsClosedAs-idle bs hand Refused e i = absurd (false≢true i)
   IsClosedAs-idle bs hand Cut e i = absurd (false≢true i)
 
-  IsFreshAs-idle : (bs : List Bound) (k : TurnKind) (e : Entry) → is_idle k ≡ true → IsFreshAs target bs k e
+  IsFreshAs-idle : (bs : List Bound) (k : TurnKind) (e : Entry) → is_idle k ≡ true → IsFreshAs problem.query.target bs k e
   IsFreshAs-idle bs Empty e i = tt
   IsFreshAs-idle bs Busy e i = tt
   IsFreshAs-idle bs Stale e i = tt
@@ -93,7 +93,7 @@ module _ (roads : Roads) (answers : ℕ → ℕ → ℕ → ℕ → Type 0) (tar
       → SameBooks a b → u ≡ after_words 2 w
       → t.number ≡ n → is_idle t.kind ≡ true → IsShaped t → t.lowered ≡ 0 → h.popped ≡ None → h.refused ≡ None
       → (a.shares ≡ SHARES → IsLoneAs heaps a t.kind (entry_at t.key t.node))
-      → IsTurn roads answers target heaps (kit r a w) (kit r b u) n t h
+      → IsTurn problem heaps (kit r a w) (kit r b u) n t h
   IsTurn-idle r a b w u n t h e d number idle shaped lowered hand refused lone = record {
     number_is = number;
     shaped = shaped;
@@ -110,11 +110,11 @@ module _ (roads : Roads) (answers : ℕ → ℕ → ℕ → ℕ → Type 0) (tar
 
   pub IsTurn-popped : (r s : SeatRecord) (a b c : Account) (w u z : Stream) (n : ℕ) (t : Turn) (h : Hand) (e : Entry)
       → Pops a e b → u ≡ after_words 2 w
-      → t.number ≡ n → popped_in t ≡ e ∷ [] → IsShaped t → t.lowered ≤ 2 ^ 28 → IsHandOf t.kind h → IsInside roads h → ((x : Entry) → Contains (option_to_list h.popped) x → Contains (popped_in t) x)
+      → t.number ≡ n → popped_in t ≡ e ∷ [] → IsShaped t → t.lowered ≤ 2 ^ 28 → IsHandOf t.kind h → IsInside problem.network h → ((x : Entry) → Contains (option_to_list h.popped) x → Contains (popped_in t) x)
       → Progress (kit r b u) (kit s c z) [] t.lowered t.lowered (option_to_list h.refused)
-      → IsClosedTurn roads answers target s.bounds (option_to_list h.popped) t → IsFreshTurn target r.bounds t
+      → IsClosedTurn problem s.bounds (option_to_list h.popped) t → IsFreshTurn problem.query.target r.bounds t
       → (a.shares ≡ SHARES → heaps ≡ 2 → IsLeastLeft e a)
-      → IsTurn roads answers target heaps (kit r a w) (kit s c z) n t h
+      → IsTurn problem heaps (kit r a w) (kit s c z) n t h
   IsTurn-popped r s a b c w u z n t h e is_b d number popped shaped few hand inside from progress closed fresh left = record {
     number_is = number;
     shaped = shaped;

@@ -10,8 +10,8 @@ use Rattle.std.proofs.lemmas.Bool.{false≢true}
 use Rattle.std.proofs.lemmas.List.Elements.{Contains-append_left}
 use Rattle.std.proofs.lemmas.Fn.{FoldsTo-push}
 use Rattle.std.specs.Prelude.{if◌then◌else◌}
-use Rattle.ea_road.specs.Roads.{Roads}
 use Rattle.ea_pool.specs.declared.entry.Entry.{Entry}
+use Rattle.ea_engine.specs.Problems.{Problem}
 use Rattle.ea_engine.specs.declared.turn.Turn.{Turn}
 use Rattle.ea_engine.specs.declared.turn.Hand.{Hand}
 use Rattle.ea_engine.specs.declared.turn.Flow.{Flow}
@@ -107,25 +107,25 @@ empty_again Scanned heaps key node a two lone nothing = absurd (none_left a _ no
 empty_again Refused heaps key node a two lone nothing = absurd (none_left a _ nothing (lone two).0)
 empty_again Cut heaps key node a two lone nothing = absurd (none_left a _ nothing (lone two).0)
 
-module _ (roads : Roads) (answers : ℕ → ℕ → ℕ → ℕ → Type 0) (target : Option ℕ) where
+module _ (problem : Problem) where
   pub IsClosedAs-more : (bs cs : List Bound) (hand hand' : List Entry) (k : TurnKind) (e : Entry) → ((b : Bound) → Contains bs b → Contains cs b) → ((x : Entry) → Contains hand x → Contains hand' x)
-      → IsClosedAs roads answers target bs hand k e → IsClosedAs roads answers target cs hand' k e
+      → IsClosedAs problem bs hand k e → IsClosedAs problem cs hand' k e
   IsClosedAs-more bs cs hand hand' Empty e stays held h = tt
-  IsClosedAs-more bs cs hand hand' Cut e stays held h = IsCut-more bs cs stays target e h
+  IsClosedAs-more bs cs hand hand' Cut e stays held h = IsCut-more bs cs stays problem.query.target e h
   IsClosedAs-more bs cs hand hand' Busy e stays held h = tt
   IsClosedAs-more bs cs hand hand' Stale e stays held h = IsStale-more bs cs stays e h
-  IsClosedAs-more bs cs hand hand' Scanned e stays held h = IsScanned-more bs cs stays roads answers e h
+  IsClosedAs-more bs cs hand hand' Scanned e stays held h = IsScanned-more bs cs stays problem e h
   IsClosedAs-more bs cs hand hand' Refused e stays held h = held e h
 
   -- what was fresh by more bounds is so by fewer
-  IsFreshAs-less : (bs cs : List Bound) (k : TurnKind) (e : Entry) → ((b : Bound) → Contains bs b → Contains cs b) → IsFreshAs target cs k e → IsFreshAs target bs k e
+  IsFreshAs-less : (bs cs : List Bound) (k : TurnKind) (e : Entry) → ((b : Bound) → Contains bs b → Contains cs b) → IsFreshAs problem.query.target cs k e → IsFreshAs problem.query.target bs k e
   IsFreshAs-less bs cs Empty e stays h = tt
   IsFreshAs-less bs cs Busy e stays h = tt
   IsFreshAs-less bs cs Stale e stays h = tt
   IsFreshAs-less bs cs Scanned e stays h =
-      (λ stale. h.0 (IsStale-more bs cs stays e stale), λ cut. h.1 (IsCut-more bs cs stays target e cut))
+      (λ stale. h.0 (IsStale-more bs cs stays e stale), λ cut. h.1 (IsCut-more bs cs stays problem.query.target e cut))
   IsFreshAs-less bs cs Refused e stays h =
-      (λ stale. h.0 (IsStale-more bs cs stays e stale), λ cut. h.1 (IsCut-more bs cs stays target e cut))
+      (λ stale. h.0 (IsStale-more bs cs stays e stale), λ cut. h.1 (IsCut-more bs cs stays problem.query.target e cut))
   IsFreshAs-less bs cs Cut e stays h = λ stale. h (IsStale-more bs cs stays e stale)
 
   module _ {T : Type 0} (shows : T → Turn → Flow → T → Type 0) (heaps : ℕ) where
@@ -141,10 +141,10 @@ module _ (roads : Roads) (answers : ℕ → ℕ → ℕ → ℕ → Type 0) (tar
       pub shown : FoldsTo (λ p t q. shows p t.0 t.1 q) tracer turns tracer'
       pub counted : counters ≡ counters_of turns
       pub progress : Progress from to (popped_in_all turns) (2 * length turns + lowered_in_all turns) (lowered_in_all turns) (option_to_list hand.refused)
-      pub closed : (i : ℕ) (d : Told) → i < length turns → IsClosedTurn roads answers target to.labels.bounds (option_to_list hand.popped) (get_or turns i d).0
-      pub fresh : (i : ℕ) (d : Told) → i < length turns → IsFreshTurn target from.labels.bounds (get_or turns i d).0
+      pub closed : (i : ℕ) (d : Told) → i < length turns → IsClosedTurn problem to.labels.bounds (option_to_list hand.popped) (get_or turns i d).0
+      pub fresh : (i : ℕ) (d : Told) → i < length turns → IsFreshTurn problem.query.target from.labels.bounds (get_or turns i d).0
       pub hand_popped : (entry : Entry) → Contains (option_to_list hand.popped) entry → Contains (popped_in_all turns) entry
-      pub hand_inside : IsInside roads hand
+      pub hand_inside : IsInside problem.network hand
       pub open_hand : ended ≡ false → (hand.popped ≡ None) × (hand.refused ≡ None)
       pub popped_is : length (popped_in_all turns) ≡ popped_count turns
       pub popped_back : length (option_to_list hand.popped) ≡ count_kind is_refused turns
@@ -198,7 +198,7 @@ module _ (roads : Roads) (answers : ℕ → ℕ → ℕ → ℕ → Type 0) (tar
     module _ (from mid to : Kit) (budget : ℕ) (tracer tracer' tracer'' : T) (counters counters' : Counters) (hand hand' : Hand) (number idle idle' : ℕ) (ended' : Bool) (turn : Turn) (flow : Flow)
         (h : SoFar from mid budget tracer tracer' counters hand number idle false)
         (low : idle < 32) (more : number < budget)
-        (one : IsTurn roads answers target heaps mid to number turn hand')
+        (one : IsTurn problem heaps mid to number turn hand')
         (told : shows tracer' turn flow tracer'')
         (counts : counters' ≡ counted counters turn)
         (idles : idle' ≡ (if is_idle turn.kind then idle + 1 else 0))
@@ -226,9 +226,9 @@ module _ (roads : Roads) (answers : ℕ → ℕ → ℕ → ℕ → Type 0) (tar
             (lowered_in_all h.turns) turn.lowered _ (option_to_list hand'.refused) (rw ((h.open_hand refl).1) at h.progress) one.progress
             (popped_push h.turns (turn, flow))
             (omega (arith, length-append h.turns ((turn, flow) ∷ []), lowered_push h.turns (turn, flow))) (lowered_push h.turns (turn, flow));
-        closed = index_push (λ i t. IsClosedTurn roads answers target to.labels.bounds (option_to_list hand'.popped) t.0) h.turns (turn, flow)
+        closed = index_push (λ i t. IsClosedTurn problem to.labels.bounds (option_to_list hand'.popped) t.0) h.turns (turn, flow)
             (λ i d lt. IsClosedAs-more mid.labels.bounds to.labels.bounds (option_to_list hand.popped) (option_to_list hand'.popped) _ _ one.progress.bounds_stay (λ x inside. absurd (omega (arith, (rw ((h.open_hand refl).0) at inside).1))) (h.closed i d lt)) one.closed;
-        fresh = index_push (λ i t. IsFreshTurn target from.labels.bounds t.0) h.turns (turn, flow) h.fresh (IsFreshAs-less from.labels.bounds mid.labels.bounds turn.kind _ h.progress.bounds_stay one.fresh);
+        fresh = index_push (λ i t. IsFreshTurn problem.query.target from.labels.bounds t.0) h.turns (turn, flow) h.fresh (IsFreshAs-less from.labels.bounds mid.labels.bounds turn.kind _ h.progress.bounds_stay one.fresh);
         hand_popped = λ e inside. rw (popped_push h.turns (turn, flow)) (Contains-append_left (popped_in turn) (popped_in_all h.turns) e (one.hand_popped e inside));
         hand_inside = one.hand_inside;
         open_hand = λ e. hand_open turn.kind hand' (is_leave flow) one.hand_is (sym ends ∙ e);
@@ -245,7 +245,7 @@ module _ (roads : Roads) (answers : ℕ → ℕ → ℕ → ℕ → Type 0) (tar
 
     pub SoFar-end : (from to : Kit) (budget : ℕ) (tracer tracer' : T) (counters : Counters) (hand : Hand) (number idle : ℕ) (ended : Bool)
         → SoFar from to budget tracer tracer' counters hand number idle ended → number ≤ 1000000000 → (ended ≡ true) ⊎ (32 ≤ idle) ⊎ (budget ≤ number)
-        → IsWork roads answers target shows heaps from to budget tracer tracer' counters hand
+        → IsWork problem shows heaps from to budget tracer tracer' counters hand
     SoFar-end from to budget tracer tracer' counters hand number idle ended h small why = record {
       turns = h.turns;
       lawful = record {

@@ -1,31 +1,27 @@
 -- What is known of seats while a run goes on, where the node of each entry that was handed back waits.
-use Rattle.std.specs.Prelude.{ℕ, List, ◌++◌, Option, Contains}
-use Rattle.ea_road.specs.Roads.{Roads}
+use Rattle.std.specs.Prelude.{ℕ, List, ◌++◌, Contains}
 use Rattle.ea_labels.specs.declared.record.SeatRecord.{SeatRecord}
 use Rattle.ea_pool.specs.declared.entry.Entry.{Entry}
 use Rattle.ea_pool.specs.declared.account.Account.{Account}
 use Rattle.std.specs.Option.{option_to_list}
 use Rattle.ea_engine.specs.declared.turn.Hand.{Hand}
+use Rattle.ea_engine.specs.Problems.{Problem}
 use Rattle.ea_engine.specs.Closed.{IsClosedAccount}
 
 pub record IsGathered
-    (roads : Roads)
-    (answers : ℕ → ℕ → ℕ → ℕ → Type 0)
-    (target : Option ℕ)
+    (problem : Problem)
     (history : SeatRecord)
     (account : Account)
     (waiting : List ℕ)
     : Type 0 where
   pub back : List Entry
   pub refused : List Entry
-  pub closed : IsClosedAccount roads answers target history account back refused
+  pub closed : IsClosedAccount problem history account back refused
   pub waits : (entry : Entry) → Contains (back ++ refused) entry → Contains waiting entry.node
 
 -- The same, where the nodes of a worker's hand don't wait yet.
 pub record IsHanded
-    (roads : Roads)
-    (answers : ℕ → ℕ → ℕ → ℕ → Type 0)
-    (target : Option ℕ)
+    (problem : Problem)
     (history : SeatRecord)
     (account : Account)
     (hand : Hand)
@@ -33,5 +29,5 @@ pub record IsHanded
     : Type 0 where
   pub back : List Entry
   pub refused : List Entry
-  pub closed : IsClosedAccount roads answers target history account (back ++ option_to_list hand.popped) (refused ++ option_to_list hand.refused)
+  pub closed : IsClosedAccount problem history account (back ++ option_to_list hand.popped) (refused ++ option_to_list hand.refused)
   pub waits : (entry : Entry) → Contains (back ++ refused) entry → Contains waiting entry.node

@@ -1,10 +1,12 @@
 pub mod Words
+pub mod Problems
 pub mod Closed
 pub mod Ends
 pub mod Opened
-pub mod Ground
+pub mod Grounds
 pub mod Turns
 pub mod Worked
+pub mod Seated
 pub mod Scans
 pub mod Parts
 pub mod Rows
@@ -12,5 +14,9 @@ pub mod Reports
 pub mod Gathered
 pub mod Seeds
 pub mod Rowed
-pub mod Settled
+pub mod Limits
 pub mod Tallies
+pub mod Reserved
+pub mod Splits
+pub mod Grown
+pub mod Runs

@@ -4,9 +4,6 @@ use Rattle.std.specs.List.{FoldsTo}
 use Rattle.rand_core.specs.Stream.{Stream}
 use Rattle.ea_engine.specs.declared.turn.Turn.{Turn}
 use Rattle.ea_engine.specs.declared.turn.Flow.{Flow}
-use Rattle.ea_engine.specs.declared.row.Place.{Place}
-use Rattle.ea_engine.specs.declared.row.Place.TheVariants as place
-use Rattle.ea_engine.specs.declared.seats.Seats.{Seats}
 use Rattle.ea_engine.specs.declared.counters.Counters.{Counters}
 use Rattle.ea_engine.specs.Words.{after_words}
 use Rattle.ea_engine.specs.Turns.{Told, IsTurnList, lowered_in_all, counters_of}
@@ -19,15 +16,6 @@ pub record IsReport {T : Type 0} (shows : T → Turn → Flow → T → Type 0) 
   pub shown : FoldsTo (λ p t q. shows p t.0 t.1 q) tracer turns tracer'
   pub counted : counters ≡ counters_of turns
   pub words_are : words' ≡ after_words (2 * length turns + lowered_in_all turns) words
-
-module _ {S Q R T : Type 0} where
-  -- a worker with these seats, this generator and this tracer stands there
-  abbrev pub IsSeated : Seats S Q → R → T → Place S Q R T → Type 0
-  IsSeated seats rng tracer p = p ≡ place.Ready (record { label_seat = seats.label_seat; pool_seat = seats.pool_seat; rng = rng; tracer = tracer })
-
-  -- at each place of the row
-  abbrev pub IsSeatedRow : List (Seats S Q) → List R → List T → List (Place S Q R T) → Type 0
-  IsSeatedRow seats rngs tracers row = (k : ℕ) (s : Seats S Q) (r : R) (t : T) (d : Place S Q R T) → k < length row → IsSeated (slice_index_or seats k s) (slice_index_or rngs k r) (slice_index_or tracers k t) (slice_index_or row k d)
 
 -- a report of each worker
 abbrev pub AreReports : {R T : Type 0} → (R → Stream) → (T → Turn → Flow → T → Type 0) → ℕ → List R → List R → List T → List T → List Counters → Type 0

@@ -1,5 +1,5 @@
 -- What a worker did to its two seats and to its generator, and what it showed to its tracer.
-use Rattle.std.specs.Prelude.{◌≡◌, ℕ, ◌+◌, ◌*◌, ◌^◌, ◌<◌, ◌≤◌, List, ◌++◌, map, length, Contains, All, Option, None, IsSome, IfSome}
+use Rattle.std.specs.Prelude.{◌≡◌, ℕ, ◌+◌, ◌*◌, ◌^◌, ◌<◌, ◌≤◌, List, ◌++◌, map, length, Contains, All, None, IsSome, IfSome}
 use Rattle.std.specs.Option.{option_to_list}
 use Rattle.ea_engine.specs.declared.turn.Hand.{Hand}
 use Rattle.ea_engine.specs.declared.turn.TurnKind.{TurnKind}
@@ -18,6 +18,7 @@ use Rattle.ea_labels.specs.declared.record.SeatRecord.{SeatRecord}
 use Rattle.ea_pool.specs.declared.account.Account.{Account}
 use Rattle.ea_pool.specs.declared.TheConstants.{SHARES}
 use Rattle.ea_pool.specs.Pools.{NothingLeft, IsLeastLeft}
+use Rattle.ea_engine.specs.Problems.{Problem}
 use Rattle.ea_engine.specs.Turns.{Told, IsTurnList, IsShaped, StaysEmpty, popped_in, popped_in_all, lowered_in_all, counters_of}
 use Rattle.ea_engine.specs.Closed.{entry_at, entry_of, IsClosedTurn, IsFreshTurn}
 
@@ -73,7 +74,7 @@ IsLoneAs heaps account Scanned entry = heaps ≡ 2 → IsLeastLeft entry account
 IsLoneAs heaps account Refused entry = heaps ≡ 2 → IsLeastLeft entry account
 IsLoneAs heaps account Cut entry = heaps ≡ 2 → IsLeastLeft entry account
 
-module _ (roads : Roads) (answers : ℕ → ℕ → ℕ → ℕ → Type 0) (target : Option ℕ) where
+module _ (problem : Problem) where
   -- one turn on a pool of so many heaps, and the entries that it hands back
   pub record IsTurn (heaps : ℕ) (from to : Kit) (number : ℕ) (turn : Turn) (hand : Hand) : Type 0 where
     pub number_is : turn.number ≡ number
@@ -81,10 +82,10 @@ module _ (roads : Roads) (answers : ℕ → ℕ → ℕ → ℕ → Type 0) (tar
     pub few : turn.lowered ≤ 2 ^ 28
     pub hand_is : IsHandOf turn.kind hand
     pub hand_popped : (entry : Entry) → Contains (option_to_list hand.popped) entry → Contains (popped_in turn) entry
-    pub hand_inside : IsInside roads hand
+    pub hand_inside : IsInside problem.network hand
     pub progress : Progress from to (popped_in turn) (2 + turn.lowered) turn.lowered (option_to_list hand.refused)
-    pub closed : IsClosedTurn roads answers target to.labels.bounds (option_to_list hand.popped) turn
-    pub fresh : IsFreshTurn target from.labels.bounds turn
+    pub closed : IsClosedTurn problem to.labels.bounds (option_to_list hand.popped) turn
+    pub fresh : IsFreshTurn problem.query.target from.labels.bounds turn
     -- what a seat with all shares learns
     pub lone : from.account.shares ≡ SHARES → IsLoneAs heaps from.account turn.kind (entry_at turn.key turn.node)
 
@@ -96,10 +97,10 @@ module _ (roads : Roads) (answers : ℕ → ℕ → ℕ → ℕ → Type 0) (tar
       pub shown : FoldsTo (λ p t q. shows p t.0 t.1 q) tracer turns tracer'
       pub counted : counters ≡ counters_of turns
       pub progress : Progress from to (popped_in_all turns) (2 * length turns + lowered_in_all turns) (lowered_in_all turns) (option_to_list hand.refused)
-      pub closed : All (λ t. IsClosedTurn roads answers target to.labels.bounds (option_to_list hand.popped) t.0) turns
-      pub fresh : All (λ t. IsFreshTurn target from.labels.bounds t.0) turns
+      pub closed : All (λ t. IsClosedTurn problem to.labels.bounds (option_to_list hand.popped) t.0) turns
+      pub fresh : All (λ t. IsFreshTurn problem.query.target from.labels.bounds t.0) turns
       pub hand_popped : (entry : Entry) → Contains (option_to_list hand.popped) entry → Contains (popped_in_all turns) entry
-      pub hand_inside : IsInside roads hand
+      pub hand_inside : IsInside problem.network hand
       pub returned_is : counters.returned ≡ hand_size hand
       pub pushed_is : counters.pushed ≡ length progress.pushed
       pub pushed_few : counters.pushed < 2 ^ 62

@@ -1,19 +1,15 @@
 //! The arrays of a run: everything that takes memory, before any worker starts.
-ghost use Rattle.std.specs.Prelude.{◌≡◌, ◌≤◌, ◌*◌, [], IfOk};
-ghost use Rattle.std.specs.Vec.{vec_capacity};
-ghost use Rattle.ea_labels.specs.Core.{first_record};
-ghost use Rattle.ea_pool.specs.Seats.{account_of, heaps_of, IsSeatOf};
-ghost use Rattle.ea_pool.specs.Pools.{Opened};
-ghost use Rattle.ea_pool.specs.declared.TheConstants.{SHARES};
-ghost use Rattle.ea_engine.specs.Settled.{AreSettings};
+ghost use Rattle.std.specs.Prelude.{◌≡◌, ◌*◌, [], IfOk};
+ghost use Rattle.ea_engine.specs.Limits.{AreSettings};
+ghost use Rattle.ea_engine.specs.Reserved.{AreArrays, AreUnfilled};
 
-use crate::gathering::Results;
+use crate::means::Seats;
+use crate::ran::Results;
 use crate::row::Place;
-use crate::seats::Seats;
 use crate::settings::Settings;
 use ea_finish::Open;
-use ea_labels::{LabelSeat, Labels};
-use ea_pool::{Pool, PoolSeat};
+use ea_labels::Labels;
+use ea_pool::Pool;
 use ea_road::Known;
 use rand_core::Rng;
 use std::alloc::{AllocError, Global};
@@ -22,12 +18,12 @@ use std::alloc::{AllocError, Global};
 #[derive(Drop)]
 pub struct Arrays<K: Known, R, T> {
     pub labels: Labels<K>,
-    pub label_seat: LabelSeat<K>,
     pub pool: Pool<K>,
-    pub pool_seat: PoolSeat<K>,
+    pub seats: Seats<K>,
     pub todo: Open,
-    pub seats: Vec<Seats<LabelSeat<K>, PoolSeat<K>>>,
-    pub row: Vec<Place<LabelSeat<K>, PoolSeat<K>, R, T>>,
+    /// Room for the seats of the other workers.
+    pub others: Vec<Seats<K>>,
+    pub row: Vec<Place<K, R, T>>,
     pub results: Results<R, T>,
 }
 
@@ -45,8 +41,7 @@ fn open_list(alloc: Global, nodes: u32, walks: bool) -> Result<Open, AllocError>
 impl<R: Drop, T: Drop> Results<R, T> {
     /// Room for so many workers.
     pub fn reserve(alloc: Global, workers: usize) -> Result<Results<R, T>, AllocError>
-        ensures none { IfOk result (λ r. (r.counters.items ≡ []) × (r.rngs.items ≡ []) × (r.tracers.items ≡ [])) }
-        ensures room { IfOk result (λ r. (workers ≤ vec_capacity r.counters) × (workers ≤ vec_capacity r.rngs) × (workers ≤ vec_capacity r.tracers)) }
+        ensures { IfOk result (λ results. AreUnfilled workers results) }
     {
         let counters = Vec::with_capacity(alloc, workers)?;
         let rngs = Vec::with_capacity(alloc, workers)?;
@@ -68,28 +63,25 @@ impl<K: Known, R: Drop, T: Drop> Arrays<K, R, T> {
         walks: bool,
     ) -> Result<Arrays<K, R, T>, AllocError>
         requires { AreSettings settings }
-        ensures labels { IfOk result (λ a. (a.labels.nodes ≡ nodes) × (a.label_seat.table ≡ a.labels.table) × (a.label_seat.history ≡ first_record)) }
-        ensures pool { IfOk result (λ a. IsSeatOf a.pool a.pool_seat × Opened SHARES (account_of a.pool_seat)) }
-        ensures heaps { IfOk result (λ a. heaps_of a.pool ≡ settings.workers * settings.heaps) }
-        ensures todo { IfOk result (λ a. (a.todo.nodes ≡ nodes) × (a.todo.waiting ≡ []) × (a.todo.walks ≡ walks)) }
-        ensures row { IfOk result (λ a. (a.seats.items ≡ []) × (settings.workers ≤ vec_capacity a.seats) × (a.row.items ≡ []) × (settings.workers ≤ vec_capacity a.row)) }
-        ensures none { IfOk result (λ a. (a.results.counters.items ≡ []) × (a.results.rngs.items ≡ []) × (a.results.tracers.items ≡ [])) }
-        ensures room { IfOk result (λ a. (settings.workers ≤ vec_capacity a.results.counters) × (settings.workers ≤ vec_capacity a.results.rngs) × (settings.workers ≤ vec_capacity a.results.tracers)) }
+        ensures { IfOk result (λ arrays.
+            AreArrays nodes (settings.workers * settings.heaps) settings.workers walks arrays) }
     {
         let workers = settings.workers as usize;
         let todo = open_list(alloc, nodes, walks)?;
         let (labels, label_seat) = Labels::open(alloc, nodes)?;
         let (pool, pool_seat) = Pool::open(alloc, workers * settings.heaps as usize)?;
-        let seats = Vec::with_capacity(alloc, workers)?;
+        let others = Vec::with_capacity(alloc, workers)?;
         let row = Vec::with_capacity(alloc, workers)?;
         let results = Results::reserve(alloc, workers)?;
         Ok(Arrays {
             labels,
-            label_seat,
             pool,
-            pool_seat,
+            seats: Seats {
+                label_seat,
+                pool_seat,
+            },
             todo,
-            seats,
+            others,
             row,
             results,
         })

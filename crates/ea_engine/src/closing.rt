@@ -1,16 +1,20 @@
 //! From the seats that the workers leave to the condition of the finishing pass.
 ghost use Rattle.std.specs.Prelude.{◌≡◌, ◌+◌, ◌<◌, ◌≤◌, ◌^◌, length};
-ghost use Rattle.ea_pool.specs.Seats.{account_of, IsSeatOf};
-ghost use Rattle.ea_engine.specs.Gathered.{IsGathered};
+ghost use Rattle.ea_labels.specs.declared.TheConstants.{SHARES as LABEL_SHARES};
+ghost use Rattle.ea_pool.specs.declared.TheConstants.{SHARES};
 ghost use Rattle.ea_finish.specs.Underway.{IsUnderway};
-ghost use Rattle.ea_engine.specs.Ground.{IsGround};
+ghost use Rattle.ea_engine.specs.Gathered.{IsGathered};
 ghost use Rattle.ea_engine.specs.Opened.{AreOffered};
+ghost use Rattle.ea_engine.specs.Problems.{IsPosed};
+ghost use Rattle.ea_engine.specs.Seated.{tables, AreSeatsOf};
 
 use crate::drained::drain;
+use crate::means::Seats;
+use crate::problem::Posed;
 use ea_finish::Open;
-use ea_labels::{LabelSeat, Labels};
-use ea_pool::{Pool, PoolSeat};
-use ea_road::{Known, Network, Query, TravelTimes};
+use ea_labels::Labels;
+use ea_pool::Pool;
+use ea_road::Known;
 use std::alloc::Global;
 
 /// A table of labels, and the nodes that are to be scanned.
@@ -23,30 +27,34 @@ pub struct Settled {
 }
 
 /// Closes both tables, and lets the node of each entry wait that is left.
-pub fn settle<K: Known, P: TravelTimes>(
-    network: &Network,
-    profiles: &P,
-    query: &Query,
+pub fn settle<K: Known + Posed>(
     labels: Labels<K>,
     pool: Pool<K>,
-    label_seat: LabelSeat<K>,
-    pool_seat: PoolSeat<K>,
+    seats: Seats<K>,
     mut todo: Open,
 ) -> Settled
-    requires ground { IsGround K.is_known labels.nodes network.now (P.answers profiles.now) (P.classes profiles.now) query.now.sources query.now.target }
-    requires label_seat { (label_seat.table ≡ labels.table) × (label_seat.history.shares ≡ 64) }
-    requires pool_seat { IsSeatOf pool pool_seat × ((account_of pool_seat).shares ≡ 64) }
+    requires posed { IsPosed K.is_known K.problem }
+    requires places { labels.nodes ≡ K.problem.network.nodes }
+    requires fit { AreSeatsOf (tables labels pool) seats.label_seat seats.pool_seat }
+    requires label_shares { seats.label_seat.history.shares ≡ LABEL_SHARES }
+    requires pool_shares { seats.pool_seat.account.shares ≡ SHARES }
     requires room { todo.nodes ≡ labels.nodes }
-    requires gathered { IsGathered network.now (P.answers profiles.now) query.now.target label_seat.history (account_of pool_seat) todo.waiting }
-    requires few { length (account_of pool_seat).pushed < 2 ^ 127 }
-    requires offered { AreOffered query.now.sources label_seat.history }
-    ensures underway { IsUnderway network.now (P.answers profiles.now) query.now result.table.items result.todo.waiting }
-    ensures room { result.todo.nodes ≡ network.now.nodes }
+    requires gathered { IsGathered K.problem seats.label_seat.history seats.pool_seat.account todo.waiting }
+    requires few { length seats.pool_seat.account.pushed < 2 ^ 127 }
+    requires offered { AreOffered K.problem.query.sources seats.label_seat.history }
+    ensures underway { IsUnderway K.problem.network K.problem.answers K.problem.query
+        result.table.items result.todo.waiting }
+    ensures room { result.todo.nodes ≡ K.problem.network.nodes }
     ensures walks { result.todo.walks ≡ todo.walks }
-    ensures drained { length (account_of pool_seat).pushed ≡ length (account_of pool_seat).popped + result.drained }
+    ensures drained { length seats.pool_seat.account.pushed
+        ≡ length seats.pool_seat.account.popped + result.drained }
     ensures few { length result.todo.waiting ≤ length todo.waiting + result.drained }
     ensures some { 0 < length todo.waiting + result.drained → 0 < length result.todo.waiting }
 {
+    let Seats {
+        label_seat,
+        pool_seat,
+    } = seats;
     let table = labels.close(label_seat);
     let closed = pool.close(pool_seat);
     let drained = drain(closed, &mut todo);

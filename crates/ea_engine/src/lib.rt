@@ -5,14 +5,22 @@
 mod arrays;
 mod closing;
 mod counters;
+mod crew;
 mod drained;
+mod gate;
 mod gathering;
+mod ground;
 mod law;
+mod means;
+mod problem;
+mod ran;
 mod row;
+mod running;
 mod scan;
 mod seats;
 mod seeds;
 mod settings;
+mod solved;
 mod solving;
 mod step;
 mod tally;
@@ -21,12 +29,18 @@ mod work_loop;
 mod workers;
 
 pub use counters::Counters;
+pub use crew::Crew;
 pub use ea_finish::{
     Answer, Finished, Open, arrivals_alone, arrivals_alone_by, finish, solve_alone, solve_alone_by,
     unwind, without_walks,
 };
-pub use law::{finish_may_begin, nothing_open_is_lost, times_are_fifo};
+pub use gate::{Gate, NoGate};
+pub use ground::Ground;
+pub use law::{finish_may_begin, ground_is_laid, nothing_open_is_lost, times_are_fifo};
+pub use means::Means;
+pub use problem::Posed;
 pub use settings::Settings;
-pub use solving::{Solved, solve, solve_arrivals, solve_by};
+pub use solved::Solved;
+pub use solving::{solve, solve_arrivals, solve_by};
 pub use turn::{Flow, Hand, Turn, TurnKind};
-pub use work_loop::{Gate, NoGate, WorkerEnd, work};
+pub use work_loop::{WorkerEnd, work};

@@ -1,62 +1,52 @@
 //! The seats of the workers, and the row in which they stand.
 ghost use Rattle.std.specs.Prelude.{◌≡◌, ℕ, ◌+◌, ◌-◌, ◌<◌, ◌≤◌, ◌∷◌, [], All, Contains, vec_len};
 ghost use Rattle.std.specs.Vec.{vec_capacity};
-ghost use Rattle.ea_pool.specs.Seats.{account_of, IsSeatOf};
 ghost use Rattle.ea_engine.specs.Ends.{AreFresh};
-ghost use Rattle.ea_engine.specs.Reports.{IsSeated, IsSeatedRow};
+ghost use Rattle.ea_engine.specs.Rows.{IsSeated, IsSeatedRow};
+ghost use Rattle.ea_engine.specs.Seated.{tables, AreSeatsOf};
+ghost use Rattle.ea_engine.specs.Splits.{HasGiven};
 
+use crate::means::{Means, Seats};
 use crate::row::{Place, Ready};
-use ea_labels::{LabelSeat, Labels};
-use ea_pool::{Pool, PoolSeat};
+use ea_labels::Labels;
+use ea_pool::Pool;
 use ea_road::Known;
 use std::alloc::Global;
-
-/// The two seats of a worker.
-#[derive(Drop)]
-pub struct Seats<S, Q> {
-    pub label_seat: S,
-    pub pool_seat: Q,
-}
 
 /// Splits off seats of one share each for so many workers.
 pub fn split_seats<K: Known>(
     labels: &Labels<K>,
     pool: &Pool<K>,
-    label_seat: &mut LabelSeat<K>,
-    pool_seat: &mut PoolSeat<K>,
+    seats: &mut Seats<K>,
     count: usize,
-    seats: &mut Vec<Seats<LabelSeat<K>, PoolSeat<K>>>,
+    others: &mut Vec<Seats<K>>,
 )
-    requires label_seat { label_seat.old.table ≡ labels.now.table }
-    requires pool_seat { IsSeatOf pool.now pool_seat.old }
-    requires label_shares { count < label_seat.old.history.shares }
-    requires pool_shares { count < (account_of pool_seat.old).shares }
-    requires none { seats.old.items ≡ [] }
-    requires room { count ≤ vec_capacity seats.old }
-    ensures label_seat { label_seat.new.table ≡ labels.now.table }
-    ensures pool_seat { IsSeatOf pool.now pool_seat.new }
-    ensures history { (label_seat.new.history.bounds ≡ label_seat.old.history.bounds) × (label_seat.new.history.lowerings ≡ label_seat.old.history.lowerings) }
-    ensures account { ((account_of pool_seat.new).pushed ≡ (account_of pool_seat.old).pushed) × ((account_of pool_seat.new).popped ≡ (account_of pool_seat.old).popped) }
-    ensures shares { (label_seat.new.history.shares + count ≡ label_seat.old.history.shares) × ((account_of pool_seat.new).shares + count ≡ (account_of pool_seat.old).shares) }
-    ensures len { vec_len seats.new ≡ count }
-    ensures capacity { vec_capacity seats.new ≡ vec_capacity seats.old }
-    ensures fresh { All (AreFresh (λ s. s.history) (λ s. account_of s) (λ s. s.table ≡ labels.now.table) (λ s. IsSeatOf pool.now s)) seats.new.items }
+    requires fit { AreSeatsOf (tables labels.now pool.now) seats.old.label_seat seats.old.pool_seat }
+    requires label_shares { count < seats.old.label_seat.history.shares }
+    requires pool_shares { count < seats.old.pool_seat.account.shares }
+    requires none { others.old.items ≡ [] }
+    requires room { count ≤ vec_capacity others.old }
+    ensures fit { AreSeatsOf (tables labels.now pool.now) seats.new.label_seat seats.new.pool_seat }
+    ensures gave { HasGiven count seats.old seats.new }
+    ensures len { vec_len others.new ≡ count }
+    ensures capacity { vec_capacity others.new ≡ vec_capacity others.old }
+    ensures fresh { All (AreFresh (tables labels.now pool.now)) others.new.items }
 {
     for _ in 0..count {
         let pair = Seats {
-            label_seat: labels.split(label_seat),
-            pool_seat: pool.split(pool_seat),
+            label_seat: labels.split(&mut seats.label_seat),
+            pool_seat: pool.split(&mut seats.pool_seat),
         };
-        seats.push_reserved(pair);
+        others.push_reserved(pair);
     }
 }
 
 /// Makes the row: each worker with its seats, its generator and its tracer.
-pub fn seat_row<S: Drop, Q: Drop, R: Drop, T: Drop>(
-    seats: Vec<Seats<S, Q>>,
+pub fn seat_row<K: Known, R: Drop, F: Drop>(
+    seats: Vec<Seats<K>>,
     rngs: Vec<R>,
-    tracers: Vec<T>,
-    row: &mut Vec<Place<S, Q, R, T>>,
+    tracers: Vec<F>,
+    row: &mut Vec<Place<K, R, F>>,
 )
     requires none { row.old.items ≡ [] }
     requires room { vec_len rngs ≤ vec_capacity row.old }
@@ -79,7 +69,7 @@ pub fn seat_row<S: Drop, Q: Drop, R: Drop, T: Drop>(
 }
 
 /// The place of a worker that may start.
-fn ready_place<S, Q, R, T>(seats: Seats<S, Q>, rng: R, tracer: T) -> Place<S, Q, R, T>
+fn ready_place<K: Known, R, F>(seats: Seats<K>, rng: R, tracer: F) -> Place<K, R, F>
     ensures { IsSeated seats rng tracer result }
 {
     let Seats {
@@ -87,9 +77,11 @@ fn ready_place<S, Q, R, T>(seats: Seats<S, Q>, rng: R, tracer: T) -> Place<S, Q,
         pool_seat,
     } = seats;
     Place::Ready(Ready {
-        label_seat,
-        pool_seat,
-        rng,
+        means: Means {
+            label_seat,
+            pool_seat,
+            rng,
+        },
         tracer,
     })
 }

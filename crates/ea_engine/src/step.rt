@@ -1,6 +1,7 @@
 ghost use Rattle.std.specs.Prelude.{◌≡◌, ◌≤◌, ◌^◌, [], ◌∷◌, true, Contains, IfSome};
 ghost use Rattle.std.specs.Option.{option_to_list};
-ghost use Rattle.ea_engine.specs.Ground.{IsGround};
+ghost use Rattle.ea_engine.specs.Grounds.{IsGround, tables_of};
+ghost use Rattle.ea_engine.specs.Seated.{AreSeatsOf, kit_of};
 ghost use Rattle.rand_core.specs.Stream.{Stream};
 ghost use Rattle.ea_labels.specs.Core.{IsNode};
 ghost use Rattle.ea_pool.specs.Seats.{account_of, heaps_of, IsSeatOf};
@@ -14,11 +15,14 @@ ghost use Rattle.ea_engine.specs.Closed.{IsClosedTurn, IsCut, IsFreshTurn};
 ghost use Rattle.ea_engine.specs.Turns.{is_idle, is_refused, is_leave, IsShaped, popped_in};
 ghost use Rattle.ea_engine.specs.Worked.{kit, Progress, IsTurn, IsHandOf, IsInside, hand_size};
 
-use crate::scan::{Means, scan_entry};
+use crate::ground::Ground;
+use crate::means::Means;
+use crate::problem::Posed;
+use crate::scan::scan_entry;
 use crate::turn::{Flow, Hand, Turn, TurnKind};
 use ea_labels::{LabelSeat, Labels};
 use ea_pool::{Entry, Pool, PoolSeat, Popped};
-use ea_road::{Known, Network, Query, TravelTimes};
+use ea_road::{Known, TravelTimes};
 use rand_core::Rng;
 use std::alloc::Global;
 
@@ -99,7 +103,8 @@ fn is_above_target<K: Known>(
     requires seat { seat.old.table ≡ labels.now.table }
     requires target { IfSome target (λ node. IsNode labels.now.nodes node) }
     ensures seat { seat.new.table ≡ labels.now.table }
-    ensures progress { (account : Account) (words : Stream) → Progress (kit seat.old.history account words) (kit seat.new.history account words) [] 0 0 [] }
+    ensures progress { (account : Account) (words : Stream)
+        → Progress (kit seat.old.history account words) (kit seat.new.history account words) [] 0 0 [] }
     ensures cut { result ≡ true → IsCut target seat.new.history.bounds entry }
     ensures known { IsCut target seat.old.history.bounds entry → result ≡ true }
 {
@@ -124,52 +129,46 @@ fn popped_turn(number: u64, kind: TurnKind, entry: Entry) -> Turn
 
 /// Reads the label of a popped entry, and scans the entry if the label isn't below its key and its key isn't above the
 /// target's label.
-pub fn visit<K: Known, P: TravelTimes, R: Rng>(
-    network: &Network,
-    profiles: &P,
-    query: &Query,
+pub fn visit<K: Known + Posed, T: TravelTimes, R: Rng>(
+    ground: &Ground<'_, K, T>,
     target: Option<u32>,
-    labels: &Labels<K>,
-    pool: &Pool<K>,
-    means: &mut Means<LabelSeat<K>, PoolSeat<K>, R>,
+    means: &mut Means<K, R>,
     number: u64,
     entry: Entry,
 ) -> TurnEnd
-    requires ground { IsGround K.is_known labels.now.nodes network.now (P.answers profiles.now) (P.classes profiles.now) query.now.sources query.now.target }
-    requires target { target ≡ query.now.target }
-    requires label_seat { means.old.label_seat.table ≡ labels.now.table }
-    requires pool_seat { IsSeatOf pool.now means.old.pool_seat }
+    requires ground { IsGround K.is_known K.problem T.answers T.classes ground.now }
+    requires target { target ≡ K.problem.query.target }
+    requires seats { AreSeatsOf (tables_of ground.now) means.old.label_seat means.old.pool_seat }
     requires entry { K.is_known entry.node entry.key }
-    ensures label_seat { means.new.label_seat.table ≡ labels.now.table }
-    ensures pool_seat { IsSeatOf pool.now means.new.pool_seat }
+    ensures seats { AreSeatsOf (tables_of ground.now) means.new.label_seat means.new.pool_seat }
     ensures number { result.turn.number ≡ number }
     ensures popped { popped_in result.turn ≡ entry ∷ [] }
     ensures shaped { IsShaped result.turn }
     ensures few { result.turn.lowered ≤ 2 ^ 28 }
     ensures hand { IsHandOf result.turn.kind result.hand }
-    ensures inside { IsInside network.now result.hand }
-    ensures from { (popped : PoolEntry) → Contains (option_to_list result.hand.popped) popped → Contains (popped_in result.turn) popped }
-    ensures progress { Progress
-        (kit means.old.label_seat.history (account_of means.old.pool_seat) (R.stream means.old.rng))
-        (kit means.new.label_seat.history (account_of means.new.pool_seat) (R.stream means.new.rng))
+    ensures inside { IsInside K.problem.network result.hand }
+    ensures from { (popped : PoolEntry) → Contains (option_to_list result.hand.popped) popped
+        → Contains (popped_in result.turn) popped }
+    ensures progress { Progress (kit_of R.stream means.old) (kit_of R.stream means.new)
         [] result.turn.lowered result.turn.lowered (option_to_list result.hand.refused) }
-    ensures closed { IsClosedTurn network.now (P.answers profiles.now) query.now.target means.new.label_seat.history.bounds (option_to_list result.hand.popped) result.turn }
-    ensures fresh { IsFreshTurn query.now.target means.old.label_seat.history.bounds result.turn }
+    ensures closed { IsClosedTurn K.problem means.new.label_seat.history.bounds
+        (option_to_list result.hand.popped) result.turn }
+    ensures fresh { IsFreshTurn K.problem.query.target means.old.label_seat.history.bounds result.turn }
 {
-    let label = labels.read(&mut means.label_seat, entry.node);
+    let label = ground.labels.read(&mut means.label_seat, entry.node);
     if label < entry.key {
         return TurnEnd {
             turn: popped_turn(number, TurnKind::Stale, entry),
             hand: Hand::empty(),
         };
     }
-    if is_above_target(labels, &mut means.label_seat, target, entry) {
+    if is_above_target(ground.labels, &mut means.label_seat, target, entry) {
         return TurnEnd {
             turn: popped_turn(number, TurnKind::Cut, entry),
             hand: Hand::empty(),
         };
     }
-    let end = scan_entry(network, profiles, query, labels, pool, means, entry);
+    let end = scan_entry(ground, means, entry);
     match end.refused {
         None => {
             let mut turn = popped_turn(number, TurnKind::Scanned, entry);
@@ -198,12 +197,14 @@ fn pop_drawn<K: Known, R: Rng>(pool: &Pool<K>, pool_seat: &mut PoolSeat<K>, rng:
     requires pool_seat { IsSeatOf pool.now pool_seat.old }
     ensures pool_seat { IsSeatOf pool.now pool_seat.new }
     ensures popped { MatchPopped result
-        (λ entry. Pops (account_of pool_seat.old) entry (account_of pool_seat.new) × K.is_known entry.node entry.key)
+        (λ entry. Pops (account_of pool_seat.old) entry (account_of pool_seat.new)
+        × K.is_known entry.node entry.key)
         (SameBooks (account_of pool_seat.old) (account_of pool_seat.new))
         (SameBooks (account_of pool_seat.old) (account_of pool_seat.new)) }
     ensures alone { (account_of pool_seat.old).shares ≡ SHARES → MatchPopped result (λ _. Unit {0}) (Unit {0}) ⊥ }
     ensures least { (account_of pool_seat.old).shares ≡ SHARES → heaps_of pool.now ≡ 2
-        → MatchPopped result (λ entry. IsLeastLeft entry (account_of pool_seat.old)) (NothingLeft (account_of pool_seat.old)) ⊥ }
+        → MatchPopped result (λ entry. IsLeastLeft entry (account_of pool_seat.old))
+        (NothingLeft (account_of pool_seat.old)) ⊥ }
     ensures words { R.stream rng.new ≡ after_words 2 (R.stream rng.old) }
 {
     let first = rng.next_u64();
@@ -212,32 +213,23 @@ fn pop_drawn<K: Known, R: Rng>(pool: &Pool<K>, pool_seat: &mut PoolSeat<K>, rng:
 }
 
 /// One turn of a worker.
-pub fn take_turn<K: Known, P: TravelTimes, R: Rng>(
-    network: &Network,
-    profiles: &P,
-    query: &Query,
+pub fn take_turn<K: Known + Posed, T: TravelTimes, R: Rng>(
+    ground: &Ground<'_, K, T>,
     target: Option<u32>,
-    labels: &Labels<K>,
-    pool: &Pool<K>,
-    means: &mut Means<LabelSeat<K>, PoolSeat<K>, R>,
+    means: &mut Means<K, R>,
     number: u64,
 ) -> TurnEnd
-    requires ground { IsGround K.is_known labels.now.nodes network.now (P.answers profiles.now) (P.classes profiles.now) query.now.sources query.now.target }
-    requires target { target ≡ query.now.target }
-    requires label_seat { means.old.label_seat.table ≡ labels.now.table }
-    requires pool_seat { IsSeatOf pool.now means.old.pool_seat }
-    ensures label_seat { means.new.label_seat.table ≡ labels.now.table }
-    ensures pool_seat { IsSeatOf pool.now means.new.pool_seat }
-    ensures turn { IsTurn network.now (P.answers profiles.now) query.now.target (heaps_of pool.now)
-        (kit means.old.label_seat.history (account_of means.old.pool_seat) (R.stream means.old.rng))
-        (kit means.new.label_seat.history (account_of means.new.pool_seat) (R.stream means.new.rng))
+    requires ground { IsGround K.is_known K.problem T.answers T.classes ground.now }
+    requires target { target ≡ K.problem.query.target }
+    requires seats { AreSeatsOf (tables_of ground.now) means.old.label_seat means.old.pool_seat }
+    ensures seats { AreSeatsOf (tables_of ground.now) means.new.label_seat means.new.pool_seat }
+    ensures turn { IsTurn K.problem (tables_of ground.now).pool.heaps
+        (kit_of R.stream means.old) (kit_of R.stream means.new)
         number result.turn result.hand }
 {
-    match pop_drawn(pool, &mut means.pool_seat, &mut means.rng) {
+    match pop_drawn(ground.pool, &mut means.pool_seat, &mut means.rng) {
         Popped::Empty => idle_turn(number, TurnKind::Empty),
         Popped::Busy => idle_turn(number, TurnKind::Busy),
-        Popped::Entry(entry) => visit(
-            network, profiles, query, target, labels, pool, means, number, entry,
-        ),
+        Popped::Entry(entry) => visit(ground, target, means, number, entry),
     }
 }

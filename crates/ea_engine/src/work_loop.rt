@@ -1,41 +1,31 @@
-ghost use Rattle.std.specs.Prelude.{◌≡◌, ℕ, ◌+◌, ◌<◌, ◌≤◌, ◌||◌, ◌↔◌, if◌then◌else◌};
-ghost use Rattle.ea_road.specs.Arrivals.{Reaches};
-ghost use Rattle.ea_road.specs.Queries.{IsProblem};
+ghost use Rattle.std.specs.Prelude.{◌≡◌, ℕ, ◌+◌, ◌<◌, ◌≤◌, ◌||◌, if◌then◌else◌};
+ghost use Rattle.ea_limits.specs.declared.TheConstants.{MOST_TURNS};
+ghost use Rattle.ea_engine.specs.Grounds.{IsGround, tables_of};
+ghost use Rattle.ea_engine.specs.Seated.{AreSeatsOf, kit_of, kit_left};
 ghost use Rattle.ea_engine.specs.Turns.{is_idle, is_refused, is_leave};
-ghost use Rattle.ea_pool.specs.Seats.{account_of, heaps_of, IsSeatOf};
-ghost use Rattle.ea_engine.specs.Worked.{kit, IsWork};
+ghost use Rattle.ea_engine.specs.Worked.{IsWork};
 
 use crate::counters::Counters;
-use crate::law::times_are_fifo;
-use crate::scan::Means;
+use crate::gate::Gate;
+use crate::ground::Ground;
+use crate::means::Means;
+use crate::problem::Posed;
 use crate::step::take_turn;
 use crate::turn::{Flow, Hand, Turn, TurnKind};
-use ea_labels::{LabelSeat, Labels};
-use ea_pool::{Pool, PoolSeat};
-use ea_road::{Known, Network, Query, TravelTimes};
+use ea_labels::LabelSeat;
+use ea_pool::PoolSeat;
+use ea_road::{Known, TravelTimes};
 use rand_core::Rng;
+use std::alloc::Global;
 use std::hint;
-
-/// What is called before each turn. It may wait.
-pub trait Gate: Sync {
-    /// Called once before each turn of each worker. Workers and turns count from 0.
-    fn at(&self, worker: u32, turn: u64);
-}
-
-/// A gate that is always open.
-pub struct NoGate;
-
-impl Gate for NoGate {
-    fn at(&self, _worker: u32, _turn: u64) {}
-}
 
 /// What a worker leaves.
 #[derive(Drop)]
-pub struct WorkerEnd<S, Q, R, T> {
+pub struct WorkerEnd<K: Known, R, F> {
     /// Its seat of the label table.
-    pub label_seat: S,
+    pub label_seat: LabelSeat<K>,
     /// Its seat of the pool.
-    pub pool_seat: Q,
+    pub pool_seat: PoolSeat<K>,
     /// The entries that it hands back.
     pub hand: Hand,
     /// What it counted.
@@ -43,7 +33,7 @@ pub struct WorkerEnd<S, Q, R, T> {
     /// Its generator, two words a turn and one a lowered head later.
     pub rng: R,
     /// Its tracer, which was shown each turn.
-    pub tracer: T,
+    pub tracer: F,
 }
 
 // How many turns in a row found nothing, after one more turn.
@@ -70,44 +60,26 @@ fn pause(idle: u32) {
     }
 }
 
-/// Runs a worker: its turns, until one ends it, its budget is spent or 32 in a row found nothing.
-pub fn work<K: Known, P: TravelTimes, R: Rng, G: Gate, T: FnMut(Turn) -> Flow>(
-    network: &Network,
-    profiles: &P,
-    query: &Query,
-    labels: &Labels<K>,
-    pool: &Pool<K>,
-    label_seat: LabelSeat<K>,
-    pool_seat: PoolSeat<K>,
-    rng: R,
+/// Runs a worker: its turns, until one ends it, its budget is spent or 32 in a row found nothing. Workers count from 0.
+pub fn work<K: Known + Posed, T: TravelTimes, R: Rng, G: Gate, F: FnMut(Turn) -> Flow>(
+    ground: &Ground<'_, K, T>,
+    mut means: Means<K, R>,
     worker: u32,
     budget: u64,
     gate: &G,
-    mut tracer: T,
-) -> WorkerEnd<LabelSeat<K>, PoolSeat<K>, R, T>
-    requires problem { IsProblem network.now (P.classes profiles.now) query.now }
-    requires places { labels.now.nodes ≡ network.now.nodes }
-    requires names { (node time : ℕ) → K.is_known node time ↔ Reaches network.now (P.answers profiles.now) query.now.sources node time }
-    requires label_seat { label_seat.table ≡ labels.now.table }
-    requires pool_seat { IsSeatOf pool.now pool_seat }
-    requires tracer { T.IsAlwaysCallable tracer }
-    requires budget { budget ≤ 1000000000 }
-    ensures label_seat { result.label_seat.table ≡ labels.now.table }
-    ensures pool_seat { IsSeatOf pool.now result.pool_seat }
-    ensures work { IsWork network.now (P.answers profiles.now) query.now.target T.step (heaps_of pool.now)
-        (kit label_seat.history (account_of pool_seat) (R.stream rng))
-        (kit result.label_seat.history (account_of result.pool_seat) (R.stream result.rng))
+    mut tracer: F,
+) -> WorkerEnd<K, R, F>
+    requires ground { IsGround K.is_known K.problem T.answers T.classes ground.now }
+    requires seats { AreSeatsOf (tables_of ground.now) means.label_seat means.pool_seat }
+    requires tracer { F.IsAlwaysCallable tracer }
+    requires budget { budget ≤ MOST_TURNS }
+    ensures seats { AreSeatsOf (tables_of ground.now) result.label_seat result.pool_seat }
+    ensures work { IsWork K.problem F.step (tables_of ground.now).pool.heaps
+        (kit_of R.stream means) (kit_left R.stream result)
         budget tracer result.tracer result.counters result.hand }
 {
-    times_are_fifo(profiles);
-    let _ = network.nodes();
-    let target = query.target();
-    let among_several = pool_seat.shares() < ea_pool::SHARES;
-    let mut means = Means {
-        label_seat,
-        pool_seat,
-        rng,
-    };
+    let target = ground.query.target();
+    let among_several = means.pool_seat.shares() < ea_pool::SHARES;
     let mut counters = Counters::new();
     let mut hand = Hand::empty();
     let mut number = 0;
@@ -115,9 +87,7 @@ pub fn work<K: Known, P: TravelTimes, R: Rng, G: Gate, T: FnMut(Turn) -> Flow>(
     let mut ended = false;
     'turns: while !ended && idle < 32 && number < budget {
         gate.at(worker, number);
-        let end = take_turn(
-            network, profiles, query, target, labels, pool, &mut means, number,
-        );
+        let end = take_turn(ground, target, &mut means, number);
         counters.count(&end.turn);
         hand = end.hand;
         let flow = tracer(end.turn);

@@ -6,7 +6,8 @@ use crate::given::{four_nodes, from_first};
 use crate::greedy::Greedy;
 use crate::scarce::{Held, pieces};
 use ea_engine::{
-    Answer, Counters, Flow, Gate, NoGate, Settings, Turn, TurnKind, solve, solve_arrivals, solve_by,
+    Answer, Counters, Crew, Flow, Gate, NoGate, Settings, Turn, TurnKind, solve, solve_arrivals,
+    solve_by,
 };
 use ea_road::{Network, Query, Timetables, is_problem};
 use std::alloc::{AllocError, Global};
@@ -73,7 +74,17 @@ fn refused_push(rt: HostRuntime) -> Result<(), Fail> {
     }
     let mut large = Held::of_large(alloc)?;
     let answer = solve(
-        alloc, &rt, &network, &times, &query, settings, rngs, &NoGate, tracers,
+        alloc,
+        &rt,
+        &network,
+        &times,
+        &query,
+        Crew {
+            settings,
+            rngs,
+            gate: &NoGate,
+            tracers,
+        },
     );
     large.release();
     let mut solved = answer?;
@@ -148,10 +159,30 @@ fn run_with<H: Threads + Sync>(
     }
     let answer = match call {
         Call::Walks => solve(
-            alloc, rt, network, times, query, settings, rngs, &gate, tracers,
+            alloc,
+            rt,
+            network,
+            times,
+            query,
+            Crew {
+                settings,
+                rngs,
+                gate: &gate,
+                tracers,
+            },
         ),
         Call::Arrivals => solve_arrivals(
-            alloc, rt, network, times, query, settings, rngs, &gate, tracers,
+            alloc,
+            rt,
+            network,
+            times,
+            query,
+            Crew {
+                settings,
+                rngs,
+                gate: &gate,
+                tracers,
+            },
         ),
         Call::Closure => solve_by(
             alloc,
@@ -163,10 +194,12 @@ fn run_with<H: Threads + Sync>(
             { departure + weight },
             0,
             query,
-            settings,
-            rngs,
-            &gate,
-            tracers,
+            Crew {
+                settings,
+                rngs,
+                gate: &gate,
+                tracers,
+            },
         ),
     };
     small.release();

@@ -1,7 +1,7 @@
 //! The worked examples, by their counters.
 use crate::constant::Constant;
 use crate::given::{FOUR_NODES, pose};
-use ea_engine::{Answer, Flow, NoGate, Settings, Turn, TurnKind, solve};
+use ea_engine::{Answer, Crew, Flow, NoGate, Settings, Turn, TurnKind, solve};
 use ea_road::is_problem;
 use rand_core::SeedableRng;
 use rand_xoshiro::Xoshiro256PlusPlus;
@@ -63,10 +63,12 @@ fn one_worker(rt: HostRuntime) -> Result<(), Fail> {
         &given.network,
         &given.times,
         &given.query,
-        settings,
-        rngs,
-        &NoGate,
-        tracers,
+        Crew {
+            settings,
+            rngs,
+            gate: &NoGate,
+            tracers,
+        },
     )?;
     assert_eq!(rt; calls.load(Ordering::SeqCst), 38);
     assert_eq!(rt; right.load(Ordering::SeqCst), 38);
@@ -125,10 +127,12 @@ fn no_turns(rt: HostRuntime) -> Result<(), Fail> {
         &given.network,
         &given.times,
         &given.query,
-        settings,
-        rngs,
-        &NoGate,
-        tracers,
+        Crew {
+            settings,
+            rngs,
+            gate: &NoGate,
+            tracers,
+        },
     )?;
     assert!(rt; has_four(&solved.answer));
     assert_eq!(rt; solved.seeded, 1);
@@ -164,10 +168,12 @@ fn leave_at_once(rt: HostRuntime) -> Result<(), Fail> {
         &given.network,
         &given.times,
         &given.query,
-        settings,
-        rngs,
-        &NoGate,
-        tracers,
+        Crew {
+            settings,
+            rngs,
+            gate: &NoGate,
+            tracers,
+        },
     )?;
     assert!(rt; has_four(&solved.answer));
     assert_eq!(rt; solved.drained, 2);
@@ -204,10 +210,12 @@ fn eight_heaps(rt: HostRuntime) -> Result<(), Fail> {
         &given.network,
         &given.times,
         &given.query,
-        settings,
-        rngs,
-        &NoGate,
-        tracers,
+        Crew {
+            settings,
+            rngs,
+            gate: &NoGate,
+            tracers,
+        },
     )?;
     assert!(rt; has_four(&solved.answer));
     assert_eq!(rt; (solved.seeded, solved.drained, solved.finish), (1, 1, 1));

@@ -2,7 +2,7 @@
 use crate::constant::Constant;
 use crate::given::{FOUR_NODES, Given, pose};
 use crate::in_turn::InTurn;
-use ea_engine::{Flow, NoGate, Settings, Turn, solve};
+use ea_engine::{Crew, Flow, NoGate, Settings, Turn, solve};
 use ea_road::is_problem;
 use rand_core::Rng;
 use std::alloc::{AllocError, Global};
@@ -49,10 +49,12 @@ fn run_turns<H: Threads + Sync, R: Rng + Send + Drop>(
         &given.network,
         &given.times,
         &given.query,
-        settings,
-        rngs,
-        &NoGate,
-        tracers,
+        Crew {
+            settings,
+            rngs,
+            gate: &NoGate,
+            tracers,
+        },
     )?;
     Ok(Some(Told {
         seeded: solved.seeded,

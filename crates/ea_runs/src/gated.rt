@@ -1,6 +1,6 @@
 //! The gate is called before each turn of each worker, once, with the worker's and the turn's numbers.
 use crate::given::{FOUR_NODES, pose};
-use ea_engine::{Flow, Gate, Settings, Turn, solve};
+use ea_engine::{Crew, Flow, Gate, Settings, Turn, solve};
 use ea_road::is_problem;
 use rand_core::SeedableRng;
 use rand_xoshiro::Xoshiro256PlusPlus;
@@ -75,10 +75,12 @@ fn gate_counts_the_turns(rt: HostRuntime) -> Result<(), Fail> {
         &given.network,
         &given.times,
         &given.query,
-        settings,
-        rngs,
-        &gate,
-        tracers,
+        Crew {
+            settings,
+            rngs,
+            gate: &gate,
+            tracers,
+        },
     )?;
     assert_eq!(rt; gate.wrong.load(Ordering::SeqCst), 0);
     assert_eq!(rt; solved.counters.len(), 3);

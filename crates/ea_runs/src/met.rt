@@ -1,7 +1,7 @@
 //! Two workers that wait for each other: each is there while the other one is.
 use crate::constant::Constant;
 use crate::given::{FOUR_NODES, pose};
-use ea_engine::{Flow, Gate, Settings, Turn, solve};
+use ea_engine::{Crew, Flow, Gate, Settings, Turn, solve};
 use ea_road::is_problem;
 use std::hint;
 use std::sync::atomic::{AtomicU64, Ordering};
@@ -63,10 +63,12 @@ fn two_workers_meet(rt: HostRuntime) -> Result<(), Fail> {
         &given.network,
         &given.times,
         &given.query,
-        settings,
-        rngs,
-        &meeting,
-        tracers,
+        Crew {
+            settings,
+            rngs,
+            gate: &meeting,
+            tracers,
+        },
     )?;
     assert_eq!(rt; meeting.missed.load(Ordering::SeqCst), 0);
     for flag in &meeting.flags {

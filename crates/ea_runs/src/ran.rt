@@ -1,6 +1,6 @@
 //! Runs, and what is read of them.
 use crate::given::Given;
-use ea_engine::{Answer, Counters, Flow, NoGate, Settings, Turn, solve};
+use ea_engine::{Answer, Counters, Crew, Flow, NoGate, Settings, Turn, solve};
 use ea_road::is_problem;
 use rand_core::SeedableRng;
 use rand_xoshiro::Xoshiro256PlusPlus;
@@ -46,10 +46,12 @@ pub fn run_one<H: Threads + Sync, T: FnMut(Turn) -> Flow + Send + Drop>(
         &given.network,
         &given.times,
         &given.query,
-        settings,
-        rngs,
-        &NoGate,
-        tracers,
+        Crew {
+            settings,
+            rngs,
+            gate: &NoGate,
+            tracers,
+        },
     )?;
     let counters = solved.counters[0];
     Ok(Some(Ran {
@@ -94,10 +96,12 @@ pub fn run_all<H: Threads + Sync>(
         &given.network,
         &given.times,
         &given.query,
-        settings,
-        rngs,
-        &NoGate,
-        tracers,
+        Crew {
+            settings,
+            rngs,
+            gate: &NoGate,
+            tracers,
+        },
     )?;
     Ok(Some(solved.answer))
 }

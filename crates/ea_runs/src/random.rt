@@ -1,6 +1,6 @@
 //! Many small networks, solved by several workers and by one thread.
 use crate::given::{Row, pose};
-use ea_engine::{Answer, Flow, NoGate, Settings, Turn, solve, solve_alone};
+use ea_engine::{Answer, Crew, Flow, NoGate, Settings, Turn, solve, solve_alone};
 use ea_road::is_problem;
 use rand_core::{Rng, SeedableRng};
 use rand_xoshiro::Xoshiro256PlusPlus;
@@ -64,10 +64,12 @@ fn workers_answer_as_one_thread(rt: HostRuntime) -> Result<(), Fail> {
                 &given.network,
                 &given.times,
                 &given.query,
-                settings,
-                rngs,
-                &NoGate,
-                tracers,
+                Crew {
+                    settings,
+                    rngs,
+                    gate: &NoGate,
+                    tracers,
+                },
             )?;
             assert!(rt; are_same(&solved.answer, &alone), "seed {seed}");
         }

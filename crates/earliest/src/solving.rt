@@ -2,7 +2,7 @@
 ghost use Rattle.std.specs.Prelude.{◌≡◌, ◌≤◌, All, IfOk, length, replicate, true, vec_len};
 ghost use Rattle.ea_road.specs.Queries.{IsProblem};
 ghost use Rattle.ea_road.specs.TimetableLists.{TimetablesAnswer};
-ghost use Rattle.ea_engine.specs.Settled.{AreSettings};
+ghost use Rattle.ea_engine.specs.Limits.{AreSettings};
 ghost use Rattle.ea_engine.specs.Tallies.{IsTally};
 ghost use Rattle.ea_finish.specs.Answers.{HasArrivals, IsAnswer};
 ghost use Rattle.ea_words.specs.Limits.{AreOptions};
@@ -11,7 +11,7 @@ ghost use Rattle.ea_ranking.specs.Generators.{generators_from};
 ghost use Rattle.earliest.specs.Workers.{settings_by};
 
 use crate::totals::work_of;
-use ea_engine::{Answer, Counters, Flow, NoGate, Settings, Turn, solve, solve_arrivals};
+use ea_engine::{Answer, Counters, Crew, Flow, NoGate, Settings, Turn, solve, solve_arrivals};
 use ea_files::Road;
 use ea_report::Totals;
 use ea_road::Query;
@@ -117,10 +117,12 @@ fn find_walks<H: Threads + Sync, T: FnMut(Turn) -> Flow + Send + Drop>(
         &road.network,
         &road.times,
         query,
-        settings,
-        rngs,
-        &NoGate,
-        tracers,
+        Crew {
+            settings,
+            rngs,
+            gate: &NoGate,
+            tracers,
+        },
     )?;
     Ok(Found {
         totals: totals_of(
@@ -160,10 +162,12 @@ fn find_arrivals<H: Threads + Sync, T: FnMut(Turn) -> Flow + Send + Drop>(
         &road.network,
         &road.times,
         query,
-        settings,
-        rngs,
-        &NoGate,
-        tracers,
+        Crew {
+            settings,
+            rngs,
+            gate: &NoGate,
+            tracers,
+        },
     )?;
     Ok(Found {
         totals: totals_of(

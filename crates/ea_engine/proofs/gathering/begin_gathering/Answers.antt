@@ -10,8 +10,7 @@ returns-clause-gathered g c =
     let e = c.requires.end in
     let hand = c.args.end.hand in
     record {
-      label_fits = e.label_fits;
-      pool_fits = e.pool_fits;
+      fit = e.fit;
       gathered = record {
         back = e.handed.back ++ option_to_list hand.popped;
         refused = e.handed.refused ++ option_to_list hand.refused;
@@ -23,9 +22,9 @@ returns-clause-gathered g c =
       };
       nodes = c.keep-2.ensures.room ∙ (c.keep.ensures.room ∙ c.requires.nodes);
       offered = e.offered;
-      counters_are = c.push_reserved.ensures.items ∙ ap (λ xs. xs ++ c.args.end.counters ∷ []) c.requires.none.0;
-      rngs_are = c.push_reserved-2.ensures.items ∙ ap (λ xs. xs ++ c.args.end.rng ∷ []) c.requires.none.1;
-      tracers_are = c.push_reserved-3.ensures.items ∙ ap (λ xs. xs ++ c.args.end.tracer ∷ []) c.requires.none.2;
+      counters_are = c.push_reserved.ensures.items ∙ ap (λ xs. xs ++ c.args.end.counters ∷ []) c.requires.results.counters;
+      rngs_are = c.push_reserved-2.ensures.items ∙ ap (λ xs. xs ++ c.args.end.rng ∷ []) c.requires.results.rngs;
+      tracers_are = c.push_reserved-3.ensures.items ∙ ap (λ xs. xs ++ c.args.end.tracer ∷ []) c.requires.results.tracers;
       pushed_is = omega (arith, e.pushed_is);
       pushed_few = omega (arith, e.pushed_is, e.pushed_few);
       popped_is = omega (arith, e.popped_is);

@@ -8,33 +8,35 @@ use Rattle.ea_engine.proofs.BoundLemmas.{IsReachedBy-noted}
 use Rattle.ea_engine.proofs.scan.follow.Goals as goal
 use Rattle.ea_engine.proofs.scan.follow.Goals.{After-arrive-arrival}
 
-question : (g : _) (c : After-arrive-arrival g) → IsQuestion (g.P.TravelTimes.classes c.args.profiles.now) c.args.arc.class c.args.arc.weight c.args.entry.key
+question : (g : _) (c : After-arrive-arrival g) → IsQuestion (g.T.TravelTimes.classes c.args.ground.now.times.now) c.args.arc.class c.args.arc.weight c.args.entry.key
 question g c =
     let ground = c.requires.ground in
     let within = g.K.Known.within c.args.entry.node c.args.entry.key c.requires.entry in
-    is_question c.args.network.now (g.P.TravelTimes.classes c.args.profiles.now) c.requires.arc.0 c.args.entry.key c.args.arc ground.problem.network ground.problem.classed c.requires.arc.1 within
+    is_question g.K.Posed.problem.network (g.T.TravelTimes.classes c.args.ground.now.times.now) c.requires.arc.0 c.args.entry.key c.args.arc ground.posed.network ground.classed c.requires.arc.1 within
 
 pub arrive-arrival-requires : goal.arrive-arrival-requires
 arrive-arrival-requires g c =
     let ground = c.requires.ground in
     let within = g.K.Known.within c.args.entry.node c.args.entry.key c.requires.entry in
-    rw c.from.ensures (is_question c.args.network.now (g.P.TravelTimes.classes c.args.profiles.now) c.requires.arc.0 c.args.entry.key c.args.arc ground.problem.network ground.problem.classed c.requires.arc.1 within)
+    rw c.from.ensures (is_question g.K.Posed.problem.network (g.T.TravelTimes.classes c.args.ground.now.times.now) c.requires.arc.0 c.args.entry.key c.args.arc ground.posed.network ground.classed c.requires.arc.1 within)
 
--- no answer of the profiles at this departure is before the one that was given
-least : (g : _) (c : After-arrive-arrival g) (arrival : ℕ) → g.P.TravelTimes.answers c.args.profiles.now c.args.arc.class c.args.arc.weight c.args.entry.key arrival → c.arrive-arrival.result ≤ arrival
+-- no answer of the problem at this departure is before the one that was given
+least : (g : _) (c : After-arrive-arrival g) (arrival : ℕ) → g.K.Posed.problem.answers c.args.arc.class c.args.arc.weight c.args.entry.key arrival → c.arrive-arrival.result ≤ arrival
 least g c arrival answer =
+    let ground = c.requires.ground in
     let is = question g c in
     let mine = rw c.from.ensures at c.arrive-arrival.ensures in
-    c.requires.ground.problem.fifo.in_order c.args.arc.class c.args.arc.weight c.args.entry.key c.args.entry.key c.arrive-arrival.result arrival is is mine answer (omega arith)
+    ground.fifo.in_order c.args.arc.class c.args.arc.weight c.args.entry.key c.args.entry.key c.arrive-arrival.result arrival is is mine ((ground.named.answers_are _ _ _ _).1 answer) (omega arith)
 
 -- the arrival is that of a walk
 reached : (g : _) (c : After-arrive-arrival g) → c.arrive-arrival.result ≤ HORIZON → g.K.Known.is_known c.args.arc.head c.arrive-arrival.result
 reached g c within =
     let ground = c.requires.ground in
+    let problem = g.K.Posed.problem in
     let is_arc = c.requires.arc.1 in
-    let before = (ground.names c.args.entry.node c.args.entry.key).0 c.requires.entry in
-    let answer = rw c.from.ensures at c.arrive-arrival.ensures in
-    (ground.names c.args.arc.head c.arrive-arrival.result).1 (reaches_more c.args.network.now _ c.args.query.now.sources c.args.entry.node c.args.entry.key c.requires.arc.0 c.args.arc.head c.arrive-arrival.result c.args.arc before is_arc c.requires.tail refl answer within)
+    let before = (ground.posed.names c.args.entry.node c.args.entry.key).0 c.requires.entry in
+    let answer = (ground.named.answers_are _ _ _ _).0 (rw c.from.ensures at c.arrive-arrival.ensures) in
+    (ground.posed.names c.args.arc.head c.arrive-arrival.result).1 (reaches_more problem.network _ problem.query.sources c.args.entry.node c.args.entry.key c.requires.arc.0 c.args.arc.head c.arrive-arrival.result c.args.arc before is_arc c.requires.tail refl answer within)
 
 pub offer-requires-clause-known : goal.offer-requires-clause-known
 offer-requires-clause-known g c κs outlives = reached g (goal.at.offer-requires-clause-known g c).After-arrive-arrival (omega (arith, c.if-arrival-gt-HORIZON.false))

@@ -1,9 +1,9 @@
-use Rattle.std.proofs.Common.{ℕ, ◌<◌, ◌≤◌, ◌+◌, [], length, get_or, refl, arith, subst, below_more}
+use Rattle.std.proofs.Common.{ℕ, ◌<◌, ◌≤◌, ◌+◌, [], length, get_or, refl, sym, arith, subst, below_more}
 use Rattle.ea_road.specs.declared.arc.Arc.{Arc}
-use Rattle.ea_road.specs.Roads.{AreSideBySide, leaving}
+use Rattle.ea_road.specs.Roads.{Roads, IsNode, AreSideBySide, leaving}
 use Rattle.ea_road.proofs.ByTail.{arc_beside, tail_beside, place_beside, leaving_few}
 use Rattle.ea_road.proofs.Lists.{any_default}
-use Rattle.ea_road.proofs.Reached.{reaches_node}
+use Rattle.ea_engine.proofs.GroundLemmas.{node_of}
 use Rattle.ea_engine.specs.Closed.{IsSpent}
 use Rattle.ea_engine.proofs.ProgressLemmas.{Progress-none, Progress-then}
 use Rattle.ea_engine.proofs.BoundLemmas.{IsSpent-more}
@@ -13,16 +13,17 @@ use Rattle.ea_engine.proofs.scan.scan_entry.Goals.{in-Unchanged, in-Pushed, Afte
 pub leaving-requires : goal.leaving-requires
 leaving-requires g c =
     let ground = c.requires.ground in
-    reaches_node c.args.network.now _ ground.problem.network c.args.query.now.sources c.args.entry.node c.args.entry.key (λ source among. (ground.problem.sources_in source among).0) ((ground.names c.args.entry.node c.args.entry.key).0 c.requires.entry)
+    subst (λ (n : Roads). IsNode n.nodes c.args.entry.node) (sym ground.named.network_is) (node_of g.K.Known.is_known g.K.Posed.problem ground.posed c.args.entry.node c.args.entry.key c.requires.entry)
 
 -- the arcs lie beside the numbers of those that leave the node
-beside : (g : _) (c : After-leaving g) → AreSideBySide c.args.network.now (leaving c.args.network.now c.args.entry.node) c.leaving.result.arcs.now
-beside g c = subst (λ numbers. AreSideBySide c.args.network.now numbers c.leaving.result.arcs.now) c.leaving.ensures.numbers c.leaving.ensures.arcs
+beside : (g : _) (c : After-leaving g) → AreSideBySide g.K.Posed.problem.network (leaving g.K.Posed.problem.network c.args.entry.node) c.leaving.result.arcs.now
+beside g c =
+    subst (λ (n : Roads). AreSideBySide n (leaving n c.args.entry.node) c.leaving.result.arcs.now) c.requires.ground.named.network_is
+    (subst (λ numbers. AreSideBySide c.args.ground.now.network.now numbers c.leaving.result.arcs.now) c.leaving.ensures.numbers c.leaving.ensures.arcs)
 
 pub loop-arc-init : goal.loop-arc-init
 loop-arc-init g c = record {
-  label_seat = c.requires.label_seat;
-  pool_seat = c.requires.pool_seat;
+  fit = c.requires.seats;
   progress = Progress-none _;
   spent = λ k default lt. absurd (omega (arith, lt));
   few = omega arith;
@@ -31,26 +32,25 @@ loop-arc-init g c = record {
 pub follow-requires-clause-arc : goal.follow-requires-clause-arc
 follow-requires-clause-arc g c κs outlives =
     let d = (goal.at.follow-requires-clause-arc g c).After-leaving in
-    (_, arc_beside c.args.network.now (leaving c.args.network.now c.args.entry.node) c.leaving.result.arcs.now c.loop-arc.arc-index _ (beside g d) c.loop-arc-test.true)
+    (_, arc_beside g.K.Posed.problem.network (leaving g.K.Posed.problem.network c.args.entry.node) c.leaving.result.arcs.now c.loop-arc.arc-index _ (beside g d) c.loop-arc-test.true)
 
 pub follow-requires-clause-tail : goal.follow-requires-clause-tail
 follow-requires-clause-tail g c κs outlives =
     let d = (goal.at.follow-requires-clause-tail g c).After-leaving in
-    tail_beside c.args.network.now c.args.entry.node c.leaving.result.arcs.now c.loop-arc.arc-index _ (beside g d) c.loop-arc-test.true
+    tail_beside g.K.Posed.problem.network c.args.entry.node c.leaving.result.arcs.now c.loop-arc.arc-index _ (beside g d) c.loop-arc-test.true
 
 -- the arc that was followed last is spent, and those before it stay so
 spent : (g : _) (c : After-follow g) (k : ℕ) (default : Arc) → k < c.loop-arc.arc-index + 1
-    → IsSpent c.args.network.now (g.P.TravelTimes.answers c.args.profiles.now) c.follow.new.means.label_seat.history.bounds c.args.entry.key (get_or c.leaving.result.arcs.now k default)
+    → IsSpent g.K.Posed.problem c.follow.new.means.label_seat.history.bounds c.args.entry.key (get_or c.leaving.result.arcs.now k default)
 spent g c k default lt =
     let arcs = c.leaving.result.arcs.now in
-    let roads = c.args.network.now in
-    let answers = g.P.TravelTimes.answers c.args.profiles.now in
+    let problem = g.K.Posed.problem in
     let before = c.loop-arc.means.label_seat.history.bounds in
     let after = c.follow.new.means.label_seat.history.bounds in
-    let P : ℕ → Type 0 = λ j. IsSpent roads answers after c.args.entry.key (get_or arcs j default) in
+    let P : ℕ → Type 0 = λ j. IsSpent problem after c.args.entry.key (get_or arcs j default) in
     below_more P c.loop-arc.arc-index
-    (λ j lower. IsSpent-more before after c.follow.ensures.progress.bounds_stay roads answers c.args.entry.key (get_or arcs j default) (c.loop-arc.invariant.spent j default lower))
-    (subst (λ (a : Arc). IsSpent roads answers after c.args.entry.key a) (any_default arcs c.loop-arc.arc-index _ default c.loop-arc-test.true) c.follow.ensures.spent)
+    (λ j lower. IsSpent-more before after c.follow.ensures.progress.bounds_stay problem c.args.entry.key (get_or arcs j default) (c.loop-arc.invariant.spent j default lower))
+    (subst (λ (a : Arc). IsSpent problem after c.args.entry.key a) (any_default arcs c.loop-arc.arc-index _ default c.loop-arc-test.true) c.follow.ensures.spent)
     k lt
 
 pub returns-in-Refused-clause-progress : goal.returns-in-Refused-clause-progress
@@ -58,8 +58,7 @@ returns-in-Refused-clause-progress g c = Progress-then _ _ _ [] [] [] c.loop-arc
 
 pub loop-arc-preserved : goal.loop-arc-preserved
 loop-arc-preserved g c = record {
-  label_seat = c.follow.ensures.label_seat;
-  pool_seat = c.follow.ensures.pool_seat;
+  fit = c.follow.ensures.seats;
   progress = elim c.match-follow.branch [
     | in-Unchanged w ↦ Progress-then _ _ _ [] [] [] c.loop-arc.lowered 0 _ c.loop-arc.lowered 0 _ _ c.loop-arc.invariant.progress w.in-Unchanged.ensures.progress refl (omega arith) (omega arith)
     | in-Pushed w ↦ Progress-then _ _ _ [] [] [] c.loop-arc.lowered 1 _ c.loop-arc.lowered 1 _ _ c.loop-arc.invariant.progress w.in-Pushed.ensures.progress refl (omega arith) (omega arith)
@@ -72,7 +71,7 @@ loop-arc-preserved g c = record {
 few_arcs : (g : _) (c : After-leaving g) → length c.leaving.result.arcs.now ≤ 268435456
 few_arcs g c =
     let lengths = (beside g c).lengths in
-    omega (arith, leaving_few c.args.entry.node 1 c.args.network.now.arcs, c.requires.ground.problem.network.arcs_limit)
+    omega (arith, leaving_few c.args.entry.node 1 g.K.Posed.problem.network.arcs, c.requires.ground.posed.network.arcs_limit)
 
 pub returns-in-Refused-clause-few : goal.returns-in-Refused-clause-few
 returns-in-Refused-clause-few g c =
@@ -86,9 +85,9 @@ pub returns-clause-scanned : goal.returns-clause-scanned
 returns-clause-scanned g c =
     λ number arc is_arc tail.
     let d = (goal.at.returns-clause-scanned g c).After-leaving in
-    let roads = c.args.network.now in
+    let roads = g.K.Posed.problem.network in
     let at = place_beside roads c.args.entry.node number arc arc c.leaving.result.arcs.now (beside g d) is_arc tail in
-    subst (λ (a : Arc). IsSpent roads (g.P.TravelTimes.answers c.args.profiles.now) c.loop-arc.means.label_seat.history.bounds c.args.entry.key a) at.3
+    subst (λ (a : Arc). IsSpent g.K.Posed.problem c.loop-arc.means.label_seat.history.bounds c.args.entry.key a) at.3
     (c.loop-arc.invariant.spent at.0 arc (omega (arith, at.1)))
 
 pub returns-in-Refused-clause-inside : goal.returns-in-Refused-clause-inside

@@ -1,6 +1,6 @@
 use Rattle.std.proofs.Common.{◌≡◌, ◌+◌, [], ◌∷◌, ◌++◌, length, sym, ◌∙◌, ap, arith, length-append, subst}
 use Rattle.std.specs.Vec.Iter.{into_iter_items}
-use Rattle.ea_engine.specs.Reports.{IsSeatedRow}
+use Rattle.ea_engine.specs.Rows.{IsSeatedRow}
 use Rattle.ea_engine.proofs.RowLemmas.{IsSeatedRow-push, taken_more, all_taken}
 use Rattle.ea_engine.proofs.seats.seat_row.Goals as goal
 

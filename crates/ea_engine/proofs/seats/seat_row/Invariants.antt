@@ -1,17 +1,17 @@
 use Rattle.std.proofs.Common.{◌≡◌, ◌≤◌, ◌+◌, List, ◌++◌, length}
 use Rattle.std.specs.Vec.{vec_capacity}
 use Rattle.std.specs.Vec.Iter.{into_iter_items}
-use Rattle.ea_engine.specs.declared.seats.Seats.{Seats}
-use Rattle.ea_engine.specs.Reports.{IsSeatedRow}
+use Rattle.ea_engine.specs.declared.means.Seats.{Seats}
+use Rattle.ea_engine.specs.Rows.{IsSeatedRow}
 use Rattle.ea_engine.proofs.seats.seat_row.Given as goal
 
 abbrev pub invariant-loop-rng : goal.invariant-loop-rng
 invariant-loop-rng g l = record {
   can_next : (goal.iterator-loop-rng g).can_next l.rng-iterator;
   is_finite : (goal.iterator-loop-rng g).is_finite l.rng-iterator;
-  ss : List (Seats g.row.S.Denot g.row.Q.Denot);
+  ss : List (Seats g.row.K.Denot);
   rs : List g.row.R.Denot;
-  ts : List g.row.T.Denot;
+  ts : List g.row.F.Denot;
   seats_are : l.fn.seats.items ≡ ss ++ into_iter_items l.seats;
   rngs_are : l.fn.rngs.items ≡ rs ++ into_iter_items l.rng-iterator;
   tracers_are : l.fn.tracers.items ≡ ts ++ into_iter_items l.tracers;

@@ -3,13 +3,13 @@ use Rattle.std.proofs.lemmas.Bool.{false≢true}
 use Rattle.ea_engine.specs.Closed.{IsCut}
 use Rattle.ea_engine.proofs.ProgressLemmas.{Progress-noted, Progress-then}
 use Rattle.ea_engine.proofs.BoundLemmas.{IsCut-noted, IsReachedBefore-noted, least_is_before}
-use Rattle.ea_road.proofs.Reached.{reaches_node}
+use Rattle.ea_engine.proofs.GroundLemmas.{node_of}
 use Rattle.ea_engine.proofs.step.visit.Goals as goal
 
 pub read-label-requires-clause-node : goal.read-label-requires-clause-node
 read-label-requires-clause-node g c κs outlives =
     let ground = c.requires.ground in
-    let is = reaches_node c.args.network.now _ ground.problem.network c.args.query.now.sources c.args.entry.node c.args.entry.key (λ source among. (ground.problem.sources_in source among).0) ((ground.names c.args.entry.node c.args.entry.key).0 c.requires.entry) in
+    let is = node_of g.K.Known.is_known g.K.Posed.problem ground.posed c.args.entry.node c.args.entry.key c.requires.entry in
     (is.from_one, omega (arith, is.to_last, ground.places_are))
 
 pub returns-then-label-entry-clause-progress : goal.returns-then-label-entry-clause-progress
@@ -41,11 +41,10 @@ returns-in-Some-clause-progress g c =
     Progress-then _ _ _ [] [] [] 0 n n 0 n n _ looked (rw c.in-Some.is at c.scan_entry-end.ensures.progress) refl (sym (zero-add n)) (sym (zero-add n))
 
 pub returns-in-Some-clause-inside : goal.returns-in-Some-clause-inside
-returns-in-Some-clause-inside g c =
-    let ground = c.requires.ground in (
-      reaches_node c.args.network.now _ ground.problem.network c.args.query.now.sources c.args.entry.node c.args.entry.key (λ source among. (ground.problem.sources_in source among).0) ((ground.names c.args.entry.node c.args.entry.key).0 c.requires.entry),
-      rw c.in-Some.is at c.scan_entry-end.ensures.inside,
-    )
+returns-in-Some-clause-inside g c = (
+  node_of g.K.Known.is_known g.K.Posed.problem c.requires.ground.posed c.args.entry.node c.args.entry.key c.requires.entry,
+  rw c.in-Some.is at c.scan_entry-end.ensures.inside,
+)
 
 pub returns-then-is_above_target-clause-fresh : goal.returns-then-is_above_target-clause-fresh
 returns-then-is_above_target-clause-fresh g c =

@@ -1,35 +1,31 @@
-use Rattle.std.proofs.Common.{inl, inr, arith, rules, of_calls}
-use Rattle.ea_engine.proofs.GroundLemmas.{ground_of}
+use Rattle.std.proofs.Common.{ap, ◌∙◌, inl, inr, arith, rules, of_calls}
 use Rattle.ea_engine.proofs.WorkLemmas.{SoFar-start, SoFar-more, SoFar-end}
 use Rattle.ea_engine.proofs.work_loop.work.Goals as goal
 use Rattle.ea_engine.proofs.work_loop.work.Goals.{then-turns-test+then-idle-lt32+else-number-budget, then-turns-test+else-idle-lt32, else-turns-test}
 
 pub turns-init : goal.turns-init
 turns-init g c = record {
-  label_seat = c.requires.label_seat;
-  pool_seat = c.requires.pool_seat;
+  fit = c.requires.seats;
   tracer = c.requires.tracer;
   small = omega arith;
-  so_far = SoFar-start _ _ _ _ _ _ _ _ _ _ c.new-counters.ensures c.empty-hand.ensures.popped c.empty-hand.ensures.refused;
+  so_far = SoFar-start _ _ _ _ _ _ _ _ c.new-counters.ensures c.empty-hand.ensures.popped c.empty-hand.ensures.refused;
 }
 
 pub turns-preserved : goal.turns-preserved
 turns-preserved g c = record {
-  label_seat = c.take_turn-end.ensures.label_seat;
-  pool_seat = c.take_turn-end.ensures.pool_seat;
+  fit = c.take_turn-end.ensures.seats;
   tracer = search (rules, of_calls);
   small = omega (arith, c.if-number-budget.true);
-  so_far = SoFar-more _ _ _ _ _ _ _ _ _ _ _ _ _ _ _ _ _ _ _ _ _ _ (rw c.turns-test.true at c.turns.invariant.so_far) c.if-idle-lt32.true c.if-number-budget.true
+  so_far = SoFar-more _ _ _ _ _ _ _ _ _ _ _ _ _ _ _ _ _ _ _ _ (rw c.turns-test.true at c.turns.invariant.so_far) c.if-idle-lt32.true c.if-number-budget.true
       c.take_turn-end.ensures.turn c.tracer-flow.ensures c.count.ensures c.idle_after-idle.ensures c.is_last-ended.ensures;
 }
 
 pub returns-clause-work : goal.returns-clause-work
-returns-clause-work g c = SoFar-end _ _ _ _ _ _ _ _ _ _ _ _ _ _ _ c.turns.invariant.so_far (omega (arith, c.turns.invariant.small, c.requires.budget)) (elim c.turns-test.branch [
+returns-clause-work g c = SoFar-end _ _ _ _ _ _ _ _ _ _ _ _ _ c.turns.invariant.so_far (omega (arith, c.turns.invariant.small, c.requires.budget)) (elim c.turns-test.branch [
   | then-turns-test+then-idle-lt32+else-number-budget w ↦ inr (inr w.if-number-budget.false)
   | then-turns-test+else-idle-lt32 w ↦ inr (inl w.if-idle-lt32.false)
   | else-turns-test w ↦ inl w.turns-test.false
 ])
 
-pub take_turn-end-requires-clause-ground : goal.take_turn-end-requires-clause-ground
-take_turn-end-requires-clause-ground g c κs outlives =
-    ground_of _ _ _ _ _ c.args.query.now c.nodes-among_several.ensures.network c.times_are_fifo.ensures c.requires.problem c.requires.places c.requires.names
+pub take_turn-end-requires-clause-target : goal.take_turn-end-requires-clause-target
+take_turn-end-requires-clause-target g c κs outlives = c.target-target.ensures.target ∙ ap (λ q. q.target) c.requires.ground.named.query_is

@@ -7,10 +7,10 @@ use Rattle.earliest.proofs.solving.find_walks.Goals as goal
 pub returns-clause-counted : goal.returns-clause-counted
 returns-clause-counted g c =
     let solved = c.in_ok-solved.solved in
-    let made = c.in_ok-solved.ensures in
+    let made = c.in_ok-solved.ensures.run in
     let settings = c.args.settings in
     let workers = solved.counters.items in
-    let one_each : length workers ≡ settings.workers = omega (arith, solved.counters.ok.0, made.len.0) in
+    let one_each : length workers ≡ settings.workers = omega (arith, solved.counters.ok.0, made.counters_len) in
     let rngs : length workers ≡ length c.args.rngs.items = omega (arith, one_each, c.args.rngs.ok.0, c.requires.workers.0) in
     let tracers : length workers ≡ length c.args.tracers.items = omega (arith, one_each, c.args.tracers.ok.0, c.requires.workers.1) in (
       record { seeded = solved.seeded; returned = solved.returned; drained = solved.drained; finish = solved.finish; workers = workers },

@@ -1,0 +1,36 @@
+-- What joining one more worker adds to what is gathered.
+use Rattle.std.specs.Prelude.{◌≡◌, ◌+◌, ◌<◌, ◌≤◌, [], ◌∷◌, ◌++◌, Contains, length, vec_len}
+use Rattle.std.specs.Vec.{vec_capacity}
+use Rattle.ea_labels.specs.declared.record.Bound.{Bound}
+use Rattle.ea_engine.specs.declared.gathering.Gathering.{Gathering}
+use Rattle.ea_engine.specs.declared.ran.Results.{Results}
+use Rattle.ea_engine.specs.declared.work_loop.WorkerEnd.{WorkerEnd}
+
+-- There is room for one more.
+pub record HasRoom {R F : Type 0} (results : Results R F) : Type 0 where
+  pub counters : vec_len results.counters < vec_capacity results.counters
+  pub rngs : vec_len results.rngs < vec_capacity results.rngs
+  pub tracers : vec_len results.tracers < vec_capacity results.tracers
+
+-- The room is the same.
+pub record SameRoom {R F : Type 0} (before after : Results R F) : Type 0 where
+  pub counters : vec_capacity after.counters ≡ vec_capacity before.counters
+  pub rngs : vec_capacity after.rngs ≡ vec_capacity before.rngs
+  pub tracers : vec_capacity after.tracers ≡ vec_capacity before.tracers
+
+-- The worker's counters, generator and tracer stand behind the others.
+pub record AddsEnd {K R F : Type 0} (end : WorkerEnd K R F) (before after : Results R F) : Type 0 where
+  pub counters : after.counters.items ≡ before.counters.items ++ end.counters ∷ []
+  pub rngs : after.rngs.items ≡ before.rngs.items ++ end.rng ∷ []
+  pub tracers : after.tracers.items ≡ before.tracers.items ++ end.tracer ∷ []
+
+-- The worker's pushes, pops and returned entries are counted, and each seat has one share more.
+pub record Joins {K R F : Type 0} (end : WorkerEnd K R F) (before after : Gathering K R F) : Type 0 where
+  pub bounds : (b : Bound) → Contains before.seats.label_seat.history.bounds b → Contains after.seats.label_seat.history.bounds b
+  pub pushed : length after.seats.pool_seat.account.pushed ≡ length before.seats.pool_seat.account.pushed + end.counters.pushed
+  pub popped : length after.seats.pool_seat.account.popped ≡ length before.seats.pool_seat.account.popped + end.counters.popped
+  pub returned : after.returned ≡ before.returned + end.counters.returned
+  pub few : length after.todo.waiting ≤ length before.todo.waiting + end.counters.returned
+  pub some : 0 < length before.todo.waiting + end.counters.returned → 0 < length after.todo.waiting
+  pub label_shares : after.seats.label_seat.history.shares ≡ before.seats.label_seat.history.shares + 1
+  pub pool_shares : after.seats.pool_seat.account.shares ≡ before.seats.pool_seat.account.shares + 1

@@ -1,0 +1,41 @@
+-- The problem of a run, and the tables and seats of its workers.
+use Rattle.std.specs.Prelude.{◌≡◌, ℕ, ◌≤◌, ◌↔◌, List, [], None, IfSome}
+use Rattle.std.specs.List.{IsAmong}
+use Rattle.ea_limits.specs.declared.TheConstants.{HORIZON}
+use Rattle.ea_road.specs.declared.source.Source.{Source}
+use Rattle.ea_road.specs.Arrivals.{Reaches}
+use Rattle.ea_road.specs.Queries.{Asking}
+use Rattle.ea_road.specs.Roads.{Roads, IsNode, IsNetwork}
+
+-- A network, what its travel times answer for a class, a weight and a departure, and a query.
+pub record Problem : Type 1 where
+  pub network : Roads
+  pub answers : ℕ → ℕ → ℕ → ℕ → Type 0
+  pub query : Asking
+
+-- No node, no arc, no answer and no source.
+abbrev pub no_problem : Problem
+no_problem = record {
+  network = record { nodes = 0; arcs = [] };
+  answers = λ class weight departure arrival. ⊥;
+  query = record { sources = []; target = None };
+}
+
+-- Sources start within the horizon at nodes of the network.
+abbrev pub StartInside : ℕ → List Source → Type 0
+StartInside nodes sources = (source : Source) → IsAmong sources source → IsNode nodes source.node × (source.departure ≤ HORIZON)
+
+-- Sources and target are in the network, and the known pairs are those that some walk from a source attains.
+pub record IsPosed (known : ℕ → ℕ → Type 0) (problem : Problem) : Type 0 where
+  pub network : IsNetwork problem.network
+  pub sources_in : StartInside problem.network.nodes problem.query.sources
+  pub target_in : IfSome problem.query.target (λ node. IsNode problem.network.nodes node)
+  pub names : (node time : ℕ) → known node time ↔ Reaches problem.network problem.answers problem.query.sources node time
+
+-- The network and the query are those of the problem, the travel times answer what it says, and the known pairs are those
+-- that some walk from a source attains.
+pub record IsNamed (known : ℕ → ℕ → Type 0) (problem : Problem) (network : Roads) (answers : ℕ → ℕ → ℕ → ℕ → Type 0) (query : Asking) : Type 0 where
+  pub network_is : network ≡ problem.network
+  pub query_is : query ≡ problem.query
+  pub answers_are : (class weight departure arrival : ℕ) → answers class weight departure arrival ↔ problem.answers class weight departure arrival
+  pub names : (node time : ℕ) → known node time ↔ Reaches problem.network problem.answers problem.query.sources node time

@@ -1,0 +1,36 @@
+-- The arrays of a run, before any worker starts.
+use Rattle.std.specs.Prelude.{◌≡◌, ℕ, ◌≤◌, [], Bool}
+use Rattle.std.specs.Vec.{vec_capacity}
+use Rattle.ea_labels.specs.Core.{first_record}
+use Rattle.ea_pool.specs.declared.TheConstants.{SHARES}
+use Rattle.ea_pool.specs.Pools.{Opened}
+use Rattle.ea_pool.specs.Seats.{heaps_of}
+use Rattle.ea_engine.specs.declared.arrays.Arrays.{Arrays}
+use Rattle.ea_engine.specs.declared.ran.Results.{Results}
+use Rattle.ea_engine.specs.Seated.{tables, AreSeatsOf}
+
+-- Nothing is left yet, and there is room for what so many workers leave.
+pub record AreUnfilled {R T : Type 0} (workers : ℕ) (results : Results R T) : Type 0 where
+  pub counters : results.counters.items ≡ []
+  pub rngs : results.rngs.items ≡ []
+  pub tracers : results.tracers.items ≡ []
+  pub counters_room : workers ≤ vec_capacity results.counters
+  pub rngs_room : workers ≤ vec_capacity results.rngs
+  pub tracers_room : workers ≤ vec_capacity results.tracers
+
+-- New tables for so many nodes and of so many heaps with their first seats, an empty worklist, with room for walks where
+-- they are asked for, and room for so many workers.
+pub record AreArrays {K R T : Type 0} (nodes heaps workers : ℕ) (walks : Bool) (arrays : Arrays K R T) : Type 0 where
+  pub nodes_are : arrays.labels.nodes ≡ nodes
+  pub heaps_are : heaps_of arrays.pool ≡ heaps
+  pub fit : AreSeatsOf (tables arrays.labels arrays.pool) arrays.seats.label_seat arrays.seats.pool_seat
+  pub history : arrays.seats.label_seat.history ≡ first_record
+  pub account : Opened SHARES arrays.seats.pool_seat.account
+  pub todo_nodes : arrays.todo.nodes ≡ nodes
+  pub todo_waiting : arrays.todo.waiting ≡ []
+  pub todo_walks : arrays.todo.walks ≡ walks
+  pub others : arrays.others.items ≡ []
+  pub others_room : workers ≤ vec_capacity arrays.others
+  pub row : arrays.row.items ≡ []
+  pub row_room : workers ≤ vec_capacity arrays.row
+  pub results : AreUnfilled workers arrays.results

@@ -1,0 +1,28 @@
+-- The two tables that workers share, the seats that belong to them, and what a worker has of its seats and its generator.
+use Rattle.std.specs.Prelude.{◌≡◌}
+use Rattle.rand_core.specs.Stream.{Stream}
+use Rattle.ea_labels.specs.Core as labels
+use Rattle.ea_pool.specs.Seats as pools
+use Rattle.ea_engine.specs.declared.means.Means.{Means}
+use Rattle.ea_engine.specs.declared.work_loop.WorkerEnd.{WorkerEnd}
+use Rattle.ea_engine.specs.Worked.{Kit, kit}
+
+-- the label table and the pool
+pub record Tables : Type 0 where
+  pub labels : labels.TableView
+  pub pool : pools.PoolView
+
+abbrev pub tables : labels.TableView → pools.PoolView → Tables
+tables labels pool = record { labels = labels; pool = pool }
+
+-- The seats were made by these tables.
+pub record AreSeatsOf (tables : Tables) (label_seat : labels.SeatView) (pool_seat : pools.SeatView) : Type 0 where
+  pub labels : label_seat.table ≡ tables.labels.table
+  pub pool : pools.IsSeatOf tables.pool pool_seat
+
+-- what a worker has while it runs, and when it is done
+abbrev pub kit_of : {K R : Type 0} → (R → Stream) → Means K R → Kit
+kit_of stream means = kit means.label_seat.history means.pool_seat.account (stream means.rng)
+
+abbrev pub kit_left : {K R T : Type 0} → (R → Stream) → WorkerEnd K R T → Kit
+kit_left stream end = kit end.label_seat.history end.pool_seat.account (stream end.rng)

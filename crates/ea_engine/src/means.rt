@@ -1,0 +1,21 @@
+//! What a worker owns.
+
+use ea_labels::LabelSeat;
+use ea_pool::PoolSeat;
+use ea_road::Known;
+use std::alloc::Global;
+
+/// The two seats of a worker.
+#[derive(Drop)]
+pub struct Seats<K: Known> {
+    pub label_seat: LabelSeat<K>,
+    pub pool_seat: PoolSeat<K>,
+}
+
+/// What a worker owns while it runs: its seats and its generator.
+#[derive(Drop)]
+pub struct Means<K: Known, R> {
+    pub label_seat: LabelSeat<K>,
+    pub pool_seat: PoolSeat<K>,
+    pub rng: R,
+}

@@ -1,0 +1,61 @@
+//! A run up to its least arrivals, where the problem and the known pairs are named.
+ghost use Rattle.std.specs.Prelude.{◌≡◌, ℕ, ◌↔◌, IfOk};
+ghost use Rattle.ea_road.specs.Arrivals.{Reaches};
+ghost use Rattle.ea_road.specs.Queries.{IsProblem};
+ghost use Rattle.ea_finish.specs.Underway.{IsFinished};
+ghost use Rattle.ea_engine.specs.Problems.{IsNamed};
+ghost use Rattle.ea_engine.specs.Runs.{IsCrew, IsRunOf};
+
+use crate::arrays::Arrays;
+use crate::crew::Crew;
+use crate::gate::Gate;
+use crate::law::times_are_fifo;
+use crate::problem::Posed;
+use crate::ran::Ran;
+use crate::turn::{Flow, Turn};
+use crate::workers::{Begun, run};
+use ea_finish::{Finished, finish};
+use ea_road::{Known, Network, Query, TravelTimes};
+use rand_core::Rng;
+use std::alloc::{AllocError, Global};
+use std::thread::Threads;
+
+/// A run that is finished: the table of least arrivals, and how the run went.
+#[derive(Drop)]
+pub struct Ended<R, F> {
+    pub finished: Finished,
+    pub ran: Ran<R, F>,
+}
+
+/// Runs the workers and the finishing pass, with the arrays for walks where these are asked for.
+pub fn run_named<
+    K: Known + Posed,
+    H: Threads + Sync,
+    T: TravelTimes + Sync,
+    R: Rng + Send + Drop,
+    G: Gate,
+    F: FnMut(Turn) -> Flow + Send + Drop,
+>(
+    alloc: Global,
+    rt: &H,
+    network: &Network,
+    times: &T,
+    query: &Query,
+    crew: Crew<R, G, F>,
+    walks: bool,
+) -> Result<Ended<R, F>, AllocError>
+    requires problem { IsProblem network.now (T.classes times.now) query.now }
+    requires named { IsNamed K.is_known K.problem network.now (T.answers times.now) query.now }
+    requires crew { IsCrew F.IsAlwaysCallable crew }
+    ensures finished { IfOk result (λ ended. IsFinished network.now (T.answers times.now) query.now
+        ended.finished.table.items ended.finished.todo) }
+    ensures walks { IfOk result (λ ended. ended.finished.todo.walks ≡ walks) }
+    ensures run { IfOk result (λ ended.
+        IsRunOf R.stream F.step query.now.sources crew.entry ended.ran) }
+{
+    times_are_fifo(times);
+    let arrays = Arrays::<K, R, F>::reserve(alloc, network.nodes(), crew.settings, walks)?;
+    let Begun { table, todo, ran } = run(rt, network, times, query, arrays, crew);
+    let finished = finish(network, times, query, table, todo);
+    Ok(Ended { finished, ran })
+}
