@@ -13,7 +13,7 @@ use Rattle.ea_pool.specs.declared.entry.Entry.{Entry}
 use Rattle.ea_pool.specs.declared.account.Account.{Account}
 use Rattle.ea_engine.specs.Problems.{Problem}
 use Rattle.ea_engine.specs.Closed.{entry_at, entry_of, IsReachedBy, IsReachedBefore, IsCut}
-use Rattle.ea_engine.specs.Opened.{IsOver, AreOffered}
+use Rattle.ea_engine.specs.Opened.{AreJoinedAndClosed, AreOffered}
 use Rattle.ea_labels.proofs.Lawful.{words_lowered, words_least, word_known}
 use Rattle.ea_engine.proofs.Multisets.{Contains-same, Contains-later}
 
@@ -24,7 +24,7 @@ Contains-map f (y ∷ xs) (suc i) x lt e = Contains-later (f y) (f x) (map f xs)
 
 module _ (known : ℕ → ℕ → Type 0) (problem : Problem)
     (table : List ℕ) (history : SeatRecord) (account : Account) (left back refused : List Entry)
-    (over : IsOver known problem table history account left back refused) where
+    (over : AreJoinedAndClosed known problem table history account left back refused) where
   bounded : (i : ℕ) (bound : Bound) → i < length history.bounds → get_or history.bounds i bound ≡ bound → label_of table bound.node ≤ bound.time
   bounded i bound lt at = subst (λ (b : Bound). label_of table b.node ≤ b.time) at (words_least known problem.network.nodes table history over.labels i bound lt)
 
@@ -77,7 +77,7 @@ module _ (known : ℕ → ℕ → Type 0) (problem : Problem)
       ⊎ Contains (left ++ back ++ refused) (entry_at (label_of table node) node)
       ⊎ (limit problem.query.target (label_of table) < label_of table node)
   unfolding Left
-  nothing_is_lost node is some = elim (words_lowered known problem.network.nodes table history over.labels node (is.from_one, is.to_last)) [
+  nothing_is_lost node is some = elim (words_lowered known problem.network.nodes table history over.labels node is) [
     | inl none ↦ absurd (some none)
     | inr low ↦ lowered node low
   ]
@@ -89,7 +89,7 @@ module _ (known : ℕ → ℕ → Type 0) (problem : Problem)
       places = over.labels.one_word_per_node;
       labels = record {
         at_sources = λ source among. at_most source.node source.departure (offered source among);
-        reached = λ node is some. elim (word_known known problem.network.nodes table (history ∷ []) node over.labels (is.from_one, is.to_last)) [
+        reached = λ node is some. elim (word_known known problem.network.nodes table (history ∷ []) node over.labels is) [
           | inl none ↦ absurd (some none)
           | inr knows ↦ names node (label_of table node) knows
         ];

@@ -10,7 +10,7 @@ use Rattle.ea_pool.specs.declared.entry.Entry.{Entry}
 use Rattle.ea_pool.specs.declared.account.Account.{Account}
 use Rattle.ea_engine.specs.Problems.{Problem}
 use Rattle.ea_engine.specs.Closed.{entry_of}
-use Rattle.ea_engine.specs.Opened.{IsOver}
+use Rattle.ea_engine.specs.Opened.{AreJoinedAndClosed}
 use Rattle.ea_engine.specs.Gathered.{IsGathered}
 use Rattle.ea_engine.specs.declared.means.Seats.{Seats}
 use Rattle.ea_engine.specs.Seeds.{HasPushed}
@@ -18,7 +18,7 @@ use Rattle.ea_engine.proofs.Multisets.{Contains-same}
 
 module _ (known : ℕ → ℕ → Type 0) (problem : Problem)
     (table : List ℕ) (history : SeatRecord) (account : Account) (left back refused : List Entry)
-    (over : IsOver known problem table history account left back refused) where
+    (over : AreJoinedAndClosed known problem table history account left back refused) where
   go : (ls : List Lowering) → All (IsLawfulLowering known problem.network.nodes table (history ∷ [])) ls → (e : Entry) → Contains (map entry_of ls) e → known e.node e.key
   go [] all e h = absurd (omega (arith, h.1))
   go (l ∷ ls) all e (zero, lt, at) = subst (λ (x : Entry). known x.node x.key) at (All-head (IsLawfulLowering known problem.network.nodes table (history ∷ [])) l ls all).is_known

@@ -24,7 +24,7 @@ use Rattle.ea_pool.specs.declared.account.Account.{Account}
 use Rattle.ea_pool.specs.declared.TheConstants.{SHARES}
 use Rattle.ea_pool.specs.Entries.{only}
 use Rattle.ea_pool.specs.Pools.{NothingLeft, IsLeft}
-use Rattle.ea_engine.specs.Turns.{Told, IsShaped, IsShapedAs, IsOver, is_ended, idle_run, ends_worker, is_empty, is_busy, is_idle, is_leave, is_refused, counters_of, counted, count_kind, lowered_in_all, popped_as, popped_in, popped_in_all, IsRoomy}
+use Rattle.ea_engine.specs.Turns.{Told, IsShaped, IsShapedAs, IsWorkDone, is_ended, idle_run, ends_worker, is_empty, is_busy, is_idle, is_leave, is_refused, counters_of, counted, count_kind, lowered_in_all, popped_as, popped_in, popped_in_all, IsRoomy}
 use Rattle.ea_engine.specs.Closed.{entry_at, entry_of, IsClosedAs, IsClosedTurn, IsFreshAs, IsFreshTurn}
 use Rattle.ea_engine.specs.Worked.{Kit, Progress, IsTurn, IsWork, IsHandOf, IsInside, IsLoneAs}
 use Rattle.ea_engine.proofs.ProgressLemmas.{Progress-none, Progress-then}
@@ -133,7 +133,7 @@ module _ (problem : Problem) where
       pub turns : List Told
       pub numbered : (i : ℕ) (d : Told) → i < length turns → (get_or turns i d).0.number ≡ i
       pub shaped : (i : ℕ) (d : Told) → i < length turns → IsShaped (get_or turns i d).0
-      pub not_before : (n : ℕ) → n < length turns → IsOver budget (take n turns) → ⊥
+      pub not_before : (n : ℕ) → n < length turns → IsWorkDone budget (take n turns) → ⊥
       pub number_is : length turns ≡ number
       pub idle_is : idle_run turns ≡ idle
       pub ended_is : is_ended turns ≡ ended
@@ -187,7 +187,7 @@ module _ (problem : Problem) where
 
     -- no turn list that is a proper part is over, nor is the whole one while the loop goes on
     not_over : (from to : Kit) (budget : ℕ) (tracer tracer' : T) (counters : Counters) (hand : Hand) (number idle : ℕ)
-        → (h : SoFar from to budget tracer tracer' counters hand number idle false) → idle < 32 → number < budget → IsOver budget h.turns → ⊥
+        → (h : SoFar from to budget tracer tracer' counters hand number idle false) → idle < 32 → number < budget → IsWorkDone budget h.turns → ⊥
     not_over from to budget tracer tracer' counters hand number idle h low more over = elim over [
       | inl spent ↦ omega (arith, spent, h.number_is)
       | inr (inl done) ↦ false≢true (sym h.ended_is ∙ done)
@@ -211,7 +211,7 @@ module _ (problem : Problem) where
         turns = h.turns ++ (turn, flow) ∷ [];
         numbered = index_push (λ i t. t.0.number ≡ i) h.turns (turn, flow) h.numbered (one.number_is ∙ sym h.number_is);
         shaped = index_push (λ i t. IsShaped t.0) h.turns (turn, flow) h.shaped one.shaped;
-        not_before = λ n lt. below_more (λ m. IsOver budget (take m (h.turns ++ (turn, flow) ∷ [])) → ⊥) (length h.turns)
+        not_before = λ n lt. below_more (λ m. IsWorkDone budget (take m (h.turns ++ (turn, flow) ∷ [])) → ⊥) (length h.turns)
             (λ m less over. h.not_before m less (rw (take-append-le m h.turns ((turn, flow) ∷ []) (omega arith)) at over))
             (λ over. not_over from mid budget tracer tracer' counters hand number idle h low more (rw (take-append_seam h.turns ((turn, flow) ∷ [])) at over))
             n (omega (arith, length-append h.turns ((turn, flow) ∷ [])));

@@ -16,7 +16,7 @@ use Rattle.ea_engine.specs.Closed.{entry_at, IsReachedBy, IsClosedAccount}
 
 -- All seats are joined, to one record and one account, and both tables are closed, to a table of labels and to entries
 -- that are left. Workers handed back popped entries, and workers and the caller handed back refused ones.
-pub record IsOver
+pub record AreJoinedAndClosed
     (known : ℕ → ℕ → Type 0)
     (problem : Problem)
     (table : List ℕ)
@@ -32,7 +32,7 @@ pub record IsOver
 abbrev pub NothingOpenIsLost : (ℕ → ℕ → Type 0) → Problem → Type 0
 NothingOpenIsLost known problem =
     (table : List ℕ) (history : SeatRecord) (account : Account) (left back refused : List Entry)
-    → IsOver known problem table history account left back refused
+    → AreJoinedAndClosed known problem table history account left back refused
     → (node : ℕ) → IsNode problem.network.nodes node → label_of table node ≢ NONE
     → Satisfies problem.network problem.answers (label_of table) node (label_of table node)
     ⊎ Contains (left ++ back ++ refused) (entry_at (label_of table node) node)
@@ -46,7 +46,7 @@ AreOffered sources history = (source : Source) → IsAmong sources source → Is
 abbrev pub FinishMayBegin : (ℕ → ℕ → Type 0) → Problem → Type 0
 FinishMayBegin known problem =
     (table : List ℕ) (history : SeatRecord) (account : Account) (left back refused : List Entry) (waiting : List ℕ)
-    → IsOver known problem table history account left back refused
+    → AreJoinedAndClosed known problem table history account left back refused
     → AreOffered problem.query.sources history
     → ((entry : Entry) → Contains (left ++ back ++ refused) entry → Contains waiting entry.node)
     → IsUnderway problem.network problem.answers problem.query table waiting

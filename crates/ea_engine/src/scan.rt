@@ -5,7 +5,7 @@ ghost use Rattle.ea_pool.specs.declared.entry.Entry.{Entry as Back};
 ghost use Rattle.ea_pool.specs.Replies.{handed_back};
 ghost use Rattle.ea_engine.specs.Grounds.{IsGround, tables_of};
 ghost use Rattle.ea_engine.specs.Seated.{AreSeatsOf, kit_of};
-ghost use Rattle.ea_engine.specs.Closed.{IsSpent, IsScanned};
+ghost use Rattle.ea_engine.specs.Closed.{IsFollowed, IsScanned};
 ghost use Rattle.ea_engine.specs.Worked.{Progress};
 ghost use Rattle.ea_engine.specs.Scans.{lowered_by, refused_by};
 
@@ -58,7 +58,7 @@ pub fn follow<K: Known + Posed, T: TravelTimes, R: Rng>(
     ensures progress { Progress (kit_of R.stream means.old) (kit_of R.stream means.new)
         [] (lowered_by result) (lowered_by result) (refused_by result) }
     ensures inside { (back : Back) → Contains (refused_by result) back → IsNode K.problem.network.nodes back.node }
-    ensures spent { IsSpent K.problem means.new.label_seat.history.bounds entry.key arc }
+    ensures spent { IsFollowed K.problem means.new.label_seat.history.bounds entry.key arc }
 {
     let arrival = ground
         .times

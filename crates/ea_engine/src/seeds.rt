@@ -1,6 +1,6 @@
 //! The sources' entries, before any worker starts.
 ghost use Rattle.std.specs.Prelude.{◌≡◌, ◌≤◌, ◌<◌, ◌+◌, ◌^◌, length, Contains};
-ghost use Rattle.ea_labels.specs.Core.{IsNode};
+ghost use Rattle.ea_road.specs.Roads.{IsNode};
 ghost use Rattle.ea_labels.specs.declared.record.Bound.{Bound};
 ghost use Rattle.ea_engine.specs.Closed.{IsReachedBy};
 ghost use Rattle.ea_engine.specs.Gathered.{IsGathered};

@@ -1,9 +1,10 @@
 //! Earliest arrivals by several threads.
-ghost use Rattle.std.specs.Prelude.{◌≡◌, ℕ, ◌↔◌, true, false, IfOk};
+ghost use Rattle.std.specs.Prelude.{◌≡◌, ℕ, ◌↔◌, true, false, IfOk, All, vec_len};
 ghost use Rattle.ea_road.specs.Answers.{IsFifoFunction};
 ghost use Rattle.ea_road.specs.Queries.{IsProblem};
 ghost use Rattle.ea_finish.specs.Answers.{HasArrivals, IsAnswer};
-ghost use Rattle.ea_engine.specs.Runs.{IsCrew, IsRunOf, ran_of};
+ghost use Rattle.ea_engine.specs.Limits.{AreSettings};
+ghost use Rattle.ea_engine.specs.Runs.{IsRunOf, ran_of};
 
 use crate::crew::Crew;
 use crate::gate::Gate;
@@ -74,7 +75,10 @@ pub fn solve<
     crew: Crew<R, G, F>,
 ) -> Result<Solved<R, F>, AllocError>
     requires problem { IsProblem network.now (T.classes times.now) query.now }
-    requires crew { IsCrew F.IsAlwaysCallable crew }
+    requires settings { AreSettings crew.settings }
+    requires workers { (vec_len crew.rngs ≡ crew.settings.workers)
+        × (vec_len crew.tracers ≡ crew.settings.workers) }
+    requires tracers { All F.IsAlwaysCallable crew.tracers.items }
     ensures answer { IfOk result (λ solved.
         IsAnswer network.now (T.answers times.now) query.now solved.answer) }
     ensures run { IfOk result (λ solved.
@@ -103,7 +107,10 @@ pub fn solve_arrivals<
     crew: Crew<R, G, F>,
 ) -> Result<Solved<R, F>, AllocError>
     requires problem { IsProblem network.now (T.classes times.now) query.now }
-    requires crew { IsCrew F.IsAlwaysCallable crew }
+    requires settings { AreSettings crew.settings }
+    requires workers { (vec_len crew.rngs ≡ crew.settings.workers)
+        × (vec_len crew.tracers ≡ crew.settings.workers) }
+    requires tracers { All F.IsAlwaysCallable crew.tracers.items }
     ensures answer { IfOk result (λ solved.
         HasArrivals network.now (T.answers times.now) query.now solved.answer) }
     ensures none { IfOk result (λ solved. solved.answer.walks ≡ false) }
@@ -135,7 +142,10 @@ pub fn solve_by<
 ) -> Result<Solved<R, F>, AllocError>
     requires fifo { IsFifoFunction (C.may closure) (C.answers closure) classes }
     requires problem { IsProblem network.now classes query.now }
-    requires crew { IsCrew F.IsAlwaysCallable crew }
+    requires settings { AreSettings crew.settings }
+    requires workers { (vec_len crew.rngs ≡ crew.settings.workers)
+        × (vec_len crew.tracers ≡ crew.settings.workers) }
+    requires tracers { All F.IsAlwaysCallable crew.tracers.items }
     ensures answer { IfOk result (λ solved. IsAnswer network.now
         (λ class weight departure arrival. ∥ C.answers closure class weight departure arrival ∥₁)
         query.now solved.answer) }

@@ -3,7 +3,7 @@ ghost use Rattle.std.specs.Option.{option_to_list};
 ghost use Rattle.ea_engine.specs.Grounds.{IsGround, tables_of};
 ghost use Rattle.ea_engine.specs.Seated.{AreSeatsOf, kit_of};
 ghost use Rattle.rand_core.specs.Stream.{Stream};
-ghost use Rattle.ea_labels.specs.Core.{IsNode};
+ghost use Rattle.ea_road.specs.Roads.{IsNode};
 ghost use Rattle.ea_pool.specs.Seats.{account_of, heaps_of, IsSeatOf};
 ghost use Rattle.ea_pool.specs.declared.TheConstants.{SHARES};
 ghost use Rattle.ea_pool.specs.declared.account.Account.{Account};

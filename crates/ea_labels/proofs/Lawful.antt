@@ -14,7 +14,9 @@ use Rattle.ea_labels.specs.declared.TheConstants.{SHARES}
 use Rattle.ea_labels.specs.declared.record.Bound.{Bound}
 use Rattle.ea_labels.specs.declared.record.Lowering.{Lowering}
 use Rattle.ea_labels.specs.declared.record.SeatRecord.{SeatRecord}
-use Rattle.ea_labels.specs.Core.{bound, lowering, IsNode, word_of, IsNoneOrKnown, IsAtMostBounds, seen, lowered, with_one_share_less, with_one_share, joined, spent, IsLoweredTo, IsNoneOrLoweredTo, begins_at, count_from, IsLawfulBound, IsLawfulLowering, IsLawfulSeat, IsLawful}
+use Rattle.ea_road.specs.Roads.{IsNode}
+use Rattle.ea_road.specs.Labels.{label_of}
+use Rattle.ea_labels.specs.Core.{bound, lowering, IsNoneOrKnown, IsAtMostBounds, seen, lowered, with_one_share_less, with_one_share, joined, spent, IsLoweredTo, IsNoneOrLoweredTo, begins_at, count_from, IsLawfulBound, IsLawfulLowering, IsLawfulSeat, IsLawful}
 use Rattle.ea_lists.proofs.Places.{inside, same_at, All_at, Any_at, at_Any, Any_head, Any_tail, Any_left, Any_right, Any_set}
 use Rattle.ea_lists.proofs.Totals.{total-set, total-append, term_le, terms_le, some_weighs}
 
@@ -36,7 +38,7 @@ Grows before after = (node time : ℕ) → IsLoweredTo before node time → IsLo
 
 -- no word rises
 abbrev pub Falls : List ℕ → List ℕ → Type 0
-Falls before after = (node : ℕ) → word_of after node ≤ word_of before node
+Falls before after = (node : ℕ) → label_of after node ≤ label_of before node
 
 module _ (known : ℕ → ℕ → Type 0) (nodes : ℕ) where
   module _ (words words' : List ℕ) (seats seats' : List SeatRecord) (falls : Falls words words') (grows : Grows seats seats') where
@@ -75,9 +77,9 @@ module _ (known : ℕ → ℕ → Type 0) (nodes : ℕ) where
   -- the seat saw the word of a node
   pub load_lawful : (words : List ℕ) (seats : List SeatRecord) (id : ℕ) (v : SeatRecord) (node : ℕ)
       → IsLawful known nodes words seats → get_elem? seats id ≡ some v → 1 ≤ v.shares → IsNode nodes node
-      → IsLawful known nodes words (set seats id (seen v node (word_of words node)))
+      → IsLawful known nodes words (set seats id (seen v node (label_of words node)))
   load_lawful words seats id v node h at live in_range =
-      let time = word_of words node in
+      let time = label_of words node in
       let w = seen v node time in
       let after = set seats id w in
       let grows : Grows seats after = λ n t. Any_set (has_to n t) seats id v w at (λ x. x) in
@@ -85,7 +87,7 @@ module _ (known : ℕ → ℕ → Type 0) (nodes : ℕ) where
       let old = All_at (IsLawfulSeat known nodes words seats) seats id v h.each_seat at in
       record {
         one_word_per_node = h.one_word_per_node;
-        words_come_from = λ n is. none_still words words seats after stays grows n (word_of words n) (h.words_come_from n is);
+        words_come_from = λ n is. none_still words words seats after stays grows n (label_of words n) (h.words_come_from n is);
         each_seat = seats_set words words seats after stays grows id w h.each_seat (record {
           bounds = All-cons (IsLawfulBound nodes words after) (bound node time) v.bounds
               (record { of_node = in_range; above_word = omega arith; comes_from = none_still words words seats after stays grows node time (h.words_come_from node in_range) })
@@ -109,14 +111,14 @@ module _ (known : ℕ → ℕ → Type 0) (nodes : ℕ) where
       cases (starts n f l) refl
 
   -- no lowering begins at the word
-  none_starts : (words : List ℕ) (seats : List SeatRecord) (node : ℕ) → IsLawful known nodes words seats → count_from seats node (word_of words node) ≡ 0
-  none_starts words seats node h = let from = word_of words node in dite (ℕ_discrete (count_from seats node from) 0) (λ e. e)
+  none_starts : (words : List ℕ) (seats : List SeatRecord) (node : ℕ) → IsLawful known nodes words seats → count_from seats node (label_of words node) ≡ 0
+  none_starts words seats node h = let from = label_of words node in dite (ℕ_discrete (count_from seats node from) 0) (λ e. e)
       (λ ne.
       let s = Any_at (λ s. 0 < starts_in node from s) seats (some_weighs (starts_in node from) seats (omega arith)) in
       let l = Any_at (λ l. 0 < begins_at node from l) s.1.lowerings (some_weighs (begins_at node from) s.1.lowerings s.3) in
       let is = begins_means node from l.1 l.3 in
       let lawful = All_at (IsLawfulLowering known nodes words seats) s.1.lowerings l.0 l.1 (All_at (IsLawfulSeat known nodes words seats) seats s.0 s.1 h.each_seat s.2).lowerings l.2 in
-      let below : word_of words node ≤ l.1.to = subst (λ n. word_of words n ≤ l.1.to) is.0 lawful.above_word in
+      let below : label_of words node ≤ l.1.to = subst (λ n. label_of words n ≤ l.1.to) is.0 lawful.above_word in
       let falls = lawful.falls in let at_from = is.1 in
       absurd (omega arith))
 
@@ -129,10 +131,10 @@ module _ (known : ℕ → ℕ → Type 0) (nodes : ℕ) where
 
   -- the seat lowered the word of a node
   pub lower_lawful : (words : List ℕ) (seats : List SeatRecord) (id : ℕ) (v : SeatRecord) (node t : ℕ)
-      → IsLawful known nodes words seats → get_elem? seats id ≡ some v → 1 ≤ v.shares → IsNode nodes node → known node t → t < word_of words node
-      → IsLawful known nodes (set words (node - 1) t) (set seats id (lowered v node (word_of words node) t))
+      → IsLawful known nodes words seats → get_elem? seats id ≡ some v → 1 ≤ v.shares → IsNode nodes node → known node t → t < label_of words node
+      → IsLawful known nodes (set words (node - 1) t) (set seats id (lowered v node (label_of words node) t))
   lower_lawful words seats id v node t h at live in_range is_known below =
-      let from = word_of words node in
+      let from = label_of words node in
       let new = lowering node from t in
       let w = lowered v node from t in
       let after = set seats id w in
@@ -141,14 +143,14 @@ module _ (known : ℕ → ℕ → Type 0) (nodes : ℕ) where
       let falls : Falls words words' = λ n. set_falls words (node - 1) (n - 1) t (omega arith) in
       let old = All_at (IsLawfulSeat known nodes words seats) seats id v h.each_seat at in
       let wide = h.one_word_per_node in
-      let here : word_of words' node ≡ t = get_or-set_same words (node - 1) t 0 (omega arith) in
+      let here : label_of words' node ≡ t = get_or-set_same words (node - 1) t 0 (omega arith) in
       let now : IsLoweredTo after node t = at_Any (has_to node t) after id w (set_here seats id w (inside seats id v at)) (Any_head (is_to node t) new v.lowerings (refl, refl)) in
       let none_starts_there = none_starts words seats node h in
       record {
         one_word_per_node = length-set words (node - 1) t ∙ wide;
         words_come_from = λ n is. dite (ℕ_discrete n node)
-            (λ e. subst (λ m. IsNoneOrLoweredTo after m (word_of words' m)) (sym e) (inr (subst (IsLoweredTo after node) (sym here) now)))
-            (λ ne. subst (IsNoneOrLoweredTo after n) (sym (get_or-set_other words (node - 1) (n - 1) t 0 (omega arith))) (none_still words words' seats after falls grows n (word_of words n) (h.words_come_from n is)));
+            (λ e. subst (λ m. IsNoneOrLoweredTo after m (label_of words' m)) (sym e) (inr (subst (IsLoweredTo after node) (sym here) now)))
+            (λ ne. subst (IsNoneOrLoweredTo after n) (sym (get_or-set_other words (node - 1) (n - 1) t 0 (omega arith))) (none_still words words' seats after falls grows n (label_of words n) (h.words_come_from n is)));
         each_seat = seats_set words words' seats after falls grows id w h.each_seat (record {
           bounds = All-cons (IsLawfulBound nodes words' after) (bound node t) v.bounds
               (record { of_node = in_range; above_word = omega arith; comes_from = inr now })
@@ -196,7 +198,7 @@ module _ (known : ℕ → ℕ → Type 0) (nodes : ℕ) where
       let bounds = bounds_still words words seats after stays grows v.bounds old.bounds in
       record {
         one_word_per_node = h.one_word_per_node;
-        words_come_from = λ n is. none_still words words seats after stays grows n (word_of words n) (h.words_come_from n is);
+        words_come_from = λ n is. none_still words words seats after stays grows n (label_of words n) (h.words_come_from n is);
         each_seat = All-push (IsLawfulSeat known nodes words after) middle new
             (seats_set words words seats after stays grows id w h.each_seat (record {
               bounds = bounds;
@@ -245,7 +247,7 @@ module _ (known : ℕ → ℕ → Type 0) (nodes : ℕ) where
       let old_other = All_at (IsLawfulSeat known nodes words seats) seats other w h.each_seat at_other in
       record {
         one_word_per_node = h.one_word_per_node;
-        words_come_from = λ n is. none_still words words seats after stays grows n (word_of words n) (h.words_come_from n is);
+        words_come_from = λ n is. none_still words words seats after stays grows n (label_of words n) (h.words_come_from n is);
         each_seat = All-set (IsLawfulSeat known nodes words after) middle other spent (spent_lawful words after)
             (seats_set words words seats after stays grows id both h.each_seat (record {
               bounds = bounds_still words words seats after stays grows both.bounds (All-append (IsLawfulBound nodes words seats) w.bounds v.bounds old_other.bounds old.bounds);
@@ -283,7 +285,7 @@ module _ (known : ℕ → ℕ → Type 0) (nodes : ℕ) where
       let stays : Falls words words = λ n. omega arith in
       record {
         one_word_per_node = h.one_word_per_node;
-        words_come_from = λ n is. none_still words words seats after stays grows n (word_of words n) (h.words_come_from n is);
+        words_come_from = λ n is. none_still words words seats after stays grows n (label_of words n) (h.words_come_from n is);
         each_seat = All-cons (IsLawfulSeat known nodes words after) v [] (seat_still words words seats after stays grows v (All_at (IsLawfulSeat known nodes words seats) seats id v h.each_seat at)) (All-nil (IsLawfulSeat known nodes words after));
         lowerings_differ = λ n f.
             let o = term_le (starts_in n f) seats id v at in
@@ -293,20 +295,20 @@ module _ (known : ℕ → ℕ → Type 0) (nodes : ℕ) where
       }
 
   -- a word is none or known
-  pub word_known : (words : List ℕ) (seats : List SeatRecord) (node : ℕ) → IsLawful known nodes words seats → IsNode nodes node → IsNoneOrKnown known node (word_of words node)
+  pub word_known : (words : List ℕ) (seats : List SeatRecord) (node : ℕ) → IsLawful known nodes words seats → IsNode nodes node → IsNoneOrKnown known node (label_of words node)
   word_known words seats node h is = ⊎_elim inl
       (λ any.
-      let s = Any_at (has_to node (word_of words node)) seats any in
-      let l = Any_at (is_to node (word_of words node)) s.1.lowerings s.3 in
+      let s = Any_at (has_to node (label_of words node)) seats any in
+      let l = Any_at (is_to node (label_of words node)) s.1.lowerings s.3 in
       let lawful = All_at (IsLawfulLowering known nodes words seats) s.1.lowerings l.0 l.1 (All_at (IsLawfulSeat known nodes words seats) seats s.0 s.1 h.each_seat s.2).lowerings l.2 in
       inr (subst (known node) l.3.1 (subst (λ n. known n l.1.to) l.3.0 lawful.is_known)))
       (h.words_come_from node is)
 
   -- a word is at most each bound
-  pub word_least : (words : List ℕ) (seats : List SeatRecord) (id : ℕ) (v : SeatRecord) (node : ℕ) → IsLawful known nodes words seats → get_elem? seats id ≡ some v → IsAtMostBounds v node (word_of words node)
+  pub word_least : (words : List ℕ) (seats : List SeatRecord) (id : ℕ) (v : SeatRecord) (node : ℕ) → IsLawful known nodes words seats → get_elem? seats id ≡ some v → IsAtMostBounds v node (label_of words node)
   word_least words seats id v node h at =
-      All-weaker (IsLawfulBound nodes words seats) (λ b. b.node ≡ node → word_of words node ≤ b.time)
-      (λ b lawful e. subst (λ n. word_of words n ≤ b.time) e lawful.above_word)
+      All-weaker (IsLawfulBound nodes words seats) (λ b. b.node ≡ node → label_of words node ≤ b.time)
+      (λ b lawful e. subst (λ n. label_of words n ≤ b.time) e lawful.above_word)
       v.bounds (All_at (IsLawfulSeat known nodes words seats) seats id v h.each_seat at).bounds
 
   -- no seat has more shares than there are
@@ -314,16 +316,16 @@ module _ (known : ℕ → ℕ → Type 0) (nodes : ℕ) where
   shares_bound words seats id v h at = let o = term_le (λ (s : SeatRecord). s.shares) seats id v at in let d = h.shares_add_up in omega arith
 
   -- with one seat left, each word is at most each of its bounds
-  pub words_least : (words : List ℕ) (seat : SeatRecord) → IsLawful known nodes words (seat ∷ []) → All (λ b. word_of words b.node ≤ b.time) seat.bounds
+  pub words_least : (words : List ℕ) (seat : SeatRecord) → IsLawful known nodes words (seat ∷ []) → All (λ b. label_of words b.node ≤ b.time) seat.bounds
   words_least words seat h =
-      All-weaker (IsLawfulBound nodes words (seat ∷ [])) (λ b. word_of words b.node ≤ b.time) (λ b lawful. lawful.above_word)
+      All-weaker (IsLawfulBound nodes words (seat ∷ [])) (λ b. label_of words b.node ≤ b.time) (λ b lawful. lawful.above_word)
       seat.bounds (All_at (IsLawfulSeat known nodes words (seat ∷ [])) (seat ∷ []) 0 seat h.each_seat refl).bounds
 
   -- with one seat left, each word is none or was lowered to by it
   pub words_lowered : (words : List ℕ) (seat : SeatRecord) → IsLawful known nodes words (seat ∷ []) → (node : ℕ) → IsNode nodes node
-      → (word_of words node ≡ NONE) ⊎ Any (is_to node (word_of words node)) seat.lowerings
+      → (label_of words node ≡ NONE) ⊎ Any (is_to node (label_of words node)) seat.lowerings
   words_lowered words seat h node is =
-      let target = word_of words node in
+      let target = label_of words node in
       ⊎_elim inl
       (λ any.
       let s = Any_at (has_to node target) (seat ∷ []) any in

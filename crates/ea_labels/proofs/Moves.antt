@@ -13,7 +13,9 @@ use Rattle.ea_lists.proofs.Places.{value_at, contains_at}
 use Rattle.ea_road.specs.declared.TheConstants.{NONE}
 use Rattle.ea_labels.specs.declared.TheConstants.{SHARES}
 use Rattle.ea_labels.specs.declared.record.SeatRecord.{SeatRecord}
-use Rattle.ea_labels.specs.Core.{IsNode, word_of, IsNoneOrKnown, IsAtMostBounds, first_record, seen, lowered, with_one_share_less, with_one_share, joined, spent, IsLawful}
+use Rattle.ea_road.specs.Roads.{IsNode}
+use Rattle.ea_road.specs.Labels.{label_of}
+use Rattle.ea_labels.specs.Core.{IsNoneOrKnown, IsAtMostBounds, first_record, seen, lowered, with_one_share_less, with_one_share, joined, spent, IsLawful}
 use Rattle.ea_labels.specs.Events.{Core, load, fetch_min, split, join, opening, record_of, with_bound, with_lowering, after, MayCome, IsReached, IsRunEnd}
 use Rattle.ea_labels.specs.Steps.{IsLabelState, loads, lowers, counts_shares}
 use Rattle.ea_labels.proofs.Lawful.{close_lawful, word_known, word_least, shares_bound}
@@ -22,7 +24,7 @@ use Rattle.ea_labels.proofs.Runs.{reached_lawful, reached_next, opening_reached}
 abbrev Place : Type 0
 Place = Me (Unit {0}) SeatRecord
 
-word_is : (all : List ℕ) (seat_word : ℕ) (words : List ℕ) (node : ℕ) → all ≡ seat_word ∷ words → 1 ≤ node → get_or all node 0 ≡ word_of words node
+word_is : (all : List ℕ) (seat_word : ℕ) (words : List ℕ) (node : ℕ) → all ≡ seat_word ∷ words → 1 ≤ node → get_or all node 0 ≡ label_of words node
 word_is all seat_word words zero e h = absurd (omega arith)
 word_is all seat_word words (suc k) e h = let same : k ≡ suc k - 1 = omega arith in ap (λ (l : List ℕ). get_or l (suc k) 0) e ∙ ap (λ j. get_or words j 0) same
 
@@ -45,7 +47,7 @@ module _ (known : ℕ → ℕ → Type 0) (nodes : ℕ) where
   lawful s h = reached_lawful known nodes h.core h.reached
 
   -- a load is an event
-  loaded : (s : State (Unit {0}) SeatRecord) (h : Rule s) (id : ℕ) (v : SeatRecord) (node x : ℕ) (words : List ℕ) → get_elem? s.views id ≡ some v → 1 ≤ v.shares → IsNode nodes node → x ≡ word_of h.core.words node → words ≡ s.words
+  loaded : (s : State (Unit {0}) SeatRecord) (h : Rule s) (id : ℕ) (v : SeatRecord) (node x : ℕ) (words : List ℕ) → get_elem? s.views id ≡ some v → 1 ≤ v.shares → IsNode nodes node → x ≡ label_of h.core.words node → words ≡ s.words
       → Rule (record { words = words; homes = s.homes; views = set s.views id (seen v node x) })
   loaded s h id v node x words at live is found same =
       let own = mine s h id v at in
@@ -58,14 +60,14 @@ module _ (known : ℕ → ℕ → Type 0) (nodes : ℕ) where
       }
 
   -- and so is a fetch_min, which lowers the word or finds it no higher
-  fetched : (core : Core) (id node t : ℕ) → IsReached known nodes core → MayCome known nodes core (fetch_min id node t) → (b : Bool) → nat_lt t (word_of core.words node) ≡ b
+  fetched : (core : Core) (id node t : ℕ) → IsReached known nodes core → MayCome known nodes core (fetch_min id node t) → (b : Bool) → nat_lt t (label_of core.words node) ≡ b
       → IsReached known nodes (cond b (with_lowering core id node t) (with_bound core id node))
   fetched core id node t h may b e = subst (λ (b : Bool). IsReached known nodes (cond b (with_lowering core id node t) (with_bound core id node))) e (reached_next known nodes core (fetch_min id node t) h may)
 
   pub load_allowed : (slots id : ℕ) (me : Place) (node : ℕ) → 1 ≤ me.0.shares → IsNode nodes node
       → Allows Rule slots id me node (λ n. n) (loads known (step slots node 0 0 none) me)
   load_allowed slots id me node live is s h _ at _ =
-      let found : slice_index s.words node ≡ word_of h.core.words node = word_is s.words h.seat_word h.core.words node h.words is.0 in (
+      let found : slice_index s.words node ≡ label_of h.core.words node = word_is s.words h.seat_word h.core.words node h.words is.from_one in (
         seen me.0 node (slice_index s.words node),
         keeps,
         tt,
@@ -81,7 +83,7 @@ module _ (known : ℕ → ℕ → Type 0) (nodes : ℕ) where
       → Allows Rule slots id me node (λ n. min n t) (lowers known (step slots node t 0 none) me)
   lower_allowed slots id me node t live is is_known s h _ at _ =
       let x = slice_index s.words node in
-      let found : x ≡ word_of h.core.words node = word_is s.words h.seat_word h.core.words node h.words is.0 in
+      let found : x ≡ label_of h.core.words node = word_is s.words h.seat_word h.core.words node h.words is.from_one in
       let none_or : IsNoneOrKnown known node x = subst (IsNoneOrKnown known node) (sym found) (word_known known nodes h.core.words h.core.seats node (lawful s h) is) in
       let least : IsAtMostBounds me.0 node x = subst (IsAtMostBounds me.0 node) (sym found) (word_least known nodes h.core.words h.core.seats id me.0 node (lawful s h) (at_core s h id me.0 at)) in
       dite (dec_lt t x)
@@ -94,8 +96,8 @@ module _ (known : ℕ → ℕ → Type 0) (nodes : ℕ) where
         record {
           seat_word = h.seat_word;
           core = with_lowering h.core id node t;
-          reached = fetched h.core id node t h.reached (subst (λ (w : SeatRecord). 1 ≤ w.shares) own live, is, is_known) true (lt-ltb t (word_of h.core.words node) (omega arith));
-          words = ap (λ n. set s.words node n) new ∙ set_is s.words h.seat_word h.core.words node t h.words is.0;
+          reached = fetched h.core id node t h.reached (subst (λ (w : SeatRecord). 1 ≤ w.shares) own live, is, is_known) true (lt-ltb t (label_of h.core.words node) (omega arith));
+          words = ap (λ n. set s.words node n) new ∙ set_is s.words h.seat_word h.core.words node t h.words is.from_one;
           seats = λ i. set (h.seats i) id (lowered (own i) node (found i) t);
         },
         ((λ _. refl), (λ above. absurd (omega arith)), none_or, least),
@@ -109,7 +111,7 @@ module _ (known : ℕ → ℕ → Type 0) (nodes : ℕ) where
         record {
           seat_word = h.seat_word;
           core = with_bound h.core id node;
-          reached = fetched h.core id node t h.reached (subst (λ (w : SeatRecord). 1 ≤ w.shares) own live, is, is_known) false (le-ltb t (word_of h.core.words node) (omega arith));
+          reached = fetched h.core id node t h.reached (subst (λ (w : SeatRecord). 1 ≤ w.shares) own live, is, is_known) false (le-ltb t (label_of h.core.words node) (omega arith));
           words = ap (λ n. set s.words node n) same ∙ (set-get_or s.words node 0 ∙ h.words);
           seats = λ i. set (h.seats i) id (seen (own i) node (found i));
         },

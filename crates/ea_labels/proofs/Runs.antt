@@ -10,7 +10,8 @@ use Rattle.ea_lists.proofs.Places.{at_weighed}
 use Rattle.ea_lists.proofs.Runs as runs
 use Rattle.ea_road.specs.declared.TheConstants.{NONE}
 use Rattle.ea_labels.specs.declared.record.SeatRecord.{SeatRecord}
-use Rattle.ea_labels.specs.Core.{word_of, first_record, joined, spent, IsLawfulBound, IsLawfulLowering, IsLawfulSeat, IsLawful}
+use Rattle.ea_road.specs.Labels.{label_of}
+use Rattle.ea_labels.specs.Core.{first_record, joined, spent, IsLawfulBound, IsLawfulLowering, IsLawfulSeat, IsLawful}
 use Rattle.ea_labels.specs.Events.{Core, Event, load, fetch_min, split, join, opening, record_of, after, MayCome, after_all, MayRun, IsReached}
 use Rattle.ea_labels.proofs.Lawful.{load_lawful, lower_lawful, split_lawful, join_lawful}
 
@@ -21,7 +22,7 @@ module _ (known : ℕ → ℕ → Type 0) (nodes : ℕ) where
   abbrev Lawful : Core → Type 0
   Lawful core = IsLawful known nodes core.words core.seats
 
-  fetch_lawful : (core : Core) (id node time : ℕ) → Lawful core → MayCome known nodes core (fetch_min id node time) → (b : Bool) → nat_lt time (word_of core.words node) ≡ b → Lawful (after core (fetch_min id node time))
+  fetch_lawful : (core : Core) (id node time : ℕ) → Lawful core → MayCome known nodes core (fetch_min id node time) → (b : Bool) → nat_lt time (label_of core.words node) ≡ b → Lawful (after core (fetch_min id node time))
   fetch_lawful core id node time h may true e = rw e
       (lower_lawful known nodes core.words core.seats id (record_of core id) node time h (live_at core.seats id may.0) may.0 may.1 may.2 (grind (arith, nat_tests)))
   fetch_lawful core id node time h may false e = rw e
@@ -29,7 +30,7 @@ module _ (known : ℕ → ℕ → Type 0) (nodes : ℕ) where
 
   step_lawful : (core : Core) (event : Event) → Lawful core → MayCome known nodes core event → Lawful (after core event)
   step_lawful core (load id node) h may = load_lawful known nodes core.words core.seats id (record_of core id) node h (live_at core.seats id may.0) may.0 may.1
-  step_lawful core (fetch_min id node time) h may = fetch_lawful core id node time h may (nat_lt time (word_of core.words node)) refl
+  step_lawful core (fetch_min id node time) h may = fetch_lawful core id node time h may (nat_lt time (label_of core.words node)) refl
   step_lawful core (split id) h may = split_lawful known nodes core.words core.seats id (record_of core id) h (live_at core.seats id (omega arith)) may
   step_lawful core (join id other) h may =
       let both = joined (record_of core id) (record_of core other) in

@@ -3,6 +3,8 @@ use Rattle.std.specs.Prelude.{◌≡◌, ℕ, ◌+◌, ◌-◌, ◌<◌, ◌≤�
 use Rattle.ea_lists.specs.Totals.{total}
 use Rattle.atomic_table.specs.Seated.{TableId}
 use Rattle.ea_road.specs.declared.TheConstants.{NONE}
+use Rattle.ea_road.specs.Labels.{label_of}
+use Rattle.ea_road.specs.Roads.{IsNode}
 use Rattle.ea_labels.specs.declared.TheConstants.{SHARES}
 use Rattle.ea_labels.specs.declared.record.Bound.{Bound}
 use Rattle.ea_labels.specs.declared.record.Lowering.{Lowering}
@@ -23,14 +25,6 @@ bound node time = record { node = node; time = time }
 
 abbrev pub lowering : ℕ → ℕ → ℕ → Lowering
 lowering node from to = record { node = node; from = from; to = to }
-
--- nodes are numbered from 1
-abbrev pub IsNode : ℕ → ℕ → Type 0
-IsNode nodes node = (1 ≤ node) × (node ≤ nodes)
-
--- the word of node v stands at place v - 1
-abbrev pub word_of : List ℕ → ℕ → ℕ
-word_of words node = slice_index words (node - 1)
 
 -- the time is none, or known for the node
 abbrev pub IsNoneOrKnown : (ℕ → ℕ → Type 0) → ℕ → ℕ → Type 0
@@ -90,14 +84,14 @@ count_from seats node from = total (λ seat. total (begins_at node from) seat.lo
 -- the bound still holds, and is not made up
 pub record IsLawfulBound (nodes : ℕ) (words : List ℕ) (seats : List SeatRecord) (b : Bound) : Type 0 where
   pub of_node : IsNode nodes b.node
-  pub above_word : word_of words b.node ≤ b.time
+  pub above_word : label_of words b.node ≤ b.time
   pub comes_from : IsNoneOrLoweredTo seats b.node b.time
 
 -- the lowering fell to a known time, from none or from where another one ended, and the word is no higher
 pub record IsLawfulLowering (known : ℕ → ℕ → Type 0) (nodes : ℕ) (words : List ℕ) (seats : List SeatRecord) (l : Lowering) : Type 0 where
   pub of_node : IsNode nodes l.node
   pub falls : l.to < l.from
-  pub above_word : word_of words l.node ≤ l.to
+  pub above_word : label_of words l.node ≤ l.to
   pub comes_from : IsNoneOrLoweredTo seats l.node l.from
   pub is_known : known l.node l.to
 
@@ -110,7 +104,7 @@ pub record IsLawfulSeat (known : ℕ → ℕ → Type 0) (nodes : ℕ) (words : 
 -- The words and the records of all seats fit each other: nothing is made up, no two lowerings of a node begin at one value, and no share is lost
 pub record IsLawful (known : ℕ → ℕ → Type 0) (nodes : ℕ) (words : List ℕ) (seats : List SeatRecord) : Type 0 where
   pub one_word_per_node : length words ≡ nodes
-  pub words_come_from : (node : ℕ) → IsNode nodes node → IsNoneOrLoweredTo seats node (word_of words node)
+  pub words_come_from : (node : ℕ) → IsNode nodes node → IsNoneOrLoweredTo seats node (label_of words node)
   pub each_seat : All (IsLawfulSeat known nodes words seats) seats
   pub lowerings_differ : (node from : ℕ) → count_from seats node from ≤ 1
   pub shares_add_up : total (λ seat. seat.shares) seats ≡ SHARES

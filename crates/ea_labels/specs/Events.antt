@@ -3,7 +3,9 @@ use Rattle.std.specs.Prelude.{◌≡◌, ◌≢◌, ℕ, ◌-◌, ◌≤◌, Lis
 use Rattle.ea_lists.specs.Runs as runs
 use Rattle.ea_road.specs.declared.TheConstants.{NONE}
 use Rattle.ea_labels.specs.declared.record.SeatRecord.{SeatRecord}
-use Rattle.ea_labels.specs.Core.{IsNode, word_of, first_record, seen, lowered, with_one_share_less, with_one_share, joined, spent, IsLawful}
+use Rattle.ea_road.specs.Roads.{IsNode}
+use Rattle.ea_road.specs.Labels.{label_of}
+use Rattle.ea_labels.specs.Core.{first_record, seen, lowered, with_one_share_less, with_one_share, joined, spent, IsLawful}
 
 -- one word per node, and the records of all seats by number
 pub record Core : Type 0 where
@@ -29,18 +31,18 @@ with_record core id seat = record { words = core.words; seats = slice_set core.s
 
 -- the seat saw the word of the node
 abbrev pub with_bound : Core → ℕ → ℕ → Core
-with_bound core id node = with_record core id (seen (record_of core id) node (word_of core.words node))
+with_bound core id node = with_record core id (seen (record_of core id) node (label_of core.words node))
 
 -- the seat lowered the word of the node to the time
 abbrev pub with_lowering : Core → ℕ → ℕ → ℕ → Core
 with_lowering core id node time = record {
   words = slice_set core.words (node - 1) time;
-  seats = slice_set core.seats id (lowered (record_of core id) node (word_of core.words node) time);
+  seats = slice_set core.seats id (lowered (record_of core id) node (label_of core.words node) time);
 }
 
 abbrev pub after : Core → Event → Core
 after core (load id node) = with_bound core id node
-after core (fetch_min id node time) = if nat_lt time (word_of core.words node) then with_lowering core id node time else with_bound core id node
+after core (fetch_min id node time) = if nat_lt time (label_of core.words node) then with_lowering core id node time else with_bound core id node
 after core (split id) = record { words = core.words; seats = slice_set core.seats id (with_one_share_less (record_of core id)) ++ with_one_share (record_of core id) ∷ [] }
 after core (join id other) = with_record (with_record core id (joined (record_of core id) (record_of core other))) other spent
 

@@ -14,8 +14,8 @@ IfKept Lowered P = Unit {0}
 IfKept (Kept time) P = P time
 
 -- The seat lowered the word of the node from some value, none or known, that was above the time and at most each bound
-abbrev pub Lowers : (ℕ → ℕ → Type 0) → SeatRecord → ℕ → ℕ → SeatRecord → Type 0
-Lowers known before node time after = (from : ℕ) × (time < from) × IsNoneOrKnown known node from × IsAtMostBounds before node from × (after ≡ lowered before node from time)
+abbrev pub LowersWord : (ℕ → ℕ → Type 0) → SeatRecord → ℕ → ℕ → SeatRecord → Type 0
+LowersWord known before node time after = (from : ℕ) × (time < from) × IsNoneOrKnown known node from × IsAtMostBounds before node from × (after ≡ lowered before node from time)
 
 -- The word was there already, a known time that is at most the one offered and at most each bound
 abbrev pub Keeps : (ℕ → ℕ → Type 0) → SeatRecord → ℕ → ℕ → ℕ → SeatRecord → Type 0

@@ -1,9 +1,11 @@
 // The label table.
 ghost use Rattle.std.specs.Prelude.{◌≡◌, ◌≤◌, ◌⊎◌, ℕ, All, Any, [], ◌∷◌, vec_len, IfOk};
-ghost use Rattle.ea_labels.specs.Core.{IsNode, word_of, IsLawful, IsNoneOrKnown, IsAtMostBounds};
+ghost use Rattle.ea_road.specs.Roads.{IsNode};
+ghost use Rattle.ea_road.specs.Labels.{label_of};
+ghost use Rattle.ea_labels.specs.Core.{IsLawful, IsNoneOrKnown, IsAtMostBounds};
 ghost use Rattle.ea_labels.specs.Core.{seen, first_record, with_one_share_less, with_one_share, joined};
 ghost use Rattle.ea_labels.specs.Events.{IsRunEnd};
-ghost use Rattle.ea_labels.specs.Offers.{IfKept, IfLowered, Keeps, Lowers as LowersTo};
+ghost use Rattle.ea_labels.specs.Offers.{IfKept, IfLowered, Keeps, LowersWord};
 
 use crate::offered::Offered;
 use crate::record::SeatRecord;
@@ -77,7 +79,7 @@ impl<K: Known, A: Allocator> Labels<K, A> {
         requires node { IsNode self.now.nodes node }
         requires known { K.is_known node time }
         ensures same_table { seat.new.table ≡ seat.old.table }
-        ensures lowered { IfLowered result (LowersTo K.is_known seat.old.history node time seat.new.history) }
+        ensures lowered { IfLowered result (LowersWord K.is_known seat.old.history node time seat.new.history) }
         ensures kept { IfKept result (λ old. Keeps K.is_known seat.old.history node time old seat.new.history) }
         ensures same_shares { seat.new.history.shares ≡ seat.old.history.shares }
     {
@@ -132,10 +134,10 @@ impl<K: Known, A: Allocator> Labels<K, A> {
         requires same_table { seat.table ≡ self.table }
         requires all_shares { seat.history.shares ≡ SHARES }
         ensures len { vec_len result ≡ self.nodes }
-        ensures known { (node : ℕ) → IsNode self.nodes node → IsNoneOrKnown K.is_known node (word_of result.items node) }
-        ensures least { All (λ b. word_of result.items b.node ≤ b.time) seat.history.bounds }
-        ensures lowered_to { (node : ℕ) → IsNode self.nodes node → (word_of result.items node ≡ NONE)
-            ⊎ Any (λ l. (l.node ≡ node) × (l.to ≡ word_of result.items node)) seat.history.lowerings }
+        ensures known { (node : ℕ) → IsNode self.nodes node → IsNoneOrKnown K.is_known node (label_of result.items node) }
+        ensures least { All (λ b. label_of result.items b.node ≤ b.time) seat.history.bounds }
+        ensures lowered_to { (node : ℕ) → IsNode self.nodes node → (label_of result.items node ≡ NONE)
+            ⊎ Any (λ l. (l.node ≡ node) × (l.to ≡ label_of result.items node)) seat.history.lowerings }
         ensures lawful { IsLawful K.is_known self.nodes result.items (seat.history ∷ []) }
         ensures run { IsRunEnd K.is_known self.nodes result.items seat.history }
     {

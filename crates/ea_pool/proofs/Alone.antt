@@ -4,7 +4,7 @@ use Rattle.std.specs.List.{AllByRecursion}
 use mathlib.Core.Logic.{dite}
 use native.Mathlib.Decide.{ℕ_discrete, dec_lt}
 use Rattle.ea_pool.specs.declared.entry.Entry.{Entry}
-use Rattle.ea_pool.specs.declared.account.SeatState.{SeatState}
+use Rattle.ea_pool.specs.declared.account.SeatMemory.{SeatMemory}
 use Rattle.ea_pool.specs.declared.reply.Popped.{Popped}
 use Rattle.ea_pool.specs.declared.reply.Popped.TheVariants as reply
 use Rattle.ea_lists.specs.Totals.{total}
@@ -39,18 +39,18 @@ both : (i j k : ℕ) (P : ℕ → Type 0) → i < 2 → j < 2 → i ≢ j → k 
 both i j k P near other apart l p q = dite (ℕ_discrete k i) (λ e. subst P (sym e) p) (λ ne. let e : j ≡ k = omega arith in subst P e q)
 
 -- an attempt at one of the two heaps that were looked at
-pub answered : (v w : SeatState) (i x j y : ℕ) (picked : ℕ × ℕ) (answer : Popped) → w ≡ saw (saw v i x) j y → (picked ≡ (i, x)) ⊎ (picked ≡ (j, y))
+pub answered : (v w : SeatMemory) (i x j y : ℕ) (picked : ℕ × ℕ) (answer : Popped) → w ≡ saw (saw v i x) j y → (picked ≡ (i, x)) ⊎ (picked ≡ (j, y))
     → AllByRecursion (λ p. picked.0 ≡ p.0 → picked.1 ≡ p.1 → MatchPopped answer (λ e. Unit {0}) ⊥ ⊥) w.seen → MatchPopped answer (λ e. Unit {0}) ⊥ ⊥
 answered v w i x j y picked answer is one all =
-    let both = subst (λ (a : SeatState). AllByRecursion (λ p. picked.0 ≡ p.0 → picked.1 ≡ p.1 → MatchPopped answer (λ e. Unit {0}) ⊥ ⊥) a.seen) is all in
+    let both = subst (λ (a : SeatMemory). AllByRecursion (λ p. picked.0 ≡ p.0 → picked.1 ≡ p.1 → MatchPopped answer (λ e. Unit {0}) ⊥ ⊥) a.seen) is all in
     ⊎_elim (λ (e : picked ≡ (i, x)). both.1.0 (ap (λ (p : ℕ × ℕ). p.0) e) (ap (λ (p : ℕ × ℕ). p.1) e)) (λ (e : picked ≡ (j, y)). both.0 (ap (λ (p : ℕ × ℕ). p.0) e) (ap (λ (p : ℕ × ℕ). p.1) e)) one
 
-module _ (known : ℕ → ℕ → Type 0) (in_time : (node time : ℕ) → known node time → time ≤ HORIZON) (v w : SeatState) (i x j y : ℕ) (survey : Surveys known 2 w) (is : w ≡ saw (saw v i x) j y) (near : i < 2) (other : j < 2) (apart : i ≢ j) where
+module _ (known : ℕ → ℕ → Type 0) (in_time : (node time : ℕ) → known node time → time ≤ HORIZON) (v w : SeatMemory) (i x j y : ℕ) (survey : Surveys known 2 w) (is : w ≡ saw (saw v i x) j y) (near : i < 2) (other : j < 2) (apart : i ≢ j) where
   seen : AllByRecursion (λ p. p.0 < 2 → face (slice_index_or survey.contents p.0 []) ≡ p.1) ((j, y) ∷ (i, x) ∷ v.seen)
-  seen = subst (λ (a : SeatState). AllByRecursion (λ p. p.0 < 2 → face (slice_index_or survey.contents p.0 []) ≡ p.1) a.seen) is survey.seen
+  seen = subst (λ (a : SeatMemory). AllByRecursion (λ p. p.0 < 2 → face (slice_index_or survey.contents p.0 []) ≡ p.1) a.seen) is survey.seen
 
   left : (f : Entry → ℕ) → total f v.pushed ≡ total f v.popped + total (total f) survey.contents
-  left f = omega (arith, survey.left f, ap (λ (a : SeatState). total f a.pushed) is, ap (λ (a : SeatState). total f a.popped) is)
+  left f = omega (arith, survey.left f, ap (λ (a : SeatMemory). total f a.pushed) is, ap (λ (a : SeatMemory). total f a.popped) is)
 
   bounded : (s : ℕ) → s ≤ x → s ≤ y → Bounds s survey.contents
   bounded s a b k l =
@@ -68,15 +68,15 @@ module _ (known : ℕ → ℕ → Type 0) (in_time : (node time : ℕ) → known
     left f,
     nothing_in survey.contents (λ d some.
         let low = bounds_all EMPTY survey.contents (bounded EMPTY (omega arith) (omega arith)) d some in
-        let late = in_time d.node d.key (survey.known_all d (omega (arith, left (only d), ap (λ (z : SeatState). times d z.pushed) is))) in
+        let late = in_time d.node d.key (survey.known_all d (omega (arith, left (only d), ap (λ (z : SeatMemory). times d z.pushed) is))) in
         omega arith) f,
   )
 
-  pub pops_least_of_two : (answer : Popped) (b : SeatState) (s : ℕ) → s ≡ min x y → MatchPopped answer (λ e. Pops (books w) e (books b) × IsKnown known e × (e.key ≡ s)) ⊥ (SameBooks (books w) (books b) × (b.seen ≡ [])) → MatchPopped answer (λ e. Unit {0}) ⊥ ⊥
+  pub pops_least_of_two : (answer : Popped) (b : SeatMemory) (s : ℕ) → s ≡ min x y → MatchPopped answer (λ e. Pops (books w) e (books b) × IsKnown known e × (e.key ≡ s)) ⊥ (SameBooks (books w) (books b) × (b.seen ≡ [])) → MatchPopped answer (λ e. Unit {0}) ⊥ ⊥
       → MatchPopped answer (λ e. IsLeft e (books w)) (Unit {0}) (Unit {0})
       → MatchPopped answer (λ e. IsLeastLeft e (books v)) (NothingLeft (books v)) ⊥
   pops_least_of_two (reply.Entry e) b s m t busy there = (
-    omega (arith, there, ap (λ (a : SeatState). times e a.pushed) is, ap (λ (a : SeatState). times e a.popped) is),
+    omega (arith, there, ap (λ (a : SeatMemory). times e a.pushed) is, ap (λ (a : SeatMemory). times e a.popped) is),
     is_least e (omega (arith, t.2)) (omega (arith, t.2)),
   )
   pops_least_of_two reply.Empty b s m t busy there = absurd t

@@ -13,7 +13,7 @@ use Rattle.ea_lists.proofs.Places.{inside}
 use Rattle.ea_lists.proofs.Totals.{total-map, total-append, total-set, term_le, terms_le, total_alone}
 use Rattle.ea_pool.specs.declared.entry.Entry.{Entry}
 use Rattle.ea_pool.specs.declared.account.Held.{Held}
-use Rattle.ea_pool.specs.declared.account.SeatState.{SeatState}
+use Rattle.ea_pool.specs.declared.account.SeatMemory.{SeatMemory}
 use Rattle.ea_pool.specs.declared.TheConstants.{SHARES}
 use Rattle.ea_pool.specs.declared.words.TheConstants.{OUT, EMPTY}
 use Rattle.ea_pool.specs.Entries.{only, times, SameEntries, IsKnown, AreKnown, face}
@@ -30,7 +30,7 @@ Homes = List (maybe.Option (List Entry))
 abbrev pub empty_homes : ℕ → Homes
 empty_homes n = replicate n (maybe.some [])
 
-abbrev pub board : List ℕ → Homes → List SeatState → Core
+abbrev pub board : List ℕ → Homes → List SeatMemory → Core
 board words homes seats = record { words = words; homes = homes; seats = seats }
 
 -- what the heaps at home weigh
@@ -38,8 +38,8 @@ abbrev home_weight : (Entry → ℕ) → Homes → ℕ
 home_weight f homes = total (λ h. total f (at_home h)) homes
 
 -- a seat that has a share is alone with all of them
-not_all : (views : List SeatState) (id j : ℕ) (v b : SeatState) → total (λ a. a.shares) views ≡ SHARES → j ≢ id → get_elem? views id ≡ maybe.some v → get_elem? views j ≡ maybe.some b → 0 < v.shares → b.shares ≡ SHARES → ⊥
-not_all views id j v b all apart me them live whole = omega (arith, terms_le (λ (a : SeatState). a.shares) views id j v b apart me them, all)
+not_all : (views : List SeatMemory) (id j : ℕ) (v b : SeatMemory) → total (λ a. a.shares) views ≡ SHARES → j ≢ id → get_elem? views id ≡ maybe.some v → get_elem? views j ≡ maybe.some b → 0 < v.shares → b.shares ≡ SHARES → ⊥
+not_all views id j v b all apart me them live whole = omega (arith, terms_le (λ (a : SeatMemory). a.shares) views id j v b apart me them, all)
 
 pub face_low : (es : List Entry) → face es ≤ EMPTY
 face_low [] = omega arith
@@ -51,7 +51,7 @@ fits_low word holders (maybe.some es) f = omega (arith, f.0, face_low es)
 
 module _ (known : ℕ → ℕ → Type 0) where
   -- one seat's account, the words and the heaps at home change together
-  changed : (s : Core) (o : IsLawful known s) (id : ℕ) (v w : SeatState) (words : List ℕ) (homes : Homes) → get_elem? s.seats id ≡ maybe.some v → 0 < v.shares → w.shares ≡ v.shares
+  changed : (s : Core) (o : IsLawful known s) (id : ℕ) (v w : SeatMemory) (words : List ℕ) (homes : Homes) → get_elem? s.seats id ≡ maybe.some v → 0 < v.shares → w.shares ≡ v.shares
       → length words ≡ length homes → length homes ≡ length s.homes → IsInside (length homes) w.held
       → ((k : ℕ) (home : maybe.Option (List Entry)) → get_elem? homes k ≡ maybe.some home → Fits (get_or words k 0) (total (holds_heap k) (set s.seats id w)) home)
       → ((f : Entry → ℕ) → total f w.pushed + (total f v.popped + (home_weight f s.homes + total f (content_of v.held))) ≡ total f v.pushed + (total f w.popped + (home_weight f homes + total f (content_of w.held))))
@@ -59,38 +59,38 @@ module _ (known : ℕ → ℕ → Type 0) where
       → (v.shares ≡ SHARES → AreWords words w.seen)
       → IsLawful known (board words homes (set s.seats id w))
   changed s o id v w words homes me live shares width long here fits balance new seen =
-      let views : List SeatState = set s.seats id w in
+      let views : List SeatMemory = set s.seats id w in
       let balanced : (f : Entry → ℕ) → total (λ a. total f a.pushed) views ≡ total (λ a. total f a.popped) views + (home_weight f homes + total (λ a. total f (content_of a.held)) views) = λ f. omega (
         arith,
         o.balanced f,
         balance f,
-        total-set (λ (a : SeatState). total f a.pushed) s.seats id v w me,
-        total-set (λ (a : SeatState). total f a.popped) s.seats id v w me,
-        total-set (λ (a : SeatState). total f (content_of a.held)) s.seats id v w me,
+        total-set (λ (a : SeatMemory). total f a.pushed) s.seats id v w me,
+        total-set (λ (a : SeatMemory). total f a.popped) s.seats id v w me,
+        total-set (λ (a : SeatMemory). total f (content_of a.held)) s.seats id v w me,
       ) in
       record {
         one_word_per_heap = width;
         fits = fits;
-        held_inside = λ j a at. ⊎_elim (λ (t : (j ≡ id) × (w ≡ a)). subst (λ (b : SeatState). IsInside (length homes) b.held) t.1 here)
+        held_inside = λ j a at. ⊎_elim (λ (t : (j ≡ id) × (w ≡ a)). subst (λ (b : SeatMemory). IsInside (length homes) b.held) t.1 here)
             (λ (t : (j ≢ id) × (get_elem? s.seats j ≡ maybe.some a)). subst (λ (n : ℕ). IsInside n a.held) (sym long) (o.held_inside j a t.1)) (at_set s.seats id j w a at);
         balanced = balanced;
         known_all = λ e there.
             let even = balanced (only e) in
-            let moved = total-set (λ (a : SeatState). times e a.pushed) s.seats id v w me in
-            let part = term_le (λ (a : SeatState). times e a.pushed) s.seats id v me in
-            dite (dec_lt 0 (total (λ (a : SeatState). times e a.pushed) s.seats)) (λ before. o.known_all e (omega arith)) (λ none. new e (omega arith) (omega arith));
-        shares_add_up = omega (arith, o.shares_add_up, total-set (λ (a : SeatState). a.shares) s.seats id v w me);
-        live = λ j a at none. ⊎_elim (λ (t : (j ≡ id) × (w ≡ a)). absurd (omega (arith, ap (λ (b : SeatState). b.shares) t.1))) (λ (t : (j ≢ id) × (get_elem? s.seats j ≡ maybe.some a)). o.live j a t.1 none) (at_set s.seats id j w a at);
-        fresh = λ j a at whole. ⊎_elim (λ (t : (j ≡ id) × (w ≡ a)). subst (λ (b : SeatState). AreWords words b.seen) t.1 (seen (omega (arith, ap (λ (b : SeatState). b.shares) t.1))))
+            let moved = total-set (λ (a : SeatMemory). times e a.pushed) s.seats id v w me in
+            let part = term_le (λ (a : SeatMemory). times e a.pushed) s.seats id v me in
+            dite (dec_lt 0 (total (λ (a : SeatMemory). times e a.pushed) s.seats)) (λ before. o.known_all e (omega arith)) (λ none. new e (omega arith) (omega arith));
+        shares_add_up = omega (arith, o.shares_add_up, total-set (λ (a : SeatMemory). a.shares) s.seats id v w me);
+        live = λ j a at none. ⊎_elim (λ (t : (j ≡ id) × (w ≡ a)). absurd (omega (arith, ap (λ (b : SeatMemory). b.shares) t.1))) (λ (t : (j ≢ id) × (get_elem? s.seats j ≡ maybe.some a)). o.live j a t.1 none) (at_set s.seats id j w a at);
+        fresh = λ j a at whole. ⊎_elim (λ (t : (j ≡ id) × (w ≡ a)). subst (λ (b : SeatMemory). AreWords words b.seen) t.1 (seen (omega (arith, ap (λ (b : SeatMemory). b.shares) t.1))))
             (λ (t : (j ≢ id) × (get_elem? s.seats j ≡ maybe.some a)). absurd (not_all s.seats id j v a o.shares_add_up t.0 me t.1 live whole)) (at_set s.seats id j w a at);
       }
 
   -- the seats that hold the heap k, where one seat's account changes and it holds as many as before
-  same_holders : (views : List SeatState) (id : ℕ) (v w : SeatState) (k : ℕ) → get_elem? views id ≡ maybe.some v → holds_heap k w ≡ holds_heap k v → total (holds_heap k) views ≡ total (holds_heap k) (set views id w)
+  same_holders : (views : List SeatMemory) (id : ℕ) (v w : SeatMemory) (k : ℕ) → get_elem? views id ≡ maybe.some v → holds_heap k w ≡ holds_heap k v → total (holds_heap k) views ≡ total (holds_heap k) (set views id w)
   same_holders views id v w k me same = omega (arith, total-set (holds_heap k) views id v w me)
 
   -- no word and no heap changes
-  unmoved : (s : Core) (o : IsLawful known s) (id : ℕ) (v w : SeatState) → get_elem? s.seats id ≡ maybe.some v → 0 < v.shares → w.shares ≡ v.shares → w.pushed ≡ v.pushed → w.popped ≡ v.popped → w.held ≡ v.held
+  unmoved : (s : Core) (o : IsLawful known s) (id : ℕ) (v w : SeatMemory) → get_elem? s.seats id ≡ maybe.some v → 0 < v.shares → w.shares ≡ v.shares → w.pushed ≡ v.pushed → w.popped ≡ v.popped → w.held ≡ v.held
       → (v.shares ≡ SHARES → AreWords s.words w.seen) → IsLawful known (board s.words s.homes (set s.seats id w))
   unmoved s o id v w me live shares a b c seen =
       changed s o id v w s.words s.homes me live shares o.one_word_per_heap refl (subst (IsInside (length s.homes)) (sym c) (o.held_inside id v me))
@@ -103,7 +103,7 @@ module _ (known : ℕ → ℕ → Type 0) where
   there (h ∷ hs) (suc k) l = there hs k (omega arith)
 
   -- the word and the home of the heap k change, and one seat's account
-  fits_changed : (s : Core) (o : IsLawful known s) (id k n : ℕ) (v w : SeatState) (h : maybe.Option (List Entry)) → k < length s.homes → get_elem? s.seats id ≡ maybe.some v
+  fits_changed : (s : Core) (o : IsLawful known s) (id k n : ℕ) (v w : SeatMemory) (h : maybe.Option (List Entry)) → k < length s.homes → get_elem? s.seats id ≡ maybe.some v
       → ((r : ℕ) → r ≢ k → holds_heap r w ≡ holds_heap r v) → Fits n (total (holds_heap k) (set s.seats id w)) h
       → (r : ℕ) (home : maybe.Option (List Entry)) → get_elem? (set s.homes k h) r ≡ maybe.some home → Fits (get_or (set s.words k n) r 0) (total (holds_heap r) (set s.seats id w)) home
   fits_changed s o id k n v w h near me others here r home at = ⊎_elim
@@ -152,27 +152,27 @@ module _ (known : ℕ → ℕ → Type 0) where
   )
 
   -- where a seat that holds nothing has all shares, no heap is out
-  pub unheld_all : (s : Core) (o : IsLawful known s) (id : ℕ) (a : SeatState) → get_elem? s.seats id ≡ maybe.some a → a.shares ≡ SHARES → a.held ≡ None → (k : ℕ) → total (holds_heap k) s.seats ≡ 0
-  unheld_all s o id a me whole rests k = total_alone (holds_heap k) (λ (b : SeatState). b.shares) s.seats id a me (omega (arith, o.shares_add_up)) (λ j b at none. ap (holds_heap k) (o.live j b at none)) ∙ ap (count_of k) rests
+  pub unheld_all : (s : Core) (o : IsLawful known s) (id : ℕ) (a : SeatMemory) → get_elem? s.seats id ≡ maybe.some a → a.shares ≡ SHARES → a.held ≡ None → (k : ℕ) → total (holds_heap k) s.seats ≡ 0
+  unheld_all s o id a me whole rests k = total_alone (holds_heap k) (λ (b : SeatMemory). b.shares) s.seats id a me (omega (arith, o.shares_add_up)) (λ j b at none. ap (holds_heap k) (o.live j b at none)) ∙ ap (count_of k) rests
 
   -- what a seat with all shares pushed is what it popped and what the heaps have, at home or held
-  pub balance_whole : (s : Core) (o : IsLawful known s) (id : ℕ) (a : SeatState) → get_elem? s.seats id ≡ maybe.some a → a.shares ≡ SHARES → (f : Entry → ℕ)
+  pub balance_whole : (s : Core) (o : IsLawful known s) (id : ℕ) (a : SeatMemory) → get_elem? s.seats id ≡ maybe.some a → a.shares ≡ SHARES → (f : Entry → ℕ)
       → total f a.pushed ≡ total f a.popped + (home_weight f s.homes + total f (content_of a.held))
   balance_whole s o id a me whole f =
-      let alone : (f : SeatState → ℕ) → f nobody ≡ 0 → total f s.seats ≡ f a = λ f z. total_alone f (λ (b : SeatState). b.shares) s.seats id a me (omega (arith, o.shares_add_up)) (λ j b at none. ap f (o.live j b at none) ∙ z) in
+      let alone : (f : SeatMemory → ℕ) → f nobody ≡ 0 → total f s.seats ≡ f a = λ f z. total_alone f (λ (b : SeatMemory). b.shares) s.seats id a me (omega (arith, o.shares_add_up)) (λ j b at none. ap f (o.live j b at none) ∙ z) in
       omega (arith, o.balanced f, alone (λ b. total f b.pushed) refl, alone (λ b. total f b.popped) refl, alone (λ b. total f (content_of b.held)) refl)
 
   -- and where it holds nothing, what the heaps at home have
-  pub balance_alone : (s : Core) (o : IsLawful known s) (id : ℕ) (a : SeatState) → get_elem? s.seats id ≡ maybe.some a → a.shares ≡ SHARES → a.held ≡ None → (f : Entry → ℕ)
+  pub balance_alone : (s : Core) (o : IsLawful known s) (id : ℕ) (a : SeatMemory) → get_elem? s.seats id ≡ maybe.some a → a.shares ≡ SHARES → a.held ≡ None → (f : Entry → ℕ)
       → total f a.pushed ≡ total f a.popped + total (total f) (map at_home s.homes)
   balance_alone s o id a me whole rests f =
       omega (arith, balance_whole s o id a me whole f, ap (λ (h : Option Held). total f (content_of h)) rests, total-map (total f) at_home s.homes)
 
   -- what a seat with all shares knows
-  pub surveys : (s : Core) (o : IsLawful known s) (id : ℕ) (a : SeatState) → get_elem? s.seats id ≡ maybe.some a → a.shares ≡ SHARES → a.held ≡ None → (pairs : List (ℕ × ℕ)) → AreWords s.words pairs
+  pub surveys : (s : Core) (o : IsLawful known s) (id : ℕ) (a : SeatMemory) → get_elem? s.seats id ≡ maybe.some a → a.shares ≡ SHARES → a.held ≡ None → (pairs : List (ℕ × ℕ)) → AreWords s.words pairs
       → Surveys known (length s.homes) (seat_state a.shares a.pushed a.popped a.held pairs)
   surveys s o id a me whole rests pairs words =
-      let alone : (f : SeatState → ℕ) → f nobody ≡ 0 → total f s.seats ≡ f a = λ f z. total_alone f (λ (b : SeatState). b.shares) s.seats id a me (omega (arith, o.shares_add_up)) (λ j b at none. ap f (o.live j b at none) ∙ z) in
+      let alone : (f : SeatMemory → ℕ) → f nobody ≡ 0 → total f s.seats ≡ f a = λ f z. total_alone f (λ (b : SeatMemory). b.shares) s.seats id a me (omega (arith, o.shares_add_up)) (λ j b at none. ap f (o.live j b at none) ∙ z) in
       let unheld = unheld_all s o id a me whole rests in
       record {
         contents = map at_home s.homes;
@@ -191,15 +191,15 @@ module _ (known : ℕ → ℕ → Type 0) where
   known_in s o k es at e some = o.known_all e (omega (arith, o.balanced (only e), term_le (λ h. total (only e) (at_home h)) s.homes k (maybe.some es) at))
 
   -- a seat looks at heap k
-  pub load_lawful : (s : Core) (o : IsLawful known s) (id k : ℕ) (v : SeatState) → get_elem? s.seats id ≡ maybe.some v → 0 < v.shares
+  pub load_lawful : (s : Core) (o : IsLawful known s) (id k : ℕ) (v : SeatMemory) → get_elem? s.seats id ≡ maybe.some v → 0 < v.shares
       → IsLawful known (board s.words s.homes (set s.seats id (saw v k (get_or s.words k 0))))
   load_lawful s o id k v me live = unmoved s o id v (saw v k (get_or s.words k 0)) me live refl refl refl refl (λ whole. (refl, o.fresh id v me whole))
 
   -- it takes the heap k, which is at home
-  pub take_lawful : (s : Core) (o : IsLawful known s) (id k : ℕ) (v : SeatState) (es : List Entry) → get_elem? s.seats id ≡ maybe.some v → 0 < v.shares → v.held ≡ None → get_elem? s.homes k ≡ maybe.some (maybe.some es)
+  pub take_lawful : (s : Core) (o : IsLawful known s) (id k : ℕ) (v : SeatMemory) (es : List Entry) → get_elem? s.seats id ≡ maybe.some v → 0 < v.shares → v.held ≡ None → get_elem? s.homes k ≡ maybe.some (maybe.some es)
       → IsLawful known (board (set s.words k OUT) (set s.homes k maybe.none) (set s.seats id (took v k es)))
   take_lawful s o id k v es me live rests at =
-      let w : SeatState = took v k es in
+      let w : SeatMemory = took v k es in
       let one : holds_heap k w ≡ 1 = ap (λ b. cond b 1 0) (eq-eqb k k refl) in
       let was : holds_heap k v ≡ 0 = ap (count_of k) rests in
       let alone = o.fits k (maybe.some es) at in
@@ -213,15 +213,15 @@ module _ (known : ℕ → ℕ → Type 0) where
       (λ _. tt)
 
   -- or fails to
-  pub miss_lawful : (s : Core) (o : IsLawful known s) (id : ℕ) (v : SeatState) → get_elem? s.seats id ≡ maybe.some v → 0 < v.shares → IsLawful known (board s.words s.homes (set s.seats id (forgot v)))
+  pub miss_lawful : (s : Core) (o : IsLawful known s) (id : ℕ) (v : SeatMemory) → get_elem? s.seats id ≡ maybe.some v → 0 < v.shares → IsLawful known (board s.words s.homes (set s.seats id (forgot v)))
   miss_lawful s o id v me live = unmoved s o id v (forgot v) me live refl refl refl refl (λ _. tt)
 
   -- a heap that a seat holds is one of the pool's
-  held_inside_at : (s : Core) (o : IsLawful known s) (id k : ℕ) (v : SeatState) (es : List Entry) → get_elem? s.seats id ≡ maybe.some v → v.held ≡ Some (held_at k es) → k < length s.homes
+  held_inside_at : (s : Core) (o : IsLawful known s) (id k : ℕ) (v : SeatMemory) (es : List Entry) → get_elem? s.seats id ≡ maybe.some v → v.held ≡ Some (held_at k es) → k < length s.homes
   held_inside_at s o id k v es me holds = subst (IsInside (length s.homes)) holds (o.held_inside id v me)
 
   -- The seat that holds the heap k puts it back with the entries es'
-  puts_back : (s : Core) (o : IsLawful known s) (id k : ℕ) (v w : SeatState) (es es' : List Entry) → get_elem? s.seats id ≡ maybe.some v → 0 < v.shares → v.held ≡ Some (held_at k es)
+  puts_back : (s : Core) (o : IsLawful known s) (id k : ℕ) (v w : SeatMemory) (es es' : List Entry) → get_elem? s.seats id ≡ maybe.some v → 0 < v.shares → v.held ≡ Some (held_at k es)
       → w.shares ≡ v.shares → w.held ≡ None → w.seen ≡ []
       → ((f : Entry → ℕ) → total f w.pushed + (total f v.popped + total f es) ≡ total f v.pushed + (total f w.popped + total f es'))
       → ((e : Entry) → times e v.pushed ≡ 0 → 0 < times e w.pushed → IsKnown known e)
@@ -249,55 +249,55 @@ module _ (known : ℕ → ℕ → Type 0) where
       new
       (λ _. subst (λ (l : List (ℕ × ℕ)). AreWords (set s.words k (face es')) l) (sym blank) tt)
 
-  pub push_lawful : (s : Core) (o : IsLawful known s) (id k : ℕ) (v : SeatState) (es es' : List Entry) (e : Entry) → get_elem? s.seats id ≡ maybe.some v → 0 < v.shares → v.held ≡ Some (held_at k es) → SameEntries es' (e ∷ es) → IsKnown known e
+  pub push_lawful : (s : Core) (o : IsLawful known s) (id k : ℕ) (v : SeatMemory) (es es' : List Entry) (e : Entry) → get_elem? s.seats id ≡ maybe.some v → 0 < v.shares → v.held ≡ Some (held_at k es) → SameEntries es' (e ∷ es) → IsKnown known e
       → IsLawful known (board (set s.words k (face es')) (set s.homes k (maybe.some es')) (set s.seats id (pushed v e)))
   push_lawful s o id k v es es' e me live holds same may =
       puts_back s o id k v (pushed v e) es es' me live holds refl refl refl (λ f. omega (arith, same f)) (λ x none some. subst (IsKnown known) (sym (only-one x e (omega arith))) may)
 
-  pub pop_lawful : (s : Core) (o : IsLawful known s) (id k : ℕ) (v : SeatState) (es es' : List Entry) (e : Entry) → get_elem? s.seats id ≡ maybe.some v → 0 < v.shares → v.held ≡ Some (held_at k es) → SameEntries es (e ∷ es')
+  pub pop_lawful : (s : Core) (o : IsLawful known s) (id k : ℕ) (v : SeatMemory) (es es' : List Entry) (e : Entry) → get_elem? s.seats id ≡ maybe.some v → 0 < v.shares → v.held ≡ Some (held_at k es) → SameEntries es (e ∷ es')
       → IsLawful known (board (set s.words k (face es')) (set s.homes k (maybe.some es')) (set s.seats id (popped v e)))
   pop_lawful s o id k v es es' e me live holds same =
       puts_back s o id k v (popped v e) es es' me live holds refl refl refl (λ f. omega (arith, same f)) (λ x none some. absurd (omega arith))
 
-  pub back_lawful : (s : Core) (o : IsLawful known s) (id k : ℕ) (v : SeatState) (es : List Entry) → get_elem? s.seats id ≡ maybe.some v → 0 < v.shares → v.held ≡ Some (held_at k es)
+  pub back_lawful : (s : Core) (o : IsLawful known s) (id k : ℕ) (v : SeatMemory) (es : List Entry) → get_elem? s.seats id ≡ maybe.some v → 0 < v.shares → v.held ≡ Some (held_at k es)
       → IsLawful known (board (set s.words k (face es)) (set s.homes k (maybe.some es)) (set s.seats id (gave v)))
   back_lawful s o id k v es me live holds =
       puts_back s o id k v (gave v) es es me live holds refl refl refl (λ f. omega arith) (λ x none some. absurd (omega arith))
 
   -- a seat is added that holds nothing
-  pub split_lawful : (s : Core) (o : IsLawful known s) (id : ℕ) (v : SeatState) → get_elem? s.seats id ≡ maybe.some v → 2 ≤ v.shares → IsLawful known (board s.words s.homes (set s.seats id (left_of v) ++ newcomer v ∷ []))
+  pub split_lawful : (s : Core) (o : IsLawful known s) (id : ℕ) (v : SeatMemory) → get_elem? s.seats id ≡ maybe.some v → 2 ≤ v.shares → IsLawful known (board s.words s.homes (set s.seats id (left_of v) ++ newcomer v ∷ []))
   split_lawful s o id v me many =
-      let views : List SeatState = set s.seats id (left_of v) in
-      let added : (f : SeatState → ℕ) → total f (views ++ newcomer v ∷ []) + f v ≡ total f s.seats + f (left_of v) + f (newcomer v) = λ f. omega (arith, total-append f views (newcomer v ∷ []), total-set f s.seats id v (left_of v) me) in
+      let views : List SeatMemory = set s.seats id (left_of v) in
+      let added : (f : SeatMemory → ℕ) → total f (views ++ newcomer v ∷ []) + f v ≡ total f s.seats + f (left_of v) + f (newcomer v) = λ f. omega (arith, total-append f views (newcomer v ∷ []), total-set f s.seats id v (left_of v) me) in
       record {
         one_word_per_heap = o.one_word_per_heap;
         fits = λ k home at. subst (λ (n : ℕ). Fits (get_or s.words k 0) n home) (omega (arith, added (holds_heap k))) (o.fits k home at);
         held_inside = λ j a at. ⊎_elim
-            (λ (at' : get_elem? views j ≡ maybe.some a). ⊎_elim (λ (t : (j ≡ id) × (left_of v ≡ a)). subst (λ (b : SeatState). IsInside (length s.homes) b.held) t.1 (o.held_inside id v me)) (λ (t : (j ≢ id) × (get_elem? s.seats j ≡ maybe.some a)). o.held_inside j a t.1) (at_set s.seats id j (left_of v) a at'))
-            (λ (e : newcomer v ≡ a). subst (λ (b : SeatState). IsInside (length s.homes) b.held) e tt) (at_snoc views (newcomer v) a j at);
+            (λ (at' : get_elem? views j ≡ maybe.some a). ⊎_elim (λ (t : (j ≡ id) × (left_of v ≡ a)). subst (λ (b : SeatMemory). IsInside (length s.homes) b.held) t.1 (o.held_inside id v me)) (λ (t : (j ≢ id) × (get_elem? s.seats j ≡ maybe.some a)). o.held_inside j a t.1) (at_set s.seats id j (left_of v) a at'))
+            (λ (e : newcomer v ≡ a). subst (λ (b : SeatMemory). IsInside (length s.homes) b.held) e tt) (at_snoc views (newcomer v) a j at);
         balanced = λ f. omega (arith, o.balanced f, added (λ a. total f a.pushed), added (λ a. total f a.popped), added (λ a. total f (content_of a.held)));
         known_all = λ e some. o.known_all e (omega (arith, added (λ a. times e a.pushed), added (λ a. times e a.popped), added (λ a. times e (content_of a.held))));
         shares_add_up = omega (arith, o.shares_add_up, added (λ a. a.shares));
         live = λ j a at none. ⊎_elim
-            (λ (at' : get_elem? views j ≡ maybe.some a). ⊎_elim (λ (t : (j ≡ id) × (left_of v ≡ a)). absurd (omega (arith, ap (λ (b : SeatState). b.shares) t.1))) (λ (t : (j ≢ id) × (get_elem? s.seats j ≡ maybe.some a)). o.live j a t.1 none) (at_set s.seats id j (left_of v) a at'))
-            (λ (e : newcomer v ≡ a). absurd (omega (arith, ap (λ (b : SeatState). b.shares) e))) (at_snoc views (newcomer v) a j at);
+            (λ (at' : get_elem? views j ≡ maybe.some a). ⊎_elim (λ (t : (j ≡ id) × (left_of v ≡ a)). absurd (omega (arith, ap (λ (b : SeatMemory). b.shares) t.1))) (λ (t : (j ≢ id) × (get_elem? s.seats j ≡ maybe.some a)). o.live j a t.1 none) (at_set s.seats id j (left_of v) a at'))
+            (λ (e : newcomer v ≡ a). absurd (omega (arith, ap (λ (b : SeatMemory). b.shares) e))) (at_snoc views (newcomer v) a j at);
         fresh = λ j a at whole. ⊎_elim
-            (λ (at' : get_elem? views j ≡ maybe.some a). ⊎_elim (λ (t : (j ≡ id) × (left_of v ≡ a)). subst (λ (b : SeatState). AreWords s.words b.seen) t.1 tt)
+            (λ (at' : get_elem? views j ≡ maybe.some a). ⊎_elim (λ (t : (j ≡ id) × (left_of v ≡ a)). subst (λ (b : SeatMemory). AreWords s.words b.seen) t.1 tt)
             (λ (t : (j ≢ id) × (get_elem? s.seats j ≡ maybe.some a)). o.fresh j a t.1 whole) (at_set s.seats id j (left_of v) a at'))
-            (λ (e : newcomer v ≡ a). subst (λ (b : SeatState). AreWords s.words b.seen) e tt) (at_snoc views (newcomer v) a j at);
+            (λ (e : newcomer v ≡ a). subst (λ (b : SeatMemory). AreWords s.words b.seen) e tt) (at_snoc views (newcomer v) a j at);
       }
 
-  pub join_lawful : (s : Core) (o : IsLawful known s) (id : ℕ) (v : SeatState) (other : ℕ) (w : SeatState) → get_elem? s.seats id ≡ maybe.some v → 0 < v.shares → w.held ≡ None → get_elem? (set s.seats id (joined v w)) other ≡ maybe.some w
+  pub join_lawful : (s : Core) (o : IsLawful known s) (id : ℕ) (v : SeatMemory) (other : ℕ) (w : SeatMemory) → get_elem? s.seats id ≡ maybe.some v → 0 < v.shares → w.held ≡ None → get_elem? (set s.seats id (joined v w)) other ≡ maybe.some w
       → IsLawful known (board s.words s.homes (set (set s.seats id (joined v w)) other nobody))
   join_lawful s o id v other w me live rests them =
-      let mid : List SeatState = set s.seats id (joined v w) in
-      let views : List SeatState = set mid other nobody in
-      let merged : (f : SeatState → ℕ) → total f views + (f v + f w) ≡ total f s.seats + (f (joined v w) + f nobody) = λ f. omega (arith, total-set f s.seats id v (joined v w) me, total-set f mid other w nobody them) in
+      let mid : List SeatMemory = set s.seats id (joined v w) in
+      let views : List SeatMemory = set mid other nobody in
+      let merged : (f : SeatMemory → ℕ) → total f views + (f v + f w) ≡ total f s.seats + (f (joined v w) + f nobody) = λ f. omega (arith, total-set f s.seats id v (joined v w) me, total-set f mid other w nobody them) in
       record {
         one_word_per_heap = o.one_word_per_heap;
         fits = λ k home at. subst (λ (n : ℕ). Fits (get_or s.words k 0) n home) (omega (arith, merged (holds_heap k), ap (count_of k) rests)) (o.fits k home at);
-        held_inside = λ j a at. ⊎_elim (λ (t : (j ≡ other) × (nobody ≡ a)). subst (λ (b : SeatState). IsInside (length s.homes) b.held) t.1 tt)
-            (λ (t : (j ≢ other) × (get_elem? mid j ≡ maybe.some a)). ⊎_elim (λ (u : (j ≡ id) × (joined v w ≡ a)). subst (λ (b : SeatState). IsInside (length s.homes) b.held) u.1 (o.held_inside id v me)) (λ (u : (j ≢ id) × (get_elem? s.seats j ≡ maybe.some a)). o.held_inside j a u.1) (at_set s.seats id j (joined v w) a t.1))
+        held_inside = λ j a at. ⊎_elim (λ (t : (j ≡ other) × (nobody ≡ a)). subst (λ (b : SeatMemory). IsInside (length s.homes) b.held) t.1 tt)
+            (λ (t : (j ≢ other) × (get_elem? mid j ≡ maybe.some a)). ⊎_elim (λ (u : (j ≡ id) × (joined v w ≡ a)). subst (λ (b : SeatMemory). IsInside (length s.homes) b.held) u.1 (o.held_inside id v me)) (λ (u : (j ≢ id) × (get_elem? s.seats j ≡ maybe.some a)). o.held_inside j a u.1) (at_set s.seats id j (joined v w) a t.1))
             (at_set mid other j nobody a at);
         balanced = λ f. omega (
           arith,
@@ -320,10 +320,10 @@ module _ (known : ℕ → ℕ → Type 0) where
         ));
         shares_add_up = omega (arith, o.shares_add_up, merged (λ a. a.shares));
         live = λ j a at none. ⊎_elim (λ (t : (j ≡ other) × (nobody ≡ a)). sym t.1)
-            (λ (t : (j ≢ other) × (get_elem? mid j ≡ maybe.some a)). ⊎_elim (λ (u : (j ≡ id) × (joined v w ≡ a)). absurd (omega (arith, ap (λ (b : SeatState). b.shares) u.1))) (λ (u : (j ≢ id) × (get_elem? s.seats j ≡ maybe.some a)). o.live j a u.1 none) (at_set s.seats id j (joined v w) a t.1))
+            (λ (t : (j ≢ other) × (get_elem? mid j ≡ maybe.some a)). ⊎_elim (λ (u : (j ≡ id) × (joined v w ≡ a)). absurd (omega (arith, ap (λ (b : SeatMemory). b.shares) u.1))) (λ (u : (j ≢ id) × (get_elem? s.seats j ≡ maybe.some a)). o.live j a u.1 none) (at_set s.seats id j (joined v w) a t.1))
             (at_set mid other j nobody a at);
-        fresh = λ j a at whole. ⊎_elim (λ (t : (j ≡ other) × (nobody ≡ a)). subst (λ (b : SeatState). AreWords s.words b.seen) t.1 tt)
-            (λ (t : (j ≢ other) × (get_elem? mid j ≡ maybe.some a)). ⊎_elim (λ (u : (j ≡ id) × (joined v w ≡ a)). subst (λ (b : SeatState). AreWords s.words b.seen) u.1 tt) (λ (u : (j ≢ id) × (get_elem? s.seats j ≡ maybe.some a)). o.fresh j a u.1 whole) (at_set s.seats id j (joined v w) a t.1))
+        fresh = λ j a at whole. ⊎_elim (λ (t : (j ≡ other) × (nobody ≡ a)). subst (λ (b : SeatMemory). AreWords s.words b.seen) t.1 tt)
+            (λ (t : (j ≢ other) × (get_elem? mid j ≡ maybe.some a)). ⊎_elim (λ (u : (j ≡ id) × (joined v w ≡ a)). subst (λ (b : SeatMemory). AreWords s.words b.seen) u.1 tt) (λ (u : (j ≢ id) × (get_elem? s.seats j ≡ maybe.some a)). o.fresh j a u.1 whole) (at_set s.seats id j (joined v w) a t.1))
             (at_set mid other j nobody a at);
       }
 
@@ -341,7 +341,7 @@ module _ (known : ℕ → ℕ → Type 0) where
   opened_weight f zero = refl
   opened_weight f (suc n) = omega (arith, opened_weight f n)
 
-  one_seat : (j : ℕ) (a : SeatState) → get_elem? (first_state ∷ []) j ≡ maybe.some a → first_state ≡ a
+  one_seat : (j : ℕ) (a : SeatMemory) → get_elem? (first_state ∷ []) j ≡ maybe.some a → first_state ≡ a
   one_seat zero a at = some-injective first_state a at
   one_seat (suc j) a at = absurd (some-ne-none a (sym at))
 
@@ -349,10 +349,10 @@ module _ (known : ℕ → ℕ → Type 0) where
   opening_lawful n = record {
     one_word_per_heap = length-replicate n EMPTY ∙ sym (length-empty_homes n);
     fits = λ k home at. let t = opened_home n k home at in subst (λ (h : maybe.Option (List Entry)). Fits (get_or (replicate n EMPTY) k 0) 0 h) (sym t.0) (get_or-replicate n k EMPTY 0 t.1, refl);
-    held_inside = λ j a at. subst (λ (b : SeatState). IsInside (length (empty_homes n)) b.held) (one_seat j a at) tt;
+    held_inside = λ j a at. subst (λ (b : SeatMemory). IsInside (length (empty_homes n)) b.held) (one_seat j a at) tt;
     balanced = λ f. omega (arith, opened_weight f n);
     known_all = λ e some. absurd (omega (arith, opened_weight (only e) n));
     shares_add_up = refl;
-    live = λ j a at none. absurd (omega (arith, ap (λ (b : SeatState). b.shares) (one_seat j a at)));
-    fresh = λ j a at whole. subst (λ (b : SeatState). AreWords (replicate n EMPTY) b.seen) (one_seat j a at) tt;
+    live = λ j a at none. absurd (omega (arith, ap (λ (b : SeatMemory). b.shares) (one_seat j a at)));
+    fresh = λ j a at whole. subst (λ (b : SeatMemory). AreWords (replicate n EMPTY) b.seen) (one_seat j a at) tt;
   }

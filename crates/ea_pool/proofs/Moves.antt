@@ -15,7 +15,7 @@ use Rattle.ea_lists.proofs.Totals.{term_le, total-map}
 use Rattle.ea_lists.proofs.Places.{value_at, contains_at}
 use Rattle.ea_pool.specs.declared.entry.Entry.{Entry}
 use Rattle.ea_pool.specs.declared.account.Held.{Held}
-use Rattle.ea_pool.specs.declared.account.SeatState.{SeatState}
+use Rattle.ea_pool.specs.declared.account.SeatMemory.{SeatMemory}
 use Rattle.ea_pool.specs.declared.TheConstants.{SHARES}
 use Rattle.ea_pool.specs.declared.words.TheConstants.{OUT, EMPTY, WORDS_APART}
 use Rattle.ea_pool.specs.Entries.{only, times, SameEntries, IsKnown, face, gathered}
@@ -29,7 +29,7 @@ use Rattle.ea_pool.proofs.Lawful.{Homes, board, empty_homes, unheld_all, balance
 use Rattle.ea_pool.proofs.Runs.{home_at, reached_lawful, reached_next, reached_take, opening_reached}
 
 abbrev Board : Type 0
-Board = State (List Entry) SeatState
+Board = State (List Entry) SeatMemory
 
 -- one word of a heap changes
 spread_set : (all words : List ℕ) (k n : ℕ) → AreSpread all words → k < length words → AreSpread (set all (word_place k) n) (set words k n)
@@ -60,11 +60,11 @@ module _ (known : ℕ → ℕ → Type 0) (heaps : ℕ) where
   Rule = IsPoolState known heaps
 
   -- what the seat that steps knows
-  mine : (s : Board) (h : Rule s) (id : ℕ) (v : SeatState) → get_elem? s.views id ≡ maybe.some v → v ≡ state_of h.core id
-  mine s h id v at = sym (ap (λ (l : List SeatState). get_or l id nobody) (sym h.seats) ∙ value_at s.views id v nobody at)
+  mine : (s : Board) (h : Rule s) (id : ℕ) (v : SeatMemory) → get_elem? s.views id ≡ maybe.some v → v ≡ state_of h.core id
+  mine s h id v at = sym (ap (λ (l : List SeatMemory). get_or l id nobody) (sym h.seats) ∙ value_at s.views id v nobody at)
 
-  at_core : (s : Board) (h : Rule s) (id : ℕ) (v : SeatState) → get_elem? s.views id ≡ maybe.some v → get_elem? h.core.seats id ≡ maybe.some v
-  at_core s h id v at = ap (λ (l : List SeatState). get_elem? l id) (sym h.seats) ∙ at
+  at_core : (s : Board) (h : Rule s) (id : ℕ) (v : SeatMemory) → get_elem? s.views id ≡ maybe.some v → get_elem? h.core.seats id ≡ maybe.some v
+  at_core s h id v at = ap (λ (l : List SeatMemory). get_elem? l id) (sym h.seats) ∙ at
 
   lawful : (s : Board) (h : Rule s) → IsLawful known h.core
   lawful s h = reached_lawful known heaps h.core h.reached
@@ -88,27 +88,27 @@ module _ (known : ℕ → ℕ → Type 0) (heaps : ℕ) where
         tt,
         record {
           core = after h.core (load id k);
-          reached = reached_next known heaps h.core (load id k) h.reached (subst (λ (w : SeatState). 0 < w.shares) own live, inside);
+          reached = reached_next known heaps h.core (load id k) h.reached (subst (λ (w : SeatMemory). 0 < w.shares) own live, inside);
           words = subst (λ (ws : List ℕ). AreSpread ws h.core.words) (sym (set-get_or s.words (word_place k) 0)) h.words;
           homes = h.homes;
           seats = λ i. set (h.seats i) id (saw (own i) k (is i));
         },
         (
           (λ j e beside. let same : k ≡ j = omega arith in (ap (λ (i : ℕ). (saw m.0 i x, m.1)) same, low)),
-          omega (arith, term_le (λ (a : SeatState). a.shares) h.core.seats id m.0 me', o.shares_add_up),
+          omega (arith, term_le (λ (a : SeatMemory). a.shares) h.core.seats id m.0 me', o.shares_add_up),
           λ whole rests. subst (λ (w : ℕ). Surveys known w (saw m.0 k x)) (sym o.one_word_per_heap ∙ long) (surveys known h.core o id m.0 me' whole rests ((k, x) ∷ m.0.seen) (words whole)),
         ),
       )
 
   Goes : Board → ℕ → ℕ → ℕ → Place → (ℕ → Place → Type 0) → ℕ → Type 0
-  Goes s n i id m then new = (w : SeatState) × (a : Act (List Entry)) × Valid s.homes m.1 a × Rule (stepped s i new id m.1 w a) × then (get_or s.words i 0) (w, carried_after m.1 a)
+  Goes s n i id m then new = (w : SeatMemory) × (a : Act (List Entry)) × Valid s.homes m.1 a × Rule (stepped s i new id m.1 w a) × then (get_or s.words i 0) (w, carried_after m.1 a)
 
   pub tries : (n id : ℕ) (m : Place) (k old : ℕ) → 0 < m.0.shares → k < n → old ≢ OUT → m.0.held ≡ None
       → Allows Rule n id m (word_place k) (λ y. either (eqb y old) OUT y) (Taken known (step n (word_place k) old OUT maybe.none) m)
   unfolding Goes
   tries n id m k old live near at_rest rests s h wide me _ =
       let o = lawful s h in
-      let v : SeatState = m.0 in
+      let v : SeatMemory = m.0 in
       let own = mine s h id v me in
       let me' = at_core s h id v me in
       let long = wide_core s h n wide in
@@ -116,7 +116,7 @@ module _ (known : ℕ → ℕ → Type 0) (heaps : ℕ) where
       let x : ℕ = get_or s.words (word_place k) 0 in
       let is : x ≡ get_or h.core.words k 0 = h.words.each k inside in
       let then = Taken known (step n (word_place k) old OUT maybe.none) m in
-      let may : MayCome known h.core (take id k old) = (subst (λ (w : SeatState). 0 < w.shares) own live, inside, at_rest, subst (λ (w : SeatState). w.held ≡ None) own rests) in
+      let may : MayCome known h.core (take id k old) = (subst (λ (w : SeatMemory). 0 < w.shares) own live, inside, at_rest, subst (λ (w : SeatMemory). w.held ≡ None) own rests) in
       let all : v.shares ≡ SHARES → AllByRecursion (λ p. word_place k ≡ word_place p.0 → x ≡ p.1) v.seen = λ whole. found h.core.words k x is v.seen (o.fresh id v me' whole) in
       exchanged x old OUT (Goes s n (word_place k) id m then)
       (λ hit.
@@ -154,12 +154,12 @@ module _ (known : ℕ → ℕ → Type 0) (heaps : ℕ) where
       ))
 
   -- the heap k comes home to a seat that is known to be v
-  came_home : (core : Core) (id k : ℕ) (v w : SeatState) (es content : List Entry) → v.held ≡ Some (held_at k es) → IsReached known heaps (with_home core id content w v.held)
+  came_home : (core : Core) (id k : ℕ) (v w : SeatMemory) (es content : List Entry) → v.held ≡ Some (held_at k es) → IsReached known heaps (with_home core id content w v.held)
       → IsReached known heaps (board (set core.words k (face content)) (set core.homes k (maybe.some content)) (set core.seats id w))
   came_home core id k v w es content holds reached = subst (λ (held : Option Held). IsReached known heaps (with_home core id content w held)) holds reached
 
   -- of the table, where a run leads to it
-  back_home : (s : Board) (h : Rule s) (id k word : ℕ) (w w' : SeatState) (content : List Entry) → k < length h.core.words → word ≡ face content → w' ≡ w
+  back_home : (s : Board) (h : Rule s) (id k word : ℕ) (w w' : SeatMemory) (content : List Entry) → k < length h.core.words → word ≡ face content → w' ≡ w
       → IsReached known heaps (board (set h.core.words k (face content)) (set h.core.homes k (maybe.some content)) (set h.core.seats id w))
       → Rule (record { words = set s.words (word_place k) word; homes = set s.homes k (maybe.some content); views = set s.views id w' })
   back_home s h id k word w w' content inside is same reached = record {
@@ -170,7 +170,7 @@ module _ (known : ℕ → ℕ → Type 0) (heaps : ℕ) where
     seats = λ i. set (h.seats i) id (same i);
   }
 
-  module _ (n id k word : ℕ) (v : SeatState) (es es' : List Entry) (live : 0 < v.shares) (near : k < n) (holds : v.held ≡ Some (held_at k es)) (is : word ≡ face es') where
+  module _ (n id k word : ℕ) (v : SeatMemory) (es es' : List Entry) (live : 0 < v.shares) (near : k < n) (holds : v.held ≡ Some (held_at k es)) (is : word ≡ face es') where
     abbrev carrying : Place
     carrying = (v, (k, es') ∷ [])
 
@@ -179,9 +179,9 @@ module _ (known : ℕ → ℕ → Type 0) (heaps : ℕ) where
         let own = mine s h id v me in
         let long = wide_core s h n wide in
         let inside : k < length h.core.words = omega arith in
-        let event : MayCome known h.core (give_pushed id e es') = subst (λ (u : SeatState). (0 < u.shares) × IfHeld u.held (λ xs. SameEntries es' (e ∷ xs)) × IsKnown known e) own
+        let event : MayCome known h.core (give_pushed id e es') = subst (λ (u : SeatMemory). (0 < u.shares) × IfHeld u.held (λ xs. SameEntries es' (e ∷ xs)) × IsKnown known e) own
         (live, subst (λ (held : Option Held). IfHeld held (λ xs. SameEntries es' (e ∷ xs))) (sym holds) same, may) in
-        let reached = subst (λ (u : SeatState). IsReached known heaps (with_home h.core id es' (pushed u e) u.held)) (sym own) (reached_next known heaps h.core (give_pushed id e es') h.reached event) in (
+        let reached = subst (λ (u : SeatMemory). IsReached known heaps (with_home h.core id es' (pushed u e) u.held)) (sym own) (reached_next known heaps h.core (give_pushed id e es') h.reached event) in (
           pushed v e,
           gives,
           tt,
@@ -197,9 +197,9 @@ module _ (known : ℕ → ℕ → Type 0) (heaps : ℕ) where
         let own = mine s h id v me in
         let long = wide_core s h n wide in
         let inside : k < length h.core.words = omega arith in
-        let event : MayCome known h.core (give_popped id e es') = subst (λ (u : SeatState). (0 < u.shares) × IfHeld u.held (λ xs. SameEntries xs (e ∷ es'))) own
+        let event : MayCome known h.core (give_popped id e es') = subst (λ (u : SeatMemory). (0 < u.shares) × IfHeld u.held (λ xs. SameEntries xs (e ∷ es'))) own
         (live, subst (λ (held : Option Held). IfHeld held (λ xs. SameEntries xs (e ∷ es'))) (sym holds) same) in
-        let reached = subst (λ (u : SeatState). IsReached known heaps (with_home h.core id es' (popped u e) u.held)) (sym own) (reached_next known heaps h.core (give_popped id e es') h.reached event) in (
+        let reached = subst (λ (u : SeatMemory). IsReached known heaps (with_home h.core id es' (popped u e) u.held)) (sym own) (reached_next known heaps h.core (give_popped id e es') h.reached event) in (
           popped v e,
           gives,
           tt,
@@ -211,7 +211,7 @@ module _ (known : ℕ → ℕ → Type 0) (heaps : ℕ) where
                 subst (IsKnown known) one (o.known_all e (omega (
                   arith,
                   o.balanced (only e),
-                  term_le (λ (a : SeatState). total (only e) (content_of a.held)) h.core.seats id v (at_core s h id v me),
+                  term_le (λ (a : SeatMemory). total (only e) (content_of a.held)) h.core.seats id v (at_core s h id v me),
                   ap (λ (h : Option Held). total (only e) (content_of h)) holds,
                   same (only e),
                   only-same e,
@@ -231,9 +231,9 @@ module _ (known : ℕ → ℕ → Type 0) (heaps : ℕ) where
         let own = mine s h id v me in
         let long = wide_core s h n wide in
         let inside : k < length h.core.words = omega arith in
-        let event : MayCome known h.core (give_back id) = subst (λ (u : SeatState). (0 < u.shares) × IfHeld u.held (λ xs. Unit {0})) own
+        let event : MayCome known h.core (give_back id) = subst (λ (u : SeatMemory). (0 < u.shares) × IfHeld u.held (λ xs. Unit {0})) own
         (live, subst (λ (held : Option Held). IfHeld held (λ xs. Unit {0})) (sym holds) tt) in
-        let reached = subst (λ (u : SeatState). IsReached known heaps (with_home h.core id (content_of u.held) (gave u) u.held)) (sym own) (reached_next known heaps h.core (give_back id) h.reached event) in
+        let reached = subst (λ (u : SeatMemory). IsReached known heaps (with_home h.core id (content_of u.held) (gave u) u.held)) (sym own) (reached_next known heaps h.core (give_back id) h.reached event) in
         let content : content_of v.held ≡ es' = ap content_of holds ∙ sym same in
         let reached' = subst (λ (xs : List Entry). IsReached known heaps (with_home h.core id xs (gave v) v.held)) content reached in (
           gave v,
@@ -243,25 +243,25 @@ module _ (known : ℕ → ℕ → Type 0) (heaps : ℕ) where
           refl,
         )
 
-  pub splits : (id : ℕ) (v : SeatState) → 1 < v.shares → Splits Rule id v (left_of v) (newcomer v)
+  pub splits : (id : ℕ) (v : SeatMemory) → 1 < v.shares → Splits Rule id v (left_of v) (newcomer v)
   splits id v many s h me =
       let own = mine s h id v me in
       record {
         core = after h.core (split id);
-        reached = reached_next known heaps h.core (split id) h.reached (subst (λ (w : SeatState). 2 ≤ w.shares) own many);
+        reached = reached_next known heaps h.core (split id) h.reached (subst (λ (w : SeatMemory). 2 ≤ w.shares) own many);
         words = h.words;
         homes = h.homes;
         seats = λ i. set (h.seats i) id (left_of (own i)) ++ newcomer (own i) ∷ [];
       }
 
-  pub joins : (id : ℕ) (v : SeatState) (other : ℕ) (w : SeatState) → 0 < v.shares → 0 < w.shares → w.held ≡ None → Joins Rule id v other w (joined v w) nobody
+  pub joins : (id : ℕ) (v : SeatMemory) (other : ℕ) (w : SeatMemory) → 0 < v.shares → 0 < w.shares → w.held ≡ None → Joins Rule id v other w (joined v w) nobody
   joins id v other w live other_live rests s h me apart them =
       let own = mine s h id v me in
       let theirs = mine s h other w (sym (set_else s.views id other (joined v w) apart) ∙ them) in
       record {
         core = after h.core (join id other);
         reached = reached_next known heaps h.core (join id other) h.reached
-            (subst (λ (u : SeatState). 0 < u.shares) own live, subst (λ (u : SeatState). 0 < u.shares) theirs other_live, apart, subst (λ (u : SeatState). u.held ≡ None) theirs rests);
+            (subst (λ (u : SeatMemory). 0 < u.shares) own live, subst (λ (u : SeatMemory). 0 < u.shares) theirs other_live, apart, subst (λ (u : SeatMemory). u.held ≡ None) theirs rests);
         words = h.words;
         homes = h.homes;
         seats = λ i. set (set (h.seats i) id (joined (own i) (theirs i))) other nobody;
@@ -308,7 +308,7 @@ module _ (known : ℕ → ℕ → Type 0) (heaps : ℕ) where
       let rest : homes ≡ map maybe.some slots = all_at_home homes slots (omega arith) (λ k. here (suc k)) (λ k. same (suc k)) in
       λ i. is i ∷ rest i
 
-  module _ (id : ℕ) (a : SeatState) (words : List ℕ) (slots : List (List Entry)) (whole : a.shares ≡ SHARES) (rests : a.held ≡ None) (t : Final (Seen Rule id a) words slots) where
+  module _ (id : ℕ) (a : SeatMemory) (words : List ℕ) (slots : List (List Entry)) (whole : a.shares ≡ SHARES) (rests : a.held ≡ None) (t : Final (Seen Rule id a) words slots) where
     homes_at_end : t.1.0.core.homes ≡ map maybe.some slots
     homes_at_end =
         let h = t.1.0 in

@@ -8,7 +8,7 @@ use Rattle.ea_lists.proofs.Places.{value_at, at_weighed}
 use Rattle.ea_lists.proofs.Runs as runs
 use Rattle.ea_pool.specs.declared.entry.Entry.{Entry}
 use Rattle.ea_pool.specs.declared.account.Held.{Held}
-use Rattle.ea_pool.specs.declared.account.SeatState.{SeatState}
+use Rattle.ea_pool.specs.declared.account.SeatMemory.{SeatMemory}
 use Rattle.ea_pool.specs.declared.words.TheConstants.{OUT}
 use Rattle.ea_pool.specs.Entries.{SameEntries, IsKnown}
 use Rattle.ea_pool.specs.States.{nobody, content_of, IfHeld, forgot, pushed, popped, gave, joined}
@@ -16,8 +16,8 @@ use Rattle.ea_pool.specs.Core.{Core, at_home, IsLawful}
 use Rattle.ea_pool.specs.Events.{Event, load, take, give_pushed, give_popped, give_back, split, join, opening, state_of, home_of, with_state, with_taken, with_home, after, IsLive, MayCome, after_all, MayRun, IsReached}
 use Rattle.ea_pool.proofs.Lawful.{there, taken_home, load_lawful, take_lawful, miss_lawful, push_lawful, pop_lawful, back_lawful, split_lawful, join_lawful, opening_lawful}
 
-live_at : (seats : List SeatState) (id : ℕ) → 0 < (get_or seats id nobody).shares → get_elem? seats id ≡ maybe.some (get_or seats id nobody)
-live_at seats id h = at_weighed (λ (a : SeatState). a.shares) seats id nobody refl h
+live_at : (seats : List SeatMemory) (id : ℕ) → 0 < (get_or seats id nobody).shares → get_elem? seats id ≡ maybe.some (get_or seats id nobody)
+live_at seats id h = at_weighed (λ (a : SeatMemory). a.shares) seats id nobody refl h
 
 module _ (known : ℕ → ℕ → Type 0) where
   -- a heap whose word is not OUT is at home

@@ -3,7 +3,7 @@ use Rattle.std.proofs.Common.{◌≡◌, ℕ, ◌<◌, ◌≤◌, Bool, true, Li
 use Rattle.std.specs.Prelude.{MatchOption}
 use Rattle.std.specs.List.{AllByRecursion}
 use Rattle.ea_pool.specs.declared.entry.Entry.{Entry}
-use Rattle.ea_pool.specs.declared.account.SeatState.{SeatState}
+use Rattle.ea_pool.specs.declared.account.SeatMemory.{SeatMemory}
 use Rattle.ea_pool.specs.declared.TheConstants.{SHARES}
 use Rattle.ea_limits.specs.declared.TheConstants.{HORIZON}
 use Rattle.ea_pool.specs.declared.words.TheConstants.{OUT}
@@ -27,8 +27,8 @@ module _ (known : ℕ → ℕ → Type 0) where
       let least : IsLeastOf e es = subst (IsLeastOf e) same one.0 in
       let there : 0 < times e es = omega (arith, one.1 (only e), only-same e, ap (times e) same) in
       let is_known : IsKnown known e = t.3 e there in
-      let after : m₃.0 ≡ popped (took m.0 k es) e = ap (λ (n : Place). n.0) done ∙ ap (λ (a : SeatState). popped a e) (view ∙ ap (λ (n : Place). n.0) t.1) in (
-        (ap (λ (a : SeatState). a.shares) after, ap (λ (a : SeatState). a.pushed) after, ap (λ (a : SeatState). a.popped) after),
+      let after : m₃.0 ≡ popped (took m.0 k es) e = ap (λ (n : Place). n.0) done ∙ ap (λ (a : SeatMemory). popped a e) (view ∙ ap (λ (n : Place). n.0) t.1) in (
+        (ap (λ (a : SeatMemory). a.shares) after, ap (λ (a : SeatMemory). a.pushed) after, ap (λ (a : SeatMemory). a.popped) after),
         is_known,
         sym (face_is e es least there (in_time e.node e.key is_known)) ∙ t.2,
       )
@@ -37,19 +37,19 @@ module _ (known : ℕ → ℕ → Type 0) where
   pub was_left : (m m₁ m₂ : Place) (k seen : ℕ) (e : Entry) → Took known m k seen m₁ → m₂.0 ≡ m₁.0 → m.0.shares ≡ SHARES → (m₂.0.shares ≡ SHARES → IsLeft e (books m₂.0)) → IsLeft e (books m.0)
   was_left m m₁ m₂ k seen e t view whole left =
       let same : m₂.0 ≡ took m.0 k t.0 = view ∙ ap (λ (n : Place). n.0) t.1 in
-      subst (λ (a : SeatState). IsLeft e (books a)) same (left (ap (λ (a : SeatState). a.shares) same ∙ whole))
+      subst (λ (a : SeatMemory). IsLeft e (books a)) same (left (ap (λ (a : SeatMemory). a.shares) same ∙ whole))
 
   -- with all shares no heap is out
-  pub none_out : (heaps : ℕ) (v w : SeatState) (k x : ℕ) → Surveys known heaps w → w ≡ saw v k x → k < heaps → x ≡ OUT → ⊥
+  pub none_out : (heaps : ℕ) (v w : SeatMemory) (k x : ℕ) → Surveys known heaps w → w ≡ saw v k x → k < heaps → x ≡ OUT → ⊥
   none_out heaps v w k x survey is near out =
-      let seen = subst (λ (a : SeatState). AllByRecursion (λ p. p.0 < heaps → face (slice_index_or survey.contents p.0 []) ≡ p.1) a.seen) is survey.seen in
+      let seen = subst (λ (a : SeatMemory). AllByRecursion (λ p. p.0 < heaps → face (slice_index_or survey.contents p.0 []) ≡ p.1) a.seen) is survey.seen in
       let low = face_low (slice_index_or survey.contents k []) in
       let here = seen.0 near in
       absurd (omega arith)
 
 -- and an exchange hits
-pub never_missed : (v w : SeatState) (k x : ℕ) (r : Bool) → w ≡ saw v k x → (w.shares ≡ SHARES → AllByRecursion (λ p. k ≡ p.0 → x ≡ p.1 → r ≡ true) w.seen) → v.shares ≡ SHARES → r ≡ true
-never_missed v w k x r is hits whole = (subst (λ (a : SeatState). AllByRecursion (λ p. k ≡ p.0 → x ≡ p.1 → r ≡ true) a.seen) is (hits (ap (λ (a : SeatState). a.shares) is ∙ whole))).0 refl refl
+pub never_missed : (v w : SeatMemory) (k x : ℕ) (r : Bool) → w ≡ saw v k x → (w.shares ≡ SHARES → AllByRecursion (λ p. k ≡ p.0 → x ≡ p.1 → r ≡ true) w.seen) → v.shares ≡ SHARES → r ≡ true
+never_missed v w k x r is hits whole = (subst (λ (a : SeatMemory). AllByRecursion (λ p. k ≡ p.0 → x ≡ p.1 → r ≡ true) a.seen) is (hits (ap (λ (a : SeatMemory). a.shares) is ∙ whole))).0 refl refl
 
 pub all_done : (k x : ℕ) (pairs : List (ℕ × ℕ)) → AllByRecursion (λ p. k ≡ p.0 → x ≡ p.1 → Unit {0}) pairs
 all_done k x [] = tt

@@ -5,7 +5,7 @@ use mathlib.Core.Option as maybe
 use lib.ListN.{get_elem?}
 use Rattle.ea_lists.specs.Totals.{total}
 use Rattle.ea_pool.specs.declared.entry.Entry.{Entry}
-use Rattle.ea_pool.specs.declared.account.SeatState.{SeatState}
+use Rattle.ea_pool.specs.declared.account.SeatMemory.{SeatMemory}
 use Rattle.ea_pool.specs.declared.TheConstants.{SHARES}
 use Rattle.ea_pool.specs.declared.words.TheConstants.{OUT}
 use Rattle.ea_pool.specs.Entries.{times, IsKnown, face}
@@ -15,7 +15,7 @@ use Rattle.ea_pool.specs.States.{nobody, content_of, holds_heap, IsInside}
 pub record Core : Type 0 where
   pub words : List ℕ
   pub homes : List (maybe.Option (List Entry))
-  pub seats : List SeatState
+  pub seats : List SeatMemory
 
 -- the entries of a heap that is at home
 abbrev pub at_home : maybe.Option (List Entry) → List Entry
@@ -35,13 +35,13 @@ AreWords words pairs = AllByRecursion (λ p. slice_index words p.0 ≡ p.1) pair
 pub record IsLawful (known : ℕ → ℕ → Type 0) (core : Core) : Type 0 where
   pub one_word_per_heap : length core.words ≡ length core.homes
   pub fits : (k : ℕ) (home : maybe.Option (List Entry)) → get_elem? core.homes k ≡ maybe.some home → Fits (slice_index core.words k) (total (holds_heap k) core.seats) home
-  pub held_inside : (j : ℕ) (a : SeatState) → get_elem? core.seats j ≡ maybe.some a → IsInside (length core.homes) a.held
+  pub held_inside : (j : ℕ) (a : SeatMemory) → get_elem? core.seats j ≡ maybe.some a → IsInside (length core.homes) a.held
   -- what was pushed is what was popped and what the heaps have, at home or held
   pub balanced : (f : Entry → ℕ) → total (λ a. total f a.pushed) core.seats ≡ total (λ a. total f a.popped) core.seats + (total (λ h. total f (at_home h)) core.homes + total (λ a. total f (content_of a.held)) core.seats)
   -- each entry that was pushed or popped, or that a heap has, is known
   pub known_all : (e : Entry) → 0 < total (λ a. times e a.pushed) core.seats + total (λ a. times e a.popped) core.seats + total (λ h. times e (at_home h)) core.homes + total (λ a. times e (content_of a.held)) core.seats → IsKnown known e
   pub shares_add_up : total (λ a. a.shares) core.seats ≡ SHARES
   -- a seat that is live has a share
-  pub live : (j : ℕ) (a : SeatState) → get_elem? core.seats j ≡ maybe.some a → a.shares ≡ 0 → a ≡ nobody
+  pub live : (j : ℕ) (a : SeatMemory) → get_elem? core.seats j ≡ maybe.some a → a.shares ≡ 0 → a ≡ nobody
   -- where one seat has all shares, what it has seen of the words still stands
-  pub fresh : (j : ℕ) (a : SeatState) → get_elem? core.seats j ≡ maybe.some a → a.shares ≡ SHARES → AreWords core.words a.seen
+  pub fresh : (j : ℕ) (a : SeatMemory) → get_elem? core.seats j ≡ maybe.some a → a.shares ≡ SHARES → AreWords core.words a.seen

@@ -4,7 +4,7 @@ use mathlib.Core.Option as maybe
 use Rattle.ea_lists.specs.Runs as runs
 use Rattle.ea_pool.specs.declared.entry.Entry.{Entry}
 use Rattle.ea_pool.specs.declared.account.Held.{Held}
-use Rattle.ea_pool.specs.declared.account.SeatState.{SeatState}
+use Rattle.ea_pool.specs.declared.account.SeatMemory.{SeatMemory}
 use Rattle.ea_pool.specs.declared.words.TheConstants.{EMPTY, OUT}
 use Rattle.ea_pool.specs.Entries.{SameEntries, IsKnown, face}
 use Rattle.ea_pool.specs.States.{first_state, nobody, content_of, IfHeld, saw, forgot, took, pushed, popped, gave, left_of, newcomer, joined}
@@ -24,13 +24,13 @@ pub data Event : Type 0 where
 abbrev pub opening : ℕ → Core
 opening heaps = record { words = replicate heaps EMPTY; homes = replicate heaps (maybe.some []); seats = first_state ∷ [] }
 
-abbrev pub state_of : Core → ℕ → SeatState
+abbrev pub state_of : Core → ℕ → SeatMemory
 state_of core id = slice_index_or core.seats id nobody
 
 abbrev pub home_of : Core → ℕ → List Entry
 home_of core heap = at_home (slice_index_or core.homes heap maybe.none)
 
-abbrev pub with_state : Core → ℕ → SeatState → Core
+abbrev pub with_state : Core → ℕ → SeatMemory → Core
 with_state core id seat = record { words = core.words; homes = core.homes; seats = slice_set core.seats id seat }
 
 -- the heap goes out with the seat
@@ -42,7 +42,7 @@ with_taken core id heap = record {
 }
 
 -- the heap that is held comes home with this content
-abbrev pub with_home : Core → ℕ → List Entry → SeatState → Option Held → Core
+abbrev pub with_home : Core → ℕ → List Entry → SeatMemory → Option Held → Core
 with_home core id content seat None = core
 with_home core id content seat (Some held) = record {
   words = slice_set core.words held.heap (face content);

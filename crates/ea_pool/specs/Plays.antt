@@ -4,7 +4,7 @@ use Rattle.std.specs.List.{AllByRecursion}
 use Rattle.atomic_table.specs.Table.{State, Me, Step, rest}
 use Rattle.ea_lists.specs.Totals.{total}
 use Rattle.ea_pool.specs.declared.entry.Entry.{Entry}
-use Rattle.ea_pool.specs.declared.account.SeatState.{SeatState}
+use Rattle.ea_pool.specs.declared.account.SeatMemory.{SeatMemory}
 use Rattle.ea_pool.specs.declared.TheConstants.{SHARES}
 use Rattle.ea_pool.specs.declared.words.TheConstants.{OUT, WORDS_APART}
 use Rattle.ea_pool.specs.Entries.{times, SameEntries, IsKnown, AreKnown, face}
@@ -22,7 +22,7 @@ pub record AreSpread (all words : List ℕ) : Type 0 where
   pub each : (k : ℕ) → k < length words → slice_index all (word_place k) ≡ slice_index words k
 
 -- A run leads to the words, the heaps at home and what the seats know
-pub record IsPoolState (known : ℕ → ℕ → Type 0) (heaps : ℕ) (s : State (List Entry) SeatState) : Type 0 where
+pub record IsPoolState (known : ℕ → ℕ → Type 0) (heaps : ℕ) (s : State (List Entry) SeatMemory) : Type 0 where
   pub core : Core
   pub reached : IsReached known heaps core
   pub words : AreSpread s.words core.words
@@ -30,7 +30,7 @@ pub record IsPoolState (known : ℕ → ℕ → Type 0) (heaps : ℕ) (s : State
   pub seats : s.views ≡ core.seats
 
 abbrev pub Place : Type 0
-Place = Me (List Entry) SeatState
+Place = Me (List Entry) SeatMemory
 
 -- what the slot that the seat took has now
 abbrev pub value_of : List (ℕ × List Entry) → List Entry
@@ -38,7 +38,7 @@ value_of [] = []
 value_of (x ∷ xs) = x.1
 
 -- What a seat with all shares knows of the heaps, which are all at home: they have these contents
-pub record Surveys (known : ℕ → ℕ → Type 0) (heaps : ℕ) (a : SeatState) : Type 0 where
+pub record Surveys (known : ℕ → ℕ → Type 0) (heaps : ℕ) (a : SeatMemory) : Type 0 where
   pub contents : List (List Entry)
   pub width : length contents ≡ heaps
   pub left : (f : Entry → ℕ) → total f a.pushed ≡ total f a.popped + total (total f) contents

@@ -4,7 +4,7 @@ use mathlib.Core.Option as maybe
 use Rattle.ea_limits.specs.declared.TheConstants.{HORIZON}
 use Rattle.ea_pool.specs.declared.entry.Entry.{Entry}
 use Rattle.ea_pool.specs.declared.account.Account.{Account}
-use Rattle.ea_pool.specs.declared.account.SeatState.{SeatState}
+use Rattle.ea_pool.specs.declared.account.SeatMemory.{SeatMemory}
 use Rattle.ea_pool.specs.Entries.{times, SameEntries, gathered}
 use Rattle.ea_pool.specs.States.{held_at}
 use Rattle.ea_pool.specs.Core.{Core}
@@ -41,7 +41,7 @@ IsLeastLeft e a = IsLeft e a × ((d : Entry) → IsLeft d a → e.key ≤ d.key)
 
 -- WITHIN A CALL
 
-abbrev pub books : SeatState → Account
+abbrev pub books : SeatMemory → Account
 books a = record { shares = a.shares; pushed = a.pushed; popped = a.popped }
 
 -- a seat between two calls has a share and holds nothing
@@ -56,7 +56,7 @@ abbrev pub AreInTime : List Entry → Type 0
 AreInTime es = (e : Entry) → 0 < times e es → e.key ≤ HORIZON
 
 -- it took the heap k with entries of which P holds
-abbrev pub IsHeld : SeatState → ℕ → (List Entry → Type 0) → Type 0
+abbrev pub IsHeld : SeatMemory → ℕ → (List Entry → Type 0) → Type 0
 IsHeld a k P = (es : List Entry) × (a.held ≡ Some (held_at k es)) × P es
 
 -- AT THE END
@@ -68,6 +68,6 @@ pub record IsRunEnd (known : ℕ → ℕ → Type 0) (heaps : ℕ) (left : List 
   pub contents : List (List Entry)
   pub homes : core.homes ≡ map maybe.some contents
   pub left_is : gathered contents ≡ left
-  pub seat : SeatState
+  pub seat : SeatMemory
   pub has_seat : Contains core.seats seat
   pub account_is : books seat ≡ account

@@ -2,18 +2,18 @@
 use Rattle.std.specs.Prelude.{ℕ, ◌+◌, ◌-◌, ◌<◌, ◌==◌, cond, List, [], ◌∷◌, ◌++◌, Option, Some, None}
 use Rattle.ea_pool.specs.declared.entry.Entry.{Entry}
 use Rattle.ea_pool.specs.declared.account.Held.{Held}
-use Rattle.ea_pool.specs.declared.account.SeatState.{SeatState}
+use Rattle.ea_pool.specs.declared.account.SeatMemory.{SeatMemory}
 use Rattle.ea_pool.specs.declared.TheConstants.{SHARES}
 
-abbrev pub seat_state : ℕ → List Entry → List Entry → Option Held → List (ℕ × ℕ) → SeatState
+abbrev pub seat_state : ℕ → List Entry → List Entry → Option Held → List (ℕ × ℕ) → SeatMemory
 seat_state shares pushed popped held seen = record { shares = shares; pushed = pushed; popped = popped; held = held; seen = seen }
 
 -- a new pool's first seat
-abbrev pub first_state : SeatState
+abbrev pub first_state : SeatMemory
 first_state = seat_state SHARES [] [] None []
 
 -- of a seat that was joined
-abbrev pub nobody : SeatState
+abbrev pub nobody : SeatMemory
 nobody = seat_state 0 [] [] None []
 
 abbrev pub held_at : ℕ → List Entry → Held
@@ -29,7 +29,7 @@ abbrev pub count_of : ℕ → Option Held → ℕ
 count_of k None = 0
 count_of k (Some h) = cond (h.heap == k) 1 0
 
-abbrev pub holds_heap : ℕ → SeatState → ℕ
+abbrev pub holds_heap : ℕ → SeatMemory → ℕ
 holds_heap k a = count_of k a.held
 
 -- a heap is held, and P holds of its entries
@@ -45,34 +45,34 @@ IsInside heaps (Some h) = h.heap < heaps
 -- THE STEPS
 
 -- a load of heap k found the word x
-abbrev pub saw : SeatState → ℕ → ℕ → SeatState
+abbrev pub saw : SeatMemory → ℕ → ℕ → SeatMemory
 saw a k x = seat_state a.shares a.pushed a.popped a.held ((k, x) ∷ a.seen)
 
 -- a take that failed
-abbrev pub forgot : SeatState → SeatState
+abbrev pub forgot : SeatMemory → SeatMemory
 forgot a = seat_state a.shares a.pushed a.popped a.held []
 
 -- a take of heap k, which has these entries
-abbrev pub took : SeatState → ℕ → List Entry → SeatState
+abbrev pub took : SeatMemory → ℕ → List Entry → SeatMemory
 took a k es = seat_state a.shares a.pushed a.popped (Some (held_at k es)) []
 
 -- the heap was given back after a push, after a pop, and unchanged
-abbrev pub pushed : SeatState → Entry → SeatState
+abbrev pub pushed : SeatMemory → Entry → SeatMemory
 pushed a e = seat_state a.shares (e ∷ a.pushed) a.popped None []
 
-abbrev pub popped : SeatState → Entry → SeatState
+abbrev pub popped : SeatMemory → Entry → SeatMemory
 popped a e = seat_state a.shares a.pushed (e ∷ a.popped) None []
 
-abbrev pub gave : SeatState → SeatState
+abbrev pub gave : SeatMemory → SeatMemory
 gave a = seat_state a.shares a.pushed a.popped None []
 
 -- a split: the seat that gives a share, and the new seat
-abbrev pub left_of : SeatState → SeatState
+abbrev pub left_of : SeatMemory → SeatMemory
 left_of a = seat_state (a.shares - 1) a.pushed a.popped a.held []
 
-abbrev pub newcomer : SeatState → SeatState
+abbrev pub newcomer : SeatMemory → SeatMemory
 newcomer a = seat_state 1 [] [] None []
 
 -- a join: the seat has gained all that the other had
-abbrev pub joined : SeatState → SeatState → SeatState
+abbrev pub joined : SeatMemory → SeatMemory → SeatMemory
 joined a b = seat_state (a.shares + b.shares) (a.pushed ++ b.pushed) (a.popped ++ b.popped) a.held []

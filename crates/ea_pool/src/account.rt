@@ -22,7 +22,7 @@ pub struct Held {
 
 /// All that a seat knows between two steps: its account, the heap that it holds, and the heaps that it
 /// looked at since its last step of another kind, each with its word.
-pub struct SeatState {
+pub struct SeatMemory {
     pub shares: u32,
     pub pushed: LinkedList<Entry>,
     pub popped: LinkedList<Entry>,

@@ -20,7 +20,7 @@ mod steps;
 mod tests;
 mod words;
 
-pub use account::{Account, Held, SeatState};
+pub use account::{Account, Held, SeatMemory};
 pub use closed::ClosedPool;
 pub use entry::Entry;
 pub use law::every_run_is_lawful;

@@ -1,6 +1,6 @@
 //! Heaps that threads share without a lock: each lies in a slot of a table, behind a word. They are used as those of a
 //! MultiQueue (Rihani, Sanders, Dementiev 2015): a push goes to a heap drawn at random, a pop to the better of two.
-use crate::account::SeatState;
+use crate::account::SeatMemory;
 use crate::least::LeastHeap;
 use crate::rules::PoolRule;
 use atomic_table::Table;
@@ -12,7 +12,7 @@ use std::marker::Model;
 /// table it is and the number of heaps.
 #[derive(Drop)]
 pub struct Pool<K: Known, A: Allocator = Global> {
-    pub(crate) table: Table<LeastHeap<A>, SeatState, usize, PoolRule<K>, A>,
+    pub(crate) table: Table<LeastHeap<A>, SeatMemory, usize, PoolRule<K>, A>,
     pub(crate) heaps: usize,
     // Room for the heaps when the pool is closed: that takes no memory then.
     pub(crate) spare: Vec<LeastHeap<A>, A>,

@@ -2,7 +2,7 @@
 ghost use Rattle.ea_pool.specs.Plays.{IsPoolState, Looked, Taken, GavePushed, GavePopped, GaveBack};
 ghost use Rattle.ea_pool.specs.States.{first_state, nobody, left_of, newcomer, joined};
 
-use crate::account::SeatState;
+use crate::account::SeatMemory;
 use crate::least::LeastHeap;
 use atomic_table::{Join, Play, Split, TableRule};
 use ea_road::Known;
@@ -13,7 +13,7 @@ pub struct PoolRule<K> {
     known: PhantomData<K>,
 }
 
-impl<K: Known, A: Allocator> TableRule<LeastHeap<A>, SeatState, usize> for PoolRule<K> {
+impl<K: Known, A: Allocator> TableRule<LeastHeap<A>, SeatMemory, usize> for PoolRule<K> {
     ghost holds = { λ heaps s. IsPoolState K.is_known heaps s };
 
     ghost first = { λ _. first_state };
@@ -23,7 +23,7 @@ pub struct Look<K> {
     known: PhantomData<K>,
 }
 
-impl<K: Known, A: Allocator> Play<LeastHeap<A>, SeatState> for Look<K> {
+impl<K: Known, A: Allocator> Play<LeastHeap<A>, SeatMemory> for Look<K> {
     ghost then = { Looked K.is_known };
 }
 
@@ -31,13 +31,13 @@ pub struct Take<K> {
     known: PhantomData<K>,
 }
 
-impl<K: Known, A: Allocator> Play<LeastHeap<A>, SeatState> for Take<K> {
+impl<K: Known, A: Allocator> Play<LeastHeap<A>, SeatMemory> for Take<K> {
     ghost then = { Taken K.is_known };
 }
 
 pub struct GivePushed;
 
-impl<A: Allocator> Play<LeastHeap<A>, SeatState> for GivePushed {
+impl<A: Allocator> Play<LeastHeap<A>, SeatMemory> for GivePushed {
     ghost then = { GavePushed };
 }
 
@@ -45,25 +45,25 @@ pub struct GivePopped<K> {
     known: PhantomData<K>,
 }
 
-impl<K: Known, A: Allocator> Play<LeastHeap<A>, SeatState> for GivePopped<K> {
+impl<K: Known, A: Allocator> Play<LeastHeap<A>, SeatMemory> for GivePopped<K> {
     ghost then = { GavePopped K.is_known };
 }
 
 pub struct GiveBack;
 
-impl<A: Allocator> Play<LeastHeap<A>, SeatState> for GiveBack {
+impl<A: Allocator> Play<LeastHeap<A>, SeatMemory> for GiveBack {
     ghost then = { GaveBack };
 }
 
 pub struct OneShare;
 
-impl Split<SeatState> for OneShare {
+impl Split<SeatMemory> for OneShare {
     ghost left = { left_of };
 
     ghost right = { newcomer };
 }
 
-impl Join<SeatState> for OneShare {
+impl Join<SeatMemory> for OneShare {
     ghost both = { joined };
 
     ghost spent = { nobody };

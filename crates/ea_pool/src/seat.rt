@@ -2,12 +2,12 @@
 ghost use Rattle.std.specs.Prelude.{◌≡◌};
 ghost use Rattle.ea_pool.specs.Seats.{account_of};
 
-use crate::account::SeatState;
+use crate::account::SeatMemory;
 use crate::least::LeastHeap;
 use std::alloc::{Allocator, Global};
 use std::marker::{Model, PhantomData};
 
-pub(crate) type Seat<A> = atomic_table::Seat<LeastHeap<A>, SeatState>;
+pub(crate) type Seat<A> = atomic_table::Seat<LeastHeap<A>, SeatMemory>;
 
 /// The right to step on one pool. Contracts see which table it is, the seat's account (its shares,
 /// and what it has pushed and popped), and the words that it saw last.

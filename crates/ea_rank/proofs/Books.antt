@@ -8,7 +8,7 @@ use Rattle.ea_pool.specs.Draws.{first_draw, second_draw}
 use Rattle.ea_lists.specs.Totals.{total}
 use Rattle.ea_pool.specs.Solos.{content, lesser_heap, rank_error, AddsTo, TakesFrom}
 use Rattle.ea_pool.proofs.Ranks.{rank_bounded}
-use Rattle.ea_rank.specs.Runs.{weighs, AreEmpty}
+use Rattle.ea_rank.specs.Runs.{weighs, BothEmpty}
 
 weighs-set : (f : Entry → ℕ) (heaps : List (List Entry)) (k : ℕ) (es : List Entry) → k < length heaps → weighs f (set heaps k es) + total f (content heaps k) ≡ weighs f heaps + total f es
 weighs-set f [] k es near = absurd (omega arith)
@@ -89,7 +89,7 @@ turned n first k some near = elim (cases_lt k (first % n)) [
     wraps : (n k : ℕ) → 0 < n → k < n → (n + k) % n ≡ k
     wraps n k some near = add-mod_left n k ∙ small n k some near
 
-pub tried_all : (old : List (List Entry)) (first second : ℕ) → 0 < length old → ((s : ℕ) → s < length old → AreEmpty old (first % length old + s) second) → total (λ (es : List Entry). length es) old ≡ 0
+pub tried_all : (old : List (List Entry)) (first second : ℕ) → 0 < length old → ((s : ℕ) → s < length old → BothEmpty old (first % length old + s) second) → total (λ (es : List Entry). length es) old ≡ 0
 tried_all old first second some all = no_entries old (λ k near. (let t = turned (length old) first k some near in ap (content old) (sym t.2) ∙ (all t.0 t.1).0))
 
 pub fresh_length : (n : ℕ) → total (λ (es : List Entry). length es) (replicate {A = List Entry} n []) ≡ 0

@@ -6,7 +6,7 @@ use Rattle.ea_lists.specs.Totals.{total}
 use Rattle.ea_rank.specs.declared.event.Event.{Event}
 use Rattle.ea_rank.specs.declared.event.Event.TheVariants.{Push, Pop}
 use Rattle.ea_rank.specs.Ranks.{with_key, without_key, rank_error, ranked, after_ranks, errors_from, rank_errors, queue_after, popped_keys}
-use Rattle.ea_rank.specs.Runs.{State, Lowers, Pops, IsRecorded, weighs}
+use Rattle.ea_rank.specs.Runs.{State, LowersNode, PopsFound, IsRecorded, weighs}
 use Rattle.ea_rank.proofs.Queues.{same, less, many, fewer, same-yes, IsAscending, total-with_key, total-without_key, ascending-with_key, ascending-without_key, rank_there}
 use Rattle.ea_rank.proofs.Metering.{after_ranks-twice}
 use Rattle.ea_rank.proofs.Books.{takes-weighs, takes-length, exact_of_two}
@@ -67,7 +67,7 @@ all-push : (P : ℕ → Type 0) (xs : List ℕ) (x : ℕ) → AllByRecursion P x
 all-push P [] x all h = (h, tt)
 all-push P (y ∷ xs) x all h = (all.0, all-push P xs x all.1 h)
 
-pub recorded-lowers : (node time : ℕ) (popped : List Entry) (old new : State) → IsRecorded popped old → Lowers node time old new → IsRecorded popped new
+pub recorded-lowers : (node time : ℕ) (popped : List Entry) (old new : State) → IsRecorded popped old → LowersNode node time old new → IsRecorded popped new
 recorded-lowers node time popped old new r m = record {
   ranks = r.ranks;
   found = ap rank_errors m.events ∙ errors-append 0 [] old.events (Push time ∷ []) ∙ ap (λ (o : Result (List ℕ) ℕ). then_errors o (Ok [])) r.found ∙ ap Ok (append_none r.ranks);
@@ -80,7 +80,7 @@ recorded-lowers node time popped old new r m = record {
   exact = λ two. r.exact (sym m.count ∙ two);
 }
 
-pub recorded-pops : (first second : ℕ) (entry : Entry) (popped : List Entry) (old new : State) → IsRecorded popped old → Pops first second entry old new → IsRecorded (popped ++ entry ∷ []) new
+pub recorded-pops : (first second : ℕ) (entry : Entry) (popped : List Entry) (old new : State) → IsRecorded popped old → PopsFound first second entry old new → IsRecorded (popped ++ entry ∷ []) new
 recorded-pops first second entry popped old new r m = record {
   ranks = r.ranks ++ rank ∷ [];
   found = ap rank_errors m.events ∙ errors-append 0 [] old.events (Pop entry.key ∷ []) ∙ ap (λ (o : Result (List ℕ) ℕ). then_errors o (ranked (rank_error entry.key queue) (0 + length old.events) (Ok []))) r.found

@@ -19,7 +19,7 @@ use Rattle.ea_lists.specs.Totals.{total}
 use Rattle.ea_pool.specs.Entries.{times, only}
 use Rattle.ea_lists.proofs.Totals.{total-append}
 use Rattle.ea_pool.proofs.Weights.{only-same, only-one}
-use Rattle.ea_rank.specs.Runs.{State, Lowers, Pops, IsUnderway, weighs, entry_of}
+use Rattle.ea_rank.specs.Runs.{State, LowersNode, PopsFound, IsUnderway, weighs, entry_of}
 use Rattle.ea_rank.specs.Tallies.{added}
 use Rattle.ea_rank.proofs.Books.{takes-weighs, none_weighs}
 
@@ -33,7 +33,7 @@ label-other labels node v time some there apart =
     get_or-set_other labels (node - 1) (v - 1) time 0 (λ e. apart (omega arith))
 
 -- the label that was lowered
-pub lowered_label : (node time : ℕ) (old new : State) → 0 < node → node ≤ length old.labels → Lowers node time old new → label_of new.labels node ≡ time
+pub lowered_label : (node time : ℕ) (old new : State) → 0 < node → node ≤ length old.labels → LowersNode node time old new → label_of new.labels node ≡ time
 lowered_label node time old new some near m = ap (λ (l : List ℕ). label_of l node) m.labels ∙ label-same old.labels node node time some near refl
 
 -- no label rises
@@ -51,11 +51,11 @@ added-set (y ∷ xs) zero x near = omega arith
 added-set (y ∷ xs) (suc k) x near = omega (arith, added-set xs k x (omega arith))
 
 -- a lowering takes one from the sum at least, and adds one entry
-pub less-lowers : (node time : ℕ) (old new : State) → 0 < node → node ≤ length old.labels → time < label_of old.labels node → Lowers node time old new → added new.labels + weighs (λ e. 1) new.heaps ≤ added old.labels + weighs (λ e. 1) old.heaps
+pub less-lowers : (node time : ℕ) (old new : State) → 0 < node → node ≤ length old.labels → time < label_of old.labels node → LowersNode node time old new → added new.labels + weighs (λ e. 1) new.heaps ≤ added old.labels + weighs (λ e. 1) old.heaps
 less-lowers node time old new some near low m =
     omega (arith, ap added m.labels, added-set old.labels (node - 1) time (omega arith), m.heaps (λ e. 1))
 
-pub less-pops : (first second : ℕ) (entry : Entry) (old new : State) → Pops first second entry old new → added new.labels + weighs (λ e. 1) new.heaps < added old.labels + weighs (λ e. 1) old.heaps
+pub less-pops : (first second : ℕ) (entry : Entry) (old new : State) → PopsFound first second entry old new → added new.labels + weighs (λ e. 1) new.heaps < added old.labels + weighs (λ e. 1) old.heaps
 less-pops first second entry old new m = omega (arith, ap added m.labels, takes-weighs _ entry old.heaps new.heaps m.heaps.taken (λ e. 1))
 
 pub among_at : (xs : List Source) (i : ℕ) (d : Source) → i < length xs → IsAmong xs (get_or xs i d)
@@ -76,7 +76,7 @@ contains_more first rest number (suc k, near, is) = inr (k, omega arith, is)
 
 module _ (roads : Roads) (answers : ℕ → ℕ → ℕ → ℕ → Type 0) (sources : List Source) (network : IsNetwork roads) where
   pub underway-lowers : (begun : List Source) (left : List ℕ) (popped : List Entry) (node time : ℕ) (old new : State) → IsNode roads.nodes node → time ≤ HORIZON → time < label_of old.labels node → Reaches roads answers sources node time
-      → IsUnderway roads answers sources begun left popped old → Lowers node time old new → IsUnderway roads answers sources begun left popped new
+      → IsUnderway roads answers sources begun left popped old → LowersNode node time old new → IsUnderway roads answers sources begun left popped new
   underway-lowers begun left popped node time old new is_node within low reaches u m = record {
     places = ap (λ (l : List ℕ). length l) m.labels ∙ length-set old.labels (node - 1) time ∙ u.places;
     at_sources = λ source among. (let was = u.at_sources source among in let down = fall source.node in omega arith);
@@ -138,7 +138,7 @@ module _ (roads : Roads) (answers : ℕ → ℕ → ℕ → ℕ → Type 0) (sou
   -- what was popped was no entry of a node at its label, or the arcs from its node are left
   pub underway-pops : (left : List ℕ) (popped : List Entry) (first second : ℕ) (entry : Entry) (old new : State)
       → (label_of old.labels entry.node < entry.key) ⊎ ((number : ℕ) (arc : Arc) → IsArc roads number arc → arc.tail ≡ entry.node → Contains left number)
-      → IsUnderway roads answers sources sources [] popped old → Pops first second entry old new → IsUnderway roads answers sources sources left (popped ++ entry ∷ []) new
+      → IsUnderway roads answers sources sources [] popped old → PopsFound first second entry old new → IsUnderway roads answers sources sources left (popped ++ entry ∷ []) new
   underway-pops left popped first second entry old new why u m = record {
     places = ap (λ (l : List ℕ). length l) m.labels ∙ u.places;
     at_sources = λ source among. subst (λ (l : List ℕ). label_of l source.node ≤ source.departure) (sym m.labels) (u.at_sources source among);
@@ -259,7 +259,7 @@ module _ (roads : Roads) (answers : ℕ → ℕ → ℕ → ℕ → Type 0) (sou
     -- an arc that lowers the label of its head has been passed
     pub pass-lowers : (rest : List ℕ) (popped : List Entry) (number node departure arrival : ℕ) (arc : Arc) (old new : State) → IsNode roads.nodes node → departure ≤ HORIZON → label_of old.labels node ≡ departure → IsArc roads number arc → arc.tail ≡ node
         → answers arc.class arc.weight departure arrival → departure ≤ arrival → arrival ≤ HORIZON → arrival < label_of old.labels arc.head
-        → IsUnderway roads answers sources sources (number ∷ rest) popped old → Lowers arc.head arrival old new → IsUnderway roads answers sources sources rest popped new × (label_of new.labels node ≡ departure)
+        → IsUnderway roads answers sources sources (number ∷ rest) popped old → LowersNode arc.head arrival old new → IsUnderway roads answers sources sources rest popped new × (label_of new.labels node ≡ departure)
     pass-lowers rest popped number node departure arrival arc old new is_node within label is_arc tail answer later early low u m = (
       underway-passes number rest popped arc new is_arc
           (λ other that soon. (
@@ -309,7 +309,7 @@ module _ (roads : Roads) (answers : ℕ → ℕ → ℕ → ℕ → Type 0) (sou
   }
 
   -- what is known of an entry that was popped
-  pub popped_known : (popped : List Entry) (first second : ℕ) (entry : Entry) (old new : State) → IsUnderway roads answers sources sources [] popped old → Pops first second entry old new → IsNode roads.nodes entry.node × (entry.key ≤ HORIZON) × (label_of new.labels entry.node ≤ entry.key)
+  pub popped_known : (popped : List Entry) (first second : ℕ) (entry : Entry) (old new : State) → IsUnderway roads answers sources sources [] popped old → PopsFound first second entry old new → IsNode roads.nodes entry.node × (entry.key ≤ HORIZON) × (label_of new.labels entry.node ≤ entry.key)
   popped_known popped first second entry old new u m =
       subst (λ (l : List ℕ). IsNode roads.nodes entry.node × (entry.key ≤ HORIZON) × (label_of l entry.node ≤ entry.key)) (sym m.labels)
       (u.entries entry (let sum = takes-weighs _ entry old.heaps new.heaps m.heaps.taken (only entry) in let one = only-same entry in omega arith))

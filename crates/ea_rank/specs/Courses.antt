@@ -12,11 +12,11 @@ use Rattle.ea_pool.specs.declared.entry.Entry.{Entry}
 use Rattle.ea_pool.specs.Draws.{first_draw}
 use Rattle.ea_pool.specs.Solos.{AddsTo}
 use Rattle.ea_rank.specs.declared.event.Event.{Event}
-use Rattle.ea_rank.specs.Runs.{State, Lowers, Pops, entry_of}
+use Rattle.ea_rank.specs.Runs.{State, LowersNode, PopsFound, entry_of}
 
 -- The label of a node falls to a time, and its entry is pushed to the heap that the word picks.
 pub record LowersBy (word node time : ℕ) (old new : State) : Type 0 where
-  pub lowers : Lowers node time old new
+  pub lowers : LowersNode node time old new
   pub into : AddsTo (first_draw (length old.heaps) word) (entry_of node time) old.heaps new.heaps
 
 -- Sources are offered their departures in order. The pushes have the words 0, 1, 2 and so on: how many there were is told.
@@ -36,8 +36,8 @@ module _ (roads : Roads) (answers : ℕ → ℕ → ℕ → ℕ → Type 0) wher
   -- its node are passed.
   pub data Turns : Stream → State → Stream → State → Type 0 where
     begins : {words : Stream} {state : State} → Turns words state words state
-    stale : {words words' : Stream} {old middle new : State} {entry : Entry} → Turns words old words' middle → Pops (next_u64 words').0 (next_u64 (next_u64 words').1).0 entry middle new → label_of new.labels entry.node < entry.key → Turns words old (next_u64 (next_u64 words').1).1 new
-    scans : {words words' words'' : Stream} {old middle popped new : State} {entry : Entry} → Turns words old words' middle → Pops (next_u64 words').0 (next_u64 (next_u64 words').1).0 entry middle popped → entry.key ≤ label_of popped.labels entry.node
+    stale : {words words' : Stream} {old middle new : State} {entry : Entry} → Turns words old words' middle → PopsFound (next_u64 words').0 (next_u64 (next_u64 words').1).0 entry middle new → label_of new.labels entry.node < entry.key → Turns words old (next_u64 (next_u64 words').1).1 new
+    scans : {words words' words'' : Stream} {old middle popped new : State} {entry : Entry} → Turns words old words' middle → PopsFound (next_u64 words').0 (next_u64 (next_u64 words').1).0 entry middle popped → entry.key ≤ label_of popped.labels entry.node
         → Scans entry.key (leaving roads entry.node) (next_u64 (next_u64 words').1).1 popped words'' new → Turns words old words'' new
 
   -- A run with so many heaps and these words, which began with no labels, empty heaps and an empty record, went over the sources'

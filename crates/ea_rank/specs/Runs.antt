@@ -22,8 +22,8 @@ abbrev pub weighs : (Entry → ℕ) → List (List Entry) → ℕ
 weighs f heaps = total (total f) heaps
 
 -- the heaps that a pop looks at with the words have no entry
-abbrev pub AreEmpty : List (List Entry) → ℕ → ℕ → Type 0
-AreEmpty heaps first second =
+abbrev pub BothEmpty : List (List Entry) → ℕ → ℕ → Type 0
+BothEmpty heaps first second =
     (content heaps (first_draw (length heaps) first) ≡ []) × (content heaps (second_draw (length heaps) first second) ≡ [])
 
 -- A pop with the words takes the entry: with the first word, or else with the first of the words after its rest that
@@ -31,7 +31,7 @@ AreEmpty heaps first second =
 pub record Finds (first second : ℕ) (entry : Entry) (old new : List (List Entry)) : Type 0 where
   pub step : ℕ
   pub near : step < length old
-  pub none_before : (k : ℕ) → k < step → AreEmpty old (first % length old + k) second
+  pub none_before : (k : ℕ) → k < step → BothEmpty old (first % length old + k) second
   pub taken : TakesFrom (lesser_heap old (first_draw (length old) (first % length old + step)) (second_draw (length old) (first % length old + step) second)) entry old new
 
 -- what a run holds
@@ -44,14 +44,14 @@ abbrev pub entry_of : ℕ → ℕ → Entry
 entry_of node time = record { key = time; node = node }
 
 -- The label of a node falls to a time, its entry is pushed, and its key is recorded.
-pub record Lowers (node time : ℕ) (old new : State) : Type 0 where
+pub record LowersNode (node time : ℕ) (old new : State) : Type 0 where
   pub labels : new.labels ≡ slice_set old.labels (node - 1) time
   pub heaps : (f : Entry → ℕ) → weighs f new.heaps ≡ f (entry_of node time) + weighs f old.heaps
   pub count : length new.heaps ≡ length old.heaps
   pub events : new.events ≡ old.events ++ Push time ∷ []
 
 -- An entry is popped, and its key is recorded.
-pub record Pops (first second : ℕ) (entry : Entry) (old new : State) : Type 0 where
+pub record PopsFound (first second : ℕ) (entry : Entry) (old new : State) : Type 0 where
   pub labels : new.labels ≡ old.labels
   pub heaps : Finds first second entry old.heaps new.heaps
   pub events : new.events ≡ old.events ++ Pop entry.key ∷ []
@@ -82,6 +82,6 @@ pub record IsUnderway
   pub passed : (number : ℕ) (arc : Arc) → IsArc roads number arc → label_of state.labels arc.tail ≢ NONE → (0 < weighs (only (entry_of arc.tail (label_of state.labels arc.tail))) state.heaps) ⊎ (Contains left number ⊎ ((arrival : ℕ) → answers arc.class arc.weight (label_of state.labels arc.tail) arrival → arrival ≤ HORIZON → label_of state.labels arc.head ≤ arrival))
 
 -- a run that is under way, whatever it has popped so far
-abbrev pub Underway : Roads → (ℕ → ℕ → ℕ → ℕ → Type 0) → List Source → List Source → List ℕ → State → Type 0
-Underway roads answers sources begun left state =
+abbrev pub IsOnCourse : Roads → (ℕ → ℕ → ℕ → ℕ → Type 0) → List Source → List Source → List ℕ → State → Type 0
+IsOnCourse roads answers sources begun left state =
     (popped : List Entry) × IsUnderway roads answers sources begun left popped state × IsRecorded popped state

@@ -3,7 +3,7 @@ ghost use Rattle.std.specs.Prelude.{◌≡◌, ◌<◌, ◌≤◌, ◌-◌, [], 
 ghost use Rattle.ea_road.specs.declared.TheConstants.{NONE};
 ghost use Rattle.ea_lists.specs.Totals.{total};
 ghost use Rattle.ea_rank.specs.Courses.{LowersBy};
-ghost use Rattle.ea_rank.specs.Runs.{Finds, Pops};
+ghost use Rattle.ea_rank.specs.Runs.{Finds, PopsFound};
 ghost use Rattle.ea_rank.specs.States.{state_of};
 
 use crate::event::Event;
@@ -77,7 +77,7 @@ impl Run {
     ) -> Result<Option<Entry>, OutOfMemory>
         requires heaps { length self.old.heaps ≡ heaps }
         requires range { (2 ≤ heaps) × (heaps ≤ 128) }
-        ensures { IfOk result (λ found. MatchOption found ((total length self.old.heaps ≡ 0) × (state_of self.new ≡ state_of self.old)) (λ entry. Pops first second entry (state_of self.old) (state_of self.new))) }
+        ensures { IfOk result (λ found. MatchOption found ((total length self.old.heaps ≡ 0) × (state_of self.new ≡ state_of self.old)) (λ entry. PopsFound first second entry (state_of self.old) (state_of self.new))) }
     {
         let Some(entry) = find_entry(&mut self.heaps, heaps, first, second) else {
             return Ok(None);

@@ -8,7 +8,7 @@ ghost use Rattle.ea_road.specs.Roads.{leaving, IsNode};
 ghost use Rattle.ea_rank.specs.Ranks.{popped_keys, queue_after};
 ghost use Rattle.ea_rank.specs.Records.{ContainArrivals, HasRanks};
 ghost use Rattle.ea_rank.specs.Courses.{IsRunBy, Scans, Sows};
-ghost use Rattle.ea_rank.specs.Runs.{Underway, weighs};
+ghost use Rattle.ea_rank.specs.Runs.{IsOnCourse, weighs};
 ghost use Rattle.ea_rank.specs.States.{state_of};
 ghost use Rattle.ea_rank.specs.Tallies.{added};
 
@@ -35,9 +35,9 @@ fn scan<T: TravelTimes, R: Rng>(
     requires departure { departure ≤ HORIZON }
     requires label { label_of run.old.labels.items node ≡ departure }
     requires heaps { 2 ≤ length run.old.heaps }
-    requires underway { Underway network.now (T.answers times.now) query.now.sources
+    requires underway { IsOnCourse network.now (T.answers times.now) query.now.sources
         query.now.sources (leaving network.now node) (state_of run.old) }
-    ensures underway { IfOk result (λ _. Underway network.now (T.answers times.now) query.now.sources
+    ensures underway { IfOk result (λ _. IsOnCourse network.now (T.answers times.now) query.now.sources
         query.now.sources [] (state_of run.new)) }
     ensures heaps { IfOk result (λ _. length run.new.heaps ≡ length run.old.heaps) }
     ensures less { IfOk result (λ _. added run.new.labels.items + weighs (λ entry. 1) run.new.heaps
@@ -65,9 +65,9 @@ fn sow<T: TravelTimes>(
 ) -> Result<(), OutOfMemory>
     requires problem { IsProblem network.now (T.classes times.now) query.now }
     requires heaps { 2 ≤ length run.old.heaps }
-    requires underway { Underway network.now (T.answers times.now) query.now.sources
+    requires underway { IsOnCourse network.now (T.answers times.now) query.now.sources
         [] [] (state_of run.old) }
-    ensures underway { IfOk result (λ _. Underway network.now (T.answers times.now) query.now.sources
+    ensures underway { IfOk result (λ _. IsOnCourse network.now (T.answers times.now) query.now.sources
         query.now.sources [] (state_of run.new)) }
     ensures heaps { IfOk result (λ _. length run.new.heaps ≡ length run.old.heaps) }
     ensures course { IfOk result (λ _. (pushes : ℕ) × Sows query.now.sources (state_of run.old) pushes (state_of run.new)) }

@@ -3,7 +3,7 @@ use Rattle.std.specs.Prelude.{Contains}
 use Rattle.std.proofs.lemmas.List.Elements.{Contains-append_cases, Contains-append_left, Contains-append_right}
 use Rattle.ea_labels.specs.Core.{IsLawful}
 use Rattle.ea_pool.specs.declared.entry.Entry.{Entry}
-use Rattle.ea_engine.specs.Opened.{IsOver}
+use Rattle.ea_engine.specs.Opened.{AreJoinedAndClosed}
 use Rattle.ea_engine.proofs.GroundLemmas.{node_of}
 use Rattle.ea_engine.proofs.Nothing.{may_finish}
 use Rattle.ea_engine.proofs.Settling.{left_known}
@@ -11,7 +11,7 @@ use Rattle.ea_engine.proofs.Multisets.{same_length}
 use Rattle.ea_engine.proofs.closing.settle.Goals as goal
 use Rattle.ea_engine.proofs.closing.settle.Goals.{After-close-closed}
 
-over : (g : _) (c : After-close-closed g) → IsOver g.K.Known.is_known g.K.Posed.problem c.close-table.result.items c.args.seats.label_seat.history c.args.seats.pool_seat.account c.close-closed.result
+over : (g : _) (c : After-close-closed g) → AreJoinedAndClosed g.K.Known.is_known g.K.Posed.problem c.close-table.result.items c.args.seats.label_seat.history c.args.seats.pool_seat.account c.close-closed.result
     c.requires.gathered.back c.requires.gathered.refused
 over g c = record {
   labels = subst (λ n. IsLawful g.K.Known.is_known n c.close-table.result.items (c.args.seats.label_seat.history ∷ [])) c.requires.places c.close-table.ensures.lawful;

@@ -4,9 +4,9 @@ use Rattle.ea_road.specs.Roads.{Roads, IsNode, AreSideBySide, leaving}
 use Rattle.ea_road.proofs.ByTail.{arc_beside, tail_beside, place_beside, leaving_few}
 use Rattle.ea_road.proofs.Lists.{any_default}
 use Rattle.ea_engine.proofs.GroundLemmas.{node_of}
-use Rattle.ea_engine.specs.Closed.{IsSpent}
+use Rattle.ea_engine.specs.Closed.{IsFollowed}
 use Rattle.ea_engine.proofs.ProgressLemmas.{Progress-none, Progress-then}
-use Rattle.ea_engine.proofs.BoundLemmas.{IsSpent-more}
+use Rattle.ea_engine.proofs.BoundLemmas.{IsFollowed-more}
 use Rattle.ea_engine.proofs.scan.scan_entry.Goals as goal
 use Rattle.ea_engine.proofs.scan.scan_entry.Goals.{in-Unchanged, in-Pushed, After-follow, After-leaving}
 
@@ -41,16 +41,16 @@ follow-requires-clause-tail g c κs outlives =
 
 -- the arc that was followed last is spent, and those before it stay so
 spent : (g : _) (c : After-follow g) (k : ℕ) (default : Arc) → k < c.loop-arc.arc-index + 1
-    → IsSpent g.K.Posed.problem c.follow.new.means.label_seat.history.bounds c.args.entry.key (get_or c.leaving.result.arcs.now k default)
+    → IsFollowed g.K.Posed.problem c.follow.new.means.label_seat.history.bounds c.args.entry.key (get_or c.leaving.result.arcs.now k default)
 spent g c k default lt =
     let arcs = c.leaving.result.arcs.now in
     let problem = g.K.Posed.problem in
     let before = c.loop-arc.means.label_seat.history.bounds in
     let after = c.follow.new.means.label_seat.history.bounds in
-    let P : ℕ → Type 0 = λ j. IsSpent problem after c.args.entry.key (get_or arcs j default) in
+    let P : ℕ → Type 0 = λ j. IsFollowed problem after c.args.entry.key (get_or arcs j default) in
     below_more P c.loop-arc.arc-index
-    (λ j lower. IsSpent-more before after c.follow.ensures.progress.bounds_stay problem c.args.entry.key (get_or arcs j default) (c.loop-arc.invariant.spent j default lower))
-    (subst (λ (a : Arc). IsSpent problem after c.args.entry.key a) (any_default arcs c.loop-arc.arc-index _ default c.loop-arc-test.true) c.follow.ensures.spent)
+    (λ j lower. IsFollowed-more before after c.follow.ensures.progress.bounds_stay problem c.args.entry.key (get_or arcs j default) (c.loop-arc.invariant.spent j default lower))
+    (subst (λ (a : Arc). IsFollowed problem after c.args.entry.key a) (any_default arcs c.loop-arc.arc-index _ default c.loop-arc-test.true) c.follow.ensures.spent)
     k lt
 
 pub returns-in-Refused-clause-progress : goal.returns-in-Refused-clause-progress
@@ -87,7 +87,7 @@ returns-clause-scanned g c =
     let d = (goal.at.returns-clause-scanned g c).After-leaving in
     let roads = g.K.Posed.problem.network in
     let at = place_beside roads c.args.entry.node number arc arc c.leaving.result.arcs.now (beside g d) is_arc tail in
-    subst (λ (a : Arc). IsSpent g.K.Posed.problem c.loop-arc.means.label_seat.history.bounds c.args.entry.key a) at.3
+    subst (λ (a : Arc). IsFollowed g.K.Posed.problem c.loop-arc.means.label_seat.history.bounds c.args.entry.key a) at.3
     (c.loop-arc.invariant.spent at.0 arc (omega (arith, at.1)))
 
 pub returns-in-Refused-clause-inside : goal.returns-in-Refused-clause-inside

@@ -2,7 +2,7 @@ use Rattle.std.proofs.Common.{ℕ, ◌<◌, ◌≤◌, [], get_or}
 use Rattle.ea_road.specs.declared.arc.Arc.{Arc}
 use Rattle.ea_engine.specs.Grounds.{tables_of}
 use Rattle.ea_engine.specs.Seated.{AreSeatsOf, kit_of}
-use Rattle.ea_engine.specs.Closed.{IsSpent}
+use Rattle.ea_engine.specs.Closed.{IsFollowed}
 use Rattle.ea_engine.specs.Worked.{Progress}
 use Rattle.ea_engine.proofs.scan.scan_entry.Given as goal
 
@@ -11,6 +11,6 @@ invariant-loop-arc g l = record {
   fit : AreSeatsOf (tables_of l.ground) l.means.label_seat l.means.pool_seat;
   progress : Progress (kit_of g.R.Rng.stream l.fn.means) (kit_of g.R.Rng.stream l.means) [] l.lowered l.lowered [];
   spent : (k : ℕ) (default : Arc) → k < l.arc-index
-      → IsSpent g.K.Posed.problem l.means.label_seat.history.bounds l.entry.key (get_or l.arcs k default);
+      → IsFollowed g.K.Posed.problem l.means.label_seat.history.bounds l.entry.key (get_or l.arcs k default);
   few : l.lowered ≤ l.arc-index;
 }

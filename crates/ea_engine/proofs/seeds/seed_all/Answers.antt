@@ -16,7 +16,7 @@ pub seed-requires-clause-node : goal.seed-requires-clause-node
 seed-requires-clause-node g c κs outlives =
     let ground = c.requires.ground in
     let start = ground.posed.sources_in _ (among c.sources-sources.result.now g.K.Posed.problem.query.sources c.loop-place.place (record { node = 0; departure = 0 }) (c.sources-sources.ensures.sources ∙ ap (λ q. q.sources) ground.named.query_is) (omega arith)) in
-    (start.0.from_one, omega (arith, start.0.to_last, ground.places_are))
+    record { from_one = start.0.from_one; to_last = omega (arith, start.0.to_last, ground.places_are) }
 
 pub seed-requires-clause-known : goal.seed-requires-clause-known
 seed-requires-clause-known g c κs outlives =

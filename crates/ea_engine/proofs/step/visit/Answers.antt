@@ -10,7 +10,7 @@ pub read-label-requires-clause-node : goal.read-label-requires-clause-node
 read-label-requires-clause-node g c κs outlives =
     let ground = c.requires.ground in
     let is = node_of g.K.Known.is_known g.K.Posed.problem ground.posed c.args.entry.node c.args.entry.key c.requires.entry in
-    (is.from_one, omega (arith, is.to_last, ground.places_are))
+    record { from_one = is.from_one; to_last = omega (arith, is.to_last, ground.places_are) }
 
 pub returns-then-label-entry-clause-progress : goal.returns-then-label-entry-clause-progress
 returns-then-label-entry-clause-progress g c =

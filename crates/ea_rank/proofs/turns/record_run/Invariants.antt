@@ -1,13 +1,13 @@
 use Rattle.std.proofs.Common.{◌≡◌, ◌+◌, [], length}
 use Rattle.ea_rank.specs.Courses.{Begun}
-use Rattle.ea_rank.specs.Runs.{weighs, Underway}
+use Rattle.ea_rank.specs.Runs.{weighs, IsOnCourse}
 use Rattle.ea_rank.specs.States.{state_of}
 use Rattle.ea_rank.specs.Tallies.{added}
 use Rattle.ea_rank.proofs.turns.record_run.Given as goal
 
 abbrev pub invariant-loop-run : goal.invariant-loop-run
 invariant-loop-run g l = record {
-  underway : Underway l.network (g.T.TravelTimes.answers l.times) l.query.sources l.query.sources [] (state_of l.run);
+  underway : IsOnCourse l.network (g.T.TravelTimes.answers l.times) l.query.sources l.query.sources [] (state_of l.run);
   heaps : length l.run.heaps ≡ l.heaps;
   course : Begun l.network (g.T.TravelTimes.answers l.times) l.heaps (g.R.Rng.stream l.fn.rng) l.query.sources (g.R.Rng.stream l.rng) (state_of l.run);
 }
