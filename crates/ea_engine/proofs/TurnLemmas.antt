@@ -10,6 +10,12 @@ use Rattle.ea_engine.specs.declared.turn.Turn.{Turn}
 use Rattle.ea_engine.specs.declared.turn.Hand.{Hand}
 use Rattle.ea_engine.specs.declared.turn.TurnKind.{TurnKind}
 use Rattle.ea_engine.specs.declared.turn.TurnKind.TheVariants.{Empty, Busy, Stale, Scanned, Refused, Cut}
+use Rattle.ea_engine.specs.Looks.{word_after, first_heap, second_heap, SawAs}
+use Rattle.ea_pool.specs.declared.reply.Popped.{Popped}
+use Rattle.ea_pool.specs.declared.words.TheConstants.{EMPTY}
+use Rattle.ea_pool.specs.Draws.{first_draw, second_draw}
+use Rattle.ea_pool.specs.Replies.{MatchPopped}
+use Rattle.ea_pool.specs.Tries.{LookedAt, WasBusy}
 use Rattle.ea_engine.specs.Words.{after_words}
 use Rattle.ea_labels.specs.declared.record.Bound.{Bound}
 use Rattle.ea_labels.specs.declared.record.SeatRecord.{SeatRecord}
@@ -128,3 +134,22 @@ module _ (problem : Problem) (heaps : ℕ) where
     fresh = fresh;
     lone = λ whole. IsLoneAs-popped t.kind heaps t.key t.node a e popped (left whole);
   }
+
+-- a turn that popped an entry tells nothing of the heaps that it looked at
+pub SawAs-popped : (k : TurnKind) (key node i j : ℕ) (before after : List (ℕ × ℕ)) (e : Entry) → popped_as k key node ≡ e ∷ [] → SawAs k i j before after
+SawAs-popped Empty key node i j before after e is = absurd (nil≢cons e [] is)
+SawAs-popped Busy key node i j before after e is = absurd (nil≢cons e [] is)
+SawAs-popped Stale key node i j before after e is = tt
+SawAs-popped Scanned key node i j before after e is = tt
+SawAs-popped Refused key node i j before after e is = tt
+SawAs-popped Cut key node i j before after e is = tt
+
+-- what a pop looked at by two words that were drawn one after the other
+pub looked_by : (reply : Popped) (w v u : Stream) (x y heaps : ℕ) (before after : List (ℕ × ℕ)) → (x, v) ≡ next_u64 w → (y, u) ≡ next_u64 v
+    → MatchPopped reply (λ _. Unit {0}) (LookedAt (first_draw heaps x) EMPTY (second_draw heaps x y) EMPTY before after) (WasBusy (first_draw heaps x) (second_draw heaps x y) before after)
+    → MatchPopped reply (λ _. Unit {0}) (LookedAt (first_heap heaps w) EMPTY (second_heap heaps w) EMPTY before after) (WasBusy (first_heap heaps w) (second_heap heaps w) before after)
+looked_by reply w v u x y heaps before after e f looked =
+    let first : x ≡ word_after 0 w = ap (λ (p : ℕ × Stream). p.0) e in
+    let second : y ≡ word_after 1 w = ap (λ (p : ℕ × Stream). p.0) f ∙ ap (λ (p : ℕ × Stream). (next_u64 p.1).0) e in
+    let P : ℕ → ℕ → Type 0 = λ a b. MatchPopped reply (λ _. Unit {0}) (LookedAt (first_draw heaps a) EMPTY (second_draw heaps a b) EMPTY before after) (WasBusy (first_draw heaps a) (second_draw heaps a b) before after) in
+    subst (λ a. P a (word_after 1 w)) first (subst (λ b. P x b) second looked)

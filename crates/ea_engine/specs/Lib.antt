@@ -5,6 +5,7 @@ pub mod Ends
 pub mod Opened
 pub mod Grounds
 pub mod Turns
+pub mod Looks
 pub mod Worked
 pub mod Seated
 pub mod Scans

@@ -9,6 +9,9 @@ ghost use Rattle.ea_pool.specs.declared.TheConstants.{SHARES};
 ghost use Rattle.ea_pool.specs.declared.account.Account.{Account};
 ghost use Rattle.ea_pool.specs.Pools.{SameBooks, Pops, NothingLeft, IsLeastLeft};
 ghost use Rattle.ea_pool.specs.Replies.{MatchPopped};
+ghost use Rattle.ea_pool.specs.Tries.{LookedAt, WasBusy};
+ghost use Rattle.ea_pool.specs.declared.words.TheConstants.{EMPTY};
+ghost use Rattle.ea_engine.specs.Looks.{first_heap, second_heap, SawAs};
 ghost use Rattle.ea_engine.specs.Words.{after_words};
 ghost use Rattle.ea_pool.specs.declared.entry.Entry.{Entry as PoolEntry};
 ghost use Rattle.ea_engine.specs.Closed.{IsClosedTurn, IsCut, IsFreshTurn};
@@ -201,6 +204,11 @@ fn pop_drawn<K: Known, R: Rng>(pool: &Pool<K>, pool_seat: &mut PoolSeat<K>, rng:
         × K.is_known entry.node entry.key)
         (SameBooks (account_of pool_seat.old) (account_of pool_seat.new))
         (SameBooks (account_of pool_seat.old) (account_of pool_seat.new)) }
+    ensures looked { let i = first_heap (heaps_of pool.now) (R.stream rng.old) in
+        let j = second_heap (heaps_of pool.now) (R.stream rng.old) in
+        MatchPopped result (λ _. Unit {0})
+        (LookedAt i EMPTY j EMPTY pool_seat.old.seen pool_seat.new.seen)
+        (WasBusy i j pool_seat.old.seen pool_seat.new.seen) }
     ensures alone { (account_of pool_seat.old).shares ≡ SHARES → MatchPopped result (λ _. Unit {0}) (Unit {0}) ⊥ }
     ensures least { (account_of pool_seat.old).shares ≡ SHARES → heaps_of pool.now ≡ 2
         → MatchPopped result (λ entry. IsLeastLeft entry (account_of pool_seat.old))
@@ -226,6 +234,10 @@ pub fn take_turn<K: Known + Posed, T: TravelTimes, R: Rng>(
     ensures turn { IsTurn K.problem (tables_of ground.now).pool.heaps
         (kit_of R.stream means.old) (kit_of R.stream means.new)
         number result.turn result.hand }
+    ensures saw { SawAs result.turn.kind
+        (first_heap (tables_of ground.now).pool.heaps (R.stream means.old.rng))
+        (second_heap (tables_of ground.now).pool.heaps (R.stream means.old.rng))
+        means.old.pool_seat.seen means.new.pool_seat.seen }
 {
     match pop_drawn(ground.pool, &mut means.pool_seat, &mut means.rng) {
         Popped::Empty => idle_turn(number, TurnKind::Empty),

@@ -1,6 +1,6 @@
 use Rattle.std.proofs.Common.{ap}
 use Rattle.ea_engine.specs.Turns.{is_idle}
-use Rattle.ea_engine.proofs.TurnLemmas.{IsTurn-idle, IsTurn-popped}
+use Rattle.ea_engine.proofs.TurnLemmas.{IsTurn-idle, IsTurn-popped, SawAs-popped}
 use Rattle.ea_engine.proofs.step.take_turn.Goals as goal
 
 pub returns-in-Empty-clause-turn : goal.returns-in-Empty-clause-turn
@@ -23,3 +23,12 @@ returns-in-Entry-clause-turn g c =
     IsTurn-popped _ _ _ _ _ _ _ _ _ _ _ _ _ _
     c.in-Entry.ensures.popped.0 c.in-Entry.ensures.words
     v.number v.popped v.shaped v.few v.hand v.inside v.from v.progress v.closed v.fresh c.in-Entry.ensures.least
+
+pub returns-in-Empty-clause-saw : goal.returns-in-Empty-clause-saw
+returns-in-Empty-clause-saw g c = rw c.idle_turn.ensures.kind c.in-Empty.ensures.looked
+
+pub returns-in-Busy-clause-saw : goal.returns-in-Busy-clause-saw
+returns-in-Busy-clause-saw g c = rw c.idle_turn-in-Busy.ensures.kind c.in-Busy.ensures.looked
+
+pub returns-in-Entry-clause-saw : goal.returns-in-Entry-clause-saw
+returns-in-Entry-clause-saw g c = SawAs-popped c.visit.result.turn.kind _ _ _ _ _ _ _ c.visit.ensures.popped
