@@ -21,6 +21,12 @@ OnBusy (Ok done) P = Unit {0}
 OnBusy (Err (Busy e)) P = P
 OnBusy (Err (OutOfMemory e)) P = Unit {0}
 
+-- P where memory was refused to a push
+abbrev pub OnOutOfMemory : Result (Unit {0}) PushRefused → Type 0 → Type 0
+OnOutOfMemory (Ok done) P = Unit {0}
+OnOutOfMemory (Err (Busy e)) P = Unit {0}
+OnOutOfMemory (Err (OutOfMemory e)) P = P
+
 -- P of the entry, Q where there was none, and R where the pool was busy
 abbrev pub MatchPopped : Popped → (Entry → Type 0) → Type 0 → Type 0 → Type 0
 MatchPopped (popped.Entry e) P Q R = P e

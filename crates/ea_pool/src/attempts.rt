@@ -2,8 +2,8 @@
 ghost use Rattle.std.specs.Prelude.{◌≡◌, ◌≢◌, ◌*◌, ◌<◌, false, [], IfErr, OnOk};
 ghost use Rattle.std.specs.List.{AllByRecursion};
 ghost use Rattle.ea_pool.specs.Pools.{Rests, books, SameBooks, Pushes, Pops, IsLeft, IsLeastLeft, NothingLeft};
-ghost use Rattle.ea_pool.specs.Replies.{handed_back, is_busy, OnBusy, MatchPopped};
-ghost use Rattle.ea_pool.specs.Tries.{LookedAt, WasBusy, MissedHeap, Missed};
+ghost use Rattle.ea_pool.specs.Replies.{handed_back, is_busy, OnBusy, OnOutOfMemory, MatchPopped};
+ghost use Rattle.ea_pool.specs.Tries.{LookedAt, WasBusy, MissedHeap, Missed, RanOut};
 
 use crate::SHARES;
 use crate::draws::{draw_try, pick};
@@ -32,6 +32,7 @@ impl<K: Known, A: Allocator> Pool<K, A> {
         ensures refused { IfErr result (λ refused.
             (handed_back refused ≡ entry) × SameBooks (books seat.old.me.0) (books seat.new.me.0)) }
         ensures missed { OnBusy result (MissedHeap heap seat.old.me.0.seen seat.new.me.0.seen) }
+        ensures forgot { OnOutOfMemory result (seat.new.me.0.seen ≡ []) }
         ensures alone { seat.old.me.0.shares ≡ SHARES
             → IfErr result (λ refused. is_busy refused ≡ false) }
     {
@@ -97,6 +98,8 @@ impl<K: Known, A: Allocator> Pool<K, A> {
             (handed_back refused ≡ entry) × SameBooks (books seat.old.me.0) (books seat.new.me.0)) }
         ensures missed { OnBusy result
             (Missed self.now.heaps word (2 * self.now.heaps) seat.old.me.0.seen seat.new.me.0.seen) }
+        ensures ran_out { OnOutOfMemory result
+            (RanOut self.now.heaps word seat.old.me.0.seen seat.new.me.0.seen) }
         ensures alone { seat.old.me.0.shares ≡ SHARES
             → IfErr result (λ refused. is_busy refused ≡ false) }
     {

@@ -2,9 +2,9 @@
 ghost use Rattle.std.specs.Prelude.{◌≡◌, ◌+◌, ◌*◌, ◌<◌, false, ◌++◌, IfErr, OnOk};
 ghost use Rattle.ea_pool.specs.Pools.{SameBooks, Pushes, Pops, Opened, IsLeastLeft, NothingLeft};
 ghost use Rattle.ea_pool.specs.Draws.{first_draw, second_draw};
-ghost use Rattle.ea_pool.specs.Replies.{handed_back, is_busy, OnBusy, MatchPopped};
+ghost use Rattle.ea_pool.specs.Replies.{handed_back, is_busy, OnBusy, OnOutOfMemory, MatchPopped};
 ghost use Rattle.ea_pool.specs.Seats.{account_of, heaps_of, IsSeatOf};
-ghost use Rattle.ea_pool.specs.Tries.{LookedAt, WasBusy, Missed};
+ghost use Rattle.ea_pool.specs.Tries.{LookedAt, WasBusy, Missed, RanOut};
 
 use crate::SHARES;
 use crate::draws::{draw_first, draw_second};
@@ -38,6 +38,9 @@ impl<K: Known, A: Allocator> Pool<K, A> {
         // Each of the 2H tries, in turn, found its heap out or failed to take it.
         ensures missed { OnBusy result
             (Missed (heaps_of self.now) word (2 * heaps_of self.now) seat.old.seen seat.new.seen) }
+        // Memory is refused at a try after others that missed, and never at a heap that is out.
+        ensures ran_out { OnOutOfMemory result
+            (RanOut (heaps_of self.now) word seat.old.seen seat.new.seen) }
         ensures alone { (account_of seat.old).shares ≡ SHARES
             → IfErr result (λ refused. is_busy refused ≡ false) }
     {
