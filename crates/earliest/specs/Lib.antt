@@ -4,4 +4,5 @@ pub mod Fronts
 pub mod Reported
 pub mod Runs
 pub mod SameBytes
+pub mod Performed
 pub mod Workers

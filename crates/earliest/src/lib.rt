@@ -4,6 +4,7 @@
 mod answering;
 mod checking;
 pub mod laws;
+mod performing;
 mod progress;
 mod solving;
 mod totals;
@@ -16,3 +17,4 @@ pub use ea_outcomes::{AnswerFault, Outcome, say};
 pub use ea_ranking::rank_report;
 pub use ea_report::Totals;
 pub use ea_words::{Command, CommandFault, RunOptions};
+pub use performing::{Opened, Performed, outcome_of, perform};

@@ -1,13 +1,13 @@
 //! Files, opened by their names.
+ghost use Rattle.std.specs.Prelude.{◌≡◌, IfOk, MatchOption, is_some};
+ghost use Rattle.earliest.specs.Performed.{HasFiles};
+
 use ea_input::StdIn;
-use earliest::FileWord;
+use earliest::{Command, FileWord, Opened};
 use std::fs::File;
 
-/// A file that is open for reading.
-pub type Opened = StdIn<File>;
-
 /// Opens a file; where that can't be done, the file's word is the error.
-pub fn open(rt: &HostRuntime, word: FileWord, name: &str) -> Result<Opened, FileWord> {
+fn open(rt: &HostRuntime, word: FileWord, name: &str) -> Result<StdIn<File>, FileWord> {
     match File::open(rt, name) {
         Ok(file) => Ok(StdIn::new(file)),
         Err(_) => Err(word),
@@ -15,11 +15,13 @@ pub fn open(rt: &HostRuntime, word: FileWord, name: &str) -> Result<Opened, File
 }
 
 /// Opens a file that may be left out.
-pub fn open_if_named(
+fn open_if_named(
     rt: &HostRuntime,
     word: FileWord,
     name: Option<&str>,
-) -> Result<Option<Opened>, FileWord> {
+) -> Result<Option<StdIn<File>>, FileWord>
+    ensures { IfOk result (λ file. is_some file ≡ is_some name) }
+{
     match name {
         None => Ok(None),
         Some(name) => match open(rt, word, name) {
@@ -29,24 +31,69 @@ pub fn open_if_named(
     }
 }
 
-/// The files of a run or of pairs.
+/// The names of a command's files.
 #[derive(Drop)]
-pub struct Opens {
-    pub gr: Opened,
-    pub starts: Opened,
-    pub tp: Option<Opened>,
+struct Names<'a> {
+    gr: &'a str,
+    word: FileWord,
+    starts: &'a str,
+    tp: Option<&'a str>,
+    report: Option<&'a str>,
 }
 
-/// Opens the files of a run or of pairs, in this order.
-pub fn open_all(
+/// Opens the files of a command, in this order.
+fn open_all(rt: &HostRuntime, names: Names<'_>) -> Result<Opened<StdIn<File>>, FileWord>
+    ensures { IfOk result (λ files. is_some files.report ≡ is_some names.report) }
+{
+    let gr = open(rt, FileWord::Gr, names.gr)?;
+    let starts = open(rt, names.word, names.starts)?;
+    let tp = open_if_named(rt, FileWord::Tp, names.tp)?;
+    let report = open_if_named(rt, FileWord::Report, names.report)?;
+    Ok(Opened {
+        gr,
+        starts,
+        tp,
+        report,
+    })
+}
+
+/// Opens the files that a command names; none where it names no files.
+pub fn open_named(
     rt: &HostRuntime,
-    gr: &str,
-    word: FileWord,
-    starts: &str,
-    tp: Option<&str>,
-) -> Result<Opens, FileWord> {
-    let gr = open(rt, FileWord::Gr, gr)?;
-    let starts = open(rt, word, starts)?;
-    let tp = open_if_named(rt, FileWord::Tp, tp)?;
-    Ok(Opens { gr, starts, tp })
+    command: &Command<'_>,
+) -> Option<Result<Opened<StdIn<File>>, FileWord>>
+    ensures { MatchOption result (Rattle.std.specs.Prelude.⊤)
+        (λ opened. IfOk opened (λ files. HasFiles command.now files.report)) }
+{
+    let names = match *command {
+        Command::Stored => return None,
+        Command::Run { gr, ss, tp, .. } | Command::Rank { gr, ss, tp, .. } => Names {
+            gr,
+            word: FileWord::Ss,
+            starts: ss,
+            tp,
+            report: None,
+        },
+        Command::Pairs { gr, p2p, tp, .. } => Names {
+            gr,
+            word: FileWord::P2p,
+            starts: p2p,
+            tp,
+            report: None,
+        },
+        Command::Check {
+            gr,
+            ss,
+            tp,
+            report,
+            ..
+        } => Names {
+            gr,
+            word: FileWord::Ss,
+            starts: ss,
+            tp,
+            report: Some(report),
+        },
+    };
+    Some(open_all(rt, names))
 }

@@ -5,7 +5,7 @@ mod files;
 mod runs;
 mod stored;
 
-use crate::runs::{perform, tell};
+use crate::runs::{carry_out, tell};
 use earliest::{CommandFault, Outcome, RunOptions};
 use std::env;
 use std::io::{self, ErrorKind};
@@ -27,7 +27,7 @@ fn run<H: Threads + Sync>(rt: &HostRuntime, threads: &H) -> u8 {
         Err(fault) => return tell(rt, Outcome::Command(fault)),
     };
     match RunOptions::of_words(rt.alloc(), &words) {
-        Ok(command) => perform(rt, threads, command),
+        Ok(command) => carry_out(rt, threads, command),
         Err(fault) => tell(rt, Outcome::Command(fault)),
     }
 }

@@ -1,7 +1,7 @@
 //! The run that is built in, which is done where there are no words.
-use crate::runs::finish;
+use crate::runs::tell;
 use ea_input::{StdIn, StdOut};
-use earliest::{RunOptions, answer};
+use earliest::{Outcome, RunOptions, answer};
 use std::thread::Threads;
 
 const GRAPH: &[u8] = b"p sp 4 5\na 1 2 7\na 1 3 2\na 3 2 3\na 2 4 1\na 3 4 9\n";
@@ -36,5 +36,8 @@ pub fn stored<H: Threads + Sync>(rt: &HostRuntime, threads: &H) -> u8 {
         &DEFAULTS,
         &mut out,
     );
-    finish(rt, answered)
+    match answered {
+        Ok(_) => 0,
+        Err(fault) => tell(rt, Outcome::Answer(fault)),
+    }
 }

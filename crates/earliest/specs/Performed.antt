@@ -1,0 +1,63 @@
+-- What each command does with its files.
+use Rattle.std.specs.Prelude.{◌≡◌, ℕ, List, Option, Some, None, Result, Ok, Err, option_map}
+use Rattle.ea_text.specs.Device.{Seen}
+use Rattle.ea_files.specs.Files.{Reading, reading}
+use Rattle.ea_outcomes.specs.Asked.{Files, files_of, IsAnswered, IsFailed}
+use Rattle.ea_outcomes.specs.declared.fault.AnswerFault.{AnswerFault}
+use Rattle.ea_outcomes.specs.declared.saying.Outcome.{Outcome}
+use Rattle.ea_outcomes.specs.declared.saying.Outcome.TheVariants.{Accepted, Answer, Check as Refused}
+use Rattle.ea_ranking.specs.Ranks.{rank_asks}
+use Rattle.ea_words.specs.declared.options.Command.{Command}
+use Rattle.ea_words.specs.declared.options.Command.TheVariants.{Stored, Run, Pairs, Rank, Check}
+use Rattle.earliest.specs.Checks.{IsJudged, IsUnjudged}
+use Rattle.earliest.specs.Runs.{run_asks, pair_asks}
+use Rattle.earliest.specs.declared.performing.Opened.{Opened}
+use Rattle.earliest.specs.declared.performing.Performed.{Performed}
+use Rattle.earliest.specs.declared.performing.Performed.TheVariants.{Reported, Ranked, Checked}
+
+-- The command names files, and for a check there is a report.
+abbrev pub HasFiles : {R : Type 0} → Command → Option R → Type 0
+HasFiles Stored report = ⊥
+HasFiles (Check gr ss tp name options) None = ⊥
+HasFiles _ report = Unit {0}
+
+-- The files of a command, and a report's reader before and after, where there is one.
+pub record PerformedOn : Type 0 where
+  pub files : Files
+  pub report_old : Option Seen
+  pub report_new : Option Seen
+
+abbrev pub performed_on : {R : Type 0} → (R → Seen) → Opened R → Opened R → PerformedOn
+performed_on seen old new = record {
+  files = files_of (reading seen old.gr new.gr) (reading seen old.starts new.starts) seen old.tp new.tp;
+  report_old = option_map seen old.report;
+  report_new = option_map seen new.report;
+}
+
+-- A report that was there was judged, or why not.
+abbrev pub IsCheckedBy : (Reading → Type 0) → Option Seen → Option Seen → Type 0
+IsCheckedBy IsSo (Some old) (Some new) = IsSo (record { old = old; new = new })
+IsCheckedBy IsSo _ _ = ⊥
+
+-- Each command comes to what its own call promises, with its own files and options: a run and pairs to a report, rank errors to
+-- their lines, a check to a verdict and nothing written.
+abbrev pub IsPerformed : Command → PerformedOn → Seen → Seen → Result Performed AnswerFault → Type 0
+IsPerformed (Run gr ss tp options) on first now (Ok (Reported totals)) = IsAnswered (run_asks options) on.files first now totals
+IsPerformed (Run gr ss tp options) on first now (Err fault) = IsFailed (run_asks options) on.files first now fault
+IsPerformed (Pairs gr p2p tp options) on first now (Ok (Reported totals)) = IsAnswered (pair_asks options) on.files first now totals
+IsPerformed (Pairs gr p2p tp options) on first now (Err fault) = IsFailed (pair_asks options) on.files first now fault
+IsPerformed (Rank gr ss tp options) on first now (Ok Ranked) = IsAnswered (rank_asks options) on.files first now tt
+IsPerformed (Rank gr ss tp options) on first now (Err fault) = IsFailed (rank_asks options) on.files first now fault
+IsPerformed (Check gr ss tp name options) on first now (Ok (Checked verdict)) =
+    (now ≡ first) × IsCheckedBy (λ report. IsJudged options on.files report verdict) on.report_old on.report_new
+IsPerformed (Check gr ss tp name options) on first now (Err fault) =
+    (now ≡ first) × IsCheckedBy (λ report. IsUnjudged options on.files report fault) on.report_old on.report_new
+IsPerformed _ on first now _ = ⊥
+
+-- What is told: nothing of what was written whole, the verdict of a check, and each fault.
+abbrev pub outcome_by : Result Performed AnswerFault → Option Outcome
+outcome_by (Ok (Reported totals)) = None
+outcome_by (Ok Ranked) = None
+outcome_by (Ok (Checked (Ok done))) = Some Accepted
+outcome_by (Ok (Checked (Err fault))) = Some (Refused fault)
+outcome_by (Err fault) = Some (Answer fault)

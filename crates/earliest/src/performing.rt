@@ -1,0 +1,123 @@
+//! What each command does with its files.
+ghost use Rattle.std.specs.Prelude.{◌≡◌};
+ghost use Rattle.ea_words.specs.Limits.{HasLimits};
+ghost use Rattle.earliest.specs.Performed.{HasFiles, IsPerformed, outcome_by, performed_on};
+
+use crate::answering::{answer, answer_pairs};
+use crate::checking::check_report;
+use ea_check::CheckFault;
+use ea_input::{ByteIn, ByteOut};
+use ea_outcomes::{AnswerFault, Outcome};
+use ea_ranking::rank_report;
+use ea_report::Totals;
+use ea_words::Command;
+use std::alloc::Global;
+use std::thread::Threads;
+
+/// The files that a command names, opened: the network, where searches start, the timetables where they are named, and the
+/// report that is to be checked.
+#[derive(Drop)]
+pub struct Opened<R: ByteIn> {
+    pub gr: R,
+    pub starts: R,
+    pub tp: Option<R>,
+    pub report: Option<R>,
+}
+
+/// What a command came to that was carried out.
+#[derive(Clone, Copy)]
+pub enum Performed {
+    /// The report of a run or of pairs was written.
+    Reported(Totals),
+    /// Rank errors were written.
+    Ranked,
+    /// A report was checked.
+    Checked(Result<(), CheckFault>),
+}
+
+/// Carries out a command that names files, with these files: a run by `answer`, pairs by `answer_pairs`, rank errors by
+/// `rank_report` and a check by `check_report`, each with the command's own options. Its faults are those of that call.
+pub fn perform<H: Threads + Sync, R: ByteIn, W: ByteOut>(
+    alloc: Global,
+    rt: &H,
+    command: &Command<'_>,
+    files: &mut Opened<R>,
+    out: &mut W,
+) -> Result<Performed, AnswerFault>
+    requires limits { HasLimits command.now }
+    requires files { HasFiles command.now files.old.report }
+    ensures { IsPerformed command.now (performed_on R.seen files.old files.new)
+        (W.seen out.old) (W.seen out.new) result }
+{
+    match command {
+        Command::Run { options, .. } => {
+            let gr = &mut files.gr;
+            match answer(
+                alloc,
+                rt,
+                gr,
+                &mut files.starts,
+                &mut files.tp,
+                options,
+                out,
+            ) {
+                Ok(totals) => Ok(Performed::Reported(totals)),
+                Err(fault) => Err(fault),
+            }
+        }
+        Command::Pairs { options, .. } => {
+            let gr = &mut files.gr;
+            match answer_pairs(
+                alloc,
+                rt,
+                gr,
+                &mut files.starts,
+                &mut files.tp,
+                options,
+                out,
+            ) {
+                Ok(totals) => Ok(Performed::Reported(totals)),
+                Err(fault) => Err(fault),
+            }
+        }
+        Command::Rank { options, .. } => {
+            let gr = &mut files.gr;
+            match rank_report(alloc, gr, &mut files.starts, &mut files.tp, options, out) {
+                Ok(()) => Ok(Performed::Ranked),
+                Err(fault) => Err(fault),
+            }
+        }
+        Command::Check { options, .. } => {
+            let gr = &mut files.gr;
+            match &mut files.report {
+                Some(report) => {
+                    match check_report(
+                        alloc,
+                        gr,
+                        &mut files.starts,
+                        &mut files.tp,
+                        options,
+                        report,
+                    ) {
+                        Ok(verdict) => Ok(Performed::Checked(verdict)),
+                        Err(fault) => Err(fault),
+                    }
+                }
+                None => unreachable!(),
+            }
+        }
+        Command::Stored => unreachable!(),
+    }
+}
+
+/// What is to be told of a command that was carried out; none where its report or its rank errors were written whole.
+pub fn outcome_of(performed: Result<Performed, AnswerFault>) -> Option<Outcome>
+    ensures { result ≡ outcome_by performed }
+{
+    match performed {
+        Ok(Performed::Reported(_) | Performed::Ranked) => None,
+        Ok(Performed::Checked(Ok(()))) => Some(Outcome::Accepted),
+        Ok(Performed::Checked(Err(fault))) => Some(Outcome::Check(fault)),
+        Err(fault) => Some(Outcome::Answer(fault)),
+    }
+}
