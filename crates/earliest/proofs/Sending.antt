@@ -78,7 +78,7 @@ module _ (options : RunOptions) (roads : Roads) (answers : ℕ → ℕ → ℕ �
       gives_up = gone;
     })
 
-    pub all_written : Appends old.bytes now.bytes (totals_text options totals) → BearsOn old now → AreTotals (settings_by options) all totals → AreBalanced totals → IsWritten options roads answers all first now totals
+    pub all_written : Appends old.bytes now.bytes (totals_text options totals) → BearsOn old now → (options.stats ≡ true → AreTotals (settings_by options) all totals) → AreBalanced totals → IsWritten options roads answers all first now totals
     all_written more bears counted balanced = record {
       report = sent.report;
       are_reported = sent.are_reported;

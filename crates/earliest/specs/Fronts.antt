@@ -59,13 +59,14 @@ pub record AreSent (walks : Bool) (roads : Roads) (answers : ℕ → ℕ → ℕ
   pub borne : now.interrupted ≤ first.interrupted + length problems * 1000
   pub monotone : first.interrupted ≤ now.interrupted
 
--- The reports of all problems went out, and with statistics their totals: sums over runs of the problems, in balance. No call of
+-- The reports of all problems went out, and with statistics their totals: sums over runs of the problems, in balance. Without
+-- statistics the totals say nothing of runs. No call of
 -- the device failed, and so many were interrupted at most: 1,000 for each problem and for the totals.
 pub record IsWritten (options : RunOptions) (roads : Roads) (answers : ℕ → ℕ → ℕ → ℕ → Type 0) (problems : List Asking) (first now : Seen) (totals : Totals) : Type 0 where
   pub report : List ℕ
   pub are_reported : AreReported options.walks roads answers problems report
   pub appended : Appends first.bytes now.bytes (report ++ totals_text options totals)
-  pub counted : AreTotals (settings_by options) problems totals
+  pub counted : options.stats ≡ true → AreTotals (settings_by options) problems totals
   pub balanced : AreBalanced totals
   pub unfailed : now.failed ≡ first.failed
   pub borne : now.interrupted ≤ first.interrupted + (length problems + 1) * 1000

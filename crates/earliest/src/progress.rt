@@ -106,7 +106,8 @@ impl Progress {
         ensures err { IfErr result (IsStoppedBy options.now.walks road.now.network (times_on road.now) query.now (W.seen out.old)
             (W.seen out.new) self.old.written) }
         ensures bound { OnOk result (self.new.written ≤ self.old.written + 2 ^ 90) }
-        ensures counted { OnOk result ((more : Totals) × IsTotal (settings_by options.now) query.now more × (self.new.totals ≡ plus self.old.totals more)) }
+        ensures counted { OnOk result (options.now.stats ≡ true →
+            (more : Totals) × IsTotal (settings_by options.now) query.now more × (self.new.totals ≡ plus self.old.totals more)) }
         ensures balanced { OnOk result (AreBalanced self.new.totals) }
         ensures small { OnOk result ((problems : ℕ) → AreSmall problems self.old.totals → AreSmall (problems + 1) self.new.totals) }
     {
@@ -140,7 +141,8 @@ fn report_each<H: Threads + Sync, W: ByteOut>(
     ensures err { IfErr result (IsCutShort options.now road.now.network (times_on road.now) queries.now (W.seen out.old)
         (W.seen out.new)) }
     ensures bound { IfOk result (λ progress. progress.written ≤ 1000000 * 2 ^ 90) }
-    ensures counted { IfOk result (λ progress. AreTotals (settings_by options.now) queries.now progress.totals) }
+    ensures counted { IfOk result (λ progress. options.now.stats ≡ true
+        → AreTotals (settings_by options.now) queries.now progress.totals) }
     ensures balanced { IfOk result (λ progress. AreBalanced progress.totals) }
 {
     let mut progress = Progress {

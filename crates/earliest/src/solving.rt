@@ -8,11 +8,13 @@ ghost use Rattle.ea_finish.specs.Answers.{HasArrivals, IsAnswer};
 ghost use Rattle.ea_words.specs.Limits.{AreOptions};
 ghost use Rattle.earliest.specs.Counted.{AreBalanced, AreSmall, IsTotal, totals_by};
 ghost use Rattle.ea_ranking.specs.Generators.{generators_from};
+ghost use Rattle.ea_outcomes.specs.Posed.{times_on};
 ghost use Rattle.earliest.specs.Workers.{settings_by};
 
-use crate::totals::work_of;
+use crate::totals::{no_totals, work_of};
 use ea_engine::{Answer, Counters, Crew, Flow, NoGate, Settings, Turn, solve, solve_arrivals};
 use ea_files::Road;
+use ea_finish::{arrivals_alone, solve_alone};
 use ea_report::Totals;
 use ea_road::Query;
 use ea_words::RunOptions;
@@ -210,7 +212,26 @@ fn find_by<H: Threads + Sync, T: FnMut(Turn) -> Flow + Send + Drop + Copy>(
     }
 }
 
-/// The answer of a problem, with walks where the options ask for them.
+/// The answer of a problem by one thread without workers, of which nothing is counted.
+fn find_alone(alloc: Global, road: &Road, query: &Query, walks: bool) -> Result<Found, AllocError>
+    requires { IsProblem road.now.network (length road.now.times.list.items) query.now }
+    ensures arrivals { IfOk result (λ found. HasArrivals road.now.network (times_on road.now) query.now found.answer) }
+    ensures walks { IfOk result (λ found. walks ≡ true
+        → IsAnswer road.now.network (times_on road.now) query.now found.answer) }
+    ensures balanced { IfOk result (λ found. AreBalanced found.totals) }
+    ensures small { IfOk result (λ found. AreSmall 1 found.totals) }
+{
+    let totals = no_totals();
+    if walks {
+        let answer = solve_alone(alloc, &road.network, &road.times, query)?;
+        return Ok(Found { answer, totals });
+    }
+    let answer = arrivals_alone(alloc, &road.network, &road.times, query)?;
+    Ok(Found { answer, totals })
+}
+
+/// The answer of a problem, with walks where the options ask for them. One worker is the search of one thread where nothing
+/// is to be counted.
 pub(crate) fn find<H: Threads + Sync>(
     alloc: Global,
     rt: &H,
@@ -221,12 +242,17 @@ pub(crate) fn find<H: Threads + Sync>(
     requires problem { IsProblem road.now.network (length road.now.times.list.items) query.now }
     requires few { length query.now.sources ≤ 1000000 }
     requires options { AreOptions options.now }
-    ensures arrivals { IfOk result (λ found. HasArrivals road.now.network (TimetablesAnswer road.now.times.list.items) query.now found.answer) }
-    ensures walks { IfOk result (λ found. options.now.walks ≡ true → IsAnswer road.now.network (TimetablesAnswer road.now.times.list.items) query.now found.answer) }
-    ensures counted { IfOk result (λ found. IsTotal (settings_by options.now) query.now found.totals) }
+    ensures arrivals { IfOk result (λ found. HasArrivals road.now.network (times_on road.now) query.now found.answer) }
+    ensures walks { IfOk result (λ found. options.now.walks ≡ true
+        → IsAnswer road.now.network (times_on road.now) query.now found.answer) }
+    ensures counted { IfOk result (λ found. options.now.stats ≡ true
+        → IsTotal (settings_by options.now) query.now found.totals) }
     ensures balanced { IfOk result (λ found. AreBalanced found.totals) }
     ensures small { IfOk result (λ found. AreSmall 1 found.totals) }
 {
+    if options.workers == 1 && !options.stats {
+        return find_alone(alloc, road, query, options.walks);
+    }
     find_by(alloc, rt, road, query, options, |_turn: Turn| -> Flow {
         Flow::Go
     })

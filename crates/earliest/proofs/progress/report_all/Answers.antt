@@ -12,4 +12,4 @@ returns-in-Err-clause-err g c =
     let now = g.W.Device.seen c.write_totals.new.out in
     let first = g.W.Device.seen c.args.out.now in
     let cut = c.in-Err.ensures.err in
-    rw cut.2 (totals_cut c.args.options.now c.args.road.now.network (times_on c.args.road.now) c.args.queries.now first _ now c.in_ok-progress.progress.written c.in_ok-progress.progress.totals c.in_ok-progress.ensures.ok cut.0 cut.1 c.in_ok-progress.ensures.counted cut.3 cut.4)
+    rw cut.2 (totals_cut c.args.options.now c.args.road.now.network (times_on c.args.road.now) c.args.queries.now first _ now c.in_ok-progress.progress.written c.in_ok-progress.progress.totals c.in_ok-progress.ensures.ok cut.0 cut.1 (c.in_ok-progress.ensures.counted cut.1) cut.3 cut.4)

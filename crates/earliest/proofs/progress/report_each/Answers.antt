@@ -22,7 +22,7 @@ loop-query-preserved g c =
       fits = inv.fits;
       sent = sent_next c.args.options.now c.args.road.now.network (times_on c.args.road.now) c.args.queries.now i c.query-item.result c.loop-query-test.true c.query-item.is first _ now _ c.report.new.self.written inv.fits inv.sent c.in_ok-report.ensures.ok;
       bound = omega (arith, c.in_ok-report.ensures.bound, inv.bound);
-      counted = totals_next (settings_by c.args.options.now) c.args.queries.now i c.query-item.result c.loop-query-test.true c.query-item.is _ _ inv.counted c.in_ok-report.ensures.counted.0 c.in_ok-report.ensures.counted.1 c.in_ok-report.ensures.counted.2;
+      counted = λ asked. let more = c.in_ok-report.ensures.counted asked in totals_next (settings_by c.args.options.now) c.args.queries.now i c.query-item.result c.loop-query-test.true c.query-item.is _ _ (inv.counted asked) more.0 more.1 more.2;
       small = c.in_ok-report.ensures.small i inv.small;
       balanced = c.in_ok-report.ensures.balanced;
     }

@@ -1,4 +1,4 @@
-use Rattle.std.proofs.Common.{◌≤◌, ◌<◌, ◌*◌, ◌^◌, take}
+use Rattle.std.proofs.Common.{◌≡◌, ◌≤◌, ◌<◌, ◌*◌, true, ◌^◌, take}
 use Rattle.earliest.specs.Counted.{AreBalanced, AreSmall, AreTotals}
 use Rattle.ea_outcomes.specs.Posed.{times_on}
 use Rattle.earliest.specs.Fronts.{AreSent}
@@ -10,7 +10,7 @@ invariant-loop-query g l = record {
   fits : (g.W.Device.seen l.fn.out).interrupted < 2 ^ 64;
   sent : AreSent l.options.walks l.road.network (times_on l.road) (take l.query-index l.queries) (g.W.Device.seen l.fn.out) (g.W.Device.seen l.out) l.progress.written;
   bound : l.progress.written ≤ l.query-index * 2 ^ 90;
-  counted : AreTotals (settings_by l.options) (take l.query-index l.queries) l.progress.totals;
+  counted : l.options.stats ≡ true → AreTotals (settings_by l.options) (take l.query-index l.queries) l.progress.totals;
   small : AreSmall l.query-index l.progress.totals;
   balanced : AreBalanced l.progress.totals;
 }
