@@ -12,11 +12,11 @@ ghost use Rattle.ea_files.specs.Files.{IsFaultIn, IsFaultIfThere, IsTextIfThere,
 ghost use Rattle.ea_files.specs.Given.{IsTableOf};
 
 use crate::fault::{FileFault, FileWord};
-use ea_limits::MOST_BYTES;
 use ea_input::{
     ByteIn, FaultKind, InputFault, RawGraph, RawTable, ReadFault, read_all, read_gr, read_p2p,
     read_ss, read_tp,
 };
+use ea_limits::MOST_BYTES;
 use std::alloc::Global;
 
 /// All bytes of a file.

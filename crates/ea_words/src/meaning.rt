@@ -25,7 +25,13 @@ fn options_in(matches: &ArgMatches<'_>) -> Option<RunOptions>
     ensures limits { IfSome result AreOptions }
 {
     let workers = option_number(matches, "workers", 4, 1, u64::from(MOST_WORKERS))?;
-    let heaps = option_number(matches, "heaps", 2, u64::from(LEAST_HEAPS), u64::from(MOST_HEAPS))?;
+    let heaps = option_number(
+        matches,
+        "heaps",
+        2,
+        u64::from(LEAST_HEAPS),
+        u64::from(MOST_HEAPS),
+    )?;
     let turns = option_number(matches, "turns", 1_000_000, 0, MOST_TURNS)?;
     let seed = option_number(matches, "seed", 1, 0, u64::MAX)?;
     let depart = option_number(matches, "depart", 0, 0, HORIZON)?;
