@@ -44,7 +44,8 @@ fn ranks_of(
     requires problem { IsProblem road.now.network (length road.now.times.list.items) query.now }
     requires all { query.now.target ≡ None }
     requires heaps { (2 ≤ heaps) × (heaps ≤ 128) }
-    ensures { IfOk result (λ found. AreRanks heaps seed road.now.network (times_on road.now) query.now.sources found.items) }
+    ensures { IfOk result (λ found.
+        AreRanks heaps seed road.now.network (times_on road.now) query.now.sources found.items) }
 {
     let rng = Xoshiro256PlusPlus::seed_from_u64(seed);
     let recorded = record_run(alloc, &road.network, &road.times, query, heaps, rng)?;

@@ -5,4 +5,6 @@ pub mod Reported
 pub mod Runs
 pub mod SameBytes
 pub mod Performed
+pub mod Solved
+pub mod Worked
 pub mod Workers

@@ -3,7 +3,6 @@ ghost use Rattle.std.specs.Prelude.{◌≡◌, ◌≤◌, ◌<◌, ◌+◌, ◌*
 ghost use Rattle.std.specs.Io.KnownBytes.{Appends};
 ghost use Rattle.ea_text.specs.Device.{BearsOn, GivesUp};
 ghost use Rattle.ea_road.specs.Queries.{IsProblem};
-ghost use Rattle.ea_finish.specs.Answers.{HasArrivals, IsAnswer};
 ghost use Rattle.ea_report.specs.Sent.{IsCutAt};
 ghost use Rattle.ea_report.specs.Stats.{stats_text};
 ghost use Rattle.ea_report.specs.declared.stats.Totals.{Totals};
@@ -12,6 +11,7 @@ ghost use Rattle.earliest.specs.Counted.{AreBalanced, AreSmall, AreTotals, IsTot
 ghost use Rattle.ea_outcomes.specs.Faults;
 ghost use Rattle.ea_outcomes.specs.Posed.{AreProblems, times_on};
 ghost use Rattle.earliest.specs.Fronts.{AreSent, IsCutShort, IsSent, IsStoppedBy, IsWritten};
+ghost use Rattle.earliest.specs.Solved.{AnswersOn, ArrivesOn};
 ghost use Rattle.earliest.specs.Workers.{settings_by};
 
 use crate::solving::{Found, find};
@@ -58,12 +58,12 @@ impl Progress {
         requires problem { IsProblem road.now.network (length road.now.times.list.items) query.now }
         requires few { (length query.now.sources ≤ 1000000) × (road.now.network.nodes ≤ 67108864) }
         requires room { self.old.written ≤ 1000000 * 2 ^ 90 }
-        requires arrivals { HasArrivals road.now.network (times_on road.now) query.now found.now.answer }
-        requires canonical { walks ≡ true → IsAnswer road.now.network (times_on road.now) query.now found.now.answer }
-        ensures ok { OnOk result (IsSent walks road.now.network (times_on road.now) query.now (W.seen out.old)
-            (W.seen out.new) self.old.written self.new.written) }
-        ensures err { IfErr result (IsStoppedBy walks road.now.network (times_on road.now) query.now (W.seen out.old)
-            (W.seen out.new) self.old.written) }
+        requires arrivals { ArrivesOn road.now query.now found.now.answer }
+        requires canonical { walks ≡ true → AnswersOn road.now query.now found.now.answer }
+        ensures ok { OnOk result (IsSent walks road.now.network (times_on road.now) query.now
+            (W.seen out.old) (W.seen out.new) self.old.written self.new.written) }
+        ensures err { IfErr result (IsStoppedBy walks road.now.network (times_on road.now) query.now
+            (W.seen out.old) (W.seen out.new) self.old.written) }
         ensures bound { OnOk result (self.new.written ≤ self.old.written + 2 ^ 90) }
         ensures totals { self.new.totals ≡ self.old.totals }
     {
@@ -101,15 +101,19 @@ impl Progress {
         requires room { self.old.written ≤ 1000000 * 2 ^ 90 }
         requires small { (problems : ℕ) × (problems < 1000000) × AreSmall problems self.old.totals }
         requires balanced { AreBalanced self.old.totals }
-        ensures ok { OnOk result (IsSent options.now.walks road.now.network (times_on road.now) query.now (W.seen out.old)
-            (W.seen out.new) self.old.written self.new.written) }
-        ensures err { IfErr result (IsStoppedBy options.now.walks road.now.network (times_on road.now) query.now (W.seen out.old)
-            (W.seen out.new) self.old.written) }
+        ensures ok { OnOk result (IsSent
+            options.now.walks road.now.network (times_on road.now) query.now
+            (W.seen out.old) (W.seen out.new) self.old.written self.new.written) }
+        ensures err { IfErr result (IsStoppedBy
+            options.now.walks road.now.network (times_on road.now) query.now
+            (W.seen out.old) (W.seen out.new) self.old.written) }
         ensures bound { OnOk result (self.new.written ≤ self.old.written + 2 ^ 90) }
         ensures counted { OnOk result (options.now.stats ≡ true →
-            (more : Totals) × IsTotal (settings_by options.now) query.now more × (self.new.totals ≡ plus self.old.totals more)) }
+            (more : Totals) × IsTotal (settings_by options.now) query.now more
+            × (self.new.totals ≡ plus self.old.totals more)) }
         ensures balanced { OnOk result (AreBalanced self.new.totals) }
-        ensures small { OnOk result ((problems : ℕ) → AreSmall problems self.old.totals → AreSmall (problems + 1) self.new.totals) }
+        ensures small { OnOk result ((problems : ℕ) →
+            AreSmall problems self.old.totals → AreSmall (problems + 1) self.new.totals) }
     {
         match find(alloc, rt, road, query, options) {
             Ok(found) => {
@@ -136,10 +140,11 @@ fn report_each<H: Threads + Sync, W: ByteOut>(
     requires problems { AreProblems road.now queries.now }
     requires few { (length queries.now ≤ 1000000) × (road.now.network.nodes ≤ 67108864) }
     requires options { AreOptions options.now }
-    ensures ok { IfOk result (λ progress. AreSent options.now.walks road.now.network (times_on road.now) queries.now (W.seen out.old)
-        (W.seen out.new) progress.written) }
-    ensures err { IfErr result (IsCutShort options.now road.now.network (times_on road.now) queries.now (W.seen out.old)
-        (W.seen out.new)) }
+    ensures ok { IfOk result (λ progress.
+        AreSent options.now.walks road.now.network (times_on road.now) queries.now
+        (W.seen out.old) (W.seen out.new) progress.written) }
+    ensures err { IfErr result (IsCutShort options.now road.now.network (times_on road.now) queries.now
+        (W.seen out.old) (W.seen out.new)) }
     ensures bound { IfOk result (λ progress. progress.written ≤ 1000000 * 2 ^ 90) }
     ensures counted { IfOk result (λ progress. options.now.stats ≡ true
         → AreTotals (settings_by options.now) queries.now progress.totals) }
@@ -164,10 +169,13 @@ fn write_totals<W: ByteOut>(
     out: &mut W,
 ) -> Result<(), AnswerFault>
     requires { progress.now.written ≤ 1000000 * 2 ^ 90 }
-    ensures ok { OnOk result (Appends (W.seen out.old).bytes (W.seen out.new).bytes (if stats then stats_text progress.now.totals else [])) }
+    ensures ok { OnOk result (Appends (W.seen out.old).bytes (W.seen out.new).bytes
+        (if stats then stats_text progress.now.totals else [])) }
     ensures borne { OnOk result (BearsOn (W.seen out.old) (W.seen out.new)) }
-    ensures err { IfErr result (λ fault. (sent : ℕ) × (stats ≡ true) × (fault ≡ AnswerFault.Write (progress.now.written + sent))
-        × IsCutAt (W.seen out.old).bytes (W.seen out.new).bytes (stats_text progress.now.totals) sent
+    ensures err { IfErr result (λ fault. (sent : ℕ) × (stats ≡ true)
+        × (fault ≡ AnswerFault.Write (progress.now.written + sent))
+        × IsCutAt (W.seen out.old).bytes (W.seen out.new).bytes
+        (stats_text progress.now.totals) sent
         × GivesUp (W.seen out.old) (W.seen out.new)) }
 {
     if stats {
@@ -194,10 +202,10 @@ pub(crate) fn report_all<H: Threads + Sync, W: ByteOut>(
     requires problems { AreProblems road.now queries.now }
     requires few { (length queries.now ≤ 1000000) × (road.now.network.nodes ≤ 67108864) }
     requires options { AreOptions options.now }
-    ensures ok { IfOk result (IsWritten options.now road.now.network (times_on road.now) queries.now (W.seen out.old)
-        (W.seen out.new)) }
-    ensures err { IfErr result (IsCutShort options.now road.now.network (times_on road.now) queries.now (W.seen out.old)
-        (W.seen out.new)) }
+    ensures ok { IfOk result (IsWritten options.now road.now.network (times_on road.now) queries.now
+        (W.seen out.old) (W.seen out.new)) }
+    ensures err { IfErr result (IsCutShort options.now road.now.network (times_on road.now) queries.now
+        (W.seen out.old) (W.seen out.new)) }
 {
     let progress = report_each(alloc, rt, road, queries, options, out)?;
     match write_totals(&progress, options.stats, out) {

@@ -1,14 +1,12 @@
 //! The answer of a problem, by several threads.
-ghost use Rattle.std.specs.Prelude.{◌≡◌, ◌≤◌, All, IfOk, length, replicate, true, vec_len};
+ghost use Rattle.std.specs.Prelude.{◌≡◌, ◌≤◌, ℕ, All, IfOk, length, replicate, true, vec_len};
 ghost use Rattle.ea_road.specs.Queries.{IsProblem};
-ghost use Rattle.ea_road.specs.TimetableLists.{TimetablesAnswer};
 ghost use Rattle.ea_engine.specs.Limits.{AreSettings};
 ghost use Rattle.ea_engine.specs.Tallies.{IsTally};
-ghost use Rattle.ea_finish.specs.Answers.{HasArrivals, IsAnswer};
 ghost use Rattle.ea_words.specs.Limits.{AreOptions};
 ghost use Rattle.earliest.specs.Counted.{AreBalanced, AreSmall, IsTotal, totals_by};
 ghost use Rattle.ea_ranking.specs.Generators.{generators_from};
-ghost use Rattle.ea_outcomes.specs.Posed.{times_on};
+ghost use Rattle.earliest.specs.Solved.{AnswersOn, ArrivesOn};
 ghost use Rattle.earliest.specs.Workers.{settings_by};
 
 use crate::totals::{no_totals, work_of};
@@ -74,9 +72,16 @@ fn totals_of(
     finish: u128,
     counters: &[Counters],
 ) -> Totals
-    requires tally { (sources : Rattle.std.specs.Prelude.ℕ) × (sources ≤ 1000000) × IsTally sources seeded returned drained finish counters.now }
+    requires tally { (sources : ℕ) × (sources ≤ 1000000)
+        × IsTally sources seeded returned drained finish counters.now }
     requires few { length counters.now ≤ 16 }
-    ensures sums { result ≡ totals_by (record { seeded = seeded; returned = returned; drained = drained; finish = finish; workers = counters.now }) }
+    ensures sums { result ≡ totals_by (record {
+      seeded = seeded;
+      returned = returned;
+      drained = drained;
+      finish = finish;
+      workers = counters.now;
+    }) }
     ensures balanced { AreBalanced result }
     ensures small { AreSmall 1 result }
 {
@@ -108,7 +113,7 @@ fn find_walks<H: Threads + Sync, T: FnMut(Turn) -> Flow + Send + Drop>(
     requires settings { AreSettings settings }
     requires workers { (vec_len rngs ≡ settings.workers) × (vec_len tracers ≡ settings.workers) }
     requires tracers { All T.IsAlwaysCallable tracers.items }
-    ensures answer { IfOk result (λ found. IsAnswer road.now.network (TimetablesAnswer road.now.times.list.items) query.now found.answer) }
+    ensures answer { IfOk result (λ found. AnswersOn road.now query.now found.answer) }
     ensures counted { IfOk result (λ found. IsTotal settings query.now found.totals) }
     ensures balanced { IfOk result (λ found. AreBalanced found.totals) }
     ensures small { IfOk result (λ found. AreSmall 1 found.totals) }
@@ -153,7 +158,7 @@ fn find_arrivals<H: Threads + Sync, T: FnMut(Turn) -> Flow + Send + Drop>(
     requires settings { AreSettings settings }
     requires workers { (vec_len rngs ≡ settings.workers) × (vec_len tracers ≡ settings.workers) }
     requires tracers { All T.IsAlwaysCallable tracers.items }
-    ensures answer { IfOk result (λ found. HasArrivals road.now.network (TimetablesAnswer road.now.times.list.items) query.now found.answer) }
+    ensures answer { IfOk result (λ found. ArrivesOn road.now query.now found.answer) }
     ensures counted { IfOk result (λ found. IsTotal settings query.now found.totals) }
     ensures balanced { IfOk result (λ found. AreBalanced found.totals) }
     ensures small { IfOk result (λ found. AreSmall 1 found.totals) }
@@ -196,9 +201,10 @@ fn find_by<H: Threads + Sync, T: FnMut(Turn) -> Flow + Send + Drop + Copy>(
     requires few { length query.now.sources ≤ 1000000 }
     requires options { AreOptions options.now }
     requires tracer { T.IsAlwaysCallable tracer }
-    ensures arrivals { IfOk result (λ found. HasArrivals road.now.network (TimetablesAnswer road.now.times.list.items) query.now found.answer) }
-    ensures walks { IfOk result (λ found. options.now.walks ≡ true → IsAnswer road.now.network (TimetablesAnswer road.now.times.list.items) query.now found.answer) }
-    ensures counted { IfOk result (λ found. IsTotal (settings_by options.now) query.now found.totals) }
+    ensures arrivals { IfOk result (λ found. ArrivesOn road.now query.now found.answer) }
+    ensures walks { IfOk result (λ found. options.now.walks ≡ true → AnswersOn road.now query.now found.answer) }
+    ensures counted { IfOk result (λ found.
+        IsTotal (settings_by options.now) query.now found.totals) }
     ensures balanced { IfOk result (λ found. AreBalanced found.totals) }
     ensures small { IfOk result (λ found. AreSmall 1 found.totals) }
 {
@@ -215,9 +221,8 @@ fn find_by<H: Threads + Sync, T: FnMut(Turn) -> Flow + Send + Drop + Copy>(
 /// The answer of a problem by one thread without workers, of which nothing is counted.
 fn find_alone(alloc: Global, road: &Road, query: &Query, walks: bool) -> Result<Found, AllocError>
     requires { IsProblem road.now.network (length road.now.times.list.items) query.now }
-    ensures arrivals { IfOk result (λ found. HasArrivals road.now.network (times_on road.now) query.now found.answer) }
-    ensures walks { IfOk result (λ found. walks ≡ true
-        → IsAnswer road.now.network (times_on road.now) query.now found.answer) }
+    ensures arrivals { IfOk result (λ found. ArrivesOn road.now query.now found.answer) }
+    ensures walks { IfOk result (λ found. walks ≡ true → AnswersOn road.now query.now found.answer) }
     ensures balanced { IfOk result (λ found. AreBalanced found.totals) }
     ensures small { IfOk result (λ found. AreSmall 1 found.totals) }
 {
@@ -242,9 +247,8 @@ pub(crate) fn find<H: Threads + Sync>(
     requires problem { IsProblem road.now.network (length road.now.times.list.items) query.now }
     requires few { length query.now.sources ≤ 1000000 }
     requires options { AreOptions options.now }
-    ensures arrivals { IfOk result (λ found. HasArrivals road.now.network (times_on road.now) query.now found.answer) }
-    ensures walks { IfOk result (λ found. options.now.walks ≡ true
-        → IsAnswer road.now.network (times_on road.now) query.now found.answer) }
+    ensures arrivals { IfOk result (λ found. ArrivesOn road.now query.now found.answer) }
+    ensures walks { IfOk result (λ found. options.now.walks ≡ true → AnswersOn road.now query.now found.answer) }
     ensures counted { IfOk result (λ found. options.now.stats ≡ true
         → IsTotal (settings_by options.now) query.now found.totals) }
     ensures balanced { IfOk result (λ found. AreBalanced found.totals) }

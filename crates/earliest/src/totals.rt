@@ -3,6 +3,7 @@ ghost use Rattle.std.specs.Prelude.{◌≡◌, ◌+◌, ◌*◌, ◌^◌, ◌≤
 ghost use Rattle.ea_engine.specs.Tallies.{pushed_by_all, popped_by_all, returned_by_all};
 ghost use Rattle.ea_engine.specs.declared.counters.Counters.{Counters as Counted};
 ghost use Rattle.earliest.specs.Counted.{AreBalanced, AreSmall, plus, totals_of};
+ghost use Rattle.earliest.specs.Worked.{AreNarrow, HasRoom, IsLittle, work_with};
 
 use ea_engine::Counters;
 use ea_report::Totals;
@@ -37,9 +38,9 @@ pub(crate) struct Work {
 
 /// Adds what a worker did.
 fn add_work(work: &mut Work, counted: &Counters)
-    requires room { (work.old.pushed < 2 ^ 100) × (work.old.popped < 2 ^ 100) × (work.old.stale < 2 ^ 100) × (work.old.scanned < 2 ^ 100) × (work.old.returned < 2 ^ 100) }
-    ensures added { work.new ≡ record { pushed = work.old.pushed + counted.now.pushed; popped = work.old.popped + counted.now.popped; stale = work.old.stale + counted.now.stale; scanned = work.old.scanned + counted.now.scanned; returned = work.old.returned + counted.now.returned } }
-    ensures few { (counted.now.pushed < 2 ^ 64) × (counted.now.popped < 2 ^ 64) × (counted.now.stale < 2 ^ 64) × (counted.now.scanned < 2 ^ 64) × (counted.now.returned < 2 ^ 64) }
+    requires room { HasRoom work.old }
+    ensures added { work.new ≡ work_with work.old counted.now }
+    ensures few { AreNarrow counted.now }
 {
     let Counters {
         pushed,
@@ -64,7 +65,7 @@ pub(crate) fn work_of(counters: &[Counters]) -> Work
     ensures stale { result.stale ≡ sum_by (λ (c : Counted). c.stale) counters.now }
     ensures scanned { result.scanned ≡ sum_by (λ (c : Counted). c.scanned) counters.now }
     ensures returned { result.returned ≡ returned_by_all counters.now }
-    ensures few { (result.pushed ≤ 2 ^ 70) × (result.popped ≤ 2 ^ 70) × (result.stale ≤ 2 ^ 70) × (result.scanned ≤ 2 ^ 70) × (result.returned ≤ 2 ^ 70) }
+    ensures few { IsLittle result }
 {
     let mut work = Work {
         pushed: 0,
@@ -86,7 +87,8 @@ pub(crate) fn add_totals(totals: &mut Totals, more: &Totals)
     requires balanced { AreBalanced totals.old × AreBalanced more.now }
     ensures sums { totals.new ≡ plus totals.old more.now }
     ensures balanced { AreBalanced totals.new }
-    ensures small { (problems : ℕ) → AreSmall problems totals.old → AreSmall (problems + 1) totals.new }
+    ensures small { (problems : ℕ) →
+        AreSmall problems totals.old → AreSmall (problems + 1) totals.new }
 {
     totals.seeded += more.seeded;
     totals.pushed += more.pushed;

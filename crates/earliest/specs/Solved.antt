@@ -1,0 +1,13 @@
+-- What is found of a problem of a road.
+use Rattle.ea_road.specs.Queries.{Asking}
+use Rattle.ea_files.specs.declared.road.Road.{Road}
+use Rattle.ea_finish.specs.Answers.{Answered, HasArrivals, IsAnswer}
+use Rattle.ea_outcomes.specs.Posed.{times_on}
+
+-- The answer has the least arrivals of the query on the road.
+abbrev pub ArrivesOn : Road → Asking → Answered → Type 0
+ArrivesOn road query answer = HasArrivals road.network (times_on road) query answer
+
+-- And the canonical walks.
+abbrev pub AnswersOn : Road → Asking → Answered → Type 0
+AnswersOn road query answer = IsAnswer road.network (times_on road) query answer

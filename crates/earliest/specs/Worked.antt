@@ -1,0 +1,32 @@
+-- What all workers of a problem did together.
+use Rattle.std.specs.Prelude.{ℕ, ◌+◌, ◌^◌, ◌<◌, ◌≤◌}
+use Rattle.ea_engine.specs.declared.counters.Counters.{Counters}
+use Rattle.earliest.specs.declared.totals.Work.{Work}
+
+-- What a worker did besides.
+abbrev pub work_with : Work → Counters → Work
+work_with work counted = record {
+  pushed = work.pushed + counted.pushed;
+  popped = work.popped + counted.popped;
+  stale = work.stale + counted.stale;
+  scanned = work.scanned + counted.scanned;
+  returned = work.returned + counted.returned;
+}
+
+-- There is room for the counts of one more.
+abbrev pub HasRoom : Work → Type 0
+HasRoom work =
+    (work.pushed < 2 ^ 100) × (work.popped < 2 ^ 100) × (work.stale < 2 ^ 100) × (work.scanned < 2 ^ 100)
+    × (work.returned < 2 ^ 100)
+
+-- The counts of one worker are of 64 bits.
+abbrev pub AreNarrow : Counters → Type 0
+AreNarrow counted =
+    (counted.pushed < 2 ^ 64) × (counted.popped < 2 ^ 64) × (counted.stale < 2 ^ 64) × (counted.scanned < 2 ^ 64)
+    × (counted.returned < 2 ^ 64)
+
+-- Those of all workers are few.
+abbrev pub IsLittle : Work → Type 0
+IsLittle work =
+    (work.pushed ≤ 2 ^ 70) × (work.popped ≤ 2 ^ 70) × (work.stale ≤ 2 ^ 70) × (work.scanned ≤ 2 ^ 70)
+    × (work.returned ≤ 2 ^ 70)
