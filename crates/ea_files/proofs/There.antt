@@ -5,13 +5,13 @@ use Rattle.ea_text.specs.Device.{Seen}
 use Rattle.ea_input.specs.TableViews.{table}
 use Rattle.ea_input.specs.declared.table.RawTable.{RawTable}
 use Rattle.ea_files.specs.declared.fault.FileFault.{FileFault}
-use Rattle.ea_files.specs.Files.{bytes_there, IsAllIfThere, IsTextIfThere, IsTextOf, reading}
+use Rattle.ea_files.specs.Files.{bytes_there, IsAllIfThere, IsBorneIfThere, IsTextIfThere, IsFileText, reading}
 use Rattle.ea_files.specs.Given.{IsTableOf}
 
 module _ {R : Type 0} (seen : R → Seen) where
   -- The text of a file that is there.
   pub table_there : (device after : Option R) (old new : R) (arcs : ℕ) (r : Result RawTable FileFault) → device ≡ Some old → after ≡ Some new
-      → IfOk r (λ found. (text : List ℕ) × IsTextOf (reading seen old new) text × IsTableOf arcs (Some text) (table found))
+      → IfOk r (λ found. (text : List ℕ) × IsFileText (reading seen old new) text × IsTableOf arcs (Some text) (table found))
       → IfOk r (λ found. (text : Option (List ℕ)) × IsTextIfThere seen device after text × IsTableOf arcs text (table found))
   table_there device after old new arcs (Ok found) was is read =
       (Some read.0, subst (λ o. IsTextIfThere seen o after (Some read.0)) (sym was) (subst (λ o. IsTextIfThere seen (Some old) o (Some read.0)) (sym is) read.1), read.2)
@@ -34,3 +34,14 @@ module _ {R : Type 0} (seen : R → Seen) where
   few_there None None (Some text) is = absurd is
   few_there None (Some new) (Some text) is = absurd is
   few_there (Some old) None (Some text) is = absurd is
+
+  -- The device bore it.
+  pub borne_there : (old new : Option R) (text : Option (List ℕ)) → IsTextIfThere seen old new text → IsBorneIfThere seen old new
+  borne_there None None None is = tt
+  borne_there (Some old) (Some new) (Some text) is = is.borne
+  borne_there None None (Some text) is = absurd is
+  borne_there None (Some new) None is = absurd is
+  borne_there None (Some new) (Some text) is = absurd is
+  borne_there (Some old) None None is = absurd is
+  borne_there (Some old) None (Some text) is = absurd is
+  borne_there (Some old) (Some new) None is = absurd is

@@ -1,10 +1,10 @@
 //! All files of a run, or of pairs.
 ghost use Rattle.std.specs.Prelude.{◌≡◌, ℕ, List, IfOk, IfErr, OnOk};
 ghost use Rattle.ea_text.specs.Device.{BearsOn};
-ghost use Rattle.ea_input.specs.Formats.{source_format, pair_format, table_format};
+ghost use Rattle.ea_input.specs.Formats.{source_format, pair_format};
 ghost use Rattle.ea_input.specs.Sources.{DenotesSources};
 ghost use Rattle.ea_input.specs.Pairs.{DenotesPairs};
-ghost use Rattle.ea_files.specs.Files.{bytes_there, IsBorneIfThere, IsFaultIfThere, IsFirstFault, reading};
+ghost use Rattle.ea_files.specs.Files.{bytes_there, IsBorneIfThere, IsFirstFault, reading, tables};
 ghost use Rattle.ea_files.specs.Given.{AreGiven, Given, IsRoadOf};
 
 use crate::fault::{FileFault, FileWord};
@@ -37,14 +37,15 @@ pub fn read_run<G: ByteIn, S: ByteIn, T: ByteIn>(
     ss: &mut S,
     tp: &mut Option<T>,
 ) -> Result<RunFiles, FileFault>
-    ensures given { IfOk result (λ files. (given : Given) × AreGiven DenotesSources (G.seen gr.old).bytes (S.seen ss.old).bytes (bytes_there T.seen tp.old) given files.sources.items × IsRoadOf given files.road) }
+    ensures given { IfOk result (λ files. (given : Given)
+        × AreGiven DenotesSources (G.seen gr.old).bytes (S.seen ss.old).bytes (bytes_there T.seen tp.old)
+        given files.sources.items
+        × IsRoadOf given files.road) }
     ensures gr_borne { OnOk result (BearsOn (G.seen gr.old) (G.seen gr.new)) }
     ensures ss_borne { OnOk result (BearsOn (S.seen ss.old) (S.seen ss.new)) }
     ensures tp_borne { OnOk result (IsBorneIfThere T.seen tp.old tp.new) }
     ensures fault { IfErr result (IsFirstFault FileWord.Ss source_format DenotesSources
-        (reading G.seen gr.old gr.new)
-        (reading S.seen ss.old ss.new)
-        (λ arcs. IsFaultIfThere T.seen FileWord.Tp (table_format arcs) tp.old tp.new)) }
+        (reading G.seen gr.old gr.new) (reading S.seen ss.old ss.new) (tables T.seen tp.old tp.new)) }
 {
     let graph = read_graph(alloc, gr)?;
     let sources = read_sources(alloc, ss, graph.nodes)?;
@@ -59,14 +60,15 @@ pub fn read_trips<G: ByteIn, P: ByteIn, T: ByteIn>(
     p2p: &mut P,
     tp: &mut Option<T>,
 ) -> Result<PairFiles, FileFault>
-    ensures given { IfOk result (λ files. (given : Given) × AreGiven DenotesPairs (G.seen gr.old).bytes (P.seen p2p.old).bytes (bytes_there T.seen tp.old) given files.pairs.items × IsRoadOf given files.road) }
+    ensures given { IfOk result (λ files. (given : Given)
+        × AreGiven DenotesPairs (G.seen gr.old).bytes (P.seen p2p.old).bytes (bytes_there T.seen tp.old)
+        given files.pairs.items
+        × IsRoadOf given files.road) }
     ensures gr_borne { OnOk result (BearsOn (G.seen gr.old) (G.seen gr.new)) }
     ensures p2p_borne { OnOk result (BearsOn (P.seen p2p.old) (P.seen p2p.new)) }
     ensures tp_borne { OnOk result (IsBorneIfThere T.seen tp.old tp.new) }
     ensures fault { IfErr result (IsFirstFault FileWord.P2p pair_format DenotesPairs
-        (reading G.seen gr.old gr.new)
-        (reading P.seen p2p.old p2p.new)
-        (λ arcs. IsFaultIfThere T.seen FileWord.Tp (table_format arcs) tp.old tp.new)) }
+        (reading G.seen gr.old gr.new) (reading P.seen p2p.old p2p.new) (tables T.seen tp.old tp.new)) }
 {
     let graph = read_graph(alloc, gr)?;
     let pairs = read_pairs(alloc, p2p, graph.nodes)?;

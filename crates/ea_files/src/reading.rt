@@ -1,5 +1,5 @@
 //! Files, read and understood.
-ghost use Rattle.std.specs.Prelude.{◌≡◌, ℕ, List, IfOk, IfErr, OnOk};
+ghost use Rattle.std.specs.Prelude.{◌≡◌, ℕ, List, Option, Some, IfOk, IfErr, OnOk};
 ghost use Rattle.std.specs.Io.KnownBytes.{IsAtEnd};
 ghost use Rattle.ea_text.specs.Text.{field_lines};
 ghost use Rattle.ea_input.specs.Formats.{graph_format, source_format, pair_format, table_format};
@@ -8,7 +8,7 @@ ghost use Rattle.ea_input.specs.Sources.{DenotesSources};
 ghost use Rattle.ea_input.specs.Pairs.{DenotesPairs};
 ghost use Rattle.ea_input.specs.Views.{graph};
 ghost use Rattle.ea_input.specs.TableViews.{table};
-ghost use Rattle.ea_files.specs.Files.{IsFaultIn, IsFaultIfThere, IsTextIfThere, IsTextOf, IsUnreadBy, reading};
+ghost use Rattle.ea_files.specs.Files.{IsFaultAs, IsFaultIfThere, IsFaultIn, IsFileText, IsReadFaultAs, IsTextIfThere, IsUnreadBy, reading};
 ghost use Rattle.ea_files.specs.Given.{IsTableOf};
 
 use crate::fault::{FileFault, FileWord};
@@ -21,20 +21,29 @@ use std::alloc::Global;
 
 /// All bytes of a file.
 fn text_of<R: ByteIn>(alloc: Global, file: FileWord, reader: &mut R) -> Result<Vec<u8>, FileFault>
-    ensures text { IfOk result (λ bytes. IsTextOf (reading R.seen reader.old reader.new) bytes.items) }
+    ensures text { IfOk result (λ bytes. IsFileText (reading R.seen reader.old reader.new) bytes.items) }
     ensures end { OnOk result (IsAtEnd (R.seen reader.new).bytes) }
     ensures fault { IfErr result (IsUnreadBy file (reading R.seen reader.old reader.new)) }
 {
     match read_all(alloc, reader, MOST_BYTES) {
         Ok(bytes) => Ok(bytes),
-        Err(ReadFault::OutOfMemory) => Err(FileFault::OutOfMemory),
-        Err(fault) => Err(FileFault::Read { file, fault }),
+        Err(fault) => Err(read_fault_of(file, fault)),
+    }
+}
+
+/// A fault of reading as one of its file.
+fn read_fault_of(file: FileWord, fault: ReadFault) -> FileFault
+    ensures { IsReadFaultAs file fault result }
+{
+    match fault {
+        ReadFault::OutOfMemory => FileFault::OutOfMemory,
+        _ => FileFault::Read { file, fault },
     }
 }
 
 /// A text's fault as one of its file.
 fn fault_of(file: FileWord, fault: InputFault) -> FileFault
-    ensures { Rattle.ea_files.specs.Files.IsFaultAs file fault result }
+    ensures { IsFaultAs file fault result }
 {
     if fault.kind == FaultKind::OutOfMemory {
         FileFault::OutOfMemory
@@ -45,7 +54,8 @@ fn fault_of(file: FileWord, fault: InputFault) -> FileFault
 
 /// The graph of a file.
 pub(crate) fn read_graph<R: ByteIn>(alloc: Global, gr: &mut R) -> Result<RawGraph, FileFault>
-    ensures denoted { IfOk result (λ found. (text : List ℕ) × IsTextOf (reading R.seen gr.old gr.new) text × DenotesGraph (field_lines text) (graph found)) }
+    ensures denoted { IfOk result (λ found. (text : List ℕ) × IsFileText (reading R.seen gr.old gr.new) text
+        × DenotesGraph (field_lines text) (graph found)) }
     ensures fault { IfErr result (IsFaultIn FileWord.Gr graph_format (reading R.seen gr.old gr.new)) }
 {
     let text = text_of(alloc, FileWord::Gr, gr)?;
@@ -61,7 +71,8 @@ pub(crate) fn read_sources<R: ByteIn>(
     ss: &mut R,
     nodes: u32,
 ) -> Result<Vec<u32>, FileFault>
-    ensures denoted { IfOk result (λ found. (text : List ℕ) × IsTextOf (reading R.seen ss.old ss.new) text × DenotesSources nodes (field_lines text) found.items) }
+    ensures denoted { IfOk result (λ found. (text : List ℕ) × IsFileText (reading R.seen ss.old ss.new) text
+        × DenotesSources nodes (field_lines text) found.items) }
     ensures fault { IfErr result (IsFaultIn FileWord.Ss (source_format nodes) (reading R.seen ss.old ss.new)) }
 {
     let text = text_of(alloc, FileWord::Ss, ss)?;
@@ -77,7 +88,8 @@ pub(crate) fn read_pairs<R: ByteIn>(
     p2p: &mut R,
     nodes: u32,
 ) -> Result<Vec<(u32, u32)>, FileFault>
-    ensures denoted { IfOk result (λ found. (text : List ℕ) × IsTextOf (reading R.seen p2p.old p2p.new) text × DenotesPairs nodes (field_lines text) found.items) }
+    ensures denoted { IfOk result (λ found. (text : List ℕ) × IsFileText (reading R.seen p2p.old p2p.new) text
+        × DenotesPairs nodes (field_lines text) found.items) }
     ensures fault { IfErr result (IsFaultIn FileWord.P2p (pair_format nodes) (reading R.seen p2p.old p2p.new)) }
 {
     let text = text_of(alloc, FileWord::P2p, p2p)?;
@@ -89,7 +101,8 @@ pub(crate) fn read_pairs<R: ByteIn>(
 
 /// The timetables of a file.
 fn read_timetables<R: ByteIn>(alloc: Global, tp: &mut R, arcs: u32) -> Result<RawTable, FileFault>
-    ensures denoted { IfOk result (λ found. (text : List ℕ) × IsTextOf (reading R.seen tp.old tp.new) text × IsTableOf arcs (Rattle.std.specs.Prelude.Some text) (table found)) }
+    ensures denoted { IfOk result (λ found. (text : List ℕ) × IsFileText (reading R.seen tp.old tp.new) text
+        × IsTableOf arcs (Some text) (table found)) }
     ensures fault { IfErr result (IsFaultIn FileWord.Tp (table_format arcs) (reading R.seen tp.old tp.new)) }
 {
     let text = text_of(alloc, FileWord::Tp, tp)?;
@@ -105,7 +118,8 @@ pub(crate) fn read_table<R: ByteIn>(
     tp: &mut Option<R>,
     arcs: u32,
 ) -> Result<RawTable, FileFault>
-    ensures denoted { IfOk result (λ found. (text : Rattle.std.specs.Prelude.Option (List ℕ)) × IsTextIfThere R.seen tp.old tp.new text × IsTableOf arcs text (table found)) }
+    ensures denoted { IfOk result (λ found. (text : Option (List ℕ)) × IsTextIfThere R.seen tp.old tp.new text
+        × IsTableOf arcs text (table found)) }
     ensures fault { IfErr result (IsFaultIfThere R.seen FileWord.Tp (table_format arcs) tp.old tp.new) }
 {
     match tp {
@@ -119,7 +133,7 @@ pub(crate) fn read_table<R: ByteIn>(
 
 /// All bytes of a report, at most 2^33. What they say is not looked at.
 pub fn read_report<R: ByteIn>(alloc: Global, report: &mut R) -> Result<Vec<u8>, FileFault>
-    ensures text { IfOk result (λ bytes. IsTextOf (reading R.seen report.old report.new) bytes.items) }
+    ensures text { IfOk result (λ bytes. IsFileText (reading R.seen report.old report.new) bytes.items) }
     ensures end { OnOk result (IsAtEnd (R.seen report.new).bytes) }
     ensures fault { IfErr result (IsUnreadBy FileWord.Report (reading R.seen report.old report.new)) }
 {

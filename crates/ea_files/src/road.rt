@@ -1,14 +1,13 @@
 //! A network and its timetables, of what files denote.
 ghost use Rattle.std.specs.Prelude.{◌≡◌, ℕ, List, Option, IfOk, IfErr, length};
-ghost use Rattle.ea_input.specs.Formats.{table_format};
 ghost use Rattle.ea_input.specs.Graph.{DenotesGraph};
 ghost use Rattle.ea_input.specs.Table.{Table};
 ghost use Rattle.ea_input.specs.Views.{graph as graph_of};
-ghost use Rattle.ea_files.specs.Files.{IsFaultIfThere, IsTextIfThere};
+ghost use Rattle.ea_files.specs.Files.{IsTextIfThere, tables};
 ghost use Rattle.ea_files.specs.Given.{IsRoadOf, IsTableOf, given_by, roads_of};
 ghost use Rattle.ea_files.specs.Sound.{IsSound};
 
-use crate::fault::{FileFault, FileWord};
+use crate::fault::FileFault;
 use crate::reading::read_table;
 use ea_input::{ByteIn, RawGraph, RawTable};
 use ea_road::{Arc, Network, Timetables, arcs_of};
@@ -48,9 +47,10 @@ pub(crate) fn read_road<T: ByteIn>(
     tp: &mut Option<T>,
 ) -> Result<Road, FileFault>
     requires { (lines : List (List (List ℕ))) × DenotesGraph lines (graph_of graph) }
-    ensures road { IfOk result (λ road. (text : Option (List ℕ)) × (table : Table) × IsTextIfThere T.seen tp.old tp.new text
-        × IsTableOf (length graph.arcs.items) text table × IsRoadOf (record { graph = graph_of graph; table = table }) road) }
-    ensures fault { IfErr result (IsFaultIfThere T.seen FileWord.Tp (table_format (length graph.arcs.items)) tp.old tp.new) }
+    ensures road { IfOk result (λ road. (text : Option (List ℕ)) × (table : Table)
+        × IsTextIfThere T.seen tp.old tp.new text × IsTableOf (length graph.arcs.items) text table
+        × IsRoadOf (record { graph = graph_of graph; table = table }) road) }
+    ensures fault { IfErr result ((tables T.seen tp.old tp.new).IsFault (length graph.arcs.items)) }
 {
     let table = read_table(alloc, tp, graph.arcs.len() as u32)?;
     let road = road_of(alloc, graph, table)?;

@@ -1,5 +1,5 @@
 -- What a command comes to.
-use Rattle.std.proofs.Common.{◌≡◌, ℕ, List, refl, sym, subst, inl, inr}
+use Rattle.std.proofs.Common.{◌≡◌, ℕ, List, refl, sym, ap, subst, inl, inr}
 use Rattle.std.specs.Prelude.{Option, Some, None, Result, Ok, Err, IfOk, IfErr, option_map}
 use Rattle.ea_input.specs.Checks.{Format}
 use Rattle.ea_input.specs.Formats.{table_format}
@@ -13,11 +13,11 @@ use Rattle.ea_files.specs.declared.fault.FileFault.{FileFault}
 use Rattle.ea_files.specs.declared.fault.FileFault.TheVariants as file
 use Rattle.ea_files.specs.declared.fault.FileWord.{FileWord}
 use Rattle.ea_files.specs.declared.fault.FileWord.TheVariants.{Tp}
-use Rattle.ea_files.specs.Files.{bytes_there, in_network, in_starts, in_table, IsBorne, IsBorneIfThere, IsFaultIfThere, IsFirstFault, Reading}
+use Rattle.ea_files.specs.Files.{bytes_there, in_network, in_starts, in_table, IsBorne, IsBorneIfThere, IsFaultIfThere, IsFirstFault, Reading, tables}
 use Rattle.ea_files.specs.Given.{Given, AreGiven, IsRoadOf, roads_of, times_of}
 use Rattle.ea_files.specs.Sound.{IsSound}
 use Rattle.ea_files.proofs.Denoting.{denoting_is_sound}
-use Rattle.ea_outcomes.specs.Asked.{AreAsked, AreRead, AreSound, Asks, Files, files_of, IsAnswered, IsFailed, IsFault, IsTableFault, tp_had}
+use Rattle.ea_outcomes.specs.Asked.{AreAsked, AreRead, AreSound, Asks, Files, files_of, IsAnswered, IsFailed, IsFault, tables_of, tp_had}
 use Rattle.ea_outcomes.specs.Faults.{answer_fault}
 use Rattle.ea_outcomes.specs.Posed.{times_on}
 use Rattle.ea_outcomes.specs.declared.fault.AnswerFault.{AnswerFault}
@@ -43,17 +43,17 @@ module _ {R : Type 0} (seen : R → Seen) where
 
   -- Its fault.
   fault_there : (word : FileWord) (format : Format) (old new : Option R) (fault : FileFault) → IsFaultIfThere seen word format old new fault → IsFaultIfThere (λ (s : Seen). s) word format (option_map seen old) (option_map seen new) fault
-  fault_there word format old new fault (inl memory) = inl memory
+  fault_there word format old new fault (inl memory) = inl (memory.0, borne_there old new memory.1)
   fault_there word format None new fault (inr there) = absurd there
   fault_there word format (Some old) None fault (inr there) = absurd there
   fault_there word format (Some old) (Some new) fault (inr there) = inr there
 
   -- The first fault of all files.
   pub first_there : {X : Type 0} (word : FileWord) (format : ℕ → Format) (DenotesStarts : ℕ → List (List (List ℕ)) → X → Type 0) (gr starts : Reading) (old new : Option R) (fault : FileFault)
-      → IsFirstFault word format DenotesStarts gr starts (λ arcs. IsFaultIfThere seen Tp (table_format arcs) old new) fault
-      → IsFirstFault word format DenotesStarts gr starts (IsTableFault (files_of gr starts seen old new)) fault
-  first_there word format DenotesStarts gr starts old new fault (in_network is) = in_network is
-  first_there word format DenotesStarts gr starts old new fault (in_starts graph given is) = in_starts graph given is
+      → IsFirstFault word format DenotesStarts gr starts (tables seen old new) fault
+      → IsFirstFault word format DenotesStarts gr starts (tables_of (files_of gr starts seen old new)) fault
+  first_there word format DenotesStarts gr starts old new fault (in_network is kept untouched) = in_network is kept (ap (option_map (λ (s : Seen). s)) untouched)
+  first_there word format DenotesStarts gr starts old new fault (in_starts graph given is untouched) = in_starts graph given is (ap (option_map (λ (s : Seen). s)) untouched)
   first_there word format DenotesStarts gr starts old new fault (in_table graph given has is) = in_table graph given has (fault_there Tp (table_format _) old new fault is)
 
 -- The files are sound.

@@ -3,14 +3,12 @@
 use Rattle.std.specs.Prelude.{◌≡◌, ◌⊎◌, ℕ, List, Option, option_map}
 use Rattle.ea_text.specs.Device.{Seen}
 use Rattle.ea_input.specs.Checks.{Format}
-use Rattle.ea_input.specs.Formats.{table_format}
 use Rattle.ea_road.specs.Roads.{Roads}
 use Rattle.ea_road.specs.Queries.{Asking}
 use Rattle.ea_files.specs.declared.fault.FileWord.{FileWord}
-use Rattle.ea_files.specs.declared.fault.FileWord.TheVariants.{Tp}
 use Rattle.ea_files.specs.declared.fault.FileFault.{FileFault}
 use Rattle.ea_files.specs.declared.fault.FileFault.TheVariants as file
-use Rattle.ea_files.specs.Files.{IsBorne, IsBorneIfThere, IsFaultIfThere, IsFirstFault, Reading}
+use Rattle.ea_files.specs.Files.{IsBorne, IsBorneIfThere, IsFirstFault, Reading, Tables, tables}
 use Rattle.ea_files.specs.Given.{Given, AreGiven, roads_of, times_of}
 use Rattle.ea_outcomes.specs.declared.fault.AnswerFault.{AnswerFault}
 use Rattle.ea_outcomes.specs.declared.fault.AnswerFault.TheVariants.{Read, Input, BadOption, Write, OutOfMemory}
@@ -30,9 +28,9 @@ files_of gr starts seen old new = record { gr = gr; starts = starts; tp_old = op
 abbrev pub tp_had : Files → Option (Option (List ℕ))
 tp_had files = option_map (λ (seen : Seen). seen.bytes) files.tp_old
 
--- The fault of the timetables of so many arcs.
-abbrev pub IsTableFault : Files → ℕ → FileFault → Type 0
-IsTableFault files arcs fault = IsFaultIfThere (λ seen. seen) Tp (table_format arcs) files.tp_old files.tp_new fault
+-- What becomes of the file of timetables.
+abbrev pub tables_of : Files → Tables
+tables_of files = tables (λ seen. seen) files.tp_old files.tp_new
 
 -- All files were read: no read failed, and the interruptions of each were borne.
 pub record AreRead (files : Files) : Type 0 where
@@ -56,7 +54,7 @@ module _ {X Y : Type 0} (asks : Asks X Y) (files : Files) where
   -- The first fault of the files in their order.
   abbrev pub IsFault : FileFault → Type 0
   IsFault fault =
-      IsFirstFault asks.word asks.format asks.DenotesStarts files.gr files.starts (IsTableFault files) fault
+      IsFirstFault asks.word asks.format asks.DenotesStarts files.gr files.starts (tables_of files) fault
 
   -- All files were read, and denote a network with timetables, and starts.
   pub record AreSound (given : Given) (found : X) : Type 0 where

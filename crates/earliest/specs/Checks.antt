@@ -6,7 +6,7 @@ use Rattle.ea_road.specs.Queries.{Asking}
 use Rattle.ea_files.specs.declared.fault.FileWord.TheVariants.{Report}
 use Rattle.ea_files.specs.declared.fault.FileFault.{FileFault}
 use Rattle.ea_files.specs.declared.fault.FileFault.TheVariants as file
-use Rattle.ea_files.specs.Files.{IsBorne, IsTextOf, IsUnreadBy, Reading}
+use Rattle.ea_files.specs.Files.{IsBorne, IsFileText, IsUnreadBy, Reading}
 use Rattle.ea_files.specs.Given.{Given}
 use Rattle.ea_check.specs.Checked.{IsChecked, sources_of}
 use Rattle.ea_check.specs.Form.{lines_of_report}
@@ -19,7 +19,7 @@ use Rattle.earliest.specs.Runs.{run_asks}
 
 -- A report was read as a file is, and no byte of it is left.
 pub record IsReadWhole (report : Reading) (text : List ℕ) : Type 0 where
-  pub is_text : IsTextOf report text
+  pub is_text : IsFileText report text
   pub end : IsAtEnd report.new.bytes
 
 -- The files of a run denote something.

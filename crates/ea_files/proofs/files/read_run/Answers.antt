@@ -1,3 +1,4 @@
+use Rattle.std.proofs.Common.{refl}
 use Rattle.std.proofs.lemmas.Result.{err_from_is_err_and}
 use Rattle.ea_input.specs.Views.{graph as graph_of}
 use Rattle.ea_files.specs.Files.{in_starts, in_table}
@@ -7,7 +8,7 @@ use Rattle.ea_files.proofs.files.read_run.Goals as goal
 pub returns-in_err-sources-clause-fault : goal.returns-in_err-sources-clause-fault
 returns-in_err-sources-clause-fault g c =
     let p = err_from_is_err_and c.from_residual-in_err-sources.result c.from_residual-in_err-sources.ensures.1 in
-    rw (p.1, p.2) (in_starts (graph_of c.in_ok-graph.graph) c.in_ok-graph.ensures.denoted c.in_err-sources.ensures.fault)
+    rw (p.1, p.2) (in_starts (graph_of c.in_ok-graph.graph) c.in_ok-graph.ensures.denoted c.in_err-sources.ensures.fault refl)
 
 pub returns-in_err-road-clause-fault : goal.returns-in_err-road-clause-fault
 returns-in_err-road-clause-fault g c =

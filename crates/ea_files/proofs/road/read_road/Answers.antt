@@ -3,6 +3,7 @@ use Rattle.std.proofs.lemmas.Result.{err_from_is_err_and}
 use Rattle.ea_input.specs.TableViews.{table}
 use Rattle.ea_files.specs.Given.{given_by, IsTableOf}
 use Rattle.ea_files.proofs.Denoting.{denoting_is_sound}
+use Rattle.ea_files.proofs.There.{borne_there}
 use Rattle.ea_files.proofs.road.read_road.Goals as goal
 
 pub road_of-requires : goal.road_of-requires
@@ -14,4 +15,5 @@ road_of-requires g c =
 pub returns-in_err-road-clause-fault : goal.returns-in_err-road-clause-fault
 returns-in_err-road-clause-fault g c =
     let p = err_from_is_err_and c.from_residual-in_err-road.result c.from_residual-in_err-road.ensures.1 in
-    rw (p.1, p.2) (inl refl)
+    let denoted = c.in_ok-table.ensures.denoted in
+    rw (p.1, p.2) (inl (refl, borne_there g.T.Device.seen c.args.tp.now c.read_table.new.tp denoted.0 denoted.1))
