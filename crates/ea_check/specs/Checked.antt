@@ -1,12 +1,18 @@
 -- What the checker says of a report.
-use Rattle.std.specs.Prelude.{ℕ, List, [], ◌∷◌, map, Result, Ok, Err}
-use Rattle.ea_road.specs.Queries.{Asking}
+use Rattle.std.specs.Prelude.{◌≡◌, ℕ, None, List, [], ◌∷◌, map, Result, Ok, Err}
+use Rattle.std.specs.List.{IsAmong}
+use Rattle.ea_road.specs.Queries.{Asking, IsProblem}
 use Rattle.ea_road.specs.declared.source.Source.{Source}
 use Rattle.ea_road.specs.Roads.{Roads}
 use Rattle.ea_check.specs.declared.fault.CheckFault.{CheckFault}
 use Rattle.ea_check.specs.declared.fault.CheckFault.TheVariants.{BadLine, NotAttained, NotLeast, OutOfMemory, NotCanonical}
 use Rattle.ea_check.specs.Form.{Line, SaysProblems, IsBadLine}
 use Rattle.ea_check.specs.Verdicts.{Said, IsFaultless, IsRight, IsVerdict}
+
+-- Each query is a problem, and asks all nodes.
+abbrev pub AreCheckable : Roads → ℕ → List Asking → Type 0
+AreCheckable roads classes queries =
+    (query : Asking) → IsAmong queries query → IsProblem roads classes query × (query.target ≡ None)
 
 -- The sources of each query.
 abbrev pub sources_of : List Asking → List (List Source)

@@ -8,3 +8,4 @@ pub mod Checked
 pub mod Places
 pub mod Reads
 pub mod FaultNames
+pub mod Aheads

@@ -40,7 +40,8 @@ fn leading_arc(text: &[u8]) -> Option<(u32, &[u8])>
 
 /// The first field of a line as an arc number, and the bytes after it.
 fn first_arc(text: &[u8]) -> Option<(u32, &[u8])>
-    ensures first { MatchOption result (fields_of text.entry.now ≡ []) (λ x. BeginsWithArc text.entry.now x.0 x.1.now) }
+    ensures first { MatchOption result (fields_of text.entry.now ≡ [])
+        (λ x. BeginsWithArc text.entry.now x.0 x.1.now) }
     ensures shorter { IfSome result (λ x. length x.1.now < length text.entry.now) }
 {
     if let Some(found) = leading_arc(text) {

@@ -81,8 +81,10 @@ impl<'a> Comparing<'a> {
         requires followable { AreFollowable links.now }
         requires level { (link links.now node).level < NO_LEVEL }
         ensures links { self.new.texts.links ≡ links.now }
-        ensures same { IfOk result (λ same. IsTrue same ↔ (arcs_of (fields_of text.now) ≡ linked_walk links.now node)) }
-        ensures arcs { IfOk result (λ same. same ≡ false → self.new.arcs.items ≡ arcs_of (fields_of text.now)) }
+        ensures same { IfOk result
+            (λ same. IsTrue same ↔ (arcs_of (fields_of text.now) ≡ linked_walk links.now node)) }
+        ensures arcs { IfOk result
+            (λ same. same ≡ false → self.new.arcs.items ≡ arcs_of (fields_of text.now)) }
     {
         // A walk's text is no shorter than the walk, so a text that is shorter is not worth going along the links.
         if links[node as usize - 1].level as usize <= text.len() {

@@ -2,7 +2,7 @@
 ghost use Rattle.std.specs.Prelude.{◌≡◌, ◌↔◌, Err, IsTrue, None, MatchResult};
 ghost use Rattle.std.specs.List.{IsAmong};
 ghost use Rattle.ea_road.specs.Queries.{Asking, IsProblem};
-ghost use Rattle.ea_check.specs.Checked.{IsChecked, sources_of};
+ghost use Rattle.ea_check.specs.Checked.{IsChecked, sources_of, AreCheckable};
 ghost use Rattle.ea_check.specs.Form.{lines_of_report};
 ghost use Rattle.ea_check.specs.Verdicts.{IsTask, IsVerdict, IsWellFormed};
 
@@ -56,7 +56,7 @@ fn check_next<T: TravelTimes>(
 /// Whether queries can be checked over a network and travel times with classes up to the greatest: each makes a problem
 /// with them, and asks all nodes.
 pub fn is_checkable(network: &Network, classes: usize, queries: &[Query]) -> bool
-    ensures { IsTrue result ↔ ((query : Asking) → IsAmong queries.now query → IsProblem network.now classes query × (query.target ≡ None)) }
+    ensures { IsTrue result ↔ AreCheckable network.now classes queries.now }
 {
     for query in queries {
         if query.target().is_some() || !is_problem(network, classes, query) {
@@ -80,8 +80,9 @@ pub fn check<T: TravelTimes>(
     queries: &[Query],
     report: &[u8],
 ) -> Result<(), CheckFault>
-    requires { (query : Asking) → IsAmong queries.now query → IsProblem network.now (T.classes times.now) query × (query.target ≡ None) }
-    ensures { IsChecked network.now (T.answers times.now) (sources_of queries.now) (lines_of_report report.now) result }
+    requires { AreCheckable network.now (T.classes times.now) queries.now }
+    ensures { IsChecked network.now (T.answers times.now) (sources_of queries.now)
+        (lines_of_report report.now) result }
 {
     let nodes = network.nodes();
     let mut next = look_ahead(report, 0);

@@ -4,7 +4,7 @@ ghost use Rattle.ea_finish.specs.Answers.{Answered, HasArrivals, IsAnswer, walk_
 ghost use Rattle.ea_report.specs.Report.{problem_text};
 ghost use Rattle.std.specs.List.{IsAmong};
 ghost use Rattle.ea_road.specs.Queries.{Asking, IsProblem};
-ghost use Rattle.ea_check.specs.Checked.{IsChecked, sources_of};
+ghost use Rattle.ea_check.specs.Checked.{IsChecked, sources_of, AreCheckable};
 ghost use Rattle.ea_road.specs.declared.source.Source.{Source};
 ghost use Rattle.ea_check.specs.declared.fault.CheckFault.{CheckFault};
 ghost use Rattle.ea_check.specs.declared.fault.CheckFault.TheVariants.{OutOfMemory};
@@ -30,14 +30,16 @@ pub fn faultless_reports_are_right<T: TravelTimes>(network: &Network, times: &T,
 /// What the lines of a report say of a problem is well formed, where they are in the order of their numbers.
 pub fn forms_are_well_formed()
     ensures { (nodes : ℕ) (sources : List Source) (reported : List Said) (lines : List Line)
-        → AreInOrder lines → SaysProblem nodes sources reported lines → IsWellFormed nodes reported }
+        → AreInOrder lines → SaysProblem nodes sources reported lines
+        → IsWellFormed nodes reported }
 {}
 
 /// What a report says of a problem has one verdict, want of memory aside.
 pub fn problems_have_one_verdict<T: TravelTimes>(network: &Network, times: &T, query: &Query)
     requires problem { IsProblem network.now (T.classes times.now) query.now }
     requires all { query.now.target ≡ None }
-    ensures { (reported : List Said) (this that : Result (Unit {0}) CheckFault) → IsWellFormed network.now.nodes reported
+    ensures { (reported : List Said) (this that : Result (Unit {0}) CheckFault)
+        → IsWellFormed network.now.nodes reported
         → IsVerdict network.now (T.answers times.now) query.now.sources reported this
         → IsVerdict network.now (T.answers times.now) query.now.sources reported that
         → this ≢ Err OutOfMemory → that ≢ Err OutOfMemory → this ≡ that }
@@ -47,10 +49,12 @@ pub fn problems_have_one_verdict<T: TravelTimes>(network: &Network, times: &T, q
 
 /// A report has one verdict, want of memory aside: whatever is checked of its lines, it is the same.
 pub fn reports_have_one_verdict<T: TravelTimes>(network: &Network, times: &T, queries: &[Query])
-    requires { (query : Asking) → IsAmong queries.now query → IsProblem network.now (T.classes times.now) query × (query.target ≡ None) }
+    requires { AreCheckable network.now (T.classes times.now) queries.now }
     ensures { (report : List ℕ) (this that : Result (Unit {0}) CheckFault)
-        → IsChecked network.now (T.answers times.now) (sources_of queries.now) (lines_of_report report) this
-        → IsChecked network.now (T.answers times.now) (sources_of queries.now) (lines_of_report report) that
+        → IsChecked network.now (T.answers times.now) (sources_of queries.now)
+        (lines_of_report report) this
+        → IsChecked network.now (T.answers times.now) (sources_of queries.now)
+        (lines_of_report report) that
         → this ≢ Err OutOfMemory → that ≢ Err OutOfMemory → this ≡ that }
 {
     let _ = network.nodes();
@@ -60,12 +64,16 @@ pub fn reports_have_one_verdict<T: TravelTimes>(network: &Network, times: &T, qu
 pub fn written_reports_are_right<T: TravelTimes>(network: &Network, times: &T, query: &Query)
     requires problem { IsProblem network.now (T.classes times.now) query.now }
     requires all { query.now.target ≡ None }
-    ensures arrivals { (answer : Answered) → HasArrivals network.now (T.answers times.now) query.now answer
-        → IsChecked network.now (T.answers times.now) (query.now.sources ∷ []) (lines_of_report (problem_text false network.now.nodes query.now answer)) (Ok tt) }
+    ensures arrivals { (answer : Answered)
+        → HasArrivals network.now (T.answers times.now) query.now answer
+        → IsChecked network.now (T.answers times.now) (query.now.sources ∷ [])
+        (lines_of_report (problem_text false network.now.nodes query.now answer)) (Ok tt) }
     // A walk's length is that of a list in memory.
-    ensures walks { (answer : Answered) → IsAnswer network.now (T.answers times.now) query.now answer
+    ensures walks { (answer : Answered)
+        → IsAnswer network.now (T.answers times.now) query.now answer
         → ((node : ℕ) (walk : List ℕ) → walk_of answer node ≡ Some walk → length walk < 2 ^ 64)
-        → IsChecked network.now (T.answers times.now) (query.now.sources ∷ []) (lines_of_report (problem_text true network.now.nodes query.now answer)) (Ok tt) }
+        → IsChecked network.now (T.answers times.now) (query.now.sources ∷ [])
+        (lines_of_report (problem_text true network.now.nodes query.now answer)) (Ok tt) }
 {
     let _ = network.nodes();
 }

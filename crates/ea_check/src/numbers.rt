@@ -50,7 +50,8 @@ fn found_in(piece: &[u8], before: bool) -> Found
 pub(crate) fn count_numbers(text: &[u8]) -> Option<usize>
     ensures { MatchOption result
         ((arcs : List ℕ) → AreArcNumbers (fields_of text.now) arcs → ⊥)
-        (λ count. AreArcNumbers (fields_of text.now) (arcs_of (fields_of text.now)) × (count ≡ length (fields_of text.now))) }
+        (λ count. AreArcNumbers (fields_of text.now) (arcs_of (fields_of text.now))
+        × (count ≡ length (fields_of text.now))) }
 {
     let mut count = 0;
     let mut other = false;

@@ -3,6 +3,7 @@ ghost use Rattle.std.specs.Prelude.{◌≡◌, ◌+◌, ◌≤◌, ◌<◌, ◌^
 ghost use Rattle.ea_check.specs.declared.fault.CheckFault.TheVariants.{OutOfMemory};
 ghost use Rattle.ea_check.specs.Reads.{IsWrong, NodeWrong, NodesWrong, ProblemWrong, ReadsNode, ReadsNodes, ReadsProblem, ReadsSources, ReadsWalk, SourcesWrong, WalkWrong, ahead};
 ghost use Rattle.ea_check.specs.Views.{said_of, walk_of};
+ghost use Rattle.ea_check.specs.Aheads.{most_lines};
 
 use crate::fault::CheckFault;
 use crate::line::{Ahead, look_ahead};
@@ -17,7 +18,7 @@ fn read_sources<'a>(lines: Ahead<'a>, sources: &[Source]) -> Result<Ahead<'a>, C
     ensures read { MatchResult result
         (λ after. ReadsSources sources.now (ahead lines.entry) (ahead after))
         (IsWrong (SourcesWrong sources.now (ahead lines.entry))) }
-    ensures few { IfOk result (λ after. after.lines + length after.rest.now ≤ lines.entry.lines + length lines.entry.rest.now) }
+    ensures few { IfOk result (λ after. most_lines after ≤ most_lines lines.entry) }
 {
     let mut next = lines;
     for source in sources {
@@ -41,7 +42,7 @@ fn read_walk<'a>(
     ensures read { MatchResult result
         (λ read. ReadsWalk node (walk_of read.0) (ahead lines.entry) (ahead read.1))
         (IsWrong (WalkWrong node (ahead lines.entry))) }
-    ensures few { IfOk result (λ read. read.1.lines + length read.1.rest.now ≤ lines.entry.lines + length lines.entry.rest.now) }
+    ensures few { IfOk result (λ read. most_lines read.1 ≤ most_lines lines.entry) }
 {
     let Some(line) = lines.line else {
         return Ok((None, lines));
@@ -65,7 +66,7 @@ fn read_node<'a>(lines: Ahead<'a>, node: u32) -> Result<(SaidLine<'a>, Ahead<'a>
     ensures read { MatchResult result
         (λ read. ReadsNode node (said_of read.0) (ahead lines.entry) (ahead read.1))
         (IsWrong (NodeWrong node (ahead lines.entry))) }
-    ensures few { IfOk result (λ read. read.1.lines + length read.1.rest.now ≤ lines.entry.lines + length lines.entry.rest.now) }
+    ensures few { IfOk result (λ read. most_lines read.1 ≤ most_lines lines.entry) }
 {
     let Some(line) = lines.line else {
         return Err(CheckFault::BadLine(0));
@@ -113,7 +114,7 @@ fn read_nodes<'a>(
     ensures read { MatchResult result
         (λ read. ReadsNodes 1 read.0 (ahead lines.entry) (ahead read.1) × (length read.0 ≡ nodes))
         (IsWrong (NodesWrong 1 nodes (ahead lines.entry))) }
-    ensures few { IfOk result (λ read. read.1.lines + length read.1.rest.now ≤ lines.entry.lines + length lines.entry.rest.now) }
+    ensures few { IfOk result (λ read. most_lines read.1 ≤ most_lines lines.entry) }
 {
     let mut said = Vec::with_capacity(alloc, nodes as usize)?;
     let mut table = Vec::with_capacity(alloc, nodes as usize)?;
@@ -138,7 +139,7 @@ pub(crate) fn read_problem<'a>(
     ensures read { MatchResult result
         (λ read. ReadsProblem nodes sources.now read.0 (ahead lines.entry) (ahead read.1))
         (IsWrong (ProblemWrong nodes sources.now (ahead lines.entry))) }
-    ensures few { IfOk result (λ read. read.1.lines + length read.1.rest.now ≤ lines.entry.lines + length lines.entry.rest.now) }
+    ensures few { IfOk result (λ read. most_lines read.1 ≤ most_lines lines.entry) }
 {
     let next = read_sources(lines, sources)?;
     read_nodes(alloc, nodes, next)

@@ -80,7 +80,8 @@ impl<'a> Reported<'a> {
         requires { IsNode (length self.now) node }
         ensures { MatchOption result
             ((said : Said) → IsSaid self.now node said → said.walk ≡ None)
-            (λ walk. (said : Said) → IsSaid self.now node said → said.walk ≡ Some (record { line = walk.0; arcs = arcs_of (fields_of walk.1.now) })) }
+            (λ walk. (said : Said) → IsSaid self.now node said → said.walk
+            ≡ Some (record { line = walk.0; arcs = arcs_of (fields_of walk.1.now) })) }
     {
         let Some(walk) = self.said[node as usize - 1].walk else {
             return None;

@@ -47,7 +47,8 @@ pub(crate) fn says_source(text: &[u8], source: Source) -> bool
 
 /// Whether three fields are those of a source.
 fn are_source(word: &[u8], node: &[u8], departure: &[u8], source: Source) -> bool
-    ensures { IsTrue result ↔ SaysSource (word.now ∷ node.now ∷ departure.now ∷ []) source.node source.departure }
+    ensures { IsTrue result ↔ SaysSource
+        (word.now ∷ node.now ∷ departure.now ∷ []) source.node source.departure }
 {
     if word != b"s".as_slice() {
         return false;
@@ -87,7 +88,8 @@ fn time_in(word: &[u8], place: &[u8], arrival: &[u8], node: u32) -> Option<u64>
 
 /// A time within the horizon, or NONE for `inf`.
 fn time_of(field: &[u8]) -> Option<u64>
-    ensures { MatchOption result ((time : ℕ) → IsTime field.now time → ⊥) (λ time. IsTime field.now time) }
+    ensures { MatchOption result ((time : ℕ) → IsTime field.now time → ⊥)
+        (λ time. IsTime field.now time) }
 {
     if field == b"inf".as_slice() {
         return Some(NONE);
@@ -140,8 +142,10 @@ pub(crate) fn says_walk(text: &[u8], node: u32) -> Option<&[u8]>
 /// Whether a text's fields are numbers, and as many as counted.
 fn counts(count: &[u8], text: &[u8]) -> bool
     ensures { MatchBool result
-        ((number_of count.now ≡ Some (length (fields_of text.now))) × AreArcNumbers (fields_of text.now) (arcs_of (fields_of text.now)))
-        ((arcs : List ℕ) → number_of count.now ≡ Some (length (fields_of text.now)) → AreArcNumbers (fields_of text.now) arcs → ⊥) }
+        ((number_of count.now ≡ Some (length (fields_of text.now)))
+        × AreArcNumbers (fields_of text.now) (arcs_of (fields_of text.now)))
+        ((arcs : List ℕ) → number_of count.now ≡ Some (length (fields_of text.now))
+        → AreArcNumbers (fields_of text.now) arcs → ⊥) }
 {
     match count_numbers(text) {
         Some(fields) => is_number(count, fields as u64),

@@ -27,7 +27,8 @@ fn first_node(network: &Network, node: u32, arcs: &[u32]) -> Option<u32>
     ensures { MatchOption result
         ((0 < length arcs.now) × ((arc : Arc) → IsArc network.now (slice_index arcs.now 0) arc → ⊥))
         (λ start. ((arcs.now ≡ []) × (start ≡ node))
-        ⊎ ((0 < length arcs.now) × ((arc : Arc) → IsArc network.now (slice_index arcs.now 0) arc → arc.tail ≡ start))) }
+        ⊎ ((0 < length arcs.now) ×
+        ((arc : Arc) → IsArc network.now (slice_index arcs.now 0) arc → arc.tail ≡ start))) }
 {
     if arcs.is_empty() {
         return Some(node);
@@ -63,13 +64,18 @@ fn beside<T: TravelTimes>(
 ) -> Side
     requires task { IsTask network.now (T.classes times.now) query.now.sources }
     requires source { IsAmong query.now.sources source }
-    requires start { (from departure : ℕ) → Arrives network.now (T.answers times.now) from departure arcs.now node time → from ≡ start }
+    requires start { (from departure : ℕ)
+        → Arrives network.now (T.answers times.now) from departure arcs.now node time → from
+        ≡ start }
     requires time { time ≤ HORIZON }
-    ensures here { result ≡ Here → Arrives network.now (T.answers times.now) source.node source.departure arcs.now node time }
+    ensures here { result ≡ Here
+        → Arrives network.now (T.answers times.now) source.node source.departure arcs.now node time }
     ensures before { result ≡ Before → (other : Source) → Precedes other source
-        → Arrives network.now (T.answers times.now) other.node other.departure arcs.now node time → ⊥ }
+        → Arrives network.now (T.answers times.now) other.node other.departure arcs.now node time
+        → ⊥ }
     ensures beyond { result ≡ Beyond → (other : Source) → Precedes source other
-        → Arrives network.now (T.answers times.now) other.node other.departure arcs.now node time → ⊥ }
+        → Arrives network.now (T.answers times.now) other.node other.departure arcs.now node time
+        → ⊥ }
 {
     if source.node < start {
         return Side::Before;
@@ -103,7 +109,8 @@ pub(crate) fn attains<T: TravelTimes>(
     requires task { IsTask network.now (T.classes times.now) query.now.sources }
     requires ordered { AreOrdered query.now.sources ordered.now }
     requires time { time ≤ HORIZON }
-    ensures { IsTrue result ↔ Attains network.now (T.answers times.now) query.now.sources arcs.now node time }
+    ensures { IsTrue result ↔ Attains network.now
+        (T.answers times.now) query.now.sources arcs.now node time }
 {
     let Some(start) = first_node(network, node, arcs) else {
         return false;

@@ -31,10 +31,12 @@ fn other_at<T: TravelTimes>(
     requires task { IsTask network.now (T.classes times.now) query.now.sources }
     requires ordered { AreOrdered query.now.sources ordered.now }
     requires formed { IsWellFormed network.now.nodes reported.now }
-    requires links { AreLinks network.now (T.answers times.now) query.now.sources (IsReported reported.now) links.now }
+    requires links { AreLinks network.now (T.answers times.now) query.now.sources
+        (IsReported reported.now) links.now }
     requires node { IsNode network.now.nodes node }
     requires walks { walks.old.texts.links ≡ links.now }
-    ensures other { IsOtherAt network.now (T.answers times.now) query.now.sources reported.now node result }
+    ensures other { IsOtherAt network.now
+        (T.answers times.now) query.now.sources reported.now node result }
     ensures walks { OnOk result (walks.new.texts.links ≡ links.now) }
 {
     let time = reported.time(node);
@@ -70,7 +72,8 @@ fn first_other<T: TravelTimes>(
     requires task { IsTask network.now (T.classes times.now) query.now.sources }
     requires ordered { AreOrdered query.now.sources ordered.now }
     requires formed { IsWellFormed network.now.nodes reported.now }
-    requires links { AreLinks network.now (T.answers times.now) query.now.sources (IsReported reported.now) links.now }
+    requires links { AreLinks network.now (T.answers times.now) query.now.sources
+        (IsReported reported.now) links.now }
     ensures { IsFirstOther network.now (T.answers times.now) query.now.sources reported.now result }
 {
     let mut walks = Comparing::new(alloc, links);
@@ -98,7 +101,9 @@ fn lower_by_arc<T: TravelTimes>(
     requires from_one { 0 < number }
     requires to_last { number ≤ length network.now.arcs }
     ensures lower { result ≤ lowest }
-    ensures found { (result ≡ lowest) ⊎ Improves network.now (T.answers times.now) query.now.sources (reported_time reported.now) result }
+    ensures found { (result ≡ lowest)
+        ⊎ Improves network.now (T.answers times.now) query.now.sources
+        (reported_time reported.now) result }
     ensures passed { (arc : Arc) (arrival : ℕ) → IsArc network.now number arc
         → reported_time reported.now arc.tail ≤ HORIZON
         → T.answers times.now arc.class arc.weight (reported_time reported.now arc.tail) arrival
@@ -128,7 +133,9 @@ fn lowest_by_arcs<T: TravelTimes>(
     requires task { IsTask network.now (T.classes times.now) query.now.sources }
     requires formed { IsWellFormed network.now.nodes reported.now }
     ensures lower { result ≤ above }
-    ensures found { (result ≡ above) ⊎ Improves network.now (T.answers times.now) query.now.sources (reported_time reported.now) result }
+    ensures found { (result ≡ above)
+        ⊎ Improves network.now (T.answers times.now) query.now.sources
+        (reported_time reported.now) result }
     ensures passed { (number : ℕ) (arc : Arc) (arrival : ℕ) → IsArc network.now number arc
         → reported_time reported.now arc.tail ≤ HORIZON
         → T.answers times.now arc.class arc.weight (reported_time reported.now arc.tail) arrival
@@ -155,8 +162,11 @@ fn lower_by_source<T: TravelTimes>(
     requires source { IsAmong query.now.sources source }
     requires node { IsNode (length reported.now) source.node }
     ensures lower { result ≤ lowest }
-    ensures found { (result ≡ lowest) ⊎ Improves network.now (T.answers times.now) query.now.sources (reported_time reported.now) result }
-    ensures passed { source.departure < reported_time reported.now source.node → result ≤ source.node }
+    ensures found { (result ≡ lowest)
+        ⊎ Improves network.now (T.answers times.now) query.now.sources
+        (reported_time reported.now) result }
+    ensures passed { source.departure < reported_time reported.now source.node
+        → result ≤ source.node }
 {
     if lowest <= source.node {
         return lowest;
@@ -179,7 +189,9 @@ fn lowest_by_sources<T: TravelTimes>(
     requires task { IsTask network.now (T.classes times.now) query.now.sources }
     requires formed { IsWellFormed network.now.nodes reported.now }
     ensures lower { result ≤ above }
-    ensures found { (result ≡ above) ⊎ Improves network.now (T.answers times.now) query.now.sources (reported_time reported.now) result }
+    ensures found { (result ≡ above)
+        ⊎ Improves network.now (T.answers times.now) query.now.sources
+        (reported_time reported.now) result }
     ensures passed { (source : Source) → IsAmong query.now.sources source
         → source.departure < reported_time reported.now source.node → result ≤ source.node }
 {
@@ -201,7 +213,8 @@ fn first_not_least<T: TravelTimes>(
     requires formed { IsWellFormed network.now.nodes reported.now }
     ensures { MatchOption result
         (AreUnimproved network.now (T.answers times.now) query.now.sources reported.now)
-        (λ line. IsFirst (IsNotLeast network.now (T.answers times.now) query.now.sources reported.now) line) }
+        (λ line. IsFirst (IsNotLeast network.now
+        (T.answers times.now) query.now.sources reported.now) line) }
 {
     let above = network.nodes() + 1;
     let by_sources = lowest_by_sources(network, times, query, reported, above);
@@ -226,7 +239,8 @@ pub(crate) fn judge<T: TravelTimes>(
     requires task { IsTask network.now (T.classes times.now) query.now.sources }
     requires ordered { AreOrdered query.now.sources ordered.now }
     requires formed { IsWellFormed network.now.nodes reported.now }
-    requires links { AreLinks network.now (T.answers times.now) query.now.sources (IsReported reported.now) links.now }
+    requires links { AreLinks network.now (T.answers times.now) query.now.sources
+        (IsReported reported.now) links.now }
     ensures { IsVerdict network.now (T.answers times.now) query.now.sources reported.now result }
 {
     if let Some(line) = first_other(alloc, network, times, query, ordered, reported, links)? {

@@ -100,8 +100,8 @@ IsFaultIfThere seen file format old new fault =
     ((fault ≡ OutOfMemory) × IsBorneIfThere seen old new) ⊎ IsFaultThere seen file format old new fault
 
 -- A reader that may be left out wasn't touched.
-abbrev pub IsKeptIfThere : {R : Type 0} → (R → Seen) → Option R → Option R → Type 0
-IsKeptIfThere seen old new = option_map seen new ≡ option_map seen old
+abbrev pub IsUntouchedIfThere : {R : Type 0} → (R → Seen) → Option R → Option R → Type 0
+IsUntouchedIfThere seen old new = option_map seen new ≡ option_map seen old
 
 -- What becomes of the file of timetables: its fault, for so many arcs; or it was read with no fault of the device; or it wasn't
 -- touched.
@@ -114,7 +114,7 @@ abbrev pub tables : {R : Type 0} → (R → Seen) → Option R → Option R → 
 tables seen old new = record {
   IsFault = λ arcs. IsFaultIfThere seen Tp (table_format arcs) old new;
   IsRead = IsBorneIfThere seen old new;
-  IsKept = IsKeptIfThere seen old new;
+  IsKept = IsUntouchedIfThere seen old new;
 }
 
 -- ---- the files of a run or of pairs, in their order: network, starts, timetables
@@ -128,8 +128,8 @@ abbrev pub HasStarts : {X : Type 0} → (ℕ → List (List (List ℕ)) → X �
 HasStarts {X} DenotesStarts nodes reading = (text : List ℕ) × (starts : X) × IsFileText reading text × DenotesStarts nodes (field_lines text) starts
 
 -- A reader wasn't touched.
-abbrev pub IsKept : Reading → Type 0
-IsKept reading = reading.new ≡ reading.old
+abbrev pub IsUntouched : Reading → Type 0
+IsUntouched reading = reading.new ≡ reading.old
 
 -- The first fault of the files: that of the network; or where it is sound that of the starts; or where both are that of the
 -- timetables. What comes after it wasn't touched.
@@ -141,7 +141,7 @@ pub data IsFirstFault {X : Type 0}
     (table : Tables)
     (fault : FileFault)
     : Type 0 where
-  in_network : IsFaultIn Gr graph_format gr fault → IsKept starts → table.IsKept
+  in_network : IsFaultIn Gr graph_format gr fault → IsUntouched starts → table.IsKept
       → IsFirstFault word format DenotesStarts gr starts table fault
   in_starts : (graph : Graph) → IsGraphOf gr graph → IsFaultIn word (format graph.nodes) starts fault → table.IsKept
       → IsFirstFault word format DenotesStarts gr starts table fault

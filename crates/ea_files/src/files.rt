@@ -38,14 +38,16 @@ pub fn read_run<G: ByteIn, S: ByteIn, T: ByteIn>(
     tp: &mut Option<T>,
 ) -> Result<RunFiles, FileFault>
     ensures given { IfOk result (λ files. (given : Given)
-        × AreGiven DenotesSources (G.seen gr.old).bytes (S.seen ss.old).bytes (bytes_there T.seen tp.old)
+        × AreGiven DenotesSources (G.seen gr.old).bytes (S.seen ss.old).bytes
+        (bytes_there T.seen tp.old)
         given files.sources.items
         × IsRoadOf given files.road) }
     ensures gr_borne { OnOk result (BearsOn (G.seen gr.old) (G.seen gr.new)) }
     ensures ss_borne { OnOk result (BearsOn (S.seen ss.old) (S.seen ss.new)) }
     ensures tp_borne { OnOk result (IsBorneIfThere T.seen tp.old tp.new) }
     ensures fault { IfErr result (IsFirstFault FileWord.Ss source_format DenotesSources
-        (reading G.seen gr.old gr.new) (reading S.seen ss.old ss.new) (tables T.seen tp.old tp.new)) }
+        (reading G.seen gr.old gr.new) (reading S.seen ss.old ss.new)
+        (tables T.seen tp.old tp.new)) }
 {
     let graph = read_graph(alloc, gr)?;
     let sources = read_sources(alloc, ss, graph.nodes)?;
@@ -61,14 +63,16 @@ pub fn read_trips<G: ByteIn, P: ByteIn, T: ByteIn>(
     tp: &mut Option<T>,
 ) -> Result<PairFiles, FileFault>
     ensures given { IfOk result (λ files. (given : Given)
-        × AreGiven DenotesPairs (G.seen gr.old).bytes (P.seen p2p.old).bytes (bytes_there T.seen tp.old)
+        × AreGiven DenotesPairs (G.seen gr.old).bytes (P.seen p2p.old).bytes
+        (bytes_there T.seen tp.old)
         given files.pairs.items
         × IsRoadOf given files.road) }
     ensures gr_borne { OnOk result (BearsOn (G.seen gr.old) (G.seen gr.new)) }
     ensures p2p_borne { OnOk result (BearsOn (P.seen p2p.old) (P.seen p2p.new)) }
     ensures tp_borne { OnOk result (IsBorneIfThere T.seen tp.old tp.new) }
     ensures fault { IfErr result (IsFirstFault FileWord.P2p pair_format DenotesPairs
-        (reading G.seen gr.old gr.new) (reading P.seen p2p.old p2p.new) (tables T.seen tp.old tp.new)) }
+        (reading G.seen gr.old gr.new) (reading P.seen p2p.old p2p.new)
+        (tables T.seen tp.old tp.new)) }
 {
     let graph = read_graph(alloc, gr)?;
     let pairs = read_pairs(alloc, p2p, graph.nodes)?;

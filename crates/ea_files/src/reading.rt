@@ -21,7 +21,8 @@ use std::alloc::Global;
 
 /// All bytes of a file.
 fn text_of<R: ByteIn>(alloc: Global, file: FileWord, reader: &mut R) -> Result<Vec<u8>, FileFault>
-    ensures text { IfOk result (λ bytes. IsFileText (reading R.seen reader.old reader.new) bytes.items) }
+    ensures text { IfOk result
+        (λ bytes. IsFileText (reading R.seen reader.old reader.new) bytes.items) }
     ensures end { OnOk result (IsAtEnd (R.seen reader.new).bytes) }
     ensures fault { IfErr result (IsUnreadBy file (reading R.seen reader.old reader.new)) }
 {
@@ -54,9 +55,11 @@ fn fault_of(file: FileWord, fault: InputFault) -> FileFault
 
 /// The graph of a file.
 pub(crate) fn read_graph<R: ByteIn>(alloc: Global, gr: &mut R) -> Result<RawGraph, FileFault>
-    ensures denoted { IfOk result (λ found. (text : List ℕ) × IsFileText (reading R.seen gr.old gr.new) text
+    ensures denoted { IfOk result
+        (λ found. (text : List ℕ) × IsFileText (reading R.seen gr.old gr.new) text
         × DenotesGraph (field_lines text) (graph found)) }
-    ensures fault { IfErr result (IsFaultIn FileWord.Gr graph_format (reading R.seen gr.old gr.new)) }
+    ensures fault { IfErr result
+        (IsFaultIn FileWord.Gr graph_format (reading R.seen gr.old gr.new)) }
 {
     let text = text_of(alloc, FileWord::Gr, gr)?;
     match read_gr(alloc, &text) {
@@ -71,9 +74,11 @@ pub(crate) fn read_sources<R: ByteIn>(
     ss: &mut R,
     nodes: u32,
 ) -> Result<Vec<u32>, FileFault>
-    ensures denoted { IfOk result (λ found. (text : List ℕ) × IsFileText (reading R.seen ss.old ss.new) text
+    ensures denoted { IfOk result
+        (λ found. (text : List ℕ) × IsFileText (reading R.seen ss.old ss.new) text
         × DenotesSources nodes (field_lines text) found.items) }
-    ensures fault { IfErr result (IsFaultIn FileWord.Ss (source_format nodes) (reading R.seen ss.old ss.new)) }
+    ensures fault { IfErr result
+        (IsFaultIn FileWord.Ss (source_format nodes) (reading R.seen ss.old ss.new)) }
 {
     let text = text_of(alloc, FileWord::Ss, ss)?;
     match read_ss(alloc, &text, nodes) {
@@ -88,9 +93,11 @@ pub(crate) fn read_pairs<R: ByteIn>(
     p2p: &mut R,
     nodes: u32,
 ) -> Result<Vec<(u32, u32)>, FileFault>
-    ensures denoted { IfOk result (λ found. (text : List ℕ) × IsFileText (reading R.seen p2p.old p2p.new) text
+    ensures denoted { IfOk result
+        (λ found. (text : List ℕ) × IsFileText (reading R.seen p2p.old p2p.new) text
         × DenotesPairs nodes (field_lines text) found.items) }
-    ensures fault { IfErr result (IsFaultIn FileWord.P2p (pair_format nodes) (reading R.seen p2p.old p2p.new)) }
+    ensures fault { IfErr result
+        (IsFaultIn FileWord.P2p (pair_format nodes) (reading R.seen p2p.old p2p.new)) }
 {
     let text = text_of(alloc, FileWord::P2p, p2p)?;
     match read_p2p(alloc, &text, nodes) {
@@ -101,9 +108,11 @@ pub(crate) fn read_pairs<R: ByteIn>(
 
 /// The timetables of a file.
 fn read_timetables<R: ByteIn>(alloc: Global, tp: &mut R, arcs: u32) -> Result<RawTable, FileFault>
-    ensures denoted { IfOk result (λ found. (text : List ℕ) × IsFileText (reading R.seen tp.old tp.new) text
+    ensures denoted { IfOk result
+        (λ found. (text : List ℕ) × IsFileText (reading R.seen tp.old tp.new) text
         × IsTableOf arcs (Some text) (table found)) }
-    ensures fault { IfErr result (IsFaultIn FileWord.Tp (table_format arcs) (reading R.seen tp.old tp.new)) }
+    ensures fault { IfErr result
+        (IsFaultIn FileWord.Tp (table_format arcs) (reading R.seen tp.old tp.new)) }
 {
     let text = text_of(alloc, FileWord::Tp, tp)?;
     match read_tp(alloc, &text, arcs) {
@@ -118,9 +127,11 @@ pub(crate) fn read_table<R: ByteIn>(
     tp: &mut Option<R>,
     arcs: u32,
 ) -> Result<RawTable, FileFault>
-    ensures denoted { IfOk result (λ found. (text : Option (List ℕ)) × IsTextIfThere R.seen tp.old tp.new text
+    ensures denoted { IfOk result
+        (λ found. (text : Option (List ℕ)) × IsTextIfThere R.seen tp.old tp.new text
         × IsTableOf arcs text (table found)) }
-    ensures fault { IfErr result (IsFaultIfThere R.seen FileWord.Tp (table_format arcs) tp.old tp.new) }
+    ensures fault { IfErr result
+        (IsFaultIfThere R.seen FileWord.Tp (table_format arcs) tp.old tp.new) }
 {
     match tp {
         None => Ok(RawTable {
@@ -133,9 +144,11 @@ pub(crate) fn read_table<R: ByteIn>(
 
 /// All bytes of a report, at most 2^33. What they say is not looked at.
 pub fn read_report<R: ByteIn>(alloc: Global, report: &mut R) -> Result<Vec<u8>, FileFault>
-    ensures text { IfOk result (λ bytes. IsFileText (reading R.seen report.old report.new) bytes.items) }
+    ensures text { IfOk result
+        (λ bytes. IsFileText (reading R.seen report.old report.new) bytes.items) }
     ensures end { OnOk result (IsAtEnd (R.seen report.new).bytes) }
-    ensures fault { IfErr result (IsUnreadBy FileWord.Report (reading R.seen report.old report.new)) }
+    ensures fault { IfErr result
+        (IsUnreadBy FileWord.Report (reading R.seen report.old report.new)) }
 {
     text_of(alloc, FileWord::Report, report)
 }

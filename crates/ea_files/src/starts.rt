@@ -50,7 +50,8 @@ fn query_from(alloc: Global, source: Source) -> Result<Query, AllocError>
 /// Each source as a query.
 fn queries_from(alloc: Global, sources: &[Source]) -> Result<Vec<Query>, AllocError>
     requires { All IsSource sources.now }
-    ensures { IfOk result (λ queries. queries.items ≡ map (λ source. asks_all (source ∷ [])) sources.now) }
+    ensures { IfOk result (λ queries. queries.items
+        ≡ map (λ source. asks_all (source ∷ [])) sources.now) }
 {
     let mut queries = Vec::with_capacity(alloc, sources.len())?;
     for source in sources {

@@ -4,6 +4,7 @@ use Rattle.std.specs.Option.{option_map_or}
 use Rattle.std.specs.List.{list_all, list_any}
 use Rattle.std.specs.Str.{bytes_eq}
 use Rattle.ea_text.specs.Text.{number_of, is_silent}
+use Rattle.ea_input.specs.Fault.{out_of_memory}
 use Rattle.ea_input.specs.declared.fault.FaultKind.{FaultKind}
 use Rattle.ea_input.specs.declared.fault.FaultKind.TheVariants.{NoProblemLine, SecondProblemLine, UnknownLine, FieldCount, BadNumber, OutOfRange, TooManyLines, TooFewLines, BadKind}
 use Rattle.ea_input.specs.declared.fault.InputFault.{InputFault}
@@ -129,3 +130,7 @@ pub record IsEndFault (format : Format) (lines : List Line) (fault : InputFault)
 -- The fault of a text: that of the first line that has one, else that at the end.
 abbrev pub IsFaultOf : Format → List Line → InputFault → Type 0
 IsFaultOf format lines fault = IsLineFault format lines fault ⊎ IsEndFault format lines fault
+
+-- A fault that is told: the text's, or want of memory.
+abbrev pub IsFaultTold : Format → List Line → InputFault → Type 0
+IsFaultTold format lines fault = (fault ≡ out_of_memory) ⊎ IsFaultOf format lines fault

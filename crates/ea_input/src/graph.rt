@@ -1,6 +1,6 @@
 //! The text of a graph.
 ghost use Rattle.std.specs.Prelude.{◌≡◌, ◌<◌, ◌≤◌, IfErr, IfOk, MatchResult, ◌⊎◌, map, length};
-ghost use Rattle.ea_input.specs.Checks.{IsFaultOf};
+ghost use Rattle.ea_input.specs.Checks.{IsFaultOf, IsFaultTold};
 ghost use Rattle.ea_input.specs.Fault.{Gives, out_of_memory};
 ghost use Rattle.ea_input.specs.Formats.{graph_format};
 ghost use Rattle.ea_input.specs.Grammar.{IsGrammar};
@@ -11,6 +11,7 @@ ghost use Rattle.ea_input.specs.GraphFronts.{graph_step-front};
 ghost use Rattle.ea_input.specs.Reading.{GivesLine};
 ghost use Rattle.ea_input.specs.Views.{graph, read_of};
 ghost use Rattle.ea_text.specs.Text.{field_lines};
+ghost use Rattle.ea_input.specs.Borrowed.{texts_now};
 
 use crate::fault::{FaultKind, InputFault};
 use crate::plain::{ArcNumbers, leading_arc};
@@ -56,7 +57,7 @@ fn size_read(nodes: &[u8], arcs: &[u8]) -> Result<GraphSize, FaultKind>
 
 #[tactic(auto, unfolding(crate::specs::Graph::size_of))]
 fn size_of(fields: &[&[u8]]) -> Result<GraphSize, FaultKind>
-    ensures { result ≡ spec.size_of (map (λ field. field.now) fields.now) }
+    ensures { result ≡ spec.size_of (texts_now fields.now) }
 {
     match fields {
         [nodes, arcs] => size_read(nodes, arcs),
@@ -66,7 +67,7 @@ fn size_of(fields: &[&[u8]]) -> Result<GraphSize, FaultKind>
 
 #[tactic(auto, unfolding(crate::specs::Graph::problem_of))]
 fn problem_of(fields: &[&[u8]]) -> Result<GraphSize, FaultKind>
-    ensures { result ≡ spec.problem_of (map (λ field. field.now) fields.now) }
+    ensures { result ≡ spec.problem_of (texts_now fields.now) }
 {
     let [kind, numbers @ ..] = fields else {
         return Err(FaultKind::FieldCount);
@@ -100,7 +101,7 @@ fn arc_read(nodes: u32, tail: &[u8], head: &[u8], weight: &[u8]) -> Result<RawAr
 
 #[tactic(auto, unfolding(crate::specs::Graph::arc_of))]
 fn arc_of(nodes: u32, fields: &[&[u8]]) -> Result<RawArc, FaultKind>
-    ensures { result ≡ spec.arc_of nodes (map (λ field. field.now) fields.now) }
+    ensures { result ≡ spec.arc_of nodes (texts_now fields.now) }
 {
     match fields {
         [tail, head, weight] => arc_read(nodes, tail, head, weight),
@@ -110,7 +111,7 @@ fn arc_of(nodes: u32, fields: &[&[u8]]) -> Result<RawArc, FaultKind>
 
 #[tactic(auto, unfolding(crate::specs::Graph::problem_line))]
 fn problem_line(size: Option<GraphSize>, fields: &[&[u8]]) -> Result<GraphLine, FaultKind>
-    ensures { result ≡ spec.problem_line size (map (λ field. field.now) fields.now) }
+    ensures { result ≡ spec.problem_line size (texts_now fields.now) }
 {
     if size.is_some() {
         return Err(FaultKind::SecondProblemLine);
@@ -120,7 +121,7 @@ fn problem_line(size: Option<GraphSize>, fields: &[&[u8]]) -> Result<GraphLine, 
 
 #[tactic(auto, unfolding(crate::specs::Graph::arc_line))]
 fn arc_line(size: Option<GraphSize>, count: usize, fields: &[&[u8]]) -> Result<GraphLine, FaultKind>
-    ensures { result ≡ spec.arc_line size count (map (λ field. field.now) fields.now) }
+    ensures { result ≡ spec.arc_line size count (texts_now fields.now) }
 {
     let size = size.ok_or(FaultKind::NoProblemLine)?;
     let arc = arc_of(size.nodes, fields)?;
@@ -159,7 +160,7 @@ fn graph_line(
     count: usize,
     fields: &[&[u8]],
 ) -> Result<GraphLine, FaultKind>
-    ensures { result ≡ spec.graph_line size count (map (λ field. field.now) fields.now) }
+    ensures { result ≡ spec.graph_line size count (texts_now fields.now) }
 {
     let [word, others @ ..] = fields else {
         return Ok(GraphLine::Silent);
@@ -200,7 +201,8 @@ impl GraphReader {
     /// Takes up what a line says.
     #[tactic(auto, unfolding(crate::specs::Graph::after_said))]
     fn add(&mut self, said: Result<GraphLine, FaultKind>) -> Result<(), FaultKind>
-        ensures { GivesLine (λ _. read_of self.new) result (spec.after_said (read_of self.old) said) }
+        ensures { GivesLine (λ _. read_of self.new) result
+            (spec.after_said (read_of self.old) said) }
     {
         match said? {
             GraphLine::Silent => {}
@@ -277,7 +279,7 @@ pub fn read_gr(alloc: Global, text: &[u8]) -> Result<RawGraph, InputFault>
         MatchResult result (λ read. graph read ≡ g) (λ fault. fault ≡ out_of_memory) }
 
     // A fault is the text's, unless memory is refused.
-    ensures fault { IfErr result (λ fault. (fault ≡ out_of_memory) ⊎ IsFaultOf graph_format (field_lines text.now) fault) }
+    ensures fault { IfErr result (IsFaultTold graph_format (field_lines text.now)) }
     // The text's fault is answered, unless memory is refused.
     ensures faulty { (fault : FaultType) → IsFaultOf graph_format (field_lines text.now) fault →
         MatchResult result (λ _. ⊥) (λ found. (found ≡ out_of_memory) ⊎ (found ≡ fault)) }

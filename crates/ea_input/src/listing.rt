@@ -1,7 +1,7 @@
 //! Texts of a problem line that tells a number, and so many other lines of one sort.
 ghost use Rattle.std.specs.Prelude.{◌≡◌, ◌∷◌, [], map, codes};
 ghost use Rattle.ea_input.specs.Listing as spec;
-ghost use Rattle.ea_input.specs.Borrowed.{result_now};
+ghost use Rattle.ea_input.specs.Borrowed.{result_now, texts_now};
 
 use crate::fault::FaultKind;
 use crate::range::{numeral, within};
@@ -21,7 +21,8 @@ pub(crate) fn after_kind<'a, 'b>(
     kind: &[u8],
     fields: &'a [&'b [u8]],
 ) -> Result<&'a [&'b [u8]], FaultKind>
-    ensures { result_now result ≡ spec.after_kinds (kind.now ∷ []) (map (λ field. field.now) fields.entry.now) }
+    ensures { result_now result
+        ≡ spec.after_kinds (kind.now ∷ []) (map (λ field. field.now) fields.entry.now) }
 {
     let [field, others @ ..] = fields else {
         return Err(FaultKind::FieldCount);
@@ -35,7 +36,7 @@ pub(crate) fn after_kind<'a, 'b>(
 
 #[tactic(auto, unfolding(crate::specs::Listing::only_number))]
 pub(crate) fn only_number(low: u32, high: u32, fields: &[&[u8]]) -> Result<u32, FaultKind>
-    ensures { result ≡ spec.only_number low high (map (λ field. field.now) fields.now) }
+    ensures { result ≡ spec.only_number low high (texts_now fields.now) }
 {
     match fields {
         [field] => within(low, high, numeral(field)?),
@@ -47,7 +48,8 @@ pub(crate) fn only_number(low: u32, high: u32, fields: &[&[u8]]) -> Result<u32, 
 #[tactic(auto, unfolding(crate::specs::Listing::after_kinds))]
 fn after_kinds<'a, 'b>(kind: &[u8], fields: &'a [&'b [u8]]) -> Result<&'a [&'b [u8]], FaultKind>
     ensures { result_now result
-        ≡ spec.after_kinds (codes "aux" ∷ codes "sp" ∷ kind.now ∷ []) (map (λ field. field.now) fields.entry.now) }
+        ≡ spec.after_kinds (codes "aux" ∷ codes "sp" ∷ kind.now ∷ [])
+        (map (λ field. field.now) fields.entry.now) }
 {
     let fields = after_kind(b"aux", fields)?;
     let fields = after_kind(b"sp", fields)?;
@@ -56,7 +58,7 @@ fn after_kinds<'a, 'b>(kind: &[u8], fields: &'a [&'b [u8]]) -> Result<&'a [&'b [
 
 #[tactic(auto, unfolding(crate::specs::Listing::announced))]
 fn announced(kind: &[u8], fields: &[&[u8]]) -> Result<u32, FaultKind>
-    ensures { result ≡ spec.announced kind.now (map (λ field. field.now) fields.now) }
+    ensures { result ≡ spec.announced kind.now (texts_now fields.now) }
 {
     let numbers = after_kinds(kind, fields)?;
     only_number(0, MOST_STARTS, numbers)
@@ -68,7 +70,7 @@ pub(crate) fn problem_line<T: Copy>(
     size: Option<u32>,
     fields: &[&[u8]],
 ) -> Result<ListLine<T>, FaultKind>
-    ensures { result ≡ spec.problem_line kind.now size (map (λ field. field.now) fields.now) }
+    ensures { result ≡ spec.problem_line kind.now size (texts_now fields.now) }
 {
     if size.is_some() {
         return Err(FaultKind::SecondProblemLine);

@@ -1,6 +1,6 @@
 //! The text of pairs.
 ghost use Rattle.std.specs.Prelude.{◌≡◌, ◌<◌, ◌≤◌, ℕ, List, IfErr, IfOk, MatchResult, ◌⊎◌, map, length, codes};
-ghost use Rattle.ea_input.specs.Checks.{IsFaultOf};
+ghost use Rattle.ea_input.specs.Checks.{IsFaultOf, IsFaultTold};
 ghost use Rattle.ea_input.specs.Fault.{Gives, out_of_memory};
 ghost use Rattle.ea_input.specs.Formats.{pair_format};
 ghost use Rattle.ea_input.specs.Grammar.{IsGrammar};
@@ -11,6 +11,7 @@ ghost use Rattle.ea_input.specs.Listing.{Listed, list_end};
 ghost use Rattle.ea_input.specs.Pairs.{DenotesPairs, pair_step, pairs_of};
 ghost use Rattle.ea_text.specs.Text.{field_lines};
 ghost use Rattle.ea_input.specs.Reading.{GivesLine};
+ghost use Rattle.ea_input.specs.Borrowed.{texts_now};
 
 use crate::fault::{FaultKind, InputFault};
 use crate::listing::{ListLine, problem_line};
@@ -32,7 +33,7 @@ fn pair_read(nodes: u32, source: &[u8], target: &[u8]) -> Result<(u32, u32), Fau
 
 #[tactic(auto, unfolding(crate::specs::Pairs::pair_of))]
 fn pair_of(nodes: u32, fields: &[&[u8]]) -> Result<(u32, u32), FaultKind>
-    ensures { result ≡ Rattle.ea_input.specs.Pairs.pair_of nodes (map (λ field. field.now) fields.now) }
+    ensures { result ≡ Rattle.ea_input.specs.Pairs.pair_of nodes (texts_now fields.now) }
 {
     match fields {
         [source, target] => pair_read(nodes, source, target),
@@ -47,7 +48,8 @@ fn pair_line(
     count: usize,
     fields: &[&[u8]],
 ) -> Result<ListLine<(u32, u32)>, FaultKind>
-    ensures { result ≡ spec.item_line (Rattle.ea_input.specs.Pairs.pair_of nodes) size count (map (λ field. field.now) fields.now) }
+    ensures { result ≡ spec.item_line (Rattle.ea_input.specs.Pairs.pair_of nodes) size count
+        (texts_now fields.now) }
 {
     let size = size.ok_or(FaultKind::NoProblemLine)?;
     let pair = pair_of(nodes, fields)?;
@@ -65,7 +67,8 @@ fn line_says(
     count: usize,
     fields: &[&[u8]],
 ) -> Result<ListLine<(u32, u32)>, FaultKind>
-    ensures { result ≡ spec.list_line (codes "p2p") (codes "q") (Rattle.ea_input.specs.Pairs.pair_of nodes) size count (map (λ field. field.now) fields.now) }
+    ensures { result ≡ spec.list_line (codes "p2p") (codes "q")
+        (Rattle.ea_input.specs.Pairs.pair_of nodes) size count (texts_now fields.now) }
 {
     let [word, others @ ..] = fields else {
         return Ok(ListLine::Silent);
@@ -141,15 +144,17 @@ fn read_pairs(alloc: Global, text: &[u8], nodes: u32) -> Result<Vec<(u32, u32)>,
 /// `nodes`. `OutOfMemory`, in line 0, says nothing of the text.
 pub fn read_p2p(alloc: Global, text: &[u8], nodes: u32) -> Result<Vec<(u32, u32)>, InputFault>
     // What is read is what the text denotes.
-    ensures denoted { IfOk result (λ found. DenotesPairs nodes (field_lines text.now) (found.items)) }
+    ensures denoted { IfOk result
+        (λ found. DenotesPairs nodes (field_lines text.now) (found.items)) }
     // What the text denotes is read, unless memory is refused.
     ensures only { (pairs : List (ℕ × ℕ)) → DenotesPairs nodes (field_lines text.now) pairs →
         MatchResult result (λ read. read.items ≡ pairs) (λ fault. fault ≡ out_of_memory) }
 
     // A fault is the text's, unless memory is refused.
-    ensures fault { IfErr result (λ fault. (fault ≡ out_of_memory) ⊎ IsFaultOf (pair_format nodes) (field_lines text.now) fault) }
+    ensures fault { IfErr result (IsFaultTold (pair_format nodes) (field_lines text.now)) }
     // The text's fault is answered, unless memory is refused.
-    ensures faulty { (fault : FaultType) → IsFaultOf (pair_format nodes) (field_lines text.now) fault →
+    ensures faulty { (fault : FaultType)
+        → IsFaultOf (pair_format nodes) (field_lines text.now) fault →
         MatchResult result (λ _. ⊥) (λ found. (found ≡ out_of_memory) ⊎ (found ≡ fault)) }
 {
     read_pairs(alloc, text, nodes)

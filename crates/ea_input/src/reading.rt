@@ -5,6 +5,7 @@ ghost use Rattle.ea_input.specs.Fault.{Gives};
 ghost use Rattle.ea_input.specs.Reading.{GivesLine, ReadsFront, lines_after, text_after};
 ghost use Rattle.ea_text.specs.Text.{fields_of, field_lines};
 ghost use Rattle.ea_input.specs.declared.fault.FaultKind.{FaultKind as FaultKindType};
+ghost use Rattle.ea_input.specs.Borrowed.{texts_now};
 
 use crate::fault::{FaultKind, InputFault, fault_in};
 use ea_text as text;
@@ -30,7 +31,8 @@ pub(crate) trait LineReader: Drop {
 
     /// Reads the fields of one more line.
     fn read_fields(&mut self, fields: &[&[u8]]) -> Result<(), FaultKind>
-        ensures { GivesLine (λ _. state self.new) result (step (state self.old) (map (λ field. field.now) fields.now)) };
+        ensures { GivesLine (λ _. state self.new) result
+            (step (state self.old) (texts_now fields.now)) };
 
     /// Reads the line at the front of a text where it is in the plain form of most lines of the
     /// file, which may be quicker than by its fields.
@@ -49,12 +51,14 @@ pub(crate) trait LineReader: Drop {
         ensures { GivesLine view result (end (state self)) };
 
     /// The first seven fields of a line are enough.
-    ghost front: { (before : State) (fields : List (List ℕ)) → step before (take 7 fields) ≡ step before fields };
+    ghost front: { (before : State) (fields : List (List ℕ)) → step before (take 7 fields)
+        ≡ step before fields };
 }
 
 /// Reads one more line.
 fn read_line<R: LineReader>(alloc: Global, reader: &mut R, line: &[u8]) -> Result<(), FaultKind>
-    ensures { GivesLine (λ _. R.state reader.new) result (R.step (R.state reader.old) (fields_of (strip_carriage_return line.now))) }
+    ensures { GivesLine (λ _. R.state reader.new) result
+        (R.step (R.state reader.old) (fields_of (strip_carriage_return line.now))) }
 {
     let fields = text::fields(alloc, text::without_return(line));
     reader.read_fields(fields.as_slice())
@@ -81,7 +85,8 @@ fn read_front<'a, R: LineReader>(
 
 /// Reads all lines of a text.
 fn read_lines<R: LineReader>(alloc: Global, reader: &mut R, text: &[u8]) -> Result<(), InputFault>
-    ensures { Gives (λ _. R.state reader.new) result (lines_after R.step 0 (R.state reader.old) (field_lines text.now)) }
+    ensures { Gives (λ _. R.state reader.new) result
+        (lines_after R.step 0 (R.state reader.old) (field_lines text.now)) }
 {
     let mut line: u64 = 0;
     let mut rest = text;

@@ -1,6 +1,6 @@
 //! The text of sources.
 ghost use Rattle.std.specs.Prelude.{◌≡◌, ◌<◌, ◌≤◌, ℕ, List, IfErr, IfOk, MatchResult, ◌⊎◌, map, length, codes};
-ghost use Rattle.ea_input.specs.Checks.{IsFaultOf};
+ghost use Rattle.ea_input.specs.Checks.{IsFaultOf, IsFaultTold};
 ghost use Rattle.ea_input.specs.Fault.{Gives, out_of_memory};
 ghost use Rattle.ea_input.specs.Formats.{source_format};
 ghost use Rattle.ea_input.specs.Grammar.{IsGrammar};
@@ -11,6 +11,7 @@ ghost use Rattle.ea_input.specs.Listing.{Listed, list_end};
 ghost use Rattle.ea_input.specs.Sources.{DenotesSources, source_of, source_step, sources_of};
 ghost use Rattle.ea_text.specs.Text.{field_lines};
 ghost use Rattle.ea_input.specs.Reading.{GivesLine};
+ghost use Rattle.ea_input.specs.Borrowed.{texts_now};
 
 use crate::fault::{FaultKind, InputFault};
 use crate::listing::{ListLine, only_number, problem_line};
@@ -25,7 +26,7 @@ fn source_line(
     count: usize,
     fields: &[&[u8]],
 ) -> Result<ListLine<u32>, FaultKind>
-    ensures { result ≡ spec.item_line (source_of nodes) size count (map (λ field. field.now) fields.now) }
+    ensures { result ≡ spec.item_line (source_of nodes) size count (texts_now fields.now) }
 {
     let size = size.ok_or(FaultKind::NoProblemLine)?;
     let node = only_number(1, nodes, fields)?;
@@ -43,7 +44,8 @@ fn line_says(
     count: usize,
     fields: &[&[u8]],
 ) -> Result<ListLine<u32>, FaultKind>
-    ensures { result ≡ spec.list_line (codes "ss") (codes "s") (source_of nodes) size count (map (λ field. field.now) fields.now) }
+    ensures { result ≡ spec.list_line (codes "ss") (codes "s") (source_of nodes) size count
+        (texts_now fields.now) }
 {
     let [word, others @ ..] = fields else {
         return Ok(ListLine::Silent);
@@ -105,7 +107,8 @@ impl LineReader for SourceReader {
 }
 
 fn read_sources(alloc: Global, text: &[u8], nodes: u32) -> Result<Vec<u32>, InputFault>
-    ensures exact { Gives (λ sources. sources.items) result (sources_of nodes (field_lines text.now)) }
+    ensures exact { Gives (λ sources. sources.items) result
+        (sources_of nodes (field_lines text.now)) }
 {
     let start = SourceReader {
         nodes,
@@ -119,15 +122,17 @@ fn read_sources(alloc: Global, text: &[u8], nodes: u32) -> Result<Vec<u32>, Inpu
 /// in line 0, says nothing of the text.
 pub fn read_ss(alloc: Global, text: &[u8], nodes: u32) -> Result<Vec<u32>, InputFault>
     // What is read is what the text denotes.
-    ensures denoted { IfOk result (λ found. DenotesSources nodes (field_lines text.now) (found.items)) }
+    ensures denoted { IfOk result
+        (λ found. DenotesSources nodes (field_lines text.now) (found.items)) }
     // What the text denotes is read, unless memory is refused.
     ensures only { (sources : List (ℕ)) → DenotesSources nodes (field_lines text.now) sources →
         MatchResult result (λ read. read.items ≡ sources) (λ fault. fault ≡ out_of_memory) }
 
     // A fault is the text's, unless memory is refused.
-    ensures fault { IfErr result (λ fault. (fault ≡ out_of_memory) ⊎ IsFaultOf (source_format nodes) (field_lines text.now) fault) }
+    ensures fault { IfErr result (IsFaultTold (source_format nodes) (field_lines text.now)) }
     // The text's fault is answered, unless memory is refused.
-    ensures faulty { (fault : FaultType) → IsFaultOf (source_format nodes) (field_lines text.now) fault →
+    ensures faulty { (fault : FaultType)
+        → IsFaultOf (source_format nodes) (field_lines text.now) fault →
         MatchResult result (λ _. ⊥) (λ found. (found ≡ out_of_memory) ⊎ (found ≡ fault)) }
 {
     read_sources(alloc, text, nodes)

@@ -1,6 +1,6 @@
 //! The text of a timetable.
 ghost use Rattle.std.specs.Prelude.{◌≡◌, ◌<◌, ◌≤◌, ◌+◌, ◌^◌, ℕ, List, IfErr, IfOk, MatchResult, ◌⊎◌, map, length, codes};
-ghost use Rattle.ea_input.specs.Checks.{IsFaultOf};
+ghost use Rattle.ea_input.specs.Checks.{IsFaultOf, IsFaultTold};
 ghost use Rattle.ea_input.specs.Fault.{Gives, out_of_memory};
 ghost use Rattle.ea_input.specs.Formats.{table_format};
 ghost use Rattle.ea_input.specs.Grammar.{IsGrammar};
@@ -11,6 +11,7 @@ ghost use Rattle.ea_input.specs.Table.{Table, DenotesTable, table_of};
 ghost use Rattle.ea_input.specs.Reading.{GivesLine};
 ghost use Rattle.ea_input.specs.TableViews.{read_of, table};
 ghost use Rattle.ea_text.specs.Text.{field_lines};
+ghost use Rattle.ea_input.specs.Borrowed.{texts_now};
 
 use crate::fault::{FaultKind, InputFault};
 use crate::listing::after_kind;
@@ -64,7 +65,7 @@ fn size_read(kinds: &[u8], assigned: &[u8]) -> Result<TableSize, FaultKind>
 
 #[tactic(auto, unfolding(crate::specs::Table::size_of))]
 fn size_of(fields: &[&[u8]]) -> Result<TableSize, FaultKind>
-    ensures { result ≡ spec.size_of (map (λ field. field.now) fields.now) }
+    ensures { result ≡ spec.size_of (texts_now fields.now) }
 {
     match fields {
         [kinds, assigned] => size_read(kinds, assigned),
@@ -74,7 +75,7 @@ fn size_of(fields: &[&[u8]]) -> Result<TableSize, FaultKind>
 
 #[tactic(auto, unfolding(crate::specs::Table::problem_line))]
 fn problem_line(size: Option<TableSize>, fields: &[&[u8]]) -> Result<TableLine, FaultKind>
-    ensures { result ≡ spec.problem_line size (map (λ field. field.now) fields.now) }
+    ensures { result ≡ spec.problem_line size (texts_now fields.now) }
 {
     if size.is_some() {
         return Err(FaultKind::SecondProblemLine);
@@ -223,7 +224,7 @@ fn rush_of(number: u64, field: &[u8], others: &[&[u8]]) -> Result<RawKind, Fault
 
 #[tactic(auto, unfolding(crate::specs::Table::kind_of))]
 fn kind_of(number: u64, fields: &[&[u8]]) -> Result<RawKind, FaultKind>
-    ensures { result ≡ spec.kind_of number (map (λ field. field.now) fields.now) }
+    ensures { result ≡ spec.kind_of number (texts_now fields.now) }
 {
     let [field, name, others @ ..] = fields else {
         return Err(FaultKind::FieldCount);
@@ -248,7 +249,7 @@ fn kind_line(
     fields: &[&[u8]],
 ) -> Result<TableLine, FaultKind>
     requires { count + 1 < 2 ^ 64 }
-    ensures { result ≡ spec.kind_line size count (map (λ field. field.now) fields.now) }
+    ensures { result ≡ spec.kind_line size count (texts_now fields.now) }
 {
     let size = size.ok_or(FaultKind::NoProblemLine)?;
     let kind = kind_of(count as u64 + 1, fields)?;
@@ -270,7 +271,7 @@ fn assigned_within(arcs: u32, classes: u32, arc: u128, class: u128) -> Result<(u
 
 #[tactic(auto, unfolding(crate::specs::Table::assigned_of))]
 fn assigned_of(arcs: u32, classes: u32, fields: &[&[u8]]) -> Result<(u32, u32), FaultKind>
-    ensures { result ≡ spec.assigned_of arcs classes (map (λ field. field.now) fields.now) }
+    ensures { result ≡ spec.assigned_of arcs classes (texts_now fields.now) }
 {
     let [arc, class] = fields else {
         return Err(FaultKind::FieldCount);
@@ -286,7 +287,7 @@ fn assigned_line(
     count: usize,
     fields: &[&[u8]],
 ) -> Result<TableLine, FaultKind>
-    ensures { result ≡ spec.assigned_line arcs size count (map (λ field. field.now) fields.now) }
+    ensures { result ≡ spec.assigned_line arcs size count (texts_now fields.now) }
 {
     let size = size.ok_or(FaultKind::NoProblemLine)?;
     let entry = assigned_of(arcs, size.kinds, fields)?;
@@ -341,7 +342,7 @@ struct TableReader {
 impl TableReader {
     #[tactic(auto, unfolding(crate::specs::Table::table_line))]
     fn line_says(&self, fields: &[&[u8]]) -> Result<TableLine, FaultKind>
-        ensures { result ≡ spec.table_line (read_of self.now) (map (λ field. field.now) fields.now) }
+        ensures { result ≡ spec.table_line (read_of self.now) (texts_now fields.now) }
     {
         let [word, others @ ..] = fields else {
             return Ok(TableLine::Silent);
@@ -371,7 +372,8 @@ impl TableReader {
     /// Takes up what a line says.
     #[tactic(auto, unfolding(crate::specs::Table::after_said))]
     fn add(&mut self, said: Result<TableLine, FaultKind>) -> Result<(), FaultKind>
-        ensures { GivesLine (λ _. read_of self.new) result (spec.after_said (read_of self.old) said) }
+        ensures { GivesLine (λ _. read_of self.new) result
+            (spec.after_said (read_of self.old) said) }
     {
         match said? {
             TableLine::Silent => {}
@@ -449,15 +451,17 @@ fn read_table(alloc: Global, text: &[u8], arcs: u32) -> Result<RawTable, InputFa
 /// nothing of the text.
 pub fn read_tp(alloc: Global, text: &[u8], arcs: u32) -> Result<RawTable, InputFault>
     // What is read is what the text denotes.
-    ensures denoted { IfOk result (λ found. DenotesTable arcs (field_lines text.now) (table found)) }
+    ensures denoted { IfOk result
+        (λ found. DenotesTable arcs (field_lines text.now) (table found)) }
     // What the text denotes is read, unless memory is refused.
     ensures only { (t : Table) → DenotesTable arcs (field_lines text.now) t →
         MatchResult result (λ read. table read ≡ t) (λ fault. fault ≡ out_of_memory) }
 
     // A fault is the text's, unless memory is refused.
-    ensures fault { IfErr result (λ fault. (fault ≡ out_of_memory) ⊎ IsFaultOf (table_format arcs) (field_lines text.now) fault) }
+    ensures fault { IfErr result (IsFaultTold (table_format arcs) (field_lines text.now)) }
     // The text's fault is answered, unless memory is refused.
-    ensures faulty { (fault : FaultType) → IsFaultOf (table_format arcs) (field_lines text.now) fault →
+    ensures faulty { (fault : FaultType)
+        → IsFaultOf (table_format arcs) (field_lines text.now) fault →
         MatchResult result (λ _. ⊥) (λ found. (found ≡ out_of_memory) ⊎ (found ≡ fault)) }
 {
     read_table(alloc, text, arcs)

@@ -44,9 +44,17 @@ abbrev pub each_node : (ℕ → List ℕ) → ℕ → List ℕ
 each_node text zero = []
 each_node text (suc n) = each_node text n ++ text (suc n)
 
+-- A problem where all of so many nodes are asked: its sources, and each node.
+abbrev pub text_of_all : Bool → ℕ → List Source → Answered → List ℕ
+text_of_all walks nodes sources answer = flat_map source_line sources ++ each_node (node_text walks answer) nodes
+
+-- A problem where a target is asked: the pair, and the target.
+abbrev pub text_of_target : Bool → ℕ → List Source → Answered → List ℕ
+text_of_target walks target sources answer = flat_map (pair_line target) sources ++ node_text walks answer target
+
 -- A problem: where all of so many nodes are asked, its sources and each node; where a target is asked, the pair and the target.
 abbrev pub problem_text : Bool → ℕ → Asking → Answered → List ℕ
 problem_text walks nodes query answer = asked_text query.target where
   asked_text : Option ℕ → List ℕ
-  asked_text None = flat_map source_line query.sources ++ each_node (node_text walks answer) nodes
-  asked_text (Some target) = flat_map (pair_line target) query.sources ++ node_text walks answer target
+  asked_text None = text_of_all walks nodes query.sources answer
+  asked_text (Some target) = text_of_target walks target query.sources answer

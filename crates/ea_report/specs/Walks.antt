@@ -15,6 +15,18 @@ pub record Following : Type 0 where
   pub links : List Link
   pub text : List ℕ
 
+-- The text of the walk to the node at a place.
+abbrev pub text_to : List Link → List ℕ → ℕ → List ℕ
+text_to links nodes place = arcs_text (linked_walk links (slice_index nodes place))
+
+-- The node at a place has its place as its level.
+abbrev pub HasLevel : List Link → List ℕ → ℕ → Type 0
+HasLevel links nodes place = (link links (slice_index nodes place)).level ≡ place
+
+-- The link of the node at a place leads from the node before.
+abbrev pub LeadsOn : List Link → List ℕ → ℕ → Type 0
+LeadsOn links nodes place = (link links (slice_index nodes place)).from ≡ slice_index nodes (place - 1)
+
 -- From a place on the nodes lie along their links: each has its place as its level, and its link leads to the node before.
 abbrev pub IsPath : List Link → List ℕ → ℕ → Type 0
 IsPath links nodes from = (place : ℕ) → from ≤ place → place < length nodes →

@@ -57,7 +57,8 @@ pub(crate) fn push_walk(
     count: u32,
     arcs: &[u8],
 ) -> Result<(), AllocError>
-    ensures { OnOk result ((walk : List ℕ) → length walk ≡ count → arcs.now ≡ arcs_text walk → text.new.items ≡ text.old.items ++ walk_line node walk) }
+    ensures { OnOk result ((walk : List ℕ) → length walk ≡ count → arcs.now ≡ arcs_text walk
+        → text.new.items ≡ text.old.items ++ walk_line node walk) }
 {
     text.push(b'w')?;
     push_number(text, u64::from(node))?;
@@ -90,7 +91,8 @@ fn push_found_walk(
     requires asked { IsAskedBy answer.now.target node }
     requires walks { answer.now.walks ≡ true }
     requires links { arcs.old.links ≡ answer.now.links }
-    ensures text { OnOk result (text.new.items ≡ text.old.items ++ walk_text node (walk_of answer.now node)) }
+    ensures text { OnOk result
+        (text.new.items ≡ text.old.items ++ walk_text node (walk_of answer.now node)) }
     ensures links { arcs.new.links ≡ arcs.old.links }
 {
     if answer.arrival(node).is_none() {
@@ -113,7 +115,8 @@ pub(crate) fn push_node(
     requires asked { IsAskedBy answer.now.target node }
     requires walks { walks ≡ true → answer.now.walks ≡ true }
     requires links { arcs.old.links ≡ answer.now.links }
-    ensures text { OnOk result (text.new.items ≡ text.old.items ++ node_text walks answer.now node) }
+    ensures text { OnOk result
+        (text.new.items ≡ text.old.items ++ node_text walks answer.now node) }
     ensures links { arcs.new.links ≡ arcs.old.links }
 {
     push_arrival(text, node, answer.arrival(node))?;

@@ -1,7 +1,7 @@
 //! Reports, written to a device in large pieces.
 ghost use Rattle.std.specs.Prelude.{◌≡◌, ◌<◌, ◌≤◌, ◌+◌, ◌^◌, ◌*◌, ◌++◌, ℕ, [], List, None, OnOk, IfOk, IfErr, length, true};
 ghost use Rattle.std.specs.List.{flat_map};
-ghost use Rattle.ea_report.specs.Report.{source_line, pair_line, node_text, each_node, problem_text};
+ghost use Rattle.ea_report.specs.Report.{source_line, pair_line, node_text, each_node, problem_text, text_of_all, text_of_target};
 ghost use Rattle.ea_report.specs.Delivery.{all_sent};
 ghost use Rattle.ea_report.specs.Deliverers.{delivery_of};
 ghost use Rattle.ea_report.specs.Sent.{Adds, Cuts, GoesOn, IsCutBy, IsWhole, Stops};
@@ -198,7 +198,8 @@ impl Pending {
         ensures err { IfErr result (λ fault. Stops (W.seen out.old) (delivery_of self.old)
             (W.seen out.new) fault (flat_map source_line sources.now)) }
         ensures bound { self.new.written ≤ self.old.written + length sources.now * 2 ^ 63 }
-        ensures small { IfErr result (λ fault. fault.written ≤ self.old.written + length sources.now * 2 ^ 63) }
+        ensures small { IfErr result
+            (λ fault. fault.written ≤ self.old.written + length sources.now * 2 ^ 63) }
     {
         for source in sources {
             self.put_source(*source, out)?;
@@ -219,7 +220,8 @@ impl Pending {
         ensures err { IfErr result (λ fault. Stops (W.seen out.old) (delivery_of self.old)
             (W.seen out.new) fault (flat_map (pair_line target) sources.now)) }
         ensures bound { self.new.written ≤ self.old.written + length sources.now * 2 ^ 63 }
-        ensures small { IfErr result (λ fault. fault.written ≤ self.old.written + length sources.now * 2 ^ 63) }
+        ensures small { IfErr result
+            (λ fault. fault.written ≤ self.old.written + length sources.now * 2 ^ 63) }
     {
         for source in sources {
             self.put_pair(*source, target, out)?;
@@ -241,7 +243,8 @@ impl Pending {
         requires all { answer.now.target ≡ None }
         requires walks { walks ≡ true → answer.now.walks ≡ true }
         ensures ok { OnOk result (Adds (W.seen out.old) (delivery_of self.old)
-            (W.seen out.new) (delivery_of self.new) (each_node (node_text walks answer.now) nodes)) }
+            (W.seen out.new) (delivery_of self.new)
+            (each_node (node_text walks answer.now) nodes)) }
         ensures err { IfErr result (λ fault. Stops (W.seen out.old) (delivery_of self.old)
             (W.seen out.new) fault (each_node (node_text walks answer.now) nodes)) }
         ensures bound { self.new.written ≤ self.old.written + nodes * 2 ^ 63 }
@@ -278,12 +281,14 @@ impl Pending {
         requires all { answer.now.target ≡ None }
         requires walks { walks ≡ true → answer.now.walks ≡ true }
         ensures ok { OnOk result (Adds (W.seen out.old) (delivery_of self.old)
-            (W.seen out.new) (delivery_of self.new) (flat_map source_line sources.now ++ each_node (node_text walks answer.now) nodes)) }
+            (W.seen out.new) (delivery_of self.new)
+            (text_of_all walks nodes sources.now answer.now)) }
         ensures err { IfErr result (λ fault. Stops (W.seen out.old) (delivery_of self.old)
-            (W.seen out.new) fault (flat_map source_line sources.now ++ each_node (node_text walks answer.now) nodes)) }
+            (W.seen out.new) fault (text_of_all walks nodes sources.now answer.now)) }
         ensures bound { self.new.written ≤ (length sources.now + nodes) * 2 ^ 63 }
         ensures room { self.new.written < 2 ^ 127 + 2 ^ 96 }
-        ensures small { IfErr result (λ fault. fault.written ≤ (length sources.now + nodes) * 2 ^ 63) }
+        ensures small { IfErr result
+            (λ fault. fault.written ≤ (length sources.now + nodes) * 2 ^ 63) }
     {
         match self.put_sources(sources, out) {
             Ok(()) => self.put_nodes(alloc, answer, nodes, walks, out),
@@ -306,9 +311,10 @@ impl Pending {
         requires asked { IsAskedBy answer.now.target target }
         requires walks { walks ≡ true → answer.now.walks ≡ true }
         ensures ok { OnOk result (Adds (W.seen out.old) (delivery_of self.old)
-            (W.seen out.new) (delivery_of self.new) (flat_map (pair_line target) sources.now ++ node_text walks answer.now target)) }
+            (W.seen out.new) (delivery_of self.new)
+            (text_of_target walks target sources.now answer.now)) }
         ensures err { IfErr result (λ fault. Stops (W.seen out.old) (delivery_of self.old)
-            (W.seen out.new) fault (flat_map (pair_line target) sources.now ++ node_text walks answer.now target)) }
+            (W.seen out.new) fault (text_of_target walks target sources.now answer.now)) }
         ensures bound { self.new.written ≤ (length sources.now + 1) * 2 ^ 63 }
         ensures room { self.new.written < 2 ^ 127 + 2 ^ 96 }
         ensures small { IfErr result (λ fault. fault.written ≤ (length sources.now + 1) * 2 ^ 63) }
@@ -333,12 +339,15 @@ impl Pending {
         requires of { IsOf network.now query.now answer.now }
         requires walks { walks ≡ true → answer.now.walks ≡ true }
         ensures ok { OnOk result (Adds (W.seen out.old) (delivery_of self.old)
-            (W.seen out.new) (delivery_of self.new) (problem_text walks network.now.nodes query.now answer.now)) }
+            (W.seen out.new) (delivery_of self.new)
+            (problem_text walks network.now.nodes query.now answer.now)) }
         ensures err { IfErr result (λ fault. Stops (W.seen out.old) (delivery_of self.old)
             (W.seen out.new) fault (problem_text walks network.now.nodes query.now answer.now)) }
-        ensures bound { self.new.written ≤ (network.now.nodes + length query.now.sources + 1) * 2 ^ 63 }
+        ensures bound { self.new.written ≤
+            (network.now.nodes + length query.now.sources + 1) * 2 ^ 63 }
         ensures room { self.new.written < 2 ^ 127 + 2 ^ 96 }
-        ensures small { IfErr result (λ fault. fault.written ≤ (network.now.nodes + length query.now.sources + 1) * 2 ^ 63) }
+        ensures small { IfErr result
+            (λ fault. fault.written ≤ (network.now.nodes + length query.now.sources + 1) * 2 ^ 63) }
     {
         let sources = query.sources();
         match query.target() {
@@ -361,12 +370,16 @@ fn send_problem<W: ByteOut>(
     requires walks { walks ≡ true → answer.now.walks ≡ true }
     ensures ok { let before = W.seen out.old in
         let after = W.seen out.new in
-        IfOk result (IsWhole before after (problem_text walks network.now.nodes query.now answer.now)) }
+        IfOk result (IsWhole before after
+        (problem_text walks network.now.nodes query.now answer.now)) }
     ensures err { let before = W.seen out.old in
         let after = W.seen out.new in
-        IfErr result (IsCutBy before after (problem_text walks network.now.nodes query.now answer.now)) }
-    ensures bound { IfOk result (λ written. written ≤ (network.now.nodes + length query.now.sources + 2) * 2 ^ 63) }
-    ensures small { IfErr result (λ fault. fault.written ≤ (network.now.nodes + length query.now.sources + 2) * 2 ^ 63) }
+        IfErr result (IsCutBy before after
+        (problem_text walks network.now.nodes query.now answer.now)) }
+    ensures bound { IfOk result
+        (λ written. written ≤ (network.now.nodes + length query.now.sources + 2) * 2 ^ 63) }
+    ensures small { IfErr result
+        (λ fault. fault.written ≤ (network.now.nodes + length query.now.sources + 2) * 2 ^ 63) }
 {
     let mut pending = Pending::new(alloc);
     pending.put_problem(alloc, network, query, answer, walks, out)?;
@@ -392,13 +405,17 @@ pub fn write_problem<W: ByteOut>(
     requires walks { options.walks ≡ true → answer.now.walks ≡ true }
     ensures ok { let before = W.seen out.old in
         let after = W.seen out.new in
-        IfOk result (IsWhole before after (problem_text options.walks network.now.nodes query.now answer.now)) }
+        IfOk result (IsWhole before after
+        (problem_text options.walks network.now.nodes query.now answer.now)) }
     ensures err { let before = W.seen out.old in
         let after = W.seen out.new in
-        IfErr result (IsCutBy before after (problem_text options.walks network.now.nodes query.now answer.now)) }
+        IfErr result (IsCutBy before after
+        (problem_text options.walks network.now.nodes query.now answer.now)) }
     // A line has fewer than 2^63 bytes, so a sum over a million problems is below 2^128.
-    ensures bound { IfOk result (λ written. written ≤ (network.now.nodes + length query.now.sources + 2) * 2 ^ 63) }
-    ensures small { IfErr result (λ fault. fault.written ≤ (network.now.nodes + length query.now.sources + 2) * 2 ^ 63) }
+    ensures bound { IfOk result
+        (λ written. written ≤ (network.now.nodes + length query.now.sources + 2) * 2 ^ 63) }
+    ensures small { IfErr result
+        (λ fault. fault.written ≤ (network.now.nodes + length query.now.sources + 2) * 2 ^ 63) }
     // WriteFailed comes only where the device's counts show a reason.
     ensures device { IfErr result (λ fault. fault.kind ≡ WriteFaultKind.WriteFailed →
         HasGivenUp (W.seen out.old) (W.seen out.new)) }

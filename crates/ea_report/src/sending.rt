@@ -20,7 +20,8 @@ pub(crate) fn send<W: ByteOut>(
     ensures borne { interruptions.new ≤ MOST_INTERRUPTIONS }
     // Whatever was counted before, the count goes on; and an error has a reason.
     ensures counted { OnOk result ((first : Seen) →
-        HasBorne first (W.seen out.old) interruptions.old → HasBorne first (W.seen out.new) interruptions.new) }
+        HasBorne first (W.seen out.old) interruptions.old
+        → HasBorne first (W.seen out.new) interruptions.new) }
     ensures given_up { OnErr result ((first : Seen) →
         HasBorne first (W.seen out.old) interruptions.old → GivesUp first (W.seen out.new)) }
 {

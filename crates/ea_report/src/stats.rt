@@ -124,11 +124,13 @@ impl Direct {
     fn put_totals<W: ByteOut>(&mut self, rows: &[Row<'_>], out: &mut W) -> Result<(), WriteFault>
         requires { self.old.written + length rows.now * (6 * 2 ^ 64) + 6 * 2 ^ 64 < 2 ^ 128 }
         ensures ok { OnOk result (Adds (W.seen out.old) (direct_delivery self.old)
-            (W.seen out.new) (direct_delivery self.new) (flat_map (λ row. total_line (row.0.now, row.1)) rows.now)) }
+            (W.seen out.new) (direct_delivery self.new)
+            (flat_map (λ row. total_line (row.0.now, row.1)) rows.now)) }
         ensures err { IfErr result (λ fault. Stops (W.seen out.old) (direct_delivery self.old)
             (W.seen out.new) fault (flat_map (λ row. total_line (row.0.now, row.1)) rows.now)) }
         ensures device { IfErr result (λ fault. fault.kind ≡ WriteFaultKind.WriteFailed) }
-        ensures small { IfErr result (λ fault. fault.written ≤ self.old.written + length rows.now * (6 * 2 ^ 64)) }
+        ensures small { IfErr result
+            (λ fault. fault.written ≤ self.old.written + length rows.now * (6 * 2 ^ 64)) }
     {
         for row in rows {
             self.put_total(row.0, row.1, out)?;

@@ -4,7 +4,7 @@ ghost use Rattle.ea_road.specs.Roads.{IsNode};
 ghost use Rattle.ea_finish.specs.declared.link.TheConstants.{NO_LEVEL};
 ghost use Rattle.ea_finish.specs.Links.{link, linked_walk};
 ghost use Rattle.ea_finish.specs.Stored.{AreFollowable};
-ghost use Rattle.ea_report.specs.Walks.{AreFronts, IsPath, arcs_text};
+ghost use Rattle.ea_report.specs.Walks.{AreFronts, IsPath, arcs_text, text_to, HasLevel, LeadsOn};
 
 use crate::lines::push_number;
 use ea_finish::Link;
@@ -56,11 +56,12 @@ fn push_arc_at(
 ) -> Result<(), AllocError>
     requires place { place < length nodes.now }
     requires node { IsNode (length links.now) (slice_index nodes.now place) }
-    requires level { (link links.now (slice_index nodes.now place)).level ≡ place }
-    requires before { 0 < place → (link links.now (slice_index nodes.now place)).from ≡ slice_index nodes.now (place - 1) × ((link links.now (slice_index nodes.now (place - 1))).level ≡ place - 1) }
-    requires text { 0 < place → text.old.items ≡ arcs_text (linked_walk links.now (slice_index nodes.now (place - 1))) }
+    requires level { HasLevel links.now nodes.now place }
+    requires before { 0 < place → LeadsOn links.now nodes.now place
+        × HasLevel links.now nodes.now (place - 1) }
+    requires text { 0 < place → text.old.items ≡ text_to links.now nodes.now (place - 1) }
     requires start { place ≤ 0 → text.old.items ≡ [] }
-    ensures { OnOk result (text.new.items ≡ arcs_text (linked_walk links.now (slice_index nodes.now place))) }
+    ensures { OnOk result (text.new.items ≡ text_to links.now nodes.now place) }
 {
     if place == 0 {
         return Ok(());
@@ -80,10 +81,12 @@ fn write_on(
     requires path { IsPath links.now nodes.now (length ends.old.items) }
     requires fronts { AreFronts links.now nodes.now ends.old.items text.old.items }
     requires some { 0 < length nodes.now }
-    requires whole { 0 < length ends.old.items → text.old.items ≡ arcs_text (linked_walk links.now (slice_index nodes.now (length ends.old.items - 1))) }
+    requires whole { 0 < length ends.old.items → text.old.items
+        ≡ text_to links.now nodes.now (length ends.old.items - 1) }
     requires none { length ends.old.items ≤ 0 → text.old.items ≡ [] }
     ensures fronts { OnOk result (AreFronts links.now nodes.now ends.new.items text.new.items) }
-    ensures whole { OnOk result (text.new.items ≡ arcs_text (linked_walk links.now (slice_index nodes.now (length nodes.now - 1)))) }
+    ensures whole { OnOk result
+        (text.new.items ≡ text_to links.now nodes.now (length nodes.now - 1)) }
 {
     'on: while ends.len() < nodes.len() {
         push_arc_at(links, nodes, ends.len(), text)?;
@@ -96,7 +99,8 @@ fn write_on(
 fn cut_to(ends: &mut Vec<usize>, text: &mut Vec<u8>, kept: usize)
     requires { kept ≤ length ends.old.items }
     ensures ends { ends.new.items ≡ take kept ends.old.items }
-    ensures some { 0 < kept → text.new.items ≡ take (slice_index ends.old.items (kept - 1)) text.old.items }
+    ensures some { 0 < kept → text.new.items
+        ≡ take (slice_index ends.old.items (kept - 1)) text.old.items }
     ensures none { kept ≤ 0 → text.new.items ≡ [] }
 {
     if kept == 0 {
@@ -111,7 +115,8 @@ fn cut_to(ends: &mut Vec<usize>, text: &mut Vec<u8>, kept: usize)
 fn make_places(nodes: &mut Vec<u32>, ends: &mut Vec<usize>, places: usize) -> Result<(), AllocError>
     requires { length ends.old.items ≤ length nodes.old.items }
     ensures places { OnOk result (length nodes.new.items ≡ places) }
-    ensures same { take (length ends.new.items) nodes.new.items ≡ take (length ends.new.items) nodes.old.items }
+    ensures same { take (length ends.new.items) nodes.new.items
+        ≡ take (length ends.new.items) nodes.old.items }
     ensures few { length ends.new.items ≤ length nodes.new.items }
     ensures less { length ends.new.items ≤ length ends.old.items }
     ensures ends { ends.new.items ≡ take (length ends.new.items) ends.old.items }
@@ -132,7 +137,8 @@ fn go_on(
     requires followable { AreFollowable links.now }
     requires level { (link links.now node).level < NO_LEVEL }
     requires fronts { AreFronts links.now nodes.old.items ends.old.items text.old.items }
-    ensures fronts { OnOk result (AreFronts links.now nodes.new.items ends.new.items text.new.items) }
+    ensures fronts { OnOk result
+        (AreFronts links.now nodes.new.items ends.new.items text.new.items) }
     ensures whole { OnOk result (text.new.items ≡ arcs_text (linked_walk links.now node)) }
 {
     let places = links[node as usize - 1].level as usize + 1;

@@ -46,11 +46,13 @@ impl Direct {
     ) -> Result<(), WriteFault>
         requires { self.old.written + length pieces.now * 2 ^ 64 + 2 ^ 64 < 2 ^ 128 }
         ensures ok { OnOk result (Adds (W.seen out.old) (direct_delivery self.old)
-            (W.seen out.new) (direct_delivery self.new) (flat_map (λ piece. piece.now) pieces.now)) }
+            (W.seen out.new) (direct_delivery self.new)
+            (flat_map (λ piece. piece.now) pieces.now)) }
         ensures err { IfErr result (λ fault. Stops (W.seen out.old) (direct_delivery self.old)
             (W.seen out.new) fault (flat_map (λ piece. piece.now) pieces.now)) }
         ensures device { IfErr result (λ fault. fault.kind ≡ WriteFaultKind.WriteFailed) }
-        ensures bound { OnOk result (self.new.written ≤ self.old.written + length pieces.now * 2 ^ 64) }
+        ensures bound { OnOk result
+            (self.new.written ≤ self.old.written + length pieces.now * 2 ^ 64) }
     {
         for piece in pieces {
             self.put(piece, out)?;

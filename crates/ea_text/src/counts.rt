@@ -29,7 +29,8 @@ impl Counts {
     pub fn count(&mut self, fault: DeviceFault) -> DeviceFault
         ensures fault { result ≡ fault }
         ensures failed { self.new.failures ≡ failures_by fault self.old.failures }
-        ensures interrupted { self.new.interruptions ≡ interruptions_by fault self.old.interruptions }
+        ensures interrupted { self.new.interruptions
+            ≡ interruptions_by fault self.old.interruptions }
     {
         match fault {
             DeviceFault::Failed => self.failures = self.failures.saturating_add(1),

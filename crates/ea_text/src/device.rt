@@ -33,9 +33,12 @@ pub trait ByteIn: Device {
     /// Puts bytes into the front of `buf`; none only at the end, or where `buf` is empty.
     fn read(&mut self, buf: &mut [u8]) -> Result<usize, DeviceFault>
         ensures bound { ReadsAtMost result buf.new }
-        ensures bytes { ReadConsumes (Self.seen self.old).bytes (Self.seen self.new).bytes result buf.new }
-        ensures failed { (Self.seen self.new).failed ≡ failures_after result (Self.seen self.old).failed }
-        ensures interrupted { (Self.seen self.new).interrupted ≡ interruptions_after result (Self.seen self.old).interrupted };
+        ensures bytes { ReadConsumes (Self.seen self.old).bytes
+            (Self.seen self.new).bytes result buf.new }
+        ensures failed { (Self.seen self.new).failed
+            ≡ failures_after result (Self.seen self.old).failed }
+        ensures interrupted { (Self.seen self.new).interrupted
+            ≡ interruptions_after result (Self.seen self.old).interrupted };
 }
 
 /// What takes bytes.
@@ -44,7 +47,10 @@ pub trait ByteOut: Device {
     fn write(&mut self, buf: &[u8]) -> Result<usize, DeviceFault>
         ensures bound { WritesAtMost result buf.now }
         ensures some { IfOk result (λ n. 0 < length buf.now → 0 < n) }
-        ensures bytes { WriteAppends (Self.seen self.old).bytes (Self.seen self.new).bytes result buf.now }
-        ensures failed { (Self.seen self.new).failed ≡ failures_after result (Self.seen self.old).failed }
-        ensures interrupted { (Self.seen self.new).interrupted ≡ interruptions_after result (Self.seen self.old).interrupted };
+        ensures bytes { WriteAppends (Self.seen self.old).bytes
+            (Self.seen self.new).bytes result buf.now }
+        ensures failed { (Self.seen self.new).failed
+            ≡ failures_after result (Self.seen self.old).failed }
+        ensures interrupted { (Self.seen self.new).interrupted
+            ≡ interruptions_after result (Self.seen self.old).interrupted };
 }

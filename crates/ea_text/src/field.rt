@@ -44,7 +44,8 @@ fn split_field(line: &[u8]) -> (&[u8], &[u8])
 
 /// The first field of a line, and the bytes after it and its blank; none where the line has no field.
 pub fn first_field(line: &[u8]) -> Option<(&[u8], &[u8])>
-    ensures cut { MatchOption result (fields_of line.now ≡ []) (λ x. fields_of line.now ≡ x.0.now ∷ fields_of x.1.now) }
+    ensures cut { MatchOption result (fields_of line.now ≡ [])
+        (λ x. fields_of line.now ≡ x.0.now ∷ fields_of x.1.now) }
     ensures shorter { IfSome result (λ x. length x.1.now < length line.now) }
 {
     let rest = skip_blanks(line);

@@ -85,13 +85,15 @@ fn read_piece<R: ByteIn>(
     ensures taken { IfOk result (λ _. (first : Option (List ℕ)) →
         Consumes first (R.seen reader.old).bytes bytes.old.items →
         Consumes first (R.seen reader.new).bytes bytes.new.items) }
-    ensures some { IsOkAnd result (λ p. p ≡ Piece.Some) → length bytes.old.items < length bytes.new.items }
+    ensures some { IsOkAnd result (λ p. p ≡ Piece.Some)
+        → length bytes.old.items < length bytes.new.items }
     ensures most { length bytes.new.items ≤ length bytes.old.items + length piece.old }
     ensures end { IsOkAnd result (λ p. p ≡ Piece.End) → IsAtEnd (R.seen reader.new).bytes }
     ensures kept { IsOkAnd result (λ p. p ≢ Piece.Some) → bytes.new.items ≡ bytes.old.items }
     ensures refused { OnErr result ((bytes.new.items ≡ bytes.old.items)
         × TakesAtMost (length piece.old) (R.seen reader.old) (R.seen reader.new)) }
-    ensures failed { IfOk result (λ p. (R.seen reader.new).failed ≡ failures_with p (R.seen reader.old).failed) }
+    ensures failed { IfOk result
+        (λ p. (R.seen reader.new).failed ≡ failures_with p (R.seen reader.old).failed) }
     ensures interrupted { IfOk result (λ p.
         (R.seen reader.new).interrupted ≡ interruptions_with p (R.seen reader.old).interrupted) }
     ensures quiet { OnErr result (AreAlike (R.seen reader.old) (R.seen reader.new)) }
@@ -113,11 +115,13 @@ fn read_piece<R: ByteIn>(
 /// `OutOfMemory` where memory for the bytes was refused. Bytes taken before a fault are lost.
 pub fn read_all<R: ByteIn>(alloc: Global, reader: &mut R, limit: u64) -> Result<Vec<u8>, ReadFault>
     // All bytes that the device had, and none is left.
-    ensures all { IfOk result (λ bytes. IfSome (R.seen reader.old).bytes (λ left. bytes.items ≡ left)) }
+    ensures all { IfOk result
+        (λ bytes. IfSome (R.seen reader.old).bytes (λ left. bytes.items ≡ left)) }
     ensures end { OnOk result (IsAtEnd (R.seen reader.new).bytes) }
     ensures within { IfOk result (λ bytes. length bytes.items ≤ limit) }
 
-    ensures too_large { IsErrOf result ReadFault.TooLarge → IfSome (R.seen reader.old).bytes (λ left. limit < length left) }
+    ensures too_large { IsErrOf result ReadFault.TooLarge
+        → IfSome (R.seen reader.old).bytes (λ left. limit < length left) }
     ensures read_failed { IsErrOf result ReadFault.ReadFailed →
         HasGivenUp (R.seen reader.old) (R.seen reader.new) }
 

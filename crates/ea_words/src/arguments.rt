@@ -45,8 +45,10 @@ pub(crate) fn file<'a>(alloc: Global, name: &'a str, value: &'a str, help: &'a s
 /// A command with one more argument.
 pub(crate) fn with_arg<'a>(command: Command<'a>, arg: Arg<'a>) -> Result<Command<'a>, AllocError>
     requires { arg.global ≡ false }
-    ensures app { IfOk result (λ c. app_of c ≡ with_rule (app_of command.entry) (rule_of arg.entry)) }
-    ensures local { IfOk result (λ c. (fields_of command.entry).has_globals ≡ false → (fields_of c).has_globals ≡ false) }
+    ensures app { IfOk result
+        (λ c. app_of c ≡ with_rule (app_of command.entry) (rule_of arg.entry)) }
+    ensures local { IfOk result
+        (λ c. (fields_of command.entry).has_globals ≡ false → (fields_of c).has_globals ≡ false) }
 {
     command.arg(arg)
 }
@@ -57,7 +59,8 @@ pub(crate) fn with_departures<'a>(
     command: Command<'a>,
 ) -> Result<Command<'a>, AllocError>
     ensures app { IfOk result (λ c. app_of c ≡ with_departures (app_of command.entry)) }
-    ensures local { IfOk result (λ c. (fields_of command.entry).has_globals ≡ false → (fields_of c).has_globals ≡ false) }
+    ensures local { IfOk result
+        (λ c. (fields_of command.entry).has_globals ≡ false → (fields_of c).has_globals ≡ false) }
 {
     let command = with_arg(
         command,
@@ -95,7 +98,8 @@ pub(crate) fn with_workers<'a>(
     command: Command<'a>,
 ) -> Result<Command<'a>, AllocError>
     ensures app { IfOk result (λ c. app_of c ≡ with_workers (app_of command.entry)) }
-    ensures local { IfOk result (λ c. (fields_of command.entry).has_globals ≡ false → (fields_of c).has_globals ≡ false) }
+    ensures local { IfOk result
+        (λ c. (fields_of command.entry).has_globals ≡ false → (fields_of c).has_globals ≡ false) }
 {
     let command = with_arg(
         command,
@@ -133,7 +137,8 @@ pub(crate) fn with_report<'a>(
     command: Command<'a>,
 ) -> Result<Command<'a>, AllocError>
     ensures app { IfOk result (λ c. app_of c ≡ with_report (app_of command.entry)) }
-    ensures local { IfOk result (λ c. (fields_of command.entry).has_globals ≡ false → (fields_of c).has_globals ≡ false) }
+    ensures local { IfOk result
+        (λ c. (fields_of command.entry).has_globals ≡ false → (fields_of c).has_globals ≡ false) }
 {
     let command = with_arg(
         command,

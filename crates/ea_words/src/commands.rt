@@ -36,7 +36,8 @@ const CHECK_MORE: &str =
 /// A command that is called so in its texts.
 fn named<'a>(command: Command<'a>, name: &str) -> Result<Command<'a>, AllocError>
     ensures app { IfOk result (λ c. app_of c ≡ app_of command.entry) }
-    ensures local { IfOk result (λ c. (fields_of c).has_globals ≡ (fields_of command.entry).has_globals) }
+    ensures local { IfOk result
+        (λ c. (fields_of c).has_globals ≡ (fields_of command.entry).has_globals) }
 {
     command.bin_name(name)
 }
@@ -151,14 +152,16 @@ fn bare_program<'a>(alloc: Global) -> Command<'a>
 /// A command with one more command below it.
 fn with_command<'a>(command: Command<'a>, below: Command<'a>) -> Result<Command<'a>, AllocError>
     requires { (fields_of below).has_globals ≡ false }
-    ensures { IfOk result (λ c. app_of c ≡ with_subcommand (app_of command.entry) (app_of below.entry).top) }
+    ensures { IfOk result (λ c. app_of c
+        ≡ with_subcommand (app_of command.entry) (app_of below.entry).top) }
 {
     command.subcommand(below)
 }
 
 /// The program with its last commands.
 fn with_last<'a>(alloc: Global, command: Command<'a>) -> Result<Command<'a>, AllocError>
-    ensures { IfOk result (λ c. app_of c ≡ with_subcommand (with_subcommand (app_of command.entry) rank_app.top) check_app.top) }
+    ensures { IfOk result (λ c. app_of c
+        ≡ with_subcommand (with_subcommand (app_of command.entry) rank_app.top) check_app.top) }
 {
     let command = with_command(command, rank_command(alloc)?)?;
     let command = with_command(command, check_command(alloc)?)?;

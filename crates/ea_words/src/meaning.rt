@@ -25,13 +25,8 @@ fn options_in(matches: &ArgMatches<'_>) -> Option<RunOptions>
     ensures limits { IfSome result AreOptions }
 {
     let workers = option_number(matches, "workers", 4, 1, u64::from(MOST_WORKERS))?;
-    let heaps = option_number(
-        matches,
-        "heaps",
-        2,
-        u64::from(LEAST_HEAPS),
-        u64::from(MOST_HEAPS),
-    )?;
+    let most_heaps = u64::from(MOST_HEAPS);
+    let heaps = option_number(matches, "heaps", 2, u64::from(LEAST_HEAPS), most_heaps)?;
     let turns = option_number(matches, "turns", 1_000_000, 0, MOST_TURNS)?;
     let seed = option_number(matches, "seed", 1, 0, u64::MAX)?;
     let depart = option_number(matches, "depart", 0, 0, HORIZON)?;
@@ -81,10 +76,14 @@ fn matches_in<'a, S: AsStr>(
 ) -> Result<ArgMatches<'a>, CommandFault>
     requires simple { is_simple (app_of command) ≡ true }
     requires free { is_simple_and_free (app_of command) ≡ true }
-    ensures taken { IfOk result (λ m. fault_of (app_of command.entry) (map S.text words.entry.now) ≡ []) }
+    ensures taken { IfOk result
+        (λ m. fault_of (app_of command.entry) (map S.text words.entry.now) ≡ []) }
     ensures parsed { IfOk result (λ m. IsParsedFrom command.entry m) }
-    ensures rows { IfOk result (λ m. rows_of (found_of m) ≡ matches_of (app_of command.entry) (map S.text words.entry.now)) }
-    ensures refused { IfErr result (IsRefusalBy (fault_of (app_of command.entry) (map S.text words.entry.now))) }
+    ensures rows { IfOk result
+        (λ m. rows_of (found_of m)
+        ≡ matches_of (app_of command.entry) (map S.text words.entry.now)) }
+    ensures refused { IfErr result
+        (IsRefusalBy (fault_of (app_of command.entry) (map S.text words.entry.now))) }
 {
     match command.try_get_matches_from(words) {
         Ok(matches) => Ok(matches),
@@ -103,7 +102,8 @@ struct Names<'a> {
 
 /// A name, which may be left out where it isn't wanted.
 fn wanted(is_wanted: bool, name: Option<&str>) -> Option<Option<&str>>
-    ensures { option_map (λ name. option_map (λ t. t.now) name) result ≡ Meaning.wanted is_wanted (option_map (λ t. t.now) name.entry) }
+    ensures { option_map (λ name. option_map (λ t. t.now) name) result
+        ≡ Meaning.wanted is_wanted (option_map (λ t. t.now) name.entry) }
 {
     match name {
         None if is_wanted => None,
@@ -114,7 +114,8 @@ fn wanted(is_wanted: bool, name: Option<&str>) -> Option<Option<&str>>
 /// The names of a command's files; the second is called so, and a report may be wanted.
 #[tactic(auto, unfolding(crate::specs::Meaning::files_of))]
 fn names_in<'a>(matches: &ArgMatches<'a>, second: &str, reported: bool) -> Option<Names<'a>>
-    ensures { option_map files result ≡ files_of second.now reported (rows_of (found_of matches.now)) }
+    ensures { option_map files result
+        ≡ files_of second.now reported (rows_of (found_of matches.now)) }
 {
     let gr = text_of(matches, "gr")?;
     let starts = text_of(matches, second)?;
@@ -134,8 +135,11 @@ fn asked_in<'a>(
     second: &str,
     reported: bool,
 ) -> Result<(Names<'a>, RunOptions), CommandFault>
-    requires named { is_some (files_of second.now reported (rows_of (found_of matches.now))) ≡ true }
-    ensures ok { IfOk result (λ asked. (files_of second.now reported (rows_of (found_of matches.now)) ≡ Some (files asked.0)) × (options_of (rows_of (found_of matches.now)) ≡ Some asked.1)) }
+    requires named { is_some (files_of second.now reported (rows_of (found_of matches.now)))
+        ≡ true }
+    ensures ok { IfOk result (λ asked.
+        (files_of second.now reported (rows_of (found_of matches.now)) ≡ Some (files asked.0))
+        × (options_of (rows_of (found_of matches.now)) ≡ Some asked.1)) }
     ensures limits { IfOk result (λ asked. AreOptions asked.1) }
     ensures err { IfErr result (IsUnasked second.now reported (rows_of (found_of matches.now))) }
 {
