@@ -303,26 +303,48 @@ fn messages(rt: HostRuntime) -> Result<(), Fail> {
         format!(in rt.alloc(); "{whole}")?.as_str(),
         "there are fewer lines than were announced (8 TooFewLines)"
     );
-    for kind in [
-        NoProblemLine,
-        SecondProblemLine,
-        UnknownLine,
-        FieldCount,
-        BadNumber,
-        OutOfRange,
-        TooManyLines,
-        TooFewLines,
-        BadKind,
-        OutOfMemory,
+    Ok(())
+}
+
+#[test]
+fn each_kind_has_its_text(rt: HostRuntime) -> Result<(), Fail> {
+    for (kind, text) in [
+        (
+            NoProblemLine,
+            "the problem line `p ..` is missing (1 NoProblemLine)",
+        ),
+        (
+            SecondProblemLine,
+            "there is a second problem line (2 SecondProblemLine)",
+        ),
+        (
+            UnknownLine,
+            "lines of this file don't begin with this word (3 UnknownLine)",
+        ),
+        (
+            FieldCount,
+            "the line has too few or too many fields (4 FieldCount)",
+        ),
+        (BadNumber, "a field is not a number (5 BadNumber)"),
+        (OutOfRange, "a number is out of its range (6 OutOfRange)"),
+        (
+            TooManyLines,
+            "there are more lines of this sort than were announced (7 TooManyLines)",
+        ),
+        (
+            TooFewLines,
+            "there are fewer lines than were announced (8 TooFewLines)",
+        ),
+        (
+            BadKind,
+            "a kind word is not the one expected here (9 BadKind)",
+        ),
+        (OutOfMemory, "there is not enough memory (13 OutOfMemory)"),
     ] {
+        assert_eq!(rt; format!(in rt.alloc(); "{kind}")?.as_str(), text);
         let (number, name) = (kind.number(), kind.name());
         let end = format!(in rt.alloc(); "({number} {name})")?;
-        assert!(rt;
-            format!(in rt.alloc(); "{kind}")?
-                .as_str()
-                .ends_with(end.as_str()),
-            "{kind:?}"
-        );
+        assert!(rt; text.ends_with(end.as_str()), "{kind:?}");
     }
     Ok(())
 }
