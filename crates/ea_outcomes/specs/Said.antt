@@ -2,6 +2,7 @@
 use Rattle.std.specs.Prelude.{ℕ, ◌+◌, ◌-◌, ◌^◌, ◌≤◌, List, [], ◌∷◌, codes, decimal, if◌then◌else◌}
 use Rattle.std.specs.List.{flat_map}
 use Rattle.std.specs.Io.KnownBytes.{Appends}
+use Rattle.ea_limits.specs.declared.TheConstants.{MOST_INTERRUPTIONS}
 use Rattle.ea_text.specs.Outcome.{fault_number, fault_name}
 use Rattle.ea_text.specs.declared.whole.ReadFault.{ReadFault}
 use Rattle.ea_text.specs.declared.whole.ReadFault.TheVariants as read
@@ -131,5 +132,5 @@ pub record IsSaid (line : List ℕ) (first now : Seen) : Type 0 where
   pub sent : ℕ
   pub front : IsCutAt first.bytes now.bytes line sent
   pub one_failure : now.failed ≤ first.failed + 1
-  pub few_interruptions : now.interrupted ≤ first.interrupted + 1001
-  pub whole : now.failed ≤ first.failed → now.failed + 1 ≤ 2 ^ 64 - 1 → now.interrupted ≤ first.interrupted + 1000 → now.interrupted + 1 ≤ 2 ^ 64 - 1 → Appends first.bytes now.bytes line
+  pub few_interruptions : now.interrupted ≤ first.interrupted + (MOST_INTERRUPTIONS + 1)
+  pub whole : now.failed ≤ first.failed → now.failed + 1 ≤ 2 ^ 64 - 1 → now.interrupted ≤ first.interrupted + MOST_INTERRUPTIONS → now.interrupted + 1 ≤ 2 ^ 64 - 1 → Appends first.bytes now.bytes line

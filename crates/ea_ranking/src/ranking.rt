@@ -1,6 +1,7 @@
 //! The rank errors of recorded runs.
 ghost use Rattle.std.specs.Prelude.{◌≡◌, ◌+◌, ◌*◌, ◌^◌, ◌≤◌, ◌++◌, [], All, IfOk, IfErr, OnOk, None, length};
 ghost use Rattle.ea_files.specs.Files.{reading};
+ghost use Rattle.ea_limits.specs.declared.TheConstants.{MOST_STARTS};
 ghost use Rattle.ea_road.specs.Queries.{IsProblem};
 ghost use Rattle.ea_rank.specs.Summaries.{summary_of};
 ghost use Rattle.ea_report.specs.Report.{source_line};
@@ -63,7 +64,7 @@ fn put_ranks<W: ByteOut>(
     summary: Summary,
     out: &mut W,
 ) -> Result<(), WriteFault>
-    requires { direct.old.written ≤ 1000000 * 2 ^ 70 }
+    requires { direct.old.written ≤ MOST_STARTS * 2 ^ 70 }
     ensures ok { OnOk result (Adds (W.seen out.old) (direct_delivery direct.old)
         (W.seen out.new) (direct_delivery direct.new) (source_line source ++ rank_line summary)) }
     ensures err { IfErr result (λ fault. Stops (W.seen out.old) (direct_delivery direct.old)
@@ -105,7 +106,7 @@ fn rank_one<W: ByteOut>(
     requires problem { IsProblem road.now.network (length road.now.times.list.items) query.now }
     requires one { HasOneSource query.now }
     requires heaps { (2 ≤ heaps) × (heaps ≤ 128) }
-    requires room { direct.old.written ≤ 1000000 * 2 ^ 70 }
+    requires room { direct.old.written ≤ MOST_STARTS * 2 ^ 70 }
     ensures ok { OnOk result (AddsRanks heaps seed road.now.network (times_on road.now) query.now
         (W.seen out.old) (direct_delivery direct.old)
         (W.seen out.new) (direct_delivery direct.new)) }
@@ -139,7 +140,7 @@ fn rank_each<W: ByteOut>(
 ) -> Result<(), AnswerFault>
     requires problems { AreProblems road.now queries.now }
     requires one { All HasOneSource queries.now }
-    requires few { length queries.now ≤ 1000000 }
+    requires few { length queries.now ≤ MOST_STARTS }
     requires heaps { (2 ≤ heaps) × (heaps ≤ 128) }
     ensures ok { OnOk result (IsRanking heaps seed road.now.network (times_on road.now) queries.now
         (W.seen out.old)

@@ -2,6 +2,7 @@
 use Rattle.std.specs.Prelude.{◌≡◌, ◌⊎◌, ℕ, ◌+◌, ◌*◌, ◌≤◌, Bool, true, List, [], ◌++◌, Some, if◌then◌else◌, length, slice_get, take}
 use Rattle.std.specs.Io.KnownBytes.{Appends}
 use Rattle.ea_text.specs.Device.{BearsOn, GivesUp, Seen}
+use Rattle.ea_limits.specs.declared.TheConstants.{MOST_INTERRUPTIONS}
 use Rattle.ea_road.specs.Roads.{Roads}
 use Rattle.ea_road.specs.Queries.{Asking}
 use Rattle.ea_report.specs.declared.stats.Totals.{Totals}
@@ -27,7 +28,7 @@ pub record IsSent (walks : Bool) (roads : Roads) (answers : ℕ → ℕ → ℕ 
   pub appended : Appends old.bytes now.bytes text
   pub counted : written ≡ before + length text
   pub unfailed : now.failed ≡ old.failed
-  pub borne : now.interrupted ≤ old.interrupted + 1000
+  pub borne : now.interrupted ≤ old.interrupted + MOST_INTERRUPTIONS
   pub not_less : IsNotLess old.interrupted now.interrupted
 
 -- Only a front of a problem's report went out.
@@ -56,7 +57,7 @@ pub record AreSent (walks : Bool) (roads : Roads) (answers : ℕ → ℕ → ℕ
   pub appended : Appends first.bytes now.bytes report
   pub counted : written ≡ length report
   pub unfailed : now.failed ≡ first.failed
-  pub borne : now.interrupted ≤ first.interrupted + length problems * 1000
+  pub borne : now.interrupted ≤ first.interrupted + length problems * MOST_INTERRUPTIONS
   pub monotone : first.interrupted ≤ now.interrupted
 
 -- The reports of all problems went out, and with statistics their totals: sums over runs of the problems, in balance. Without
@@ -69,7 +70,7 @@ pub record IsWritten (options : RunOptions) (roads : Roads) (answers : ℕ → �
   pub counted : options.stats ≡ true → AreTotals (settings_by options) problems totals
   pub balanced : AreBalanced totals
   pub unfailed : now.failed ≡ first.failed
-  pub borne : now.interrupted ≤ first.interrupted + (length problems + 1) * 1000
+  pub borne : now.interrupted ≤ first.interrupted + (length problems + 1) * MOST_INTERRUPTIONS
 
 -- ---- cut short
 

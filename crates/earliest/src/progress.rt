@@ -2,6 +2,7 @@
 ghost use Rattle.std.specs.Prelude.{◌≡◌, ◌≤◌, ◌<◌, ◌+◌, ◌*◌, ◌^◌, ℕ, [], IfOk, IfErr, OnOk, if◌then◌else◌, length, true};
 ghost use Rattle.std.specs.Io.KnownBytes.{Appends};
 ghost use Rattle.ea_text.specs.Device.{BearsOn, GivesUp};
+ghost use Rattle.ea_limits.specs.declared.TheConstants.{MOST_NODES, MOST_STARTS};
 ghost use Rattle.ea_road.specs.Queries.{IsProblem};
 ghost use Rattle.ea_report.specs.Sent.{IsCutAt};
 ghost use Rattle.ea_report.specs.Stats.{stats_text};
@@ -56,8 +57,8 @@ impl Progress {
         out: &mut W,
     ) -> Result<(), AnswerFault>
         requires problem { IsProblem road.now.network (length road.now.times.list.items) query.now }
-        requires few { (length query.now.sources ≤ 1000000) × (road.now.network.nodes ≤ 67108864) }
-        requires room { self.old.written ≤ 1000000 * 2 ^ 90 }
+        requires few { (length query.now.sources ≤ MOST_STARTS) × (road.now.network.nodes ≤ MOST_NODES) }
+        requires room { self.old.written ≤ MOST_STARTS * 2 ^ 90 }
         requires arrivals { ArrivesOn road.now query.now found.now.answer }
         requires canonical { walks ≡ true → AnswersOn road.now query.now found.now.answer }
         ensures ok { OnOk result (IsSent walks road.now.network (times_on road.now) query.now
@@ -96,10 +97,10 @@ impl Progress {
         out: &mut W,
     ) -> Result<(), AnswerFault>
         requires problem { IsProblem road.now.network (length road.now.times.list.items) query.now }
-        requires few { (length query.now.sources ≤ 1000000) × (road.now.network.nodes ≤ 67108864) }
+        requires few { (length query.now.sources ≤ MOST_STARTS) × (road.now.network.nodes ≤ MOST_NODES) }
         requires options { AreOptions options.now }
-        requires room { self.old.written ≤ 1000000 * 2 ^ 90 }
-        requires small { (problems : ℕ) × (problems < 1000000) × AreSmall problems self.old.totals }
+        requires room { self.old.written ≤ MOST_STARTS * 2 ^ 90 }
+        requires small { (problems : ℕ) × (problems < MOST_STARTS) × AreSmall problems self.old.totals }
         requires balanced { AreBalanced self.old.totals }
         ensures ok { OnOk result (IsSent
             options.now.walks road.now.network (times_on road.now) query.now
@@ -138,14 +139,14 @@ fn report_each<H: Threads + Sync, W: ByteOut>(
     out: &mut W,
 ) -> Result<Progress, AnswerFault>
     requires problems { AreProblems road.now queries.now }
-    requires few { (length queries.now ≤ 1000000) × (road.now.network.nodes ≤ 67108864) }
+    requires few { (length queries.now ≤ MOST_STARTS) × (road.now.network.nodes ≤ MOST_NODES) }
     requires options { AreOptions options.now }
     ensures ok { IfOk result (λ progress.
         AreSent options.now.walks road.now.network (times_on road.now) queries.now
         (W.seen out.old) (W.seen out.new) progress.written) }
     ensures err { IfErr result (IsCutShort options.now road.now.network (times_on road.now) queries.now
         (W.seen out.old) (W.seen out.new)) }
-    ensures bound { IfOk result (λ progress. progress.written ≤ 1000000 * 2 ^ 90) }
+    ensures bound { IfOk result (λ progress. progress.written ≤ MOST_STARTS * 2 ^ 90) }
     ensures counted { IfOk result (λ progress. options.now.stats ≡ true
         → AreTotals (settings_by options.now) queries.now progress.totals) }
     ensures balanced { IfOk result (λ progress. AreBalanced progress.totals) }
@@ -168,7 +169,7 @@ fn write_totals<W: ByteOut>(
     stats: bool,
     out: &mut W,
 ) -> Result<(), AnswerFault>
-    requires { progress.now.written ≤ 1000000 * 2 ^ 90 }
+    requires { progress.now.written ≤ MOST_STARTS * 2 ^ 90 }
     ensures ok { OnOk result (Appends (W.seen out.old).bytes (W.seen out.new).bytes
         (if stats then stats_text progress.now.totals else [])) }
     ensures borne { OnOk result (BearsOn (W.seen out.old) (W.seen out.new)) }
@@ -200,7 +201,7 @@ pub(crate) fn report_all<H: Threads + Sync, W: ByteOut>(
     out: &mut W,
 ) -> Result<Totals, AnswerFault>
     requires problems { AreProblems road.now queries.now }
-    requires few { (length queries.now ≤ 1000000) × (road.now.network.nodes ≤ 67108864) }
+    requires few { (length queries.now ≤ MOST_STARTS) × (road.now.network.nodes ≤ MOST_NODES) }
     requires options { AreOptions options.now }
     ensures ok { IfOk result (IsWritten options.now road.now.network (times_on road.now) queries.now
         (W.seen out.old) (W.seen out.new)) }

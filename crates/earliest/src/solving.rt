@@ -1,5 +1,6 @@
 //! The answer of a problem, by several threads.
 ghost use Rattle.std.specs.Prelude.{◌≡◌, ◌≤◌, ℕ, All, IfOk, length, replicate, true, vec_len};
+ghost use Rattle.ea_limits.specs.declared.TheConstants.{MOST_STARTS};
 ghost use Rattle.ea_road.specs.Queries.{IsProblem};
 ghost use Rattle.ea_engine.specs.Limits.{AreSettings};
 ghost use Rattle.ea_engine.specs.Tallies.{IsTally};
@@ -72,7 +73,7 @@ fn totals_of(
     finish: u128,
     counters: &[Counters],
 ) -> Totals
-    requires tally { (sources : ℕ) × (sources ≤ 1000000)
+    requires tally { (sources : ℕ) × (sources ≤ MOST_STARTS)
         × IsTally sources seeded returned drained finish counters.now }
     requires few { length counters.now ≤ 16 }
     ensures sums { result ≡ totals_by (record {
@@ -109,7 +110,7 @@ fn find_walks<H: Threads + Sync, T: FnMut(Turn) -> Flow + Send + Drop>(
     tracers: Vec<T>,
 ) -> Result<Found, AllocError>
     requires problem { IsProblem road.now.network (length road.now.times.list.items) query.now }
-    requires few { length query.now.sources ≤ 1000000 }
+    requires few { length query.now.sources ≤ MOST_STARTS }
     requires settings { AreSettings settings }
     requires workers { (vec_len rngs ≡ settings.workers) × (vec_len tracers ≡ settings.workers) }
     requires tracers { All T.IsAlwaysCallable tracers.items }
@@ -154,7 +155,7 @@ fn find_arrivals<H: Threads + Sync, T: FnMut(Turn) -> Flow + Send + Drop>(
     tracers: Vec<T>,
 ) -> Result<Found, AllocError>
     requires problem { IsProblem road.now.network (length road.now.times.list.items) query.now }
-    requires few { length query.now.sources ≤ 1000000 }
+    requires few { length query.now.sources ≤ MOST_STARTS }
     requires settings { AreSettings settings }
     requires workers { (vec_len rngs ≡ settings.workers) × (vec_len tracers ≡ settings.workers) }
     requires tracers { All T.IsAlwaysCallable tracers.items }
@@ -198,7 +199,7 @@ fn find_by<H: Threads + Sync, T: FnMut(Turn) -> Flow + Send + Drop + Copy>(
     tracer: T,
 ) -> Result<Found, AllocError>
     requires problem { IsProblem road.now.network (length road.now.times.list.items) query.now }
-    requires few { length query.now.sources ≤ 1000000 }
+    requires few { length query.now.sources ≤ MOST_STARTS }
     requires options { AreOptions options.now }
     requires tracer { T.IsAlwaysCallable tracer }
     ensures arrivals { IfOk result (λ found. ArrivesOn road.now query.now found.answer) }
@@ -245,7 +246,7 @@ pub(crate) fn find<H: Threads + Sync>(
     options: &RunOptions,
 ) -> Result<Found, AllocError>
     requires problem { IsProblem road.now.network (length road.now.times.list.items) query.now }
-    requires few { length query.now.sources ≤ 1000000 }
+    requires few { length query.now.sources ≤ MOST_STARTS }
     requires options { AreOptions options.now }
     ensures arrivals { IfOk result (λ found. ArrivesOn road.now query.now found.answer) }
     ensures walks { IfOk result (λ found. options.now.walks ≡ true → AnswersOn road.now query.now found.answer) }

@@ -1,5 +1,6 @@
 //! The totals of problems.
 ghost use Rattle.std.specs.Prelude.{◌≡◌, ◌+◌, ◌*◌, ◌^◌, ◌≤◌, ◌<◌, ℕ, [], length, sum_by};
+ghost use Rattle.ea_limits.specs.declared.TheConstants.{MOST_STARTS};
 ghost use Rattle.ea_engine.specs.Tallies.{pushed_by_all, popped_by_all, returned_by_all};
 ghost use Rattle.ea_engine.specs.declared.counters.Counters.{Counters as Counted};
 ghost use Rattle.earliest.specs.Counted.{AreBalanced, AreSmall, plus, totals_of};
@@ -82,7 +83,7 @@ pub(crate) fn work_of(counters: &[Counters]) -> Work
 
 /// The totals of more problems.
 pub(crate) fn add_totals(totals: &mut Totals, more: &Totals)
-    requires few { (problems : ℕ) × (problems < 1000000) × AreSmall problems totals.old }
+    requires few { (problems : ℕ) × (problems < MOST_STARTS) × AreSmall problems totals.old }
     requires small { AreSmall 1 more.now }
     requires balanced { AreBalanced totals.old × AreBalanced more.now }
     ensures sums { totals.new ≡ plus totals.old more.now }
