@@ -14,7 +14,7 @@ use Rattle.ea_engine.specs.Ends.{AreFresh, IsEndPlace}
 use Rattle.ea_engine.specs.Reports.{IsReport, AreReports}
 use Rattle.ea_engine.specs.Rowed.{all_done, IsFirstEnd, IsSeeded, AreSeated, IsDoneRow}
 use Rattle.ea_engine.specs.Rows.{IsReady, IsReadyRow, IsRun, IsRunRow, IsSeatedRow}
-use Rattle.ea_pool.specs.declared.TheConstants.{SHARES}
+use Rattle.ea_limits.specs.declared.TheConstants.{SHARES}
 use Rattle.ea_engine.specs.Tallies.{busy_by_all, empty_by_all}
 use Rattle.ea_engine.specs.Turns.{popped_in_all}
 use Rattle.ea_engine.specs.Worked.{Kit}

@@ -20,7 +20,7 @@ use Rattle.ea_engine.specs.Words.{after_words}
 use Rattle.ea_labels.specs.declared.record.Bound.{Bound}
 use Rattle.ea_labels.specs.declared.record.SeatRecord.{SeatRecord}
 use Rattle.ea_pool.specs.declared.account.Account.{Account}
-use Rattle.ea_pool.specs.declared.TheConstants.{SHARES}
+use Rattle.ea_limits.specs.declared.TheConstants.{SHARES}
 use Rattle.ea_pool.specs.Pools.{SameBooks, Pops, IsLeastLeft}
 use Rattle.ea_engine.specs.Turns.{is_idle, IsShaped, popped_as, popped_in}
 use Rattle.ea_engine.specs.Closed.{entry_at, IsClosedAs, IsClosedTurn, IsFreshAs, IsFreshTurn}

@@ -21,7 +21,7 @@ use Rattle.ea_engine.specs.declared.counters.Counters.{Counters}
 use Rattle.ea_labels.specs.declared.record.Bound.{Bound}
 use Rattle.ea_lists.specs.Totals.{total}
 use Rattle.ea_pool.specs.declared.account.Account.{Account}
-use Rattle.ea_pool.specs.declared.TheConstants.{SHARES}
+use Rattle.ea_limits.specs.declared.TheConstants.{SHARES}
 use Rattle.ea_pool.specs.Entries.{only}
 use Rattle.ea_pool.specs.Pools.{NothingLeft, IsLeft}
 use Rattle.ea_engine.specs.Turns.{Told, IsShaped, IsShapedAs, IsWorkDone, is_ended, idle_run, ends_worker, is_empty, is_busy, is_idle, is_leave, is_refused, counters_of, counted, count_kind, lowered_in_all, popped_as, popped_in, popped_in_all, IsRoomy}

@@ -2,7 +2,7 @@
 use Rattle.std.specs.Prelude.{◌≡◌, ℕ, ◌≤◌, [], Bool}
 use Rattle.std.specs.Vec.{vec_capacity}
 use Rattle.ea_labels.specs.Core.{first_record}
-use Rattle.ea_pool.specs.declared.TheConstants.{SHARES}
+use Rattle.ea_limits.specs.declared.TheConstants.{SHARES}
 use Rattle.ea_pool.specs.Pools.{Opened}
 use Rattle.ea_pool.specs.Seats.{heaps_of}
 use Rattle.ea_engine.specs.declared.arrays.Arrays.{Arrays}

@@ -1,7 +1,7 @@
 //! From the seats that the workers leave to the condition of the finishing pass.
 ghost use Rattle.std.specs.Prelude.{◌≡◌, ◌+◌, ◌<◌, ◌≤◌, ◌^◌, length};
-ghost use Rattle.ea_labels.specs.declared.TheConstants.{SHARES as LABEL_SHARES};
-ghost use Rattle.ea_pool.specs.declared.TheConstants.{SHARES};
+ghost use Rattle.ea_limits.specs.declared.TheConstants.{SHARES as LABEL_SHARES};
+ghost use Rattle.ea_limits.specs.declared.TheConstants.{SHARES};
 ghost use Rattle.ea_finish.specs.Underway.{IsUnderway};
 ghost use Rattle.ea_engine.specs.Gathered.{IsGathered};
 ghost use Rattle.ea_engine.specs.Opened.{AreOffered};

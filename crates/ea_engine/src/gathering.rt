@@ -1,8 +1,8 @@
 //! What is gathered of the workers, one by one.
 ghost use Rattle.std.specs.Prelude.{◌≡◌, ◌+◌, ◌∷◌, [], ◌<◌, ◌≤◌, ◌^◌, ℕ, length, Contains, IfSome, vec_len};
 ghost use Rattle.std.specs.Option.{option_to_list};
-ghost use Rattle.ea_labels.specs.declared.TheConstants.{SHARES as LABEL_SHARES};
-ghost use Rattle.ea_pool.specs.declared.TheConstants.{SHARES};
+ghost use Rattle.ea_limits.specs.declared.TheConstants.{SHARES as LABEL_SHARES};
+ghost use Rattle.ea_limits.specs.declared.TheConstants.{SHARES};
 ghost use Rattle.ea_limits.specs.declared.TheConstants.{MOST_WORKERS};
 ghost use Rattle.ea_engine.specs.Ends.{IsEnd};
 ghost use Rattle.ea_engine.specs.Gathered.{IsGathered};

@@ -5,7 +5,7 @@ ghost use Rattle.ea_engine.specs.Seated.{AreSeatsOf, kit_of};
 ghost use Rattle.rand_core.specs.Stream.{Stream};
 ghost use Rattle.ea_road.specs.Roads.{IsNode};
 ghost use Rattle.ea_pool.specs.Seats.{account_of, heaps_of, IsSeatOf};
-ghost use Rattle.ea_pool.specs.declared.TheConstants.{SHARES};
+ghost use Rattle.ea_limits.specs.declared.TheConstants.{SHARES};
 ghost use Rattle.ea_pool.specs.declared.account.Account.{Account};
 ghost use Rattle.ea_pool.specs.Pools.{SameBooks, Pops, NothingLeft, IsLeastLeft};
 ghost use Rattle.ea_pool.specs.Replies.{MatchPopped};

@@ -1,8 +1,8 @@
 //! A run of the workers, from the seeds to the condition of the finishing pass.
 ghost use Rattle.std.specs.Prelude.{◌≡◌, ◌≤◌, ◌-◌, ◌*◌, ◌<◌, ℕ, ◌∷◌, [], List, vec_len};
 ghost use Rattle.std.specs.Vec.{vec_capacity};
-ghost use Rattle.ea_labels.specs.declared.TheConstants.{SHARES as LABEL_SHARES};
-ghost use Rattle.ea_pool.specs.declared.TheConstants.{SHARES};
+ghost use Rattle.ea_limits.specs.declared.TheConstants.{SHARES as LABEL_SHARES};
+ghost use Rattle.ea_limits.specs.declared.TheConstants.{SHARES};
 ghost use Rattle.ea_road.specs.Queries.{IsProblem};
 ghost use Rattle.ea_engine.specs.Problems.{IsNamed};
 ghost use Rattle.ea_engine.specs.Reserved.{AreArrays};

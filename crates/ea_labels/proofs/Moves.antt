@@ -11,7 +11,7 @@ use Rattle.atomic_table.specs.Table.{State, Me, step, keeps, Allows, Splits, Joi
 use Rattle.atomic_table.proofs.Lists.{set_again, set_else}
 use Rattle.ea_lists.proofs.Places.{value_at, contains_at}
 use Rattle.ea_road.specs.declared.TheConstants.{NONE}
-use Rattle.ea_labels.specs.declared.TheConstants.{SHARES}
+use Rattle.ea_limits.specs.declared.TheConstants.{SHARES}
 use Rattle.ea_labels.specs.declared.record.SeatRecord.{SeatRecord}
 use Rattle.ea_road.specs.Roads.{IsNode}
 use Rattle.ea_road.specs.Labels.{label_of}

@@ -134,7 +134,8 @@ impl<K: Known, A: Allocator> Labels<K, A> {
         requires same_table { seat.table ≡ self.table }
         requires all_shares { seat.history.shares ≡ SHARES }
         ensures len { vec_len result ≡ self.nodes }
-        ensures known { (node : ℕ) → IsNode self.nodes node → IsNoneOrKnown K.is_known node (label_of result.items node) }
+        ensures known { (node : ℕ) → IsNode self.nodes node
+            → IsNoneOrKnown K.is_known node (label_of result.items node) }
         ensures least { All (λ b. label_of result.items b.node ≤ b.time) seat.history.bounds }
         ensures lowered_to { (node : ℕ) → IsNode self.nodes node → (label_of result.items node ≡ NONE)
             ⊎ Any (λ l. (l.node ≡ node) × (l.to ≡ label_of result.items node)) seat.history.lowerings }

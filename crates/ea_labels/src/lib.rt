@@ -10,12 +10,10 @@ mod seat;
 #[cfg(test)]
 mod tests;
 
+pub use ea_limits::SHARES;
 pub use labels::Labels;
-pub use law::every_run_is_lawful;
+pub use law::{every_run_is_lawful, no_label_is_the_last_number};
 pub use offered::Offered;
 pub use record::{Bound, Lowering, SeatRecord};
 pub use seat::LabelSeat;
 pub use std::alloc::AllocError as OutOfMemory;
-
-/// The shares of a table's first seat.
-pub const SHARES: u32 = 64;

@@ -151,11 +151,13 @@ fn hammer_four_times<R: Threads + Sync>(
     let (mut seat, other) = join(
         rt,
         move || -> LabelSeat<AnyPair>
-            requires { (seat.table ≡ labels.now.table) × (labels.now.nodes ≡ NODES) × (2 ≤ seat.history.shares) × IsSync R.row }
+            requires { (seat.table ≡ labels.now.table) × (labels.now.nodes ≡ NODES)
+                × (2 ≤ seat.history.shares) × IsSync R.row }
             ensures { (result.table ≡ seat.table) × (result.history.shares ≡ seat.history.shares) }
         { hammer_twice(rt, labels, seat, 1) },
         move || -> LabelSeat<AnyPair>
-            requires { (other.table ≡ labels.now.table) × (labels.now.nodes ≡ NODES) × (2 ≤ other.history.shares) × IsSync R.row }
+            requires { (other.table ≡ labels.now.table) × (labels.now.nodes ≡ NODES)
+                × (2 ≤ other.history.shares) × IsSync R.row }
             ensures { (result.table ≡ other.table) × (result.history.shares ≡ other.history.shares) }
         { hammer_twice(rt, labels, other, 3) },
     );

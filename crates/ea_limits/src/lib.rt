@@ -36,6 +36,9 @@ pub const LEAST_HEAPS: u32 = 2;
 /// The most heaps for each worker.
 pub const MOST_HEAPS: u32 = 8;
 
+/// The shares of the first seat of a table of labels or of heaps.
+pub const SHARES: u32 = 64;
+
 /// The most turns that a worker is given.
 pub const MOST_TURNS: u64 = 1_000_000_000;
 
@@ -52,5 +55,6 @@ pub fn limits_are_these()
     ensures workers { MOST_WORKERS ≡ 16 }
     ensures least_heaps { LEAST_HEAPS ≡ 2 }
     ensures heaps { MOST_HEAPS ≡ 8 }
+    ensures shares { SHARES ≡ 64 }
     ensures turns { MOST_TURNS ≡ 1000000000 }
 {}

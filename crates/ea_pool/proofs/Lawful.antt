@@ -14,7 +14,7 @@ use Rattle.ea_lists.proofs.Totals.{total-map, total-append, total-set, term_le, 
 use Rattle.ea_pool.specs.declared.entry.Entry.{Entry}
 use Rattle.ea_pool.specs.declared.account.Held.{Held}
 use Rattle.ea_pool.specs.declared.account.SeatMemory.{SeatMemory}
-use Rattle.ea_pool.specs.declared.TheConstants.{SHARES}
+use Rattle.ea_limits.specs.declared.TheConstants.{SHARES}
 use Rattle.ea_pool.specs.declared.words.TheConstants.{OUT, EMPTY}
 use Rattle.ea_pool.specs.Entries.{only, times, SameEntries, IsKnown, AreKnown, face}
 use Rattle.ea_pool.specs.States.{seat_state, first_state, nobody, content_of, count_of, holds_heap, held_at, IsInside, saw, forgot, took, gave, pushed, popped, left_of, newcomer, joined}

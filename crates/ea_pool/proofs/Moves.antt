@@ -16,7 +16,7 @@ use Rattle.ea_lists.proofs.Places.{value_at, contains_at}
 use Rattle.ea_pool.specs.declared.entry.Entry.{Entry}
 use Rattle.ea_pool.specs.declared.account.Held.{Held}
 use Rattle.ea_pool.specs.declared.account.SeatMemory.{SeatMemory}
-use Rattle.ea_pool.specs.declared.TheConstants.{SHARES}
+use Rattle.ea_limits.specs.declared.TheConstants.{SHARES}
 use Rattle.ea_pool.specs.declared.words.TheConstants.{OUT, EMPTY, WORDS_APART}
 use Rattle.ea_pool.specs.Entries.{only, times, SameEntries, IsKnown, face, gathered}
 use Rattle.ea_pool.specs.States.{first_state, nobody, content_of, held_at, IfHeld, saw, forgot, took, gave, pushed, popped, left_of, newcomer, joined}

@@ -6,7 +6,7 @@ use lib.ListN.{get_elem?}
 use Rattle.ea_lists.specs.Totals.{total}
 use Rattle.ea_pool.specs.declared.entry.Entry.{Entry}
 use Rattle.ea_pool.specs.declared.account.SeatMemory.{SeatMemory}
-use Rattle.ea_pool.specs.declared.TheConstants.{SHARES}
+use Rattle.ea_limits.specs.declared.TheConstants.{SHARES}
 use Rattle.ea_pool.specs.declared.words.TheConstants.{OUT}
 use Rattle.ea_pool.specs.Entries.{times, IsKnown, face}
 use Rattle.ea_pool.specs.States.{nobody, content_of, holds_heap, IsInside}

@@ -5,7 +5,7 @@ use Rattle.atomic_table.specs.Table.{State, Me, Step, rest}
 use Rattle.ea_lists.specs.Totals.{total}
 use Rattle.ea_pool.specs.declared.entry.Entry.{Entry}
 use Rattle.ea_pool.specs.declared.account.SeatMemory.{SeatMemory}
-use Rattle.ea_pool.specs.declared.TheConstants.{SHARES}
+use Rattle.ea_limits.specs.declared.TheConstants.{SHARES}
 use Rattle.ea_pool.specs.declared.words.TheConstants.{OUT, WORDS_APART}
 use Rattle.ea_pool.specs.Entries.{times, SameEntries, IsKnown, AreKnown, face}
 use Rattle.ea_pool.specs.States.{content_of, saw, forgot, took, pushed, popped, gave}

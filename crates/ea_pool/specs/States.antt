@@ -3,7 +3,7 @@ use Rattle.std.specs.Prelude.{ℕ, ◌+◌, ◌-◌, ◌<◌, ◌==◌, cond, Li
 use Rattle.ea_pool.specs.declared.entry.Entry.{Entry}
 use Rattle.ea_pool.specs.declared.account.Held.{Held}
 use Rattle.ea_pool.specs.declared.account.SeatMemory.{SeatMemory}
-use Rattle.ea_pool.specs.declared.TheConstants.{SHARES}
+use Rattle.ea_limits.specs.declared.TheConstants.{SHARES}
 
 abbrev pub seat_state : ℕ → List Entry → List Entry → Option Held → List (ℕ × ℕ) → SeatMemory
 seat_state shares pushed popped held seen = record { shares = shares; pushed = pushed; popped = popped; held = held; seen = seen }

@@ -66,7 +66,8 @@ impl<K: Known, A: Allocator> Pool<K, A> {
         ensures alone { (account_of seat.old).shares ≡ SHARES
             → MatchPopped result (λ _. Unit {0}) (Unit {0}) ⊥ }
         ensures least { (account_of seat.old).shares ≡ SHARES → heaps_of self.now ≡ 2
-            → MatchPopped result (λ entry. IsLeastLeft entry (account_of seat.old)) (NothingLeft (account_of seat.old)) ⊥ }
+            → MatchPopped result (λ entry. IsLeastLeft entry (account_of seat.old))
+            (NothingLeft (account_of seat.old)) ⊥ }
     {
         let i = draw_first(self.heaps, first);
         let j = draw_second(self.heaps, first, second);

@@ -22,14 +22,12 @@ mod words;
 
 pub use account::{Account, Held, SeatMemory};
 pub use closed::ClosedPool;
+pub use ea_limits::SHARES;
 pub use entry::Entry;
-pub use law::every_run_is_lawful;
+pub use law::{every_run_is_lawful, words_stand_apart};
 pub use pool::Pool;
 pub use reply::{Popped, PushRefused};
 pub use seat::PoolSeat;
 pub use solo::{Solo, rank_is_bounded};
 pub use std::alloc::AllocError as OutOfMemory;
 pub use words::{EMPTY, OUT, WORDS_APART};
-
-/// The shares of a pool's first seat.
-pub const SHARES: u32 = 64;

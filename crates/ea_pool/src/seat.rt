@@ -20,7 +20,7 @@ pub struct PoolSeat<K, A: Allocator = Global> {
 
 impl<K, A: Allocator> Model for PoolSeat<K, A> {
     ghost use Rattle.std.specs.Prelude.{◌≡◌, ◌≤◌};
-    ghost use Rattle.ea_pool.specs.declared.TheConstants.{SHARES};
+    ghost use Rattle.ea_limits.specs.declared.TheConstants.{SHARES};
     ghost use Rattle.ea_pool.specs.Pools.{books, Rests};
     ghost use Rattle.ea_pool.specs.Seats.{SeatView};
 

@@ -57,11 +57,13 @@ fn pool_two_threads(rt: HostRuntime) -> Result<(), Fail> {
             &rt,
             move || -> (PoolSeat<AnyPair>, bool)
                 requires { IsSeatOf shared.now seat }
-                ensures { IsSeatOf shared.entry.now result.0 × ((account_of result.0).shares ≡ (account_of seat).shares) }
+                ensures { IsSeatOf shared.entry.now result.0
+                    × ((account_of result.0).shares ≡ (account_of seat).shares) }
             { push_two(shared, seat, 0, entry(4, 1), entry(3, 2)) },
             move || -> (PoolSeat<AnyPair>, bool)
                 requires { IsSeatOf shared.now other }
-                ensures { IsSeatOf shared.entry.now result.0 × ((account_of result.0).shares ≡ (account_of other).shares) }
+                ensures { IsSeatOf shared.entry.now result.0
+                    × ((account_of result.0).shares ≡ (account_of other).shares) }
             { push_two(shared, other, 2, entry(2, 3), entry(1, 4)) },
         );
         assert!(rt; one && two);

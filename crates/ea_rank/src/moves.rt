@@ -17,7 +17,8 @@ use std::alloc::Global;
 fn find_entry(solo: &mut Solo<Global>, heaps: usize, first: u64, second: u64) -> Option<Entry>
     requires heaps { length solo.old ≡ heaps }
     requires range { (2 ≤ heaps) × (heaps ≤ 128) }
-    ensures { MatchOption result ((total length solo.old ≡ 0) × (solo.new ≡ solo.old)) (λ entry. Finds first second entry solo.old solo.new) }
+    ensures { MatchOption result ((total length solo.old ≡ 0) × (solo.new ≡ solo.old))
+        (λ entry. Finds first second entry solo.old solo.new) }
 {
     let start = first % heaps as u64;
     for step in 0..heaps as u64 {
@@ -32,7 +33,8 @@ impl Run {
     /// No labels, empty heaps and an empty record.
     pub(crate) fn new(alloc: Global, nodes: u32, heaps: usize) -> Result<Run, OutOfMemory>
         requires { (2 ≤ heaps) × (heaps ≤ 128) }
-        ensures { IfOk result (λ run. (run.labels.items ≡ replicate nodes NONE) × (run.heaps ≡ replicate heaps []) × (run.events.items ≡ [])) }
+        ensures { IfOk result (λ run. (run.labels.items ≡ replicate nodes NONE)
+            × (run.heaps ≡ replicate heaps []) × (run.events.items ≡ [])) }
     {
         let labels = vec![in alloc; NONE; nodes as usize]?;
         let heaps = Solo::new(alloc, heaps)?;
@@ -77,7 +79,9 @@ impl Run {
     ) -> Result<Option<Entry>, OutOfMemory>
         requires heaps { length self.old.heaps ≡ heaps }
         requires range { (2 ≤ heaps) × (heaps ≤ 128) }
-        ensures { IfOk result (λ found. MatchOption found ((total length self.old.heaps ≡ 0) × (state_of self.new ≡ state_of self.old)) (λ entry. PopsFound first second entry (state_of self.old) (state_of self.new))) }
+        ensures { IfOk result (λ found. MatchOption found
+            ((total length self.old.heaps ≡ 0) × (state_of self.new ≡ state_of self.old))
+            (λ entry. PopsFound first second entry (state_of self.old) (state_of self.new))) }
     {
         let Some(entry) = find_entry(&mut self.heaps, heaps, first, second) else {
             return Ok(None);

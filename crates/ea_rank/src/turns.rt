@@ -70,7 +70,8 @@ fn sow<T: TravelTimes>(
     ensures underway { IfOk result (λ _. IsOnCourse network.now (T.answers times.now) query.now.sources
         query.now.sources [] (state_of run.new)) }
     ensures heaps { IfOk result (λ _. length run.new.heaps ≡ length run.old.heaps) }
-    ensures course { IfOk result (λ _. (pushes : ℕ) × Sows query.now.sources (state_of run.old) pushes (state_of run.new)) }
+    ensures course { IfOk result (λ _. (pushes : ℕ)
+        × Sows query.now.sources (state_of run.old) pushes (state_of run.new)) }
 {
     let _ = network.nodes();
     let mut word = 0;

@@ -21,7 +21,11 @@ impl<R: Read> Model for StdIn<R> {
 
     ghost Value = { Opened R };
 
-    ghost view = { λ s. record { inner = s.reader; failures = s.counts.failures; interruptions = s.counts.interruptions } };
+    ghost view = { λ s. record {
+      inner = s.reader;
+      failures = s.counts.failures;
+      interruptions = s.counts.interruptions;
+    } };
 }
 
 impl<R: Read> StdIn<R> {

@@ -21,7 +21,11 @@ impl<W: Write> Model for StdOut<W> {
 
     ghost Value = { Opened W };
 
-    ghost view = { λ s. record { inner = s.writer; failures = s.counts.failures; interruptions = s.counts.interruptions } };
+    ghost view = { λ s. record {
+      inner = s.writer;
+      failures = s.counts.failures;
+      interruptions = s.counts.interruptions;
+    } };
 }
 
 impl<W: Write> StdOut<W> {

@@ -3,7 +3,7 @@ use Rattle.std.specs.Mem.Slots.{slots_items, slots_filled, slots_len}
 use Rattle.std.proofs.lemmas.List.{take_all}
 use Rattle.ea_lists.specs.Totals.{total}
 use Rattle.ea_pool.specs.declared.account.Account.{Account}
-use Rattle.ea_pool.specs.declared.TheConstants.{SHARES}
+use Rattle.ea_limits.specs.declared.TheConstants.{SHARES}
 use Rattle.ea_pool.specs.declared.entry.Entry.{Entry}
 use Rattle.ea_pool.specs.Entries.{only, times, gathered}
 use Rattle.ea_pool.specs.Pools.{books, IsRunEnd}

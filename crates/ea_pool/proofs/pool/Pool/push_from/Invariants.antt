@@ -1,5 +1,5 @@
 use Rattle.std.proofs.Common.{◌≡◌}
-use Rattle.ea_pool.specs.declared.TheConstants.{SHARES}
+use Rattle.ea_limits.specs.declared.TheConstants.{SHARES}
 use Rattle.ea_pool.specs.Pools.{books, SameBooks, Rests}
 use Rattle.ea_pool.specs.Tries.{Missed}
 use Rattle.ea_pool.proofs.pool.Pool.push_from.Given as goal
