@@ -37,16 +37,6 @@ fn sources_of(
     Ok(sources)
 }
 
-/// A source as a query that asks for all nodes.
-fn query_from(alloc: Global, source: Source) -> Result<Query, AllocError>
-    requires { IsSource source }
-    ensures { IfOk result (λ query. query ≡ asks_all (source ∷ [])) }
-{
-    let mut sources = Vec::with_capacity(alloc, 1)?;
-    sources.push(source)?;
-    Ok(Query::new(sources))
-}
-
 /// Each source as a query.
 fn queries_from(alloc: Global, sources: &[Source]) -> Result<Vec<Query>, AllocError>
     requires { All IsSource sources.now }
@@ -55,7 +45,7 @@ fn queries_from(alloc: Global, sources: &[Source]) -> Result<Vec<Query>, AllocEr
 {
     let mut queries = Vec::with_capacity(alloc, sources.len())?;
     for source in sources {
-        queries.push(query_from(alloc, *source)?)?;
+        queries.push(Query::from_one(*source))?;
     }
     Ok(queries)
 }
