@@ -24,7 +24,7 @@ pub fn faultless_reports_are_right<T: TravelTimes>(network: &Network, times: &T,
         → IsRight network.now (T.answers times.now) query.now.sources reported
         → IsFaultless network.now (T.answers times.now) query.now.sources reported }
 {
-    let _ = network.nodes();
+    network.keeps_limits();
 }
 
 /// What the lines of a report say of a problem is well formed, where they are in the order of their numbers.
@@ -44,7 +44,7 @@ pub fn problems_have_one_verdict<T: TravelTimes>(network: &Network, times: &T, q
         → IsVerdict network.now (T.answers times.now) query.now.sources reported that
         → this ≢ Err OutOfMemory → that ≢ Err OutOfMemory → this ≡ that }
 {
-    let _ = network.nodes();
+    network.keeps_limits();
 }
 
 /// A report has one verdict, want of memory aside: whatever is checked of its lines, it is the same.
@@ -57,7 +57,7 @@ pub fn reports_have_one_verdict<T: TravelTimes>(network: &Network, times: &T, qu
         (lines_of_report report) that
         → this ≢ Err OutOfMemory → that ≢ Err OutOfMemory → this ≡ that }
 {
-    let _ = network.nodes();
+    network.keeps_limits();
 }
 
 /// What is written of an answer is accepted: with its walks, or without.
@@ -75,5 +75,5 @@ pub fn written_reports_are_right<T: TravelTimes>(network: &Network, times: &T, q
         → IsChecked network.now (T.answers times.now) (query.now.sources ∷ [])
         (lines_of_report (problem_text true network.now.nodes query.now answer)) (Ok tt) }
 {
-    let _ = network.nodes();
+    network.keeps_limits();
 }

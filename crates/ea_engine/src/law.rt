@@ -40,6 +40,6 @@ pub fn ground_is_laid<K: Known + Posed, T: TravelTimes>(ground: &Ground<'_, K, T
     requires places { ground.now.labels.now.nodes ≡ ground.now.network.now.nodes }
     ensures { IsGround K.is_known K.problem T.answers T.classes ground.now }
 {
-    let _ = ground.network.nodes();
+    ground.network.keeps_limits();
     times_are_fifo(ground.times);
 }

@@ -18,6 +18,9 @@ pub record Answered : Type 0 where
   pub links : List Link
   pub walks : Bool
 
+abbrev pub answer_of : ℕ → Option ℕ → List ℕ → List Link → Bool → Answered
+answer_of nodes target labels links walks = record { nodes = nodes; target = target; labels = labels; links = links; walks = walks }
+
 -- The arrival that an answer gives for a node.
 abbrev pub arrival_of : Answered → ℕ → Option ℕ
 arrival_of answer node = time_of (label_of answer.labels node)

@@ -1,10 +1,16 @@
 -- Links: how the canonical walk to each node ends.
 use Rattle.std.specs.Prelude.{◌≡◌, ◌≢◌, ℕ, zero, suc, ◌-◌, ◌<◌, ◌≤◌, List, [], ◌∷◌, ◌++◌, length, slice_index_or}
+use Rattle.std.specs.List.{IsAmong}
+use Rattle.ea_limits.specs.declared.TheConstants.{HORIZON}
 use Rattle.ea_road.specs.declared.source.Source.{Source}
 use Rattle.ea_road.specs.Roads.{Roads, IsNode}
 use Rattle.ea_road.specs.Levels.{IsTight, HasChain, IsLevel, IsCanonical}
 use Rattle.ea_finish.specs.declared.link.Link.{Link}
 use Rattle.ea_finish.specs.declared.link.TheConstants.{NO_LEVEL}
+
+-- Each source is at a node, and departs within the horizon.
+abbrev pub AreStarts : ℕ → List Source → Type 0
+AreStarts nodes sources = (source : Source) → IsAmong sources source → IsNode nodes source.node × (source.departure ≤ HORIZON)
 
 abbrev pub no_link : Link
 no_link = record { level = NO_LEVEL; arc = 0; from = 0 }

@@ -7,6 +7,7 @@ use Rattle.ea_road.specs.declared.arc.Arc.{Arc}
 use Rattle.ea_road.specs.declared.source.Source.{Source}
 use Rattle.ea_road.specs.Roads.{Roads, IsArc}
 use Rattle.ea_road.specs.Arrivals.{Reaches}
+use Rattle.ea_road.specs.Queries.{Asking}
 use Rattle.ea_road.specs.Labels.{limit}
 use Rattle.ea_finish.specs.Underway.{entry}
 
@@ -72,3 +73,7 @@ pub record Underway
   pub reached : (v : ℕ) → entry table v ≢ NONE → Reaches roads answers sources v (entry table v)
   pub started : (s : Source) → IsAmong sources s → entry table s.node ≤ s.departure
   pub settled : (v : ℕ) → entry table v ≢ NONE → Satisfied roads answers table v (entry table v) ⊎ (waits v ⊎ (limit target (entry table) < entry table v))
+
+-- So it is for the sources and the target of a query.
+abbrev pub AwaitsScans : Roads → (ℕ → ℕ → ℕ → ℕ → Type 0) → Asking → List ℕ → (ℕ → Type 0) → Type 0
+AwaitsScans roads answers query table waits = Underway roads answers query.sources query.target table waits

@@ -69,7 +69,9 @@ pub fn solve_alone_by<F: ArrivalFunction + Drop>(
 ) -> Result<Answer, AllocError>
     requires fifo { IsFifoFunction (F.may closure) (F.answers closure) classes }
     requires problem { IsProblem network.now classes query.now }
-    ensures { IfOk result (IsAnswer network.now (λ class weight departure arrival. ∥ F.answers closure class weight departure arrival ∥₁) query.now) }
+    ensures { IfOk result (IsAnswer network.now
+        (λ class weight departure arrival. ∥ F.answers closure class weight departure arrival ∥₁)
+        query.now) }
 {
     let profiles = Profiles::new(closure, classes);
     solve_alone(alloc, network, &profiles, query)
@@ -85,7 +87,9 @@ pub fn arrivals_alone_by<F: ArrivalFunction + Drop>(
 ) -> Result<Answer, AllocError>
     requires fifo { IsFifoFunction (F.may closure) (F.answers closure) classes }
     requires problem { IsProblem network.now classes query.now }
-    ensures arrivals { IfOk result (HasArrivals network.now (λ class weight departure arrival. ∥ F.answers closure class weight departure arrival ∥₁) query.now) }
+    ensures arrivals { IfOk result (HasArrivals network.now
+        (λ class weight departure arrival. ∥ F.answers closure class weight departure arrival ∥₁)
+        query.now) }
     ensures none { IfOk result (λ answer. answer.walks ≡ false) }
 {
     let profiles = Profiles::new(closure, classes);

@@ -1,7 +1,7 @@
 ghost use Rattle.std.specs.Prelude.{◌≡◌, ℕ, ◌<◌, ◌≤◌, ◌↔◌, Bool, true, List, Some, None, length, IfOk, IsTrue, MatchOption};
 ghost use Rattle.ea_road.specs.Queries.{IsAskedBy};
 ghost use Rattle.ea_road.specs.Roads.{IsNode};
-ghost use Rattle.ea_finish.specs.Answers.{Answered, arrival_of, walk_of};
+ghost use Rattle.ea_finish.specs.Answers.{Answered, answer_of, arrival_of, walk_of};
 ghost use Rattle.ea_finish.specs.Stored.{IsStored};
 
 use crate::link::Link;
@@ -21,14 +21,15 @@ pub struct Answer {
 }
 
 impl Model for Answer {
-    ghost use Rattle.ea_finish.specs.Answers.{Answered};
+    ghost use Rattle.ea_finish.specs.Answers.{Answered, answer_of};
     ghost use Rattle.ea_finish.specs.Stored.{IsStored};
 
     ghost Value = { Answered };
 
-    ghost view = { λ a. record { nodes = a.nodes; target = a.target; labels = a.table.items; links = a.links.items; walks = a.walks } };
+    ghost view = { λ a. answer_of a.nodes a.target a.table.items a.links.items a.walks };
 
-    ghost invariant = { λ a. IsStored (record { nodes = a.nodes; target = a.target; labels = a.table.items; links = a.links.items; walks = a.walks }) };
+    ghost invariant = { λ a.
+        IsStored (answer_of a.nodes a.target a.table.items a.links.items a.walks) };
 }
 
 impl Answer {
@@ -39,8 +40,8 @@ impl Answer {
         links: Vec<Link>,
         walks: bool,
     ) -> Answer
-        requires { IsStored (record { nodes = nodes; target = target; labels = table.items; links = links.items; walks = walks }) }
-        ensures { result ≡ record { nodes = nodes; target = target; labels = table.items; links = links.items; walks = walks } }
+        requires { IsStored (answer_of nodes target table.items links.items walks) }
+        ensures { result ≡ answer_of nodes target table.items links.items walks }
     {
         Answer {
             nodes,
@@ -102,7 +103,8 @@ impl Answer {
         requires node { IsNode self.now.nodes node }
         requires asked { IsAskedBy self.now.target node }
         requires walks { self.now.walks ≡ true }
-        ensures { IfOk result (λ found. MatchOption found (walk_of self.now node ≡ None) (λ walk. walk_of self.now node ≡ Some walk.items)) }
+        ensures { IfOk result (λ found. MatchOption found (walk_of self.now node ≡ None)
+            (λ walk. walk_of self.now node ≡ Some walk.items)) }
     {
         if self.table[node as usize - 1] == NONE {
             return Ok(None);

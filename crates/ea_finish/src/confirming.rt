@@ -8,7 +8,7 @@ ghost use Rattle.ea_road.specs.Queries.{IsProblem};
 ghost use Rattle.ea_road.specs.Roads.{IsArc, IsNode, top_class};
 ghost use Rattle.ea_finish.specs.Answers.{IsAnswer};
 ghost use Rattle.ea_finish.specs.Confirmed.{AreBegun, AreConfirmed, ArePreset, AreReady, IsReady};
-ghost use Rattle.ea_finish.specs.Links.{AreLinks, link};
+ghost use Rattle.ea_finish.specs.Links.{AreLinks, AreStarts, link};
 ghost use Rattle.ea_finish.specs.Offers.{IsSpread, Offers, Precedes, Tight};
 ghost use Rattle.ea_finish.specs.Underway.{IsFinished, entry};
 
@@ -45,8 +45,9 @@ fn confirm_sources(
     links: &mut [Link],
     waiting: &mut Waiting,
 ) -> bool
-    requires sources { (source : Source) → IsAmong sources.now source → IsNode waiting.old.nodes source.node × (source.departure ≤ HORIZON) }
-    requires places { (length table.now ≡ waiting.old.nodes) × (length links.old ≡ waiting.old.nodes) }
+    requires sources { AreStarts waiting.old.nodes sources.now }
+    requires places { (length table.now ≡ waiting.old.nodes)
+        × (length links.old ≡ waiting.old.nodes) }
     requires preset { ArePreset links.old }
     requires nobody { waiting.old.waiting ≡ [] }
     ensures places { length links.new ≡ length links.old }
@@ -75,10 +76,18 @@ fn confirm<T: TravelTimes>(
 )
     requires arc { IsArc network.now number arc }
     requires classes { top_class network.now.arcs ≤ T.classes times.now }
-    requires places { (length table.now ≡ network.now.nodes) × (length links.old ≡ network.now.nodes) }
+    requires places { (length table.now ≡ network.now.nodes)
+        × (length links.old ≡ network.now.nodes) }
     requires nodes { waiting.old.nodes ≡ network.now.nodes }
-    ensures offers { Offers network.now.nodes (IsSpread network.now (T.answers times.now) table.now arc.tail ((link links.old arc.tail).level + 1)) links.old waiting.old.waiting links.new waiting.new.waiting }
-    ensures passed { (link links.old arc.tail).level + 1 < NO_LEVEL → (v : ℕ) → Tight network.now (T.answers times.now) table.now arc.tail number v → Precedes (record { level = (link links.old arc.tail).level + 1; arc = number; from = arc.tail }) (link links.new v) → ⊥ }
+    ensures offers { Offers network.now.nodes
+        (IsSpread network.now (T.answers times.now) table.now arc.tail
+        ((link links.old arc.tail).level + 1))
+        links.old waiting.old.waiting links.new waiting.new.waiting }
+    ensures passed { (link links.old arc.tail).level + 1 < NO_LEVEL → (v : ℕ)
+        → Tight network.now (T.answers times.now) table.now arc.tail number v
+        → Precedes
+        (record { level = (link links.old arc.tail).level + 1; arc = number; from = arc.tail })
+        (link links.new v) → ⊥ }
     ensures nodes { waiting.new.nodes ≡ waiting.old.nodes }
 {
     network.keeps_limits();
@@ -103,12 +112,16 @@ fn confirm_arcs<T: TravelTimes>(
     waiting: &mut Waiting,
 ) -> bool
     requires classes { top_class network.now.arcs ≤ T.classes times.now }
-    requires places { (length table.now ≡ network.now.nodes) × (length links.old ≡ network.now.nodes) }
+    requires places { (length table.now ≡ network.now.nodes)
+        × (length links.old ≡ network.now.nodes) }
     requires nodes { waiting.old.nodes ≡ network.now.nodes }
     requires nobody { waiting.old.waiting ≡ [] }
     ensures places { length links.new ≡ length links.old }
     ensures nodes { waiting.new.nodes ≡ waiting.old.nodes }
-    ensures confirmed { IsTrue result → (sources : List Source) → AreConfirmed network.now (T.answers times.now) sources table.now links.old 0 → AreConfirmed network.now (T.answers times.now) sources table.now links.new (length network.now.arcs) }
+    ensures confirmed { IsTrue result → (sources : List Source)
+        → AreConfirmed network.now (T.answers times.now) sources table.now links.old 0
+        → AreConfirmed network.now (T.answers times.now) sources table.now links.new
+        (length network.now.arcs) }
     ensures levels { IsTrue result → (v : ℕ) → (link links.new v).level ≡ (link links.old v).level }
     ensures exact { IsTrue result ↔ (length waiting.new.waiting ≡ 0) }
 {
@@ -160,13 +173,15 @@ fn confirm_levels<T: TravelTimes>(
     waiting: &mut Waiting,
 ) -> bool
     requires classes { top_class network.now.arcs ≤ T.classes times.now }
-    requires sources { (source : Source) → IsAmong sources.now source → IsNode network.now.nodes source.node × (source.departure ≤ HORIZON) }
-    requires places { (length table.now ≡ network.now.nodes) × (length links.old ≡ network.now.nodes) }
+    requires sources { AreStarts network.now.nodes sources.now }
+    requires places { (length table.now ≡ network.now.nodes)
+        × (length links.old ≡ network.now.nodes) }
     requires nodes { waiting.old.nodes ≡ network.now.nodes }
     requires nobody { waiting.old.waiting ≡ [] }
     ensures places { length links.new ≡ length links.old }
     ensures nodes { waiting.new.nodes ≡ waiting.old.nodes }
-    ensures links { IsTrue result → AreLinks network.now (T.answers times.now) sources.now (IsLabel (label_of table.now)) links.new }
+    ensures links { IsTrue result → AreLinks network.now (T.answers times.now) sources.now
+        (IsLabel (label_of table.now)) links.new }
 {
     network.keeps_limits();
     preset(levels, links);
@@ -189,11 +204,12 @@ fn find_noted<T: TravelTimes>(
     todo: Open,
 ) -> Vec<Link>
     requires classes { top_class network.now.arcs ≤ T.classes times.now }
-    requires sources { (source : Source) → IsAmong sources.now source → IsNode network.now.nodes source.node × (source.departure ≤ HORIZON) }
+    requires sources { AreStarts network.now.nodes sources.now }
     requires places { length table.now ≡ network.now.nodes }
     requires nobody { todo.waiting ≡ [] }
     requires room { (todo.nodes ≡ network.now.nodes) × (todo.walks ≡ true) }
-    ensures { AreLinks network.now (T.answers times.now) sources.now (IsLabel (label_of table.now)) result.items }
+    ensures { AreLinks network.now (T.answers times.now) sources.now
+        (IsLabel (label_of table.now)) result.items }
 {
     let (mut waiting, mut links) = todo.into_parts();
     if confirm_levels(
@@ -219,7 +235,8 @@ pub(crate) fn unwind_noted<T: TravelTimes>(
     levels: &[u32],
 ) -> Answer
     requires problem { IsProblem network.now (T.classes times.now) query.now }
-    requires finished { IsFinished network.now (T.answers times.now) query.now finished.table.items finished.todo }
+    requires finished { IsFinished network.now (T.answers times.now) query.now
+        finished.table.items finished.todo }
     requires walks { finished.todo.walks ≡ true }
     ensures { IsAnswer network.now (T.answers times.now) query.now result }
 {

@@ -31,7 +31,9 @@ pub(crate) fn lower<K: Track, W: Opens>(
 )
     requires node { (0 < node) × (node ≤ (W.room todo.old).nodes) }
     requires places { length table.old ≡ (W.room todo.old).nodes }
-    ensures lowers { Lowers node time table.old (W.waits todo.old (entry table.old)) table.new (W.waits todo.new (entry table.new)) }
+    ensures lowers { Lowers node time
+        table.old (W.waits todo.old (entry table.old))
+        table.new (W.waits todo.new (entry table.new)) }
     ensures spent { sum table.new + W.size todo.new ≤ sum table.old + W.size todo.old }
     ensures room { W.room todo.new ≡ W.room todo.old }
 {
@@ -62,7 +64,9 @@ fn follow<T: TravelTimes, K: Track, W: Opens>(
     requires classes { top_class network.now.arcs ≤ T.classes times.now }
     requires places { length table.old ≡ network.now.nodes }
     requires nodes { (W.room todo.old).nodes ≡ network.now.nodes }
-    ensures scanned { Scanned network.now (T.answers times.now) arc.tail departure (number ∷ []) table.old (W.waits todo.old (entry table.old)) table.new (W.waits todo.new (entry table.new)) }
+    ensures scanned { Scanned network.now (T.answers times.now) arc.tail departure (number ∷ [])
+        table.old (W.waits todo.old (entry table.old))
+        table.new (W.waits todo.new (entry table.new)) }
     ensures spent { sum table.new + W.size todo.new ≤ sum table.old + W.size todo.old }
     ensures room { W.room todo.new ≡ W.room todo.old }
 {
@@ -93,7 +97,10 @@ pub(crate) fn scan<T: TravelTimes, K: Track, W: Opens>(
     requires classes { top_class network.now.arcs ≤ T.classes times.now }
     requires places { length table.old ≡ network.now.nodes }
     requires nodes { (W.room todo.old).nodes ≡ network.now.nodes }
-    ensures scanned { Scanned network.now (T.answers times.now) node departure (leaving network.now node) table.old (W.waits todo.old (entry table.old)) table.new (W.waits todo.new (entry table.new)) }
+    ensures scanned { Scanned network.now (T.answers times.now) node departure
+        (leaving network.now node)
+        table.old (W.waits todo.old (entry table.old))
+        table.new (W.waits todo.new (entry table.new)) }
     ensures spent { sum table.new + W.size todo.new ≤ sum table.old + W.size todo.old }
     ensures room { W.room todo.new ≡ W.room todo.old }
 {
@@ -138,12 +145,15 @@ pub fn finish<T: TravelTimes>(
     mut todo: Open,
 ) -> Finished
     requires problem { IsProblem network.now (T.classes times.now) query.now }
-    requires underway { IsUnderway network.now (T.answers times.now) query.now table.items todo.waiting }
+    requires underway { IsUnderway network.now (T.answers times.now) query.now
+        table.items todo.waiting }
     requires room { todo.nodes ≡ network.now.nodes }
-    ensures finished { IsFinished network.now (T.answers times.now) query.now result.table.items result.todo }
+    ensures finished { IsFinished network.now (T.answers times.now) query.now
+        result.table.items result.todo }
     ensures walks { result.todo.walks ≡ todo.walks }
     ensures least { (node : ℕ) → IsNode network.now.nodes node → IsAsked query.now node
-        → IsLeast network.now (T.answers times.now) query.now.sources node (time_of (label_of result.table.items node)) }
+        → IsLeast network.now (T.answers times.now) query.now.sources node
+        (time_of (label_of result.table.items node)) }
     ensures exact { (node time : ℕ) → IsNode network.now.nodes node
         → IsLeastAt network.now (T.answers times.now) query.now.sources node time
         → time ≤ limit query.now.target (label_of result.table.items)

@@ -254,7 +254,8 @@ impl Frontier {
     /// Takes an entry out, of nearly the least time; none where there is none, but for those whose label fell since.
     pub(crate) fn take(&mut self, network: &Network, table: &[u64]) -> Option<(u64, u32)>
         requires { length table.now ≡ self.old.todo.nodes }
-        ensures { MatchOption result (KeepsWaiting (entry table.now) self.old self.new × HaveNone self.new.lists)
+        ensures { MatchOption result
+            (KeepsWaiting (entry table.now) self.old self.new × HaveNone self.new.lists)
             (λ found. Takes (entry table.now) found self.old self.new) }
     {
         if let Some(entry) = self.pop(HAND) {
@@ -275,7 +276,8 @@ impl Frontier {
 impl Opens for Frontier {
     ghost use Rattle.ea_finish.specs.Frontiers.{WaitsAt, entries_in};
 
-    ghost room = { λ frontier. record { nodes = frontier.todo.nodes; walks = frontier.todo.walks } };
+    ghost room = { λ frontier.
+        record { nodes = frontier.todo.nodes; walks = frontier.todo.walks } };
 
     ghost waits = { λ frontier label node. WaitsAt frontier label node };
 

@@ -22,7 +22,8 @@ impl Model for Open {
 
     ghost Value = { Worklist };
 
-    ghost view = { λ o. record { nodes = o.waiting.nodes; waiting = o.waiting.waiting; walks = o.walks } };
+    ghost view = { λ o.
+        record { nodes = o.waiting.nodes; waiting = o.waiting.waiting; walks = o.walks } };
 
     ghost invariant = { λ o. o.walks ≡ true → o.links.items ≡ replicate o.waiting.nodes no_link };
 }
@@ -30,7 +31,8 @@ impl Model for Open {
 impl Open {
     /// An empty list with room for every node, and for the walks to them. The error comes only where memory is refused.
     pub fn reserve(alloc: Global, nodes: u32) -> Result<Open, AllocError>
-        ensures { IfOk result (λ todo. todo ≡ record { nodes = nodes; waiting = []; walks = true }) }
+        ensures { IfOk result (λ todo.
+            todo ≡ record { nodes = nodes; waiting = []; walks = true }) }
     {
         let waiting = Waiting::reserve(alloc, nodes)?;
         let none = Link {
@@ -48,7 +50,8 @@ impl Open {
 
     /// An empty list with room for every node, where no walks are asked for. The error comes only where memory is refused.
     pub fn reserve_without_walks(alloc: Global, nodes: u32) -> Result<Open, AllocError>
-        ensures { IfOk result (λ todo. todo ≡ record { nodes = nodes; waiting = []; walks = false }) }
+        ensures { IfOk result (λ todo.
+            todo ≡ record { nodes = nodes; waiting = []; walks = false }) }
     {
         let waiting = Waiting::reserve(alloc, nodes)?;
         Ok(Open {
@@ -69,10 +72,12 @@ impl Open {
     pub fn add(&mut self, node: u32)
         requires { (0 < node) × (node ≤ self.old.nodes) }
         ensures again { Contains self.old.waiting node → self.new ≡ self.old }
-        ensures fresh { (Contains self.old.waiting node → ⊥) → self.new.waiting ≡ self.old.waiting ++ node ∷ [] }
+        ensures fresh { (Contains self.old.waiting node → ⊥)
+            → self.new.waiting ≡ self.old.waiting ++ node ∷ [] }
         ensures room { (self.new.nodes ≡ self.old.nodes) × (self.new.walks ≡ self.old.walks) }
         ensures inside { Contains self.new.waiting node }
-        ensures kept { (other : ℕ) → Contains self.old.waiting other → Contains self.new.waiting other }
+        ensures kept { (other : ℕ) → Contains self.old.waiting other
+            → Contains self.new.waiting other }
         ensures at_most_one { length self.new.waiting ≤ length self.old.waiting + 1 }
     {
         self.waiting.add(node);
@@ -80,7 +85,8 @@ impl Open {
 
     /// Takes the node that has waited longest.
     pub(crate) fn take(&mut self) -> Option<u32>
-        ensures taken { MatchOption result ((self.old.waiting ≡ []) × (self.new ≡ self.old)) (λ node. self.old.waiting ≡ node ∷ self.new.waiting) }
+        ensures taken { MatchOption result ((self.old.waiting ≡ []) × (self.new ≡ self.old))
+            (λ node. self.old.waiting ≡ node ∷ self.new.waiting) }
         ensures room { (self.new.nodes ≡ self.old.nodes) × (self.new.walks ≡ self.old.walks) }
         ensures node { IfSome result (λ node. (0 < node) × (node ≤ self.old.nodes)) }
     {

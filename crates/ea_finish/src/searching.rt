@@ -4,7 +4,7 @@ ghost use Rattle.ea_limits.specs.declared.TheConstants.{HORIZON};
 ghost use Rattle.ea_road.specs.Queries.{IsProblem};
 ghost use Rattle.ea_road.specs.Roads.{IsNode, leaving, top_class};
 ghost use Rattle.ea_finish.specs.Frontiers.{WaitsAt};
-ghost use Rattle.ea_finish.specs.Scans.{Scanned, Underway};
+ghost use Rattle.ea_finish.specs.Scans.{AwaitsScans, Scanned, Underway};
 ghost use Rattle.ea_finish.specs.Underway.{IsUnderway, entry};
 
 use crate::finishing::{latest, lower, scan};
@@ -25,7 +25,8 @@ fn begin<T: TravelTimes, K: Track>(
 ) -> Result<Vec<u64>, AllocError>
     requires problem { IsProblem network.now (T.classes times.now) query.now }
     requires room { frontier.old.todo.nodes ≡ network.now.nodes }
-    ensures underway { IfOk result (λ table. Underway network.now (T.answers times.now) query.now.sources query.now.target table.items (WaitsAt frontier.new (entry table.items))) }
+    ensures underway { IfOk result (λ table. AwaitsScans network.now (T.answers times.now) query.now
+        table.items (WaitsAt frontier.new (entry table.items))) }
     ensures nodes { frontier.new.todo.nodes ≡ frontier.old.todo.nodes }
     ensures walks { frontier.new.todo.walks ≡ frontier.old.todo.walks }
 {
@@ -48,8 +49,10 @@ fn exhaust<T: TravelTimes, K: Track>(
 )
     requires problem { IsProblem network.now (T.classes times.now) query.now }
     requires room { frontier.old.todo.nodes ≡ network.now.nodes }
-    requires underway { Underway network.now (T.answers times.now) query.now.sources query.now.target table.old.items (WaitsAt frontier.old (entry table.old.items)) }
-    ensures underway { Underway network.now (T.answers times.now) query.now.sources query.now.target table.new.items (Contains frontier.new.todo.waiting) }
+    requires underway { AwaitsScans network.now (T.answers times.now) query.now
+        table.old.items (WaitsAt frontier.old (entry table.old.items)) }
+    ensures underway { AwaitsScans network.now (T.answers times.now) query.now
+        table.new.items (Contains frontier.new.todo.waiting) }
     ensures nodes { frontier.new.todo.nodes ≡ frontier.old.todo.nodes }
     ensures walks { frontier.new.todo.walks ≡ frontier.old.todo.walks }
 {
@@ -64,7 +67,8 @@ fn exhaust<T: TravelTimes, K: Track>(
     }
 }
 
-/// A table after a search from the sources, with windows of times at most so wide. Only nodes for which the frontier found no memory still wait.
+/// A table after a search from the sources, with windows of times at most so wide. Only nodes for which the frontier found
+/// no memory still wait.
 pub(crate) fn search<T: TravelTimes, K: Track>(
     alloc: Global,
     network: &Network,
@@ -76,7 +80,8 @@ pub(crate) fn search<T: TravelTimes, K: Track>(
 ) -> Result<(Vec<u64>, Open), AllocError>
     requires problem { IsProblem network.now (T.classes times.now) query.now }
     requires room { todo.nodes ≡ network.now.nodes }
-    ensures underway { IfOk result (λ found. IsUnderway network.now (T.answers times.now) query.now found.0.items found.1.waiting) }
+    ensures underway { IfOk result (λ found. IsUnderway network.now (T.answers times.now) query.now
+        found.0.items found.1.waiting) }
     ensures nodes { IfOk result (λ found. found.1.nodes ≡ todo.nodes) }
     ensures walks { IfOk result (λ found. found.1.walks ≡ todo.walks) }
 {

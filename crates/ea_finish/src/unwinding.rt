@@ -6,7 +6,7 @@ ghost use Rattle.ea_road.specs.Labels.{IsLabel, label_of};
 ghost use Rattle.ea_road.specs.Queries.{IsProblem};
 ghost use Rattle.ea_road.specs.Roads.{IsArc, IsNode, top_class};
 ghost use Rattle.ea_finish.specs.Answers.{HasArrivals, IsAnswer};
-ghost use Rattle.ea_finish.specs.Links.{AreLinks, link};
+ghost use Rattle.ea_finish.specs.Links.{AreLinks, AreStarts, link};
 ghost use Rattle.ea_finish.specs.Offers.{AreSown, IsOne, IsSpent, IsSpread, Linking, Offers, Precedes, Tight};
 ghost use Rattle.ea_finish.specs.Underway.{IsFinished, entry};
 
@@ -23,7 +23,8 @@ fn relink(links: &mut [Link], waiting: &mut Waiting, node: u32, new: Link)
     requires node { (0 < node) × (node ≤ waiting.old.nodes) }
     requires level { new.level < NO_LEVEL }
     requires places { length links.old ≡ waiting.old.nodes }
-    ensures offers { Offers waiting.old.nodes (IsOne node new) links.old waiting.old.waiting links.new waiting.new.waiting }
+    ensures offers { Offers waiting.old.nodes (IsOne node new)
+        links.old waiting.old.waiting links.new waiting.new.waiting }
     ensures passed { Precedes new (link links.new node) → ⊥ }
     ensures nodes { waiting.new.nodes ≡ waiting.old.nodes }
 {
@@ -53,10 +54,15 @@ pub(crate) fn pass<T: TravelTimes>(
     requires departure { (departure ≤ HORIZON) × (departure ≡ entry table.now new.from) }
     requires level { new.level < NO_LEVEL }
     requires classes { top_class network.now.arcs ≤ T.classes times.now }
-    requires places { (length table.now ≡ network.now.nodes) × (length links.old ≡ network.now.nodes) }
+    requires places { (length table.now ≡ network.now.nodes)
+        × (length links.old ≡ network.now.nodes) }
     requires nodes { waiting.old.nodes ≡ network.now.nodes }
-    ensures offers { Offers network.now.nodes (IsSpread network.now (T.answers times.now) table.now new.from new.level) links.old waiting.old.waiting links.new waiting.new.waiting }
-    ensures passed { (v : ℕ) → Tight network.now (T.answers times.now) table.now new.from new.arc v → Precedes new (link links.new v) → ⊥ }
+    ensures offers { Offers network.now.nodes
+        (IsSpread network.now (T.answers times.now) table.now new.from new.level)
+        links.old waiting.old.waiting links.new waiting.new.waiting }
+    ensures passed { (v : ℕ)
+        → Tight network.now (T.answers times.now) table.now new.from new.arc v
+        → Precedes new (link links.new v) → ⊥ }
     ensures nodes { waiting.new.nodes ≡ waiting.old.nodes }
 {
     network.keeps_limits();
@@ -84,10 +90,15 @@ fn spread<T: TravelTimes>(
     requires departure { entry table.now node ≤ HORIZON }
     requires level { (link links.old node).level + 1 < NO_LEVEL }
     requires classes { top_class network.now.arcs ≤ T.classes times.now }
-    requires places { (length table.now ≡ network.now.nodes) × (length links.old ≡ network.now.nodes) }
+    requires places { (length table.now ≡ network.now.nodes)
+        × (length links.old ≡ network.now.nodes) }
     requires nodes { waiting.old.nodes ≡ network.now.nodes }
-    ensures offers { Offers network.now.nodes (IsSpread network.now (T.answers times.now) table.now node ((link links.old node).level + 1)) links.old waiting.old.waiting links.new waiting.new.waiting }
-    ensures spent { IsSpent network.now (T.answers times.now) table.now links.new node ((link links.old node).level + 1) }
+    ensures offers { Offers network.now.nodes
+        (IsSpread network.now (T.answers times.now) table.now node
+        ((link links.old node).level + 1))
+        links.old waiting.old.waiting links.new waiting.new.waiting }
+    ensures spent { IsSpent network.now (T.answers times.now) table.now links.new node
+        ((link links.old node).level + 1) }
     ensures nodes { waiting.new.nodes ≡ waiting.old.nodes }
 {
     let departure = table[node as usize - 1];
@@ -117,9 +128,11 @@ fn spread<T: TravelTimes>(
 /// Links a source that departs at its node's label.
 pub(crate) fn sow(table: &[u64], source: Source, links: &mut [Link], waiting: &mut Waiting)
     requires node { (0 < source.node) × (source.node ≤ waiting.old.nodes) }
-    requires places { (length table.now ≡ waiting.old.nodes) × (length links.old ≡ waiting.old.nodes) }
+    requires places { (length table.now ≡ waiting.old.nodes)
+        × (length links.old ≡ waiting.old.nodes) }
     ensures seeds { source.departure ≡ entry table.now source.node
-        → Offers waiting.old.nodes (IsOne source.node (record { level = 0; arc = 0; from = 0 })) links.old waiting.old.waiting links.new waiting.new.waiting
+        → Offers waiting.old.nodes (IsOne source.node (record { level = 0; arc = 0; from = 0 }))
+        links.old waiting.old.waiting links.new waiting.new.waiting
         × ((link links.new source.node).level ≡ 0) }
     ensures others { (source.departure ≡ entry table.now source.node → ⊥)
         → (links.new ≡ links.old) × (waiting.new ≡ waiting.old) }
@@ -171,11 +184,12 @@ pub fn find_links<T: TravelTimes>(
     todo: Open,
 ) -> Vec<Link>
     requires classes { top_class network.now.arcs ≤ T.classes times.now }
-    requires sources { (source : Source) → IsAmong sources.now source → IsNode network.now.nodes source.node × (source.departure ≤ HORIZON) }
+    requires sources { AreStarts network.now.nodes sources.now }
     requires places { length table.now ≡ network.now.nodes }
     requires nobody { todo.waiting ≡ [] }
     requires room { (todo.nodes ≡ network.now.nodes) × (todo.walks ≡ true) }
-    ensures { AreLinks network.now (T.answers times.now) sources.now (IsLabel (label_of table.now)) result.items }
+    ensures { AreLinks network.now (T.answers times.now) sources.now
+        (IsLabel (label_of table.now)) result.items }
 {
     network.keeps_limits();
     let (mut waiting, mut links) = todo.into_parts();
@@ -198,7 +212,8 @@ pub fn unwind<T: TravelTimes>(
     finished: Finished,
 ) -> Answer
     requires problem { IsProblem network.now (T.classes times.now) query.now }
-    requires finished { IsFinished network.now (T.answers times.now) query.now finished.table.items finished.todo }
+    requires finished { IsFinished network.now (T.answers times.now) query.now
+        finished.table.items finished.todo }
     requires walks { finished.todo.walks ≡ true }
     ensures { IsAnswer network.now (T.answers times.now) query.now result }
 {
@@ -216,7 +231,8 @@ pub fn without_walks<T: TravelTimes>(
     finished: Finished,
 ) -> Answer
     requires problem { IsProblem network.now (T.classes times.now) query.now }
-    requires finished { IsFinished network.now (T.answers times.now) query.now finished.table.items finished.todo }
+    requires finished { IsFinished network.now (T.answers times.now) query.now
+        finished.table.items finished.todo }
     ensures arrivals { HasArrivals network.now (T.answers times.now) query.now result }
     ensures none { result.walks ≡ false }
 {

@@ -45,10 +45,12 @@ impl Waiting {
     pub fn add(&mut self, node: u32)
         requires { (0 < node) × (node ≤ self.old.nodes) }
         ensures again { Contains self.old.waiting node → self.new ≡ self.old }
-        ensures fresh { (Contains self.old.waiting node → ⊥) → self.new.waiting ≡ self.old.waiting ++ node ∷ [] }
+        ensures fresh { (Contains self.old.waiting node → ⊥)
+            → self.new.waiting ≡ self.old.waiting ++ node ∷ [] }
         ensures nodes { self.new.nodes ≡ self.old.nodes }
         ensures inside { Contains self.new.waiting node }
-        ensures only { (v : ℕ) → Contains self.new.waiting v → Contains self.old.waiting v ⊎ (v ≡ node) }
+        ensures only { (v : ℕ) → Contains self.new.waiting v
+            → Contains self.old.waiting v ⊎ (v ≡ node) }
         ensures kept { (v : ℕ) → Contains self.old.waiting v → Contains self.new.waiting v }
         ensures at_most_one { length self.new.waiting ≤ length self.old.waiting + 1 }
     {
@@ -61,7 +63,8 @@ impl Waiting {
 
     /// Takes the node that has waited longest.
     pub fn take(&mut self) -> Option<u32>
-        ensures taken { MatchOption result ((self.old.waiting ≡ []) × (self.new ≡ self.old)) (λ v. self.old.waiting ≡ v ∷ self.new.waiting) }
+        ensures taken { MatchOption result ((self.old.waiting ≡ []) × (self.new ≡ self.old))
+            (λ v. self.old.waiting ≡ v ∷ self.new.waiting) }
         ensures nodes { self.new.nodes ≡ self.old.nodes }
         ensures node { IfSome result (λ v. (0 < v) × (v ≤ self.old.nodes)) }
     {

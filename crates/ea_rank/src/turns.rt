@@ -73,7 +73,7 @@ fn sow<T: TravelTimes>(
     ensures course { IfOk result (λ _. (pushes : ℕ)
         × Sows query.now.sources (state_of run.old) pushes (state_of run.new)) }
 {
-    let _ = network.nodes();
+    network.keeps_limits();
     let mut word = 0;
     for source in query.sources() {
         if source.departure < run.label(source.node) {

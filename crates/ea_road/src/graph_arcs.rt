@@ -15,7 +15,8 @@ pub fn arcs_of(
     table: Option<&RawTable>,
 ) -> Result<Vec<Arc>, AllocError>
     requires { AreAssigned (length graph.now.arcs.items) (assigned_of table) }
-    ensures { IfOk result (λ arcs. arcs.items ≡ arcs_with (assigned_of table.entry) graph.now.arcs.items) }
+    ensures { IfOk result (λ arcs.
+        arcs.items ≡ arcs_with (assigned_of table.entry) graph.now.arcs.items) }
 {
     let mut arcs = plain_arcs(alloc, &graph.arcs)?;
     if let Some(table) = table {
@@ -43,7 +44,8 @@ fn plain_arcs(alloc: Global, raw: &[RawArc]) -> Result<Vec<Arc>, AllocError>
 /// Gives arcs their classes, the later assignment of an arc over the earlier.
 fn assign(arcs: &mut [Arc], assigned: &[(u32, u32)])
     requires { AreAssigned (length arcs.old) assigned.now }
-    ensures { (raw : List RawArc) → arcs.old ≡ arcs_with [] raw → arcs.new ≡ arcs_with assigned.now raw }
+    ensures { (raw : List RawArc) → arcs.old ≡ arcs_with [] raw
+        → arcs.new ≡ arcs_with assigned.now raw }
 {
     for (number, class) in assigned {
         arcs[*number as usize - 1].class = *class;

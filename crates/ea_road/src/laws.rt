@@ -20,8 +20,10 @@ use crate::travel_times::TravelTimes;
 pub fn leaving_arcs_ascend(network: &Network)
     ensures members { (node number : ℕ) → Contains (leaving network.now node) number
         ↔ ((arc : Arc) × IsArc network.now number arc × (arc.tail ≡ node)) }
-    ensures ascend { (node place later : ℕ) → place < later → later < length (leaving network.now node)
-        → slice_index (leaving network.now node) place < slice_index (leaving network.now node) later }
+    ensures ascend { (node place later : ℕ) → place < later
+        → later < length (leaving network.now node)
+        → slice_index (leaving network.now node) place
+        < slice_index (leaving network.now node) later }
 {}
 
 /// A node has at most one least arrival, be it a time or none.
@@ -44,10 +46,12 @@ pub fn fixed_labels_are_least<T: TravelTimes>(
     requires problem { IsProblem network.now (T.classes times.now) query.now }
     requires fixed { IsFixed network.now (T.answers times.now) query.now (label_of table.now) }
     ensures asked { (node : ℕ) → IsNode network.now.nodes node → IsAsked query.now node
-        → IsLeast network.now (T.answers times.now) query.now.sources node (time_of (label_of table.now node)) }
+        → IsLeast network.now (T.answers times.now) query.now.sources node
+        (time_of (label_of table.now node)) }
     ensures up_to_the_target { (node : ℕ) → IsNode network.now.nodes node
         → label_of table.now node ≤ limit query.now.target (label_of table.now)
-        → IsLeast network.now (T.answers times.now) query.now.sources node (time_of (label_of table.now node)) }
+        → IsLeast network.now (T.answers times.now) query.now.sources node
+        (time_of (label_of table.now node)) }
     ensures exact { (node time : ℕ) → IsNode network.now.nodes node
         → IsLeastAt network.now (T.answers times.now) query.now.sources node time
         → time ≤ limit query.now.target (label_of table.now)
@@ -121,7 +125,9 @@ pub fn last_arcs_are_lowest<T: TravelTimes>(network: &Network, times: &T, query:
 
 /// Travel times by one timetable, of whichever kind, are first in, first out.
 pub fn timetable_is_fifo(table: &Timetable)
-    ensures { (classes : ℕ) → IsFifo (λ class weight departure arrival. KindAnswers table.now.kind weight departure arrival) classes }
+    ensures { (classes : ℕ) → IsFifo
+        (λ class weight departure arrival. KindAnswers table.now.kind weight departure arrival)
+        classes }
 {}
 
 /// Travel times by a list of timetables are first in, first out.

@@ -31,7 +31,8 @@ impl Model for Network {
 
     ghost view = { λ n. record { nodes = n.nodes; arcs = n.arcs.items } };
 
-    ghost invariant = { λ n. IsStored (record { nodes = n.nodes; arcs = n.arcs.items }) n.starts.items n.numbers.items n.by_tail.items };
+    ghost invariant = { λ n. IsStored (record { nodes = n.nodes; arcs = n.arcs.items })
+        n.starts.items n.numbers.items n.by_tail.items };
 }
 
 /// The arcs that leave a node, as they lie in memory: their numbers, ascending, and beside them the arcs.

@@ -12,7 +12,8 @@ pub type Arrival = Box<dyn Fn(u64, u64) -> u64 + Send + Sync>;
 #[derive(Drop)]
 pub struct Profile {
     pub arrival: Arrival,
-    pub ghost may_ask: { (weight departure : ℕ) → IsDeparture weight departure → Arrival.pre arrival weight departure },
+    pub ghost may_ask: { (weight departure : ℕ) → IsDeparture weight departure
+        → Arrival.pre arrival weight departure },
     pub ghost fifo: { ∥ IsFifoProfile (Arrival.pre arrival) (Arrival.post arrival) ∥₁ },
 }
 
@@ -40,7 +41,8 @@ impl TravelTimes for Profile {
 
     ghost classes = { λ profile. 4294967295 };
 
-    ghost answers = { λ profile class weight departure arrival. ∥ Arrival.post profile.arrival weight departure arrival ∥₁ };
+    ghost answers = { λ profile class weight departure arrival.
+        ∥ Arrival.post profile.arrival weight departure arrival ∥₁ };
 
     fn arrive(&self, _class: u32, weight: u64, departure: u64) -> u64 {
         Profile::arrive(self, weight, departure)

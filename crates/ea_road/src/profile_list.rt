@@ -26,7 +26,8 @@ impl ProfileList {
     pub fn push(&mut self, profile: Profile) -> Result<(), (Profile, AllocError)>
         ensures { MatchResult result
             (λ _. self.new.profiles.items ≡ self.old.profiles.items ++ profile ∷ [])
-            (λ refused. (refused.0 ≡ profile) × (self.new.profiles.items ≡ self.old.profiles.items)) }
+            (λ refused. (refused.0 ≡ profile)
+            × (self.new.profiles.items ≡ self.old.profiles.items)) }
     {
         match self.profiles.push(profile) {
             Ok(()) => Ok(()),
@@ -44,7 +45,8 @@ impl ProfileList {
     /// When an arc of a class and a weight arrives that is left at a departure.
     pub fn arrive(&self, class: u32, weight: u64, departure: u64) -> u64
         requires { IsQuestion (length self.now.profiles.items) class weight departure }
-        ensures answer { ListAnswers (λ profile. Arrival.post profile.arrival) self.now.profiles.items class weight departure result }
+        ensures answer { ListAnswers (λ profile. Arrival.post profile.arrival)
+            self.now.profiles.items class weight departure result }
         ensures not_before { departure ≤ result }
     {
         if class == 0 {
@@ -63,7 +65,9 @@ impl TravelTimes for ProfileList {
 
     ghost classes = { λ list. length list.profiles.items };
 
-    ghost answers = { λ list class weight departure arrival. ListAnswers (λ profile. Arrival.post profile.arrival) list.profiles.items class weight departure arrival };
+    ghost answers = { λ list class weight departure arrival.
+        ListAnswers (λ profile. Arrival.post profile.arrival)
+        list.profiles.items class weight departure arrival };
 
     fn arrive(&self, class: u32, weight: u64, departure: u64) -> u64 {
         ProfileList::arrive(self, class, weight, departure)

@@ -31,7 +31,8 @@ impl<F: ArrivalFunction> Profiles<F> {
 
     /// The fact of the closure, for proofs. It does nothing when it runs.
     pub fn fifo(&self)
-        ensures { IsFifoFunction (F.may self.now.closure) (F.answers self.now.closure) self.now.classes }
+        ensures { IsFifoFunction (F.may self.now.closure) (F.answers self.now.closure)
+            self.now.classes }
     {}
 
     /// When an arc of a class and a weight arrives that is left at a departure.
@@ -50,11 +51,14 @@ impl<F: ArrivalFunction> TravelTimes for Profiles<F> {
 
     ghost classes = { λ profiles. profiles.classes };
 
-    ghost answers = { λ profiles class weight departure arrival. ∥ F.answers profiles.closure class weight departure arrival ∥₁ };
+    ghost answers = { λ profiles class weight departure arrival.
+        ∥ F.answers profiles.closure class weight departure arrival ∥₁ };
 
     fn arrive(&self, class: u32, weight: u64, departure: u64) -> u64 {
         Profiles::arrive(self, class, weight, departure)
     }
 
-    ghost fifo = { λ profiles. truncated_is_fifo (F.may profiles.closure) (F.answers profiles.closure) profiles.classes profiles.fifo };
+    ghost fifo = { λ profiles.
+        truncated_is_fifo (F.may profiles.closure) (F.answers profiles.closure)
+        profiles.classes profiles.fifo };
 }

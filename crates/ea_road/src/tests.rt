@@ -337,7 +337,8 @@ fn first_known<T: TravelTimes, K: Known>(network: &Network, times: &T, query: &Q
 /// A call that picks, as its own `Known`, the pairs reached from its own sources.
 fn first_reached<T: TravelTimes>(network: &Network, times: &T, query: &Query) -> u64
     requires { 0 < length query.now.sources }
-    ensures { (node : ℕ) × ∥ Reaches network.now (T.answers times.now) query.now.sources node result ∥₁ }
+    ensures { (node : ℕ)
+        × ∥ Reaches network.now (T.answers times.now) query.now.sources node result ∥₁ }
 {
     first_known::<T, Brand>(network, times, query)
 }

@@ -74,7 +74,8 @@ impl TravelTimes for Timetable {
 
     ghost classes = { λ table. 4294967295 };
 
-    ghost answers = { λ table class weight departure arrival. KindAnswers table.kind weight departure arrival };
+    ghost answers = { λ table class weight departure arrival.
+        KindAnswers table.kind weight departure arrival };
 
     fn arrive(&self, _class: u32, weight: u64, departure: u64) -> u64 {
         Timetable::arrive(self, weight, departure)

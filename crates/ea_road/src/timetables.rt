@@ -64,7 +64,8 @@ impl TravelTimes for Timetables {
 
     ghost classes = { λ times. length times.list.items };
 
-    ghost answers = { λ times class weight departure arrival. TimetablesAnswer times.list.items class weight departure arrival };
+    ghost answers = { λ times class weight departure arrival.
+        TimetablesAnswer times.list.items class weight departure arrival };
 
     fn arrive(&self, class: u32, weight: u64, departure: u64) -> u64 {
         Timetables::arrive(self, class, weight, departure)

@@ -20,8 +20,11 @@ pub fn run_walk<T: TravelTimes>(
     requires start { IsNode network.now.nodes start }
     requires departure { departure ≤ HORIZON }
     ensures { MatchOption result
-        ((node time : ℕ) → Arrives network.now (T.answers times.now) start departure walk.now node time → HORIZON < time)
-        (λ end. Arrives network.now (T.answers times.now) start departure walk.now end.0 end.1 × (end.1 ≤ HORIZON)) }
+        ((node time : ℕ)
+        → Arrives network.now (T.answers times.now) start departure walk.now node time
+        → HORIZON < time)
+        (λ end. Arrives network.now (T.answers times.now) start departure walk.now end.0 end.1
+        × (end.1 ≤ HORIZON)) }
 {
     let mut node = start;
     let mut time = departure;
@@ -47,8 +50,11 @@ fn go_on<T: TravelTimes>(
     requires time { time ≤ HORIZON }
     ensures network { IsNetwork network.now }
     ensures outcome { MatchOption result
-        ((head arrival : ℕ) → GoesOn network.now (T.answers times.now) node time number head arrival → HORIZON < arrival)
-        (λ end. GoesOn network.now (T.answers times.now) node time number end.0 end.1 × (end.1 ≤ HORIZON)) }
+        ((head arrival : ℕ)
+        → GoesOn network.now (T.answers times.now) node time number head arrival
+        → HORIZON < arrival)
+        (λ end. GoesOn network.now (T.answers times.now) node time number end.0 end.1
+        × (end.1 ≤ HORIZON)) }
 {
     let arcs = network.arcs();
     if number == 0 || number as usize > arcs.len() {

@@ -9,5 +9,5 @@ use Rattle.ea_check.proofs.laws.reports_have_one_verdict.Goals as goal
 pub returns : goal.returns
 returns g c = λ report.
     one_checked c.args.network.now (g.T.TravelTimes.answers c.args.times.now) (g.T.TravelTimes.classes c.args.times.now) (g.met.T.TravelTimes.fifo c.args.times.now) (sources_of c.args.queries.now) (lines_of_report report)
-    (tasks_of c.args.network.now (g.T.TravelTimes.classes c.args.times.now) c.args.queries.now c.nodes.ensures.network c.requires)
+    (tasks_of c.args.network.now (g.T.TravelTimes.classes c.args.times.now) c.args.queries.now c.keeps_limits.ensures c.requires)
     (spoken_in_order 1 0 (field_lines report) (omega arith))

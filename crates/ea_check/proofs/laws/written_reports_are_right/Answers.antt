@@ -21,7 +21,7 @@ returns-clause-arrivals g c = λ answer has.
     let problem = subst (λ (q : Asking). IsProblem roads (g.T.TravelTimes.classes c.args.times.now) q) same c.requires.problem in
     let arrivals = subst (λ (q : Asking). HasArrivals roads answers q answer) same has in
     subst (λ (q : Asking). IsChecked roads answers (query.sources ∷ []) (lines_of_report (problem_text false roads.nodes q answer)) (Ok tt)) (sym same)
-    (written_checked roads answers (g.T.TravelTimes.classes c.args.times.now) query.sources c.nodes.ensures.network problem false answer arrivals (λ asked. cc) (λ asked. cc))
+    (written_checked roads answers (g.T.TravelTimes.classes c.args.times.now) query.sources c.keeps_limits.ensures problem false answer arrivals (λ asked. cc) (λ asked. cc))
 
 pub returns-clause-walks : goal.returns-clause-walks
 returns-clause-walks g c = λ answer is bounded.
@@ -32,4 +32,4 @@ returns-clause-walks g c = λ answer is bounded.
     let problem = subst (λ (q : Asking). IsProblem roads (g.T.TravelTimes.classes c.args.times.now) q) same c.requires.problem in
     let whole = subst (λ (q : Asking). IsAnswer roads answers q answer) same is in
     subst (λ (q : Asking). IsChecked roads answers (query.sources ∷ []) (lines_of_report (problem_text true roads.nodes q answer)) (Ok tt)) (sym same)
-    (written_checked roads answers (g.T.TravelTimes.classes c.args.times.now) query.sources c.nodes.ensures.network problem true answer whole.arrivals (λ asked node walk is_node found. whole.canonical node walk is_node tt found) (λ asked. bounded))
+    (written_checked roads answers (g.T.TravelTimes.classes c.args.times.now) query.sources c.keeps_limits.ensures problem true answer whole.arrivals (λ asked node walk is_node found. whole.canonical node walk is_node tt found) (λ asked. bounded))

@@ -4,7 +4,7 @@ use Rattle.ea_engine.proofs.law.ground_is_laid.Goals as goal
 
 pub returns : goal.returns
 returns g c = record {
-  posed = posed_of _ _ _ _ _ c.requires.named _ c.nodes.ensures.network c.requires.problem;
+  posed = posed_of _ _ _ _ _ c.requires.named _ c.keeps_limits.ensures c.requires.problem;
   named = c.requires.named;
   classed = classed_of _ _ _ _ _ c.requires.named _ c.requires.problem;
   fifo = c.times_are_fifo.ensures;

@@ -43,10 +43,10 @@ loop-source-preserved g c =
           let by = w.in_ok-lower.ensures in
           let moved = by.lowers in
           let low : source.departure < label_of c.loop-source.run.labels.items source.node = omega (arith, c.label.ensures, w.if-source-label.true) in
-          let kept = underway-lowers roads _ c.args.query.now.sources c.nodes.ensures.network (take i items) [] popped source.node source.departure (state_of c.loop-source.run) (state_of w.lower.new.self) there within low (reaches_source roads _ c.args.query.now.sources source among within) inv.underway.1 moved in
+          let kept = underway-lowers roads _ c.args.query.now.sources c.keeps_limits.ensures (take i items) [] popped source.node source.departure (state_of c.loop-source.run) (state_of w.lower.new.self) there within low (reaches_source roads _ c.args.query.now.sources source among within) inv.underway.1 moved in
           let now = lowered_label source.node source.departure (state_of c.loop-source.run) (state_of w.lower.new.self) there.from_one (omega (arith, there.to_last, inv.underway.1.places)) moved in
           rw (w.run-is, w.word-is, more) (record {
-            underway = (popped, underway-begins roads _ c.args.query.now.sources c.nodes.ensures.network (take i items) source popped (state_of w.lower.new.self) (omega arith) kept, recorded-lowers _ _ popped (state_of c.loop-source.run) (state_of w.lower.new.self) inv.underway.2 moved);
+            underway = (popped, underway-begins roads _ c.args.query.now.sources c.keeps_limits.ensures (take i items) source popped (state_of w.lower.new.self) (omega arith) kept, recorded-lowers _ _ popped (state_of c.loop-source.run) (state_of w.lower.new.self) inv.underway.2 moved);
             heaps = moved.count ∙ inv.heaps;
             course = pushes source inv.course low by;
             few = omega (arith, inv.few);
@@ -54,7 +54,7 @@ loop-source-preserved g c =
       | else-source-label w ↦ (
           let low : label_of c.loop-source.run.labels.items source.node ≤ source.departure = omega (arith, c.label.ensures, w.if-source-label.false) in
           rw (w.run-is, w.word-is, more) (record {
-            underway = (popped, underway-begins roads _ c.args.query.now.sources c.nodes.ensures.network (take i items) source popped (state_of c.loop-source.run) low inv.underway.1, inv.underway.2);
+            underway = (popped, underway-begins roads _ c.args.query.now.sources c.keeps_limits.ensures (take i items) source popped (state_of c.loop-source.run) low inv.underway.1, inv.underway.2);
             heaps = inv.heaps;
             course = passes source inv.course low;
             few = omega (arith, inv.few);
