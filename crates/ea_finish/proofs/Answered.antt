@@ -16,7 +16,7 @@ use Rattle.ea_finish.specs.declared.link.Link.{Link}
 use Rattle.ea_finish.specs.declared.link.TheConstants.{NO_LEVEL}
 use Rattle.ea_finish.specs.Answers.{HasArrivals, IsAnswer}
 use Rattle.ea_finish.specs.Links.{AreLinks, link, linked_walk}
-use Rattle.ea_finish.specs.Stored.{AreFollowable, IsStored}
+use Rattle.ea_finish.specs.Stored.{AreFollowable, IsStoredAnswer}
 use Rattle.ea_finish.proofs.Linkings.{link-node}
 
 -- what a label that gives something says
@@ -53,7 +53,7 @@ module _
       least = λ node is_node asked. asked_labels_are_least roads answers classes query label network problem.classed fifo fixed node is_node asked;
     }
 
-    pub stored_without : (links : List Link) → IsStored (record { nodes = roads.nodes; target = query.target; labels = table; links = links; walks = false })
+    pub stored_without : (links : List Link) → IsStoredAnswer (record { nodes = roads.nodes; target = query.target; labels = table; links = links; walks = false })
     stored_without links = record {
       labels = places;
       links = λ same. cc;
@@ -88,7 +88,7 @@ module _
           let count = are.places in
           (record { from_one = from.from_one; to_last = omega arith }, omega arith)
 
-      pub stored : IsStored (record { nodes = roads.nodes; target = query.target; labels = table; links = links; walks = true })
+      pub stored : IsStoredAnswer (record { nodes = roads.nodes; target = query.target; labels = table; links = links; walks = true })
       stored = record {
         labels = places;
         links = λ same. are.places;

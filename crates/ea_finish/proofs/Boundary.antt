@@ -6,9 +6,9 @@ use Rattle.ea_road.specs.Roads.{Roads, IsArc, IsNode, IsNetwork}
 use Rattle.ea_road.specs.Queries.{Asking, IsProblem}
 use Rattle.ea_road.specs.Arrivals.{Reaches}
 use Rattle.ea_road.specs.Labels.{IsFixed, Satisfies, label_of, limit}
-use Rattle.ea_finish.specs.Underway.{IsUnderway, entry}
-use Rattle.ea_finish.specs.Scans.{Satisfied, Underway}
-use Rattle.ea_finish.proofs.Entries.{entry_label, entry-node}
+use Rattle.ea_finish.specs.Underway.{IsUnderway, bound_of}
+use Rattle.ea_finish.specs.Scans.{LowersNone, AwaitsScansFrom}
+use Rattle.ea_finish.proofs.Entries.{bound_of_label, bound_of-node}
 
 module _
     (roads : Roads)
@@ -20,34 +20,34 @@ module _
     (table : List ℕ)
     (places : length table ≡ roads.nodes)
   where
-    same_label : (node : ℕ) → IsNode roads.nodes node → entry table node ≡ label_of table node
-    same_label node is_node = entry_label table node (record { from_one = is_node.from_one; to_last = omega (arith, is_node.to_last) })
+    same_label : (node : ℕ) → IsNode roads.nodes node → bound_of table node ≡ label_of table node
+    same_label node is_node = bound_of_label table node (record { from_one = is_node.from_one; to_last = omega (arith, is_node.to_last) })
 
-    limit_by : (target : Option ℕ) → ((node : ℕ) → target ≡ Some node → IsNode roads.nodes node) → limit target (entry table) ≡ limit target (label_of table)
+    limit_by : (target : Option ℕ) → ((node : ℕ) → target ≡ Some node → IsNode roads.nodes node) → limit target (bound_of table) ≡ limit target (label_of table)
     limit_by None are = refl
     limit_by (Some node) are = same_label node (are node refl)
 
-    pub same_limit : limit query.target (entry table) ≡ limit query.target (label_of table)
+    pub same_limit : limit query.target (bound_of table) ≡ limit query.target (label_of table)
     same_limit = limit_by query.target problem.target
 
     head_node : (number : ℕ) (arc : Arc) → IsArc roads number arc → IsNode roads.nodes arc.head
     head_node number arc is_arc = (network.each_fits number arc is_arc).head
 
-    satisfies_of : (node time : ℕ) → Satisfied roads answers table node time → Satisfies roads answers (label_of table) node time
+    satisfies_of : (node time : ℕ) → LowersNone roads answers table node time → Satisfies roads answers (label_of table) node time
     satisfies_of node time satisfied = λ number arc arrival is_arc tail answer within.
         let low = satisfied number arc.head arrival (record { arc = arc; is_arc = is_arc; is_tail = tail; is_head = refl; answer = answer; in_time = within }) in
         let same = same_label arc.head (head_node number arc is_arc) in
         omega arith
 
-    satisfied_of : (node time : ℕ) → Satisfies roads answers (label_of table) node time → Satisfied roads answers table node time
+    satisfied_of : (node time : ℕ) → Satisfies roads answers (label_of table) node time → LowersNone roads answers table node time
     satisfied_of node time satisfies = λ number head arrival step.
         let low = satisfies number step.arc arrival step.is_arc step.is_tail step.answer step.in_time in
         let same = same_label step.arc.head (head_node number step.arc step.is_arc) in
-        let P : ℕ → Type 0 = λ x. entry table x ≤ arrival in
-        let here : entry table step.arc.head ≤ arrival = omega arith in
+        let P : ℕ → Type 0 = λ x. bound_of table x ≤ arrival in
+        let here : bound_of table step.arc.head ≤ arrival = omega arith in
         subst P step.is_head here
 
-    pub underway_of : (waiting : List ℕ) → IsUnderway roads answers query table waiting → Underway roads answers query.sources query.target table (Contains waiting)
+    pub underway_of : (waiting : List ℕ) → IsUnderway roads answers query table waiting → AwaitsScansFrom roads answers query.sources query.target table (Contains waiting)
     underway_of waiting under = record {
       places = places;
       reached = reached;
@@ -58,33 +58,33 @@ module _
       settled = settled;
     }
       where
-        node_of : (v : ℕ) → entry table v ≢ NONE → IsNode roads.nodes v
-        node_of v there = let node = entry-node table v there in record { from_one = node.0; to_last = omega (arith, node.1) }
+        node_of : (v : ℕ) → bound_of table v ≢ NONE → IsNode roads.nodes v
+        node_of v there = let node = bound_of-node table v there in record { from_one = node.0; to_last = omega (arith, node.1) }
 
-        reached : (v : ℕ) → entry table v ≢ NONE → Reaches roads answers query.sources v (entry table v)
+        reached : (v : ℕ) → bound_of table v ≢ NONE → Reaches roads answers query.sources v (bound_of table v)
         reached v there =
             let node = node_of v there in
             let same = same_label v node in
             let P : ℕ → Type 0 = λ x. Reaches roads answers query.sources v x in
             subst P (sym same) (under.labels.reached v node (λ e. omega (arith, e)))
 
-        settled : (v : ℕ) → entry table v ≢ NONE → Satisfied roads answers table v (entry table v) ⊎ (Contains waiting v ⊎ (limit query.target (entry table) < entry table v))
+        settled : (v : ℕ) → bound_of table v ≢ NONE → LowersNone roads answers table v (bound_of table v) ⊎ (Contains waiting v ⊎ (limit query.target (bound_of table) < bound_of table v))
         settled v there =
             let node = node_of v there in
             let same = same_label v node in
-            let P : ℕ → Type 0 = λ x. Satisfied roads answers table v x in
+            let P : ℕ → Type 0 = λ x. LowersNone roads answers table v x in
             elim (under.labels.settled v node (λ e. omega (arith, e))) [
               | inl old ↦ inl (subst P (sym same) (satisfied_of v (label_of table v) old))
               | inr (inl waits) ↦ inr (inl waits)
               | inr (inr above) ↦ inr (inr (omega (arith, same_limit)))
             ]
 
-    labelled : (waiting : List ℕ) → Underway roads answers query.sources query.target table (Contains waiting) → (v : ℕ) → IsNode roads.nodes v → label_of table v ≢ NONE → entry table v ≢ NONE → Reaches roads answers query.sources v (label_of table v)
+    labelled : (waiting : List ℕ) → AwaitsScansFrom roads answers query.sources query.target table (Contains waiting) → (v : ℕ) → IsNode roads.nodes v → label_of table v ≢ NONE → bound_of table v ≢ NONE → Reaches roads answers query.sources v (label_of table v)
     labelled waiting under v node some there =
         let P : ℕ → Type 0 = λ x. Reaches roads answers query.sources v x in
         subst P (same_label v node) (under.reached v there)
 
-    pub public_of : (waiting : List ℕ) → Underway roads answers query.sources query.target table (Contains waiting) → IsUnderway roads answers query table waiting
+    pub public_of : (waiting : List ℕ) → AwaitsScansFrom roads answers query.sources query.target table (Contains waiting) → IsUnderway roads answers query table waiting
     public_of waiting under = record {
       places = places;
       labels = record {
@@ -97,17 +97,17 @@ module _
             let same = same_label v node in
             let P : ℕ → Type 0 = λ x. Satisfies roads answers (label_of table) v x in
             elim (under.settled v (there v node some)) [
-              | inl old ↦ inl (subst P same (satisfies_of v (entry table v) old))
+              | inl old ↦ inl (subst P same (satisfies_of v (bound_of table v) old))
               | inr (inl waits) ↦ inr (inl waits)
               | inr (inr above) ↦ inr (inr (omega (arith, same_limit)))
             ];
       };
     }
       where
-        there : (v : ℕ) → IsNode roads.nodes v → label_of table v ≢ NONE → entry table v ≢ NONE
+        there : (v : ℕ) → IsNode roads.nodes v → label_of table v ≢ NONE → bound_of table v ≢ NONE
         there v node some = λ e. some (sym (same_label v node) ∙ e)
 
-    pub fixed_of : Underway roads answers query.sources query.target table (Contains []) → IsFixed roads answers query (label_of table)
+    pub fixed_of : AwaitsScansFrom roads answers query.sources query.target table (Contains []) → IsFixed roads answers query (label_of table)
     fixed_of under =
         let open_to = public_of [] under in
         record {

@@ -12,8 +12,8 @@ use Rattle.ea_finish.specs.declared.link.Link.{Link}
 use Rattle.ea_finish.specs.declared.link.TheConstants.{NO_ARC, NO_LEVEL}
 use Rattle.ea_finish.specs.Confirmed.{AreBegun, AreConfirmed, ArePreset, AreReady, IsReady}
 use Rattle.ea_finish.specs.Links.{link, no_link}
-use Rattle.ea_finish.specs.Offers.{AreSown, IsOne, IsSeed, IsSpread, Offers, Precedes, Tight}
-use Rattle.ea_finish.specs.Underway.{entry}
+use Rattle.ea_finish.specs.Offers.{AreSown, IsOne, IsSeed, IsSpread, Offers, Precedes, MeetsBound}
+use Rattle.ea_finish.specs.Underway.{bound_of}
 use Rattle.ea_finish.proofs.Linked.{Settled}
 use Rattle.ea_finish.proofs.Linkings.{link-at, link-set_same, link-set_other, AreSown-more, Offers-lower, Offers-passed}
 
@@ -116,7 +116,7 @@ module _ (sources : List Source) (table : List ℕ) (nodes place : ℕ) (default
   abbrev seed : Link
   seed = record { level = 0; arc = 0; from = 0 }
 
-  pub AreBegun-seed : place < length sources → IsAmong sources here → here.departure ≤ HORIZON → length waiting' ≡ 0 → AreBegun sources table links place → here.departure ≡ entry table here.node → Offers nodes (IsOne here.node seed) links waiting links' waiting' → (link links' here.node).level ≡ 0 → AreBegun sources table links' (place + 1)
+  pub AreBegun-seed : place < length sources → IsAmong sources here → here.departure ≤ HORIZON → length waiting' ≡ 0 → AreBegun sources table links place → here.departure ≡ bound_of table here.node → Offers nodes (IsOne here.node seed) links waiting links' waiting' → (link links' here.node).level ≡ 0 → AreBegun sources table links' (place + 1)
   AreBegun-seed within among in_time none before departs offers low = record {
     low = λ v. (let same = level v in let was = before.low v in omega arith);
     begun = begun;
@@ -140,7 +140,7 @@ module _ (sources : List Source) (table : List ℕ) (nodes place : ℕ) (default
       ]
 
   -- it was not, since it departs at another time
-  pub AreBegun-other : place < length sources → AreBegun sources table links place → (here.departure ≡ entry table here.node → ⊥) → links' ≡ links → AreBegun sources table links' (place + 1)
+  pub AreBegun-other : place < length sources → AreBegun sources table links place → (here.departure ≡ bound_of table here.node → ⊥) → links' ≡ links → AreBegun sources table links' (place + 1)
   AreBegun-other within before differs same =
       let Q : List Link → Type 0 = λ xs. AreBegun sources table xs (place + 1) in
       subst Q (sym same) (record {
@@ -160,7 +160,7 @@ module _ (roads : Roads) (answers : ℕ → ℕ → ℕ → ℕ → Type 0) (sou
   }
 
   -- an arc was offered, and no level fell
-  pub AreConfirmed-more : (place : ℕ) (arc : Arc) (links links' : List Link) (waiting waiting' : List ℕ) → IsArc roads (place + 1) arc → length waiting' ≡ 0 → AreConfirmed roads answers sources table links place → Offers roads.nodes (IsSpread roads answers table arc.tail ((link links arc.tail).level + 1)) links waiting links' waiting' → ((link links arc.tail).level + 1 < NO_LEVEL → (v : ℕ) → Tight roads answers table arc.tail (place + 1) v → Precedes (record { level = (link links arc.tail).level + 1; arc = place + 1; from = arc.tail }) (link links' v) → ⊥) → AreConfirmed roads answers sources table links' (place + 1)
+  pub AreConfirmed-more : (place : ℕ) (arc : Arc) (links links' : List Link) (waiting waiting' : List ℕ) → IsArc roads (place + 1) arc → length waiting' ≡ 0 → AreConfirmed roads answers sources table links place → Offers roads.nodes (IsSpread roads answers table arc.tail ((link links arc.tail).level + 1)) links waiting links' waiting' → ((link links arc.tail).level + 1 < NO_LEVEL → (v : ℕ) → MeetsBound roads answers table arc.tail (place + 1) v → Precedes (record { level = (link links arc.tail).level + 1; arc = place + 1; from = arc.tail }) (link links' v) → ⊥) → AreConfirmed roads answers sources table links' (place + 1)
   AreConfirmed-more place arc links links' waiting waiting' is_arc none before offers here = record {
     places = offers.places ∙ before.places;
     low = λ v. (let same = level v in let was = before.low v in omega arith);
@@ -175,7 +175,7 @@ module _ (roads : Roads) (answers : ℕ → ℕ → ℕ → ℕ → Type 0) (sou
       level = Offers-levels roads.nodes (IsSpread roads answers table arc.tail ((link links arc.tail).level + 1)) links links' waiting waiting' offers none
 
       Good : ℕ → Link → Type 0
-      Good v l = (l.arc ≡ NO_ARC) ⊎ (((l.level ≡ 0) × IsSeed sources table v) ⊎ (Tight roads answers table l.from l.arc v × ((link links' l.from).level < l.level)))
+      Good v l = (l.arc ≡ NO_ARC) ⊎ (((l.level ≡ 0) × IsSeed sources table v) ⊎ (MeetsBound roads answers table l.from l.arc v × ((link links' l.from).level < l.level)))
 
       still : (v : ℕ) → (link links v).level < NO_LEVEL → Good v (link links v)
       still v there = elim (before.linked v there) [
@@ -194,19 +194,19 @@ module _ (roads : Roads) (answers : ℕ → ℕ → ℕ → ℕ → Type 0) (sou
       ]
 
       -- what was passed before is passed still
-      early : (e u v : ℕ) → e ≤ place → Tight roads answers table u e v → (link links u).level + 1 < NO_LEVEL → Precedes (record { level = (link links u).level + 1; arc = e; from = u }) (link links' v) → ⊥
+      early : (e u v : ℕ) → e ≤ place → MeetsBound roads answers table u e v → (link links u).level + 1 < NO_LEVEL → Precedes (record { level = (link links u).level + 1; arc = e; from = u }) (link links' v) → ⊥
       early e u v low tight room = Offers-passed roads.nodes (IsSpread roads answers table arc.tail ((link links arc.tail).level + 1)) links links' waiting waiting' offers v (record { level = (link links u).level + 1; arc = e; from = u }) (before.passed e u v low tight room)
 
-      late : (e u v : ℕ) → place + 1 ≡ e → Tight roads answers table u e v → (link links u).level + 1 < NO_LEVEL → Precedes (record { level = (link links u).level + 1; arc = e; from = u }) (link links' v) → ⊥
+      late : (e u v : ℕ) → place + 1 ≡ e → MeetsBound roads answers table u e v → (link links u).level + 1 < NO_LEVEL → Precedes (record { level = (link links u).level + 1; arc = e; from = u }) (link links' v) → ⊥
       late e u v at tight room =
           let step = tight.step in
           let P : ℕ → Type 0 = λ x. IsArc roads x arc in
           let same : arc ≡ step.arc = one_arc roads e arc step.arc (subst P at is_arc) step.is_arc in
           let tail : arc.tail ≡ u = ap (λ (a : Arc). a.tail) same ∙ step.is_tail in
-          let Q : ℕ → ℕ → Type 0 = λ w n. (link links w).level + 1 < NO_LEVEL → (x : ℕ) → Tight roads answers table w n x → Precedes (record { level = (link links w).level + 1; arc = n; from = w }) (link links' x) → ⊥ in
+          let Q : ℕ → ℕ → Type 0 = λ w n. (link links w).level + 1 < NO_LEVEL → (x : ℕ) → MeetsBound roads answers table w n x → Precedes (record { level = (link links w).level + 1; arc = n; from = w }) (link links' x) → ⊥ in
           subst (λ w. Q w e) tail (subst (Q arc.tail) at here) room v tight
 
-      passed : (e u v : ℕ) → e ≤ place + 1 → Tight roads answers table u e v → (link links' u).level + 1 < NO_LEVEL → Precedes (record { level = (link links' u).level + 1; arc = e; from = u }) (link links' v) → ⊥
+      passed : (e u v : ℕ) → e ≤ place + 1 → MeetsBound roads answers table u e v → (link links' u).level + 1 < NO_LEVEL → Precedes (record { level = (link links' u).level + 1; arc = e; from = u }) (link links' v) → ⊥
       passed e u v most tight room =
           let same = level u in
           let P : ℕ → Type 0 = λ n. Precedes (record { level = n + 1; arc = e; from = u }) (link links' v) → ⊥ in

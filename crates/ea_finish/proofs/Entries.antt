@@ -14,8 +14,8 @@ use Rattle.ea_road.specs.Arrivals.{Reaches, stays}
 use Rattle.ea_road.specs.Labels.{label_of, limit}
 use Rattle.ea_road.proofs.Arcs.{one_arc}
 use Rattle.ea_road.proofs.Reached.{reaches_more}
-use Rattle.ea_finish.specs.Scans.{Lowers, Satisfied, Scanned, Step, Underway}
-use Rattle.ea_finish.specs.Underway.{entry}
+use Rattle.ea_finish.specs.Scans.{KeepsLess, LowersNone, Scanned, Step, AwaitsScansFrom}
+use Rattle.ea_finish.specs.Underway.{bound_of}
 use Rattle.ea_finish.proofs.Worklists.{Contains-cons_cases}
 
 -- two ways to say that a list has an element
@@ -37,48 +37,48 @@ among_push_cases sources source other among = elim (Contains-push_cases sources 
   | inr new ↦ inr new
 ]
 
-pub entry-at : (table : List ℕ) (v : ℕ) → 0 < v → entry table v ≡ get_or table (v - 1) NONE
-unfolding entry
-entry-at table zero h = absurd (omega arith)
-entry-at table (suc k) h = let e : suc k - 1 ≡ k = omega arith in rw e refl
+pub bound_of-at : (table : List ℕ) (v : ℕ) → 0 < v → bound_of table v ≡ get_or table (v - 1) NONE
+unfolding bound_of
+bound_of-at table zero h = absurd (omega arith)
+bound_of-at table (suc k) h = let e : suc k - 1 ≡ k = omega arith in rw e refl
 
-pub entry-set_same : (table : List ℕ) (v x : ℕ) → 0 < v → v ≤ length table → entry (set table (v - 1) x) v ≡ x
-entry-set_same table v x h l = entry-at (set table (v - 1) x) v h ∙ get_or-set_same table (v - 1) x NONE (omega arith)
+pub bound_of-set_same : (table : List ℕ) (v x : ℕ) → 0 < v → v ≤ length table → bound_of (set table (v - 1) x) v ≡ x
+bound_of-set_same table v x h l = bound_of-at (set table (v - 1) x) v h ∙ get_or-set_same table (v - 1) x NONE (omega arith)
 
-pub entry-set_other : (table : List ℕ) (v w x : ℕ) → 0 < v → w ≢ v → entry (set table (v - 1) x) w ≡ entry table w
-unfolding entry
-entry-set_other table v zero x h ne = refl
-entry-set_other table v (suc k) x h ne = get_or-set_other table (v - 1) k x NONE (omega arith)
+pub bound_of-set_other : (table : List ℕ) (v w x : ℕ) → 0 < v → w ≢ v → bound_of (set table (v - 1) x) w ≡ bound_of table w
+unfolding bound_of
+bound_of-set_other table v zero x h ne = refl
+bound_of-set_other table v (suc k) x h ne = get_or-set_other table (v - 1) k x NONE (omega arith)
 
 -- a label that is there belongs to a node
-pub entry-node : (table : List ℕ) (v : ℕ) → entry table v ≢ NONE → (0 < v) × (v ≤ length table)
-unfolding entry
-entry-node table zero h = absurd (omega arith)
-entry-node table (suc k) h = elim (cases_lt k (length table)) [
+pub bound_of-node : (table : List ℕ) (v : ℕ) → bound_of table v ≢ NONE → (0 < v) × (v ≤ length table)
+unfolding bound_of
+bound_of-node table zero h = absurd (omega arith)
+bound_of-node table (suc k) h = elim (cases_lt k (length table)) [
   | inl l ↦ (omega arith, omega arith)
   | inr l ↦ (let e = get_or_past table k NONE l in absurd (omega arith))
 ]
 
 -- a label falls, and its node waits
-pub Lowers-falls : (table : List ℕ) (waits waits' : ℕ → Type 0) (v t : ℕ) → 0 < v → v ≤ length table → t < entry table v → waits' v → ((w : ℕ) → waits w → waits' w) → Lowers v t table waits (set table (v - 1) t) waits'
-Lowers-falls table waits waits' v t h l falls there kept = record {
+pub KeepsLess-falls : (table : List ℕ) (waits waits' : ℕ → Type 0) (v t : ℕ) → 0 < v → v ≤ length table → t < bound_of table v → waits' v → ((w : ℕ) → waits w → waits' w) → KeepsLess v t table waits (set table (v - 1) t) waits'
+KeepsLess-falls table waits waits' v t h l falls there kept = record {
   places = length-set table (v - 1) t;
-  least = (let e = entry-set_same table v t h l in omega arith);
-  others = λ w ne. entry-set_other table v w t h ne;
+  least = (let e = bound_of-set_same table v t h l in omega arith);
+  others = λ w ne. bound_of-set_other table v w t h ne;
   opened = λ _. there;
   kept = kept;
 }
 
 -- the table's sum falls by what the label falls
-pub sum-falls : (table : List ℕ) (v t : ℕ) → 0 < v → v ≤ length table → t < entry table v → sum (set table (v - 1) t) + 1 ≤ sum table
+pub sum-falls : (table : List ℕ) (v t : ℕ) → 0 < v → v ≤ length table → t < bound_of table v → sum (set table (v - 1) t) + 1 ≤ sum table
 sum-falls table v t h l falls =
     let e = sum_by-set (λ (x : ℕ). x) table (v - 1) t NONE (omega arith) in
-    let was = entry-at table v h in
+    let was = bound_of-at table v h in
     omega arith
 
 -- a label that is low enough stays
-pub Lowers-stays : (table : List ℕ) (waits : ℕ → Type 0) (v t : ℕ) → entry table v ≤ t → Lowers v t table waits table waits
-Lowers-stays table waits v t h = record {
+pub KeepsLess-stays : (table : List ℕ) (waits : ℕ → Type 0) (v t : ℕ) → bound_of table v ≤ t → KeepsLess v t table waits table waits
+KeepsLess-stays table waits v t h = record {
   places = refl;
   least = omega arith;
   others = λ w ne. refl;
@@ -87,12 +87,12 @@ Lowers-stays table waits v t h = record {
 }
 
 -- a node's entry is its label
-pub entry_label : (table : List ℕ) (node : ℕ) → IsNode (length table) node → entry table node ≡ label_of table node
-entry_label table node is_node =
-    entry-at table node is_node.from_one ∙ get_or_default table (node - 1) NONE 0 (omega (arith, is_node.from_one, is_node.to_last))
+pub bound_of_label : (table : List ℕ) (node : ℕ) → IsNode (length table) node → bound_of table node ≡ label_of table node
+bound_of_label table node is_node =
+    bound_of-at table node is_node.from_one ∙ get_or_default table (node - 1) NONE 0 (omega (arith, is_node.from_one, is_node.to_last))
 
 -- where labels fall, the limit falls
-limit-lower : (target : Option ℕ) (table table' : List ℕ) → ((v : ℕ) → entry table' v ≤ entry table v) → limit target (entry table') ≤ limit target (entry table)
+limit-lower : (target : Option ℕ) (table table' : List ℕ) → ((v : ℕ) → bound_of table' v ≤ bound_of table v) → limit target (bound_of table') ≤ limit target (bound_of table)
 limit-lower None table table' lower = omega arith
 limit-lower (Some t) table table' lower = lower t
 
@@ -120,7 +120,7 @@ module _ (roads : Roads) (answers : ℕ → ℕ → ℕ → ℕ → Type 0) wher
   step-number u d e e' v b same step = let P : ℕ → Type 0 = λ x. Step roads answers u d x v b in subst P (sym same) step
 
   -- the head of the arc was offered its arrival
-  pub Scanned-lowers : (e d b : ℕ) (arc : Arc) (table : List ℕ) (waits : ℕ → Type 0) (table' : List ℕ) (waits' : ℕ → Type 0) → IsArc roads e arc → answers arc.class arc.weight d b → b ≤ HORIZON → ((a : ℕ) → answers arc.class arc.weight d a → b ≤ a) → Lowers arc.head b table waits table' waits' → Scanned roads answers arc.tail d (e ∷ []) table waits table' waits'
+  pub Scanned-lowers : (e d b : ℕ) (arc : Arc) (table : List ℕ) (waits : ℕ → Type 0) (table' : List ℕ) (waits' : ℕ → Type 0) → IsArc roads e arc → answers arc.class arc.weight d b → b ≤ HORIZON → ((a : ℕ) → answers arc.class arc.weight d a → b ≤ a) → KeepsLess arc.head b table waits table' waits' → Scanned roads answers arc.tail d (e ∷ []) table waits table' waits'
   Scanned-lowers e d b arc table waits table' waits' is answer in_time least lowers = record {
     places = lowers.places;
     lower = lower;
@@ -129,18 +129,18 @@ module _ (roads : Roads) (answers : ℕ → ℕ → ℕ → ℕ → Type 0) wher
     passed = passed;
   }
     where
-      lower : (v : ℕ) → entry table' v ≤ entry table v
+      lower : (v : ℕ) → bound_of table' v ≤ bound_of table v
       lower v = elim (cases_eq v arc.head) [
         | inl here ↦ rw here (omega arith)
         | inr ne ↦ (let same = lowers.others v ne in omega arith)
       ]
 
       Fallen : ℕ → Type 0
-      Fallen v = waits' v × ((n : ℕ) × Step roads answers arc.tail d n v (entry table' v))
+      Fallen v = waits' v × ((n : ℕ) × Step roads answers arc.tail d n v (bound_of table' v))
 
-      at_head : entry table' arc.head < entry table arc.head → waits' arc.head × ((n : ℕ) × Step roads answers arc.tail d n arc.head (entry table' arc.head))
+      at_head : bound_of table' arc.head < bound_of table arc.head → waits' arc.head × ((n : ℕ) × Step roads answers arc.tail d n arc.head (bound_of table' arc.head))
       at_head falls =
-          let at_b : entry table' arc.head ≡ b = omega arith in (
+          let at_b : bound_of table' arc.head ≡ b = omega arith in (
             lowers.opened (omega arith),
             (
               e,
@@ -155,16 +155,16 @@ module _ (roads : Roads) (answers : ℕ → ℕ → ℕ → ℕ → Type 0) wher
             ),
           )
 
-      fallen : (v : ℕ) → entry table' v < entry table v → waits' v × ((n : ℕ) × Step roads answers arc.tail d n v (entry table' v))
+      fallen : (v : ℕ) → bound_of table' v < bound_of table v → waits' v × ((n : ℕ) × Step roads answers arc.tail d n v (bound_of table' v))
       fallen v falls = elim (cases_eq v arc.head) [
         | inl here ↦ (
-            let Falls : ℕ → Type 0 = λ x. entry table' x < entry table x in
-            let Goal : ℕ → Type 0 = λ x. waits' x × ((n : ℕ) × Step roads answers arc.tail d n x (entry table' x)) in
+            let Falls : ℕ → Type 0 = λ x. bound_of table' x < bound_of table x in
+            let Goal : ℕ → Type 0 = λ x. waits' x × ((n : ℕ) × Step roads answers arc.tail d n x (bound_of table' x)) in
             subst Goal (sym here) (at_head (subst Falls here falls)))
         | inr ne ↦ (let same = lowers.others v ne in absurd (omega arith))
       ]
 
-      passed : (n v a : ℕ) → Contains (e ∷ []) n → Step roads answers arc.tail d n v a → entry table' v ≤ a
+      passed : (n v a : ℕ) → Contains (e ∷ []) n → Step roads answers arc.tail d n v a → bound_of table' v ≤ a
       passed n v a there step =
           let here = step-number arc.tail d e n v a (Contains-one n e there) step in
           let head : arc.head ≡ v = step-head arc.tail d e v a arc is here in
@@ -181,7 +181,7 @@ module _ (roads : Roads) (answers : ℕ → ℕ → ℕ → ℕ → Type 0) wher
     passed = passed;
   }
     where
-      passed : (n v a : ℕ) → Contains (e ∷ []) n → Step roads answers arc.tail d n v a → entry table v ≤ a
+      passed : (n v a : ℕ) → Contains (e ∷ []) n → Step roads answers arc.tail d n v a → bound_of table v ≤ a
       passed n v a there step =
           let here = step-number arc.tail d e n v a (Contains-one n e there) step in
           let low : b ≤ a = least a (step-answer arc.tail d e v a arc is here) in
@@ -189,7 +189,7 @@ module _ (roads : Roads) (answers : ℕ → ℕ → ℕ → ℕ → Type 0) wher
           absurd (omega arith)
 
   -- a label that is at most the departure can take no arrival
-  pub Scanned-settled : (e d : ℕ) (arc : Arc) (table : List ℕ) (waits : ℕ → Type 0) → IsArc roads e arc → entry table arc.head ≤ d → ((a : ℕ) → answers arc.class arc.weight d a → d ≤ a) → Scanned roads answers arc.tail d (e ∷ []) table waits table waits
+  pub Scanned-settled : (e d : ℕ) (arc : Arc) (table : List ℕ) (waits : ℕ → Type 0) → IsArc roads e arc → bound_of table arc.head ≤ d → ((a : ℕ) → answers arc.class arc.weight d a → d ≤ a) → Scanned roads answers arc.tail d (e ∷ []) table waits table waits
   Scanned-settled e d arc table waits is low after = record {
     places = refl;
     lower = λ v. omega arith;
@@ -198,7 +198,7 @@ module _ (roads : Roads) (answers : ℕ → ℕ → ℕ → ℕ → Type 0) wher
     passed = passed;
   }
     where
-      passed : (n v a : ℕ) → Contains (e ∷ []) n → Step roads answers arc.tail d n v a → entry table v ≤ a
+      passed : (n v a : ℕ) → Contains (e ∷ []) n → Step roads answers arc.tail d n v a → bound_of table v ≤ a
       passed n v a there step =
           let here = step-number arc.tail d e n v a (Contains-one n e there) step in
           let head : arc.head ≡ v = step-head arc.tail d e v a arc is here in
@@ -215,18 +215,18 @@ module _ (roads : Roads) (answers : ℕ → ℕ → ℕ → ℕ → Type 0) wher
     passed = passed;
   }
     where
-      fallen : (v : ℕ) → entry table'' v < entry table v → waits'' v × ((n : ℕ) × Step roads answers u d n v (entry table'' v))
-      fallen v falls = elim (cases_lt (entry table'' v) (entry table' v)) [
+      fallen : (v : ℕ) → bound_of table'' v < bound_of table v → waits'' v × ((n : ℕ) × Step roads answers u d n v (bound_of table'' v))
+      fallen v falls = elim (cases_lt (bound_of table'' v) (bound_of table' v)) [
         | inl again ↦ last.fallen v again
         | inr keeps ↦ (
             let low = last.lower v in
-            let same : entry table' v ≡ entry table'' v = omega arith in
+            let same : bound_of table' v ≡ bound_of table'' v = omega arith in
             let before = first.fallen v (omega arith) in
             let P : ℕ → Type 0 = λ x. Step roads answers u d before.1.0 v x in
             (last.kept v before.0, (before.1.0, subst P same before.1.1)))
       ]
 
-      passed : (n v a : ℕ) → Contains (numbers ++ e ∷ []) n → Step roads answers u d n v a → entry table'' v ≤ a
+      passed : (n v a : ℕ) → Contains (numbers ++ e ∷ []) n → Step roads answers u d n v a → bound_of table'' v ≤ a
       passed n v a there step = elim (Contains-append_cases numbers (e ∷ []) n there) [
         | inl early ↦ (let low = last.lower v in let was = first.passed n v a early step in omega arith)
         | inr late ↦ last.passed n v a late step
@@ -243,8 +243,8 @@ module _ (roads : Roads) (answers : ℕ → ℕ → ℕ → ℕ → Type 0) wher
 
   module _ (sources : List Source) where
     -- the node in front was scanned at its label
-    pub Underway-scanned : (target : Option ℕ) (u d : ℕ) (numbers table table' : List ℕ) (before waits waits' : ℕ → Type 0) → Underway roads answers sources target table before → ((v : ℕ) → before v → (u ≡ v) ⊎ waits v) → d ≡ entry table u → d ≤ HORIZON → ((n : ℕ) (arc : Arc) → IsArc roads n arc → arc.tail ≡ u → Contains numbers n) → Scanned roads answers u d numbers table waits table' waits' → Underway roads answers sources target table' waits'
-    Underway-scanned target u d numbers table table' before waits waits' under taken at_label in_time every scanned = record {
+    pub AwaitsScansFrom-scanned : (target : Option ℕ) (u d : ℕ) (numbers table table' : List ℕ) (before waits waits' : ℕ → Type 0) → AwaitsScansFrom roads answers sources target table before → ((v : ℕ) → before v → (u ≡ v) ⊎ waits v) → d ≡ bound_of table u → d ≤ HORIZON → ((n : ℕ) (arc : Arc) → IsArc roads n arc → arc.tail ≡ u → Contains numbers n) → Scanned roads answers u d numbers table waits table' waits' → AwaitsScansFrom roads answers sources target table' waits'
+    AwaitsScansFrom-scanned target u d numbers table table' before waits waits' under taken at_label in_time every scanned = record {
       places = scanned.places ∙ under.places;
       reached = reached;
       started = λ s given. (let low = scanned.lower s.node in let was = under.started s given in omega arith);
@@ -257,12 +257,12 @@ module _ (roads : Roads) (answers : ℕ → ℕ → ℕ → ℕ → Type 0) wher
             subst P (sym at_label) (under.reached u (omega arith))
 
         -- a label that didn't fall is what it was
-        same_entry : (v : ℕ) → entry table v ≤ entry table' v → entry table v ≡ entry table' v
+        same_entry : (v : ℕ) → bound_of table v ≤ bound_of table' v → bound_of table v ≡ bound_of table' v
         same_entry v h = let low = scanned.lower v in omega arith
 
-        reached : (v : ℕ) → entry table' v ≢ NONE → Reaches roads answers sources v (entry table' v)
-        reached v there = elim (cases_lt (entry table' v) (entry table v)) [
-          | inl falls ↦ (let by = scanned.fallen v falls in reaches_step roads answers sources u d by.1.0 v (entry table' v) from_u by.1.1)
+        reached : (v : ℕ) → bound_of table' v ≢ NONE → Reaches roads answers sources v (bound_of table' v)
+        reached v there = elim (cases_lt (bound_of table' v) (bound_of table v)) [
+          | inl falls ↦ (let by = scanned.fallen v falls in reaches_step roads answers sources u d by.1.0 v (bound_of table' v) from_u by.1.1)
           | inr h ↦ (
               let same = same_entry v h in
               let P : ℕ → Type 0 = λ x. Reaches roads answers sources v x in
@@ -270,24 +270,24 @@ module _ (roads : Roads) (answers : ℕ → ℕ → ℕ → ℕ → Type 0) wher
         ]
 
         -- the arcs from u were passed
-        here : Satisfied roads answers table' u d
+        here : LowersNone roads answers table' u d
         here e w b step = scanned.passed e w b (every e step.arc step.is_arc step.is_tail) step
 
-        below : (v a : ℕ) → Satisfied roads answers table v a → Satisfied roads answers table' v a
+        below : (v a : ℕ) → LowersNone roads answers table v a → LowersNone roads answers table' v a
         below v a old e w b step = let low = scanned.lower w in let was = old e w b step in omega arith
 
-        settled : (v : ℕ) → entry table' v ≢ NONE → Satisfied roads answers table' v (entry table' v) ⊎ (waits' v ⊎ (limit target (entry table') < entry table' v))
-        settled v there = elim (cases_lt (entry table' v) (entry table v)) [
+        settled : (v : ℕ) → bound_of table' v ≢ NONE → LowersNone roads answers table' v (bound_of table' v) ⊎ (waits' v ⊎ (limit target (bound_of table') < bound_of table' v))
+        settled v there = elim (cases_lt (bound_of table' v) (bound_of table v)) [
           | inl falls ↦ inr (inl (scanned.fallen v falls).0)
           | inr h ↦ (
               let same = same_entry v h in
-              let P : ℕ → Type 0 = λ x. Satisfied roads answers table' v x in
+              let P : ℕ → Type 0 = λ x. LowersNone roads answers table' v x in
               elim (under.settled v (omega arith)) [
-                | inl old ↦ inl (subst P same (below v (entry table v) old))
+                | inl old ↦ inl (subst P same (below v (bound_of table v) old))
                 | inr (inl there) ↦ elim (taken v there) [
                   | inl is_u ↦ (
-                      let Q : ℕ → Type 0 = λ x. Satisfied roads answers table' x d in
-                      let at_v : d ≡ entry table' v = at_label ∙ ap (entry table) is_u ∙ same in
+                      let Q : ℕ → Type 0 = λ x. LowersNone roads answers table' x d in
+                      let at_v : d ≡ bound_of table' v = at_label ∙ ap (bound_of table) is_u ∙ same in
                       inl (subst P at_v (subst Q is_u here)))
                   | inr other ↦ inr (inl (scanned.kept v other))
                 ]
@@ -296,21 +296,21 @@ module _ (roads : Roads) (answers : ℕ → ℕ → ℕ → ℕ → Type 0) wher
         ]
 
     -- a node with no label needs no scan
-    pub Underway-unlabelled : (target : Option ℕ) (u : ℕ) (table : List ℕ) (before waits : ℕ → Type 0) → Underway roads answers sources target table before → ((v : ℕ) → before v → (u ≡ v) ⊎ waits v) → HORIZON < entry table u → Underway roads answers sources target table waits
-    Underway-unlabelled target u table before waits under taken late = record {
+    pub AwaitsScansFrom-unlabelled : (target : Option ℕ) (u : ℕ) (table : List ℕ) (before waits : ℕ → Type 0) → AwaitsScansFrom roads answers sources target table before → ((v : ℕ) → before v → (u ≡ v) ⊎ waits v) → HORIZON < bound_of table u → AwaitsScansFrom roads answers sources target table waits
+    AwaitsScansFrom-unlabelled target u table before waits under taken late = record {
       places = under.places;
       reached = under.reached;
       started = under.started;
       settled = settled;
     }
       where
-        settled : (v : ℕ) → entry table v ≢ NONE → Satisfied roads answers table v (entry table v) ⊎ (waits v ⊎ (limit target (entry table) < entry table v))
+        settled : (v : ℕ) → bound_of table v ≢ NONE → LowersNone roads answers table v (bound_of table v) ⊎ (waits v ⊎ (limit target (bound_of table) < bound_of table v))
         settled v there = elim (under.settled v there) [
           | inl old ↦ inl old
           | inr (inl wait) ↦ elim (taken v wait) [
             | inl is_u ↦ (
-                let time : entry table v ≤ HORIZON = (under.reached v there).within in
-                let same : entry table u ≡ entry table v = ap (entry table) is_u in
+                let time : bound_of table v ≤ HORIZON = (under.reached v there).within in
+                let same : bound_of table u ≡ bound_of table v = ap (bound_of table) is_u in
                 absurd (omega arith))
             | inr other ↦ inr (inl other)
           ]
@@ -318,34 +318,34 @@ module _ (roads : Roads) (answers : ℕ → ℕ → ℕ → ℕ → Type 0) wher
         ]
 
     -- a node whose label is above the limit needs no scan
-    pub Underway-above : (target : Option ℕ) (u : ℕ) (table : List ℕ) (before waits : ℕ → Type 0) → Underway roads answers sources target table before → ((v : ℕ) → before v → (u ≡ v) ⊎ waits v) → limit target (entry table) < entry table u → Underway roads answers sources target table waits
-    Underway-above target u table before waits under taken high = record {
+    pub AwaitsScansFrom-above : (target : Option ℕ) (u : ℕ) (table : List ℕ) (before waits : ℕ → Type 0) → AwaitsScansFrom roads answers sources target table before → ((v : ℕ) → before v → (u ≡ v) ⊎ waits v) → limit target (bound_of table) < bound_of table u → AwaitsScansFrom roads answers sources target table waits
+    AwaitsScansFrom-above target u table before waits under taken high = record {
       places = under.places;
       reached = under.reached;
       started = under.started;
       settled = settled;
     }
       where
-        settled : (v : ℕ) → entry table v ≢ NONE → Satisfied roads answers table v (entry table v) ⊎ (waits v ⊎ (limit target (entry table) < entry table v))
+        settled : (v : ℕ) → bound_of table v ≢ NONE → LowersNone roads answers table v (bound_of table v) ⊎ (waits v ⊎ (limit target (bound_of table) < bound_of table v))
         settled v there = elim (under.settled v there) [
           | inl old ↦ inl old
           | inr (inl wait) ↦ elim (taken v wait) [
-            | inl is_u ↦ (let same : entry table u ≡ entry table v = ap (entry table) is_u in inr (inr (omega arith)))
+            | inl is_u ↦ (let same : bound_of table u ≡ bound_of table v = ap (bound_of table) is_u in inr (inr (omega arith)))
             | inr other ↦ inr (inl other)
           ]
           | inr (inr above) ↦ inr (inr above)
         ]
 
     -- a further source was offered its departure
-    pub Underway-source : (target : Option ℕ) (s : Source) (table : List ℕ) (waits : ℕ → Type 0) (table' : List ℕ) (waits' : ℕ → Type 0) → s.departure ≤ HORIZON → Underway roads answers sources target table waits → Lowers s.node s.departure table waits table' waits' → Underway roads answers (sources ++ s ∷ []) target table' waits'
-    Underway-source target s table waits table' waits' in_time under lowers = record {
+    pub AwaitsScansFrom-source : (target : Option ℕ) (s : Source) (table : List ℕ) (waits : ℕ → Type 0) (table' : List ℕ) (waits' : ℕ → Type 0) → s.departure ≤ HORIZON → AwaitsScansFrom roads answers sources target table waits → KeepsLess s.node s.departure table waits table' waits' → AwaitsScansFrom roads answers (sources ++ s ∷ []) target table' waits'
+    AwaitsScansFrom-source target s table waits table' waits' in_time under lowers = record {
       places = lowers.places ∙ under.places;
       reached = reached;
       started = started;
       settled = settled;
     }
       where
-        lower : (v : ℕ) → entry table' v ≤ entry table v
+        lower : (v : ℕ) → bound_of table' v ≤ bound_of table v
         lower v = elim (cases_eq v s.node) [
           | inl here ↦ rw here (omega arith)
           | inr ne ↦ (let same = lowers.others v ne in omega arith)
@@ -369,53 +369,53 @@ module _ (roads : Roads) (answers : ℕ → ℕ → ℕ → ℕ → Type 0) wher
           within = in_time;
         }
 
-        reached : (v : ℕ) → entry table' v ≢ NONE → Reaches roads answers (sources ++ s ∷ []) v (entry table' v)
-        reached v there = elim (cases_lt (entry table' v) (entry table v)) [
+        reached : (v : ℕ) → bound_of table' v ≢ NONE → Reaches roads answers (sources ++ s ∷ []) v (bound_of table' v)
+        reached v there = elim (cases_lt (bound_of table' v) (bound_of table v)) [
           | inl falls ↦ elim (cases_eq v s.node) [
             | inl here ↦ (
-                let P : ℕ → Type 0 = λ x. Reaches roads answers (sources ++ s ∷ []) x (entry table' x) in
+                let P : ℕ → Type 0 = λ x. Reaches roads answers (sources ++ s ∷ []) x (bound_of table' x) in
                 let Q : ℕ → Type 0 = λ x. Reaches roads answers (sources ++ s ∷ []) s.node x in
-                let F : ℕ → Type 0 = λ x. entry table' x < entry table x in
-                let falls_here : entry table' s.node < entry table s.node = subst F here falls in
-                let is : s.departure ≡ entry table' s.node = omega (arith, lowers.least) in
+                let F : ℕ → Type 0 = λ x. bound_of table' x < bound_of table x in
+                let falls_here : bound_of table' s.node < bound_of table s.node = subst F here falls in
+                let is : s.departure ≡ bound_of table' s.node = omega (arith, lowers.least) in
                 subst P (sym here) (subst Q is begins))
             | inr ne ↦ (let same = lowers.others v ne in absurd (omega arith))
           ]
           | inr h ↦ (
               let low = lower v in
-              let same : entry table v ≡ entry table' v = omega arith in
+              let same : bound_of table v ≡ bound_of table' v = omega arith in
               let P : ℕ → Type 0 = λ x. Reaches roads answers (sources ++ s ∷ []) v x in
-              subst P same (wider v (entry table v) (under.reached v (omega arith))))
+              subst P same (wider v (bound_of table v) (under.reached v (omega arith))))
         ]
 
-        started : (x : Source) → IsAmong (sources ++ s ∷ []) x → entry table' x.node ≤ x.departure
+        started : (x : Source) → IsAmong (sources ++ s ∷ []) x → bound_of table' x.node ≤ x.departure
         started x given = elim (among_push_cases sources s x given) [
           | inl old ↦ (let low = lower x.node in let was = under.started x old in omega arith)
           | inr new ↦ (
-              let P : Source → Type 0 = λ y. entry table' y.node ≤ y.departure in
+              let P : Source → Type 0 = λ y. bound_of table' y.node ≤ y.departure in
               let least = lowers.least in
-              let low : entry table' s.node ≤ s.departure = omega arith in
+              let low : bound_of table' s.node ≤ s.departure = omega arith in
               subst P new low)
         ]
 
-        settled : (v : ℕ) → entry table' v ≢ NONE → Satisfied roads answers table' v (entry table' v) ⊎ (waits' v ⊎ (limit target (entry table') < entry table' v))
-        settled v there = elim (cases_lt (entry table' v) (entry table v)) [
+        settled : (v : ℕ) → bound_of table' v ≢ NONE → LowersNone roads answers table' v (bound_of table' v) ⊎ (waits' v ⊎ (limit target (bound_of table') < bound_of table' v))
+        settled v there = elim (cases_lt (bound_of table' v) (bound_of table v)) [
           | inl falls ↦ elim (cases_eq v s.node) [
             | inl here ↦ (
-                let F : ℕ → Type 0 = λ x. entry table' x < entry table x in
+                let F : ℕ → Type 0 = λ x. bound_of table' x < bound_of table x in
                 let P : ℕ → Type 0 = λ x. waits' x in
-                let falls_here : entry table' s.node < entry table s.node = subst F here falls in
+                let falls_here : bound_of table' s.node < bound_of table s.node = subst F here falls in
                 let least = lowers.least in
                 inr (inl (subst P (sym here) (lowers.opened (omega arith)))))
             | inr ne ↦ (let same = lowers.others v ne in absurd (omega arith))
           ]
           | inr h ↦ (
               let low = lower v in
-              let same : entry table v ≡ entry table' v = omega arith in
+              let same : bound_of table v ≡ bound_of table' v = omega arith in
               elim (under.settled v (omega arith)) [
                 | inl old ↦ (
-                    let P : ℕ → Type 0 = λ x. Satisfied roads answers table' v x in
-                    let still : Satisfied roads answers table' v (entry table v) = λ e w b step. (let fell = lower w in let was = old e w b step in omega arith) in
+                    let P : ℕ → Type 0 = λ x. LowersNone roads answers table' v x in
+                    let still : LowersNone roads answers table' v (bound_of table v) = λ e w b step. (let fell = lower w in let was = old e w b step in omega arith) in
                     inl (subst P same still))
                 | inr (inl wait) ↦ inr (inl (lowers.kept v wait))
                 | inr (inr above) ↦ inr (inr (let fell = limit-lower target table table' lower in omega arith))
@@ -423,25 +423,25 @@ module _ (roads : Roads) (answers : ℕ → ℕ → ℕ → ℕ → Type 0) wher
         ]
 
 -- no node has a label at first
-pub entry-none : (n v : ℕ) → entry (replicate n NONE) v ≡ NONE
-unfolding entry
-entry-none n zero = refl
-entry-none n (suc k) = elim (cases_lt k n) [
+pub bound_of-none : (n v : ℕ) → bound_of (replicate n NONE) v ≡ NONE
+unfolding bound_of
+bound_of-none n zero = refl
+bound_of-none n (suc k) = elim (cases_lt k n) [
   | inl l ↦ get_or-replicate n k NONE NONE l
   | inr l ↦ get_or_past (replicate n NONE) k NONE (rw length-replicate l)
 ]
 
-pub Underway-none : (roads : Roads) (answers : ℕ → ℕ → ℕ → ℕ → Type 0) (target : Option ℕ) (waits : ℕ → Type 0) → Underway roads answers [] target (replicate roads.nodes NONE) waits
-Underway-none roads answers target waits = record {
+pub AwaitsScansFrom-none : (roads : Roads) (answers : ℕ → ℕ → ℕ → ℕ → Type 0) (target : Option ℕ) (waits : ℕ → Type 0) → AwaitsScansFrom roads answers [] target (replicate roads.nodes NONE) waits
+AwaitsScansFrom-none roads answers target waits = record {
   places = length-replicate roads.nodes NONE;
-  reached = λ v there. (let e = entry-none roads.nodes v in absurd (omega arith));
+  reached = λ v there. (let e = bound_of-none roads.nodes v in absurd (omega arith));
   started = λ s given. absurd (omega (arith, given.1.0));
-  settled = λ v there. (let e = entry-none roads.nodes v in absurd (omega arith));
+  settled = λ v there. (let e = bound_of-none roads.nodes v in absurd (omega arith));
 }
 
 -- what waits may be said in another way
-pub Underway-moved : (roads : Roads) (answers : ℕ → ℕ → ℕ → ℕ → Type 0) (sources : List Source) (target : Option ℕ) (table : List ℕ) (before waits : ℕ → Type 0) → Underway roads answers sources target table before → ((v : ℕ) → before v → waits v) → Underway roads answers sources target table waits
-Underway-moved roads answers sources target table before waits under moved = record {
+pub AwaitsScansFrom-moved : (roads : Roads) (answers : ℕ → ℕ → ℕ → ℕ → Type 0) (sources : List Source) (target : Option ℕ) (table : List ℕ) (before waits : ℕ → Type 0) → AwaitsScansFrom roads answers sources target table before → ((v : ℕ) → before v → waits v) → AwaitsScansFrom roads answers sources target table waits
+AwaitsScansFrom-moved roads answers sources target table before waits under moved = record {
   places = under.places;
   reached = under.reached;
   started = under.started;

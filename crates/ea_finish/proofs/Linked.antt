@@ -11,10 +11,10 @@ use Rattle.ea_road.specs.Levels.{IsTight, HasChain, begins, follows, IsLevel, Is
 use Rattle.ea_road.proofs.Chains.{make_tight, tight_answer, tail_within, head_within}
 use Rattle.ea_finish.specs.declared.link.Link.{Link}
 use Rattle.ea_finish.specs.declared.link.TheConstants.{NO_LEVEL}
-use Rattle.ea_finish.specs.Underway.{entry}
+use Rattle.ea_finish.specs.Underway.{bound_of}
 use Rattle.ea_finish.specs.Links.{AreLinks, IsLinked, link, linked_walk, walk_along}
-use Rattle.ea_finish.specs.Offers.{Tight, IsSeed, Precedes, IsSpent, Linking, AreSown}
-use Rattle.ea_finish.proofs.Entries.{entry_label}
+use Rattle.ea_finish.specs.Offers.{MeetsBound, IsSeed, Precedes, IsSpent, Linking, AreSown}
+use Rattle.ea_finish.proofs.Entries.{bound_of_label}
 
 -- Each link begins a walk or follows a tight arc from a lower level, none can be better, and there is room for a level more.
 pub record Settled
@@ -25,7 +25,7 @@ pub record Settled
     (links : List Link)
     : Type 0 where
   pub places : length links ≡ roads.nodes
-  pub linked : (v : ℕ) → (link links v).level < NO_LEVEL → (((link links v).level ≡ 0) × IsSeed sources table v) ⊎ (Tight roads answers table (link links v).from (link links v).arc v × ((link links (link links v).from).level < (link links v).level))
+  pub linked : (v : ℕ) → (link links v).level < NO_LEVEL → (((link links v).level ≡ 0) × IsSeed sources table v) ⊎ (MeetsBound roads answers table (link links v).from (link links v).arc v × ((link links (link links v).from).level < (link links v).level))
   pub spent : (u : ℕ) → (link links u).level < NO_LEVEL → IsSpent roads answers table links u ((link links u).level + 1)
   pub room : (v : ℕ) → (link links v).level < NO_LEVEL → (link links v).level + 1 < NO_LEVEL
   pub low : (v : ℕ) → (link links v).level ≤ NO_LEVEL
@@ -62,8 +62,8 @@ module _
     abbrev label : ℕ → ℕ
     label = label_of table
 
-    same_label : (node : ℕ) → IsNode roads.nodes node → entry table node ≡ label_of table node
-    same_label node is_node = entry_label table node (record { from_one = is_node.from_one; to_last = omega (arith, is_node.to_last) })
+    same_label : (node : ℕ) → IsNode roads.nodes node → bound_of table node ≡ label_of table node
+    same_label node is_node = bound_of_label table node (record { from_one = is_node.from_one; to_last = omega (arith, is_node.to_last) })
 
     tail_node : (times : ℕ → ℕ → Type 0) (number tail head : ℕ) → IsTight roads answers times number tail head → IsNode roads.nodes tail
     tail_node times number tail head tight = subst (λ n. IsNode roads.nodes n) tight.is_tail (network.each_fits number tight.arc tight.is_arc).tail
@@ -72,24 +72,24 @@ module _
     head_node times number tail head tight = subst (λ n. IsNode roads.nodes n) tight.is_head (network.each_fits number tight.arc tight.is_arc).head
 
     -- tight arcs by entries are those by labels
-    tight_of : (number tail head : ℕ) → Tight roads answers table tail number head → IsTight roads answers (IsLabel label) number tail head
+    tight_of : (number tail head : ℕ) → MeetsBound roads answers table tail number head → IsTight roads answers (IsLabel label) number tail head
     tight_of number tail head tight =
         let step = tight.step in
         let from : IsNode roads.nodes tail = subst (λ n. IsNode roads.nodes n) step.is_tail (network.each_fits number step.arc step.is_arc).tail in
         let to : IsNode roads.nodes head = subst (λ n. IsNode roads.nodes n) step.is_head (network.each_fits number step.arc step.is_arc).head in
         let at_tail = same_label tail from in
         let at_head = same_label head to in
-        let left : answers step.arc.class step.arc.weight (label tail) (entry table head) = subst (λ t. answers step.arc.class step.arc.weight t (entry table head)) at_tail step.answer in
+        let left : answers step.arc.class step.arc.weight (label tail) (bound_of table head) = subst (λ t. answers step.arc.class step.arc.weight t (bound_of table head)) at_tail step.answer in
         let low = tight.from_within in
         let high = step.in_time in
         make_tight roads answers classes sources label network classed fifo number tail head step.arc step.is_arc step.is_tail step.is_head (omega arith) (omega arith) (subst (λ t. answers step.arc.class step.arc.weight (label tail) t) at_head left)
 
-    of_tight : (number tail head : ℕ) → IsTight roads answers (IsLabel label) number tail head → Tight roads answers table tail number head
+    of_tight : (number tail head : ℕ) → IsTight roads answers (IsLabel label) number tail head → MeetsBound roads answers table tail number head
     of_tight number tail head tight =
         let at_tail = same_label tail (tail_node (IsLabel label) number tail head tight) in
         let at_head = same_label head (head_node (IsLabel label) number tail head tight) in
         let answer = tight_answer roads answers classes sources label network classed fifo tight in
-        let left : answers tight.arc.class tight.arc.weight (entry table tail) (label head) = subst (λ t. answers tight.arc.class tight.arc.weight t (label head)) (sym at_tail) answer in
+        let left : answers tight.arc.class tight.arc.weight (bound_of table tail) (label head) = subst (λ t. answers tight.arc.class tight.arc.weight t (label head)) (sym at_tail) answer in
         let low = tail_within roads answers classes sources label network classed fifo tight in
         let high = head_within roads answers classes sources label network classed fifo tight in
         record {
@@ -98,7 +98,7 @@ module _
             is_arc = tight.is_arc;
             is_tail = tight.is_tail;
             is_head = tight.is_head;
-            answer = subst (λ t. answers tight.arc.class tight.arc.weight (entry table tail) t) (sym at_head) left;
+            answer = subst (λ t. answers tight.arc.class tight.arc.weight (bound_of table tail) t) (sym at_head) left;
             in_time = omega arith;
           };
           from_within = omega arith;
@@ -111,13 +111,13 @@ module _
       abbrev Level : ℕ → ℕ → Type 0
       Level node level = IsLevel roads answers sources (IsLabel label) node level
 
-      seed_level : (source : Source) → IsAmong sources source → source.departure ≡ entry table source.node → (link links source.node).level ≡ 0
+      seed_level : (source : Source) → IsAmong sources source → source.departure ≡ bound_of table source.node → (link links source.node).level ≡ 0
       seed_level source among =
-          let P : Source → Type 0 = λ x. x.departure ≡ entry table x.node → (link links x.node).level ≡ 0 in
+          let P : Source → Type 0 = λ x. x.departure ≡ bound_of table x.node → (link links x.node).level ≡ 0 in
           subst P (sym among.1.1) (sown among.0 source among.1.0)
 
       -- a tight arc leads at most one level up
-      next_level : (tail number head : ℕ) → (link links tail).level < NO_LEVEL → Tight roads answers table tail number head → (link links head).level ≤ (link links tail).level + 1
+      next_level : (tail number head : ℕ) → (link links tail).level < NO_LEVEL → MeetsBound roads answers table tail number head → (link links head).level ≤ (link links tail).level + 1
       next_level tail number head there tight = not_above (record { level = (link links tail).level + 1; arc = number; from = tail }) (link links head) (settled.spent tail there number head tight)
 
       -- a node to which a chain leads has a level that is no higher
@@ -139,7 +139,7 @@ module _
 
       -- the link of a node above the sources
       record Above (level node : ℕ) : Type 0 where
-        tight : Tight roads answers table (link links node).from (link links node).arc node
+        tight : MeetsBound roads answers table (link links node).from (link links node).arc node
         below : (link links (link links node).from).level ≡ level
 
       above : (level node : ℕ) → (link links node).level ≡ suc level → suc level < NO_LEVEL → Above level node
@@ -154,8 +154,8 @@ module _
       seed_chain : (node : ℕ) → IsSeed sources table node → Chain node 0
       seed_chain node seed =
           let same = same_label seed.source.node (starts seed.source seed.among).0 in
-          let P : ℕ → Type 0 = λ x. entry table seed.source.node ≡ entry table x in
-          let moved : entry table seed.source.node ≡ entry table node = ap (entry table) seed.is_node in
+          let P : ℕ → Type 0 = λ x. bound_of table seed.source.node ≡ bound_of table x in
+          let moved : bound_of table seed.source.node ≡ bound_of table node = ap (bound_of table) seed.is_node in
           let at : label seed.source.node ≡ seed.source.departure = sym same ∙ moved ∙ sym seed.departs in
           subst (λ n. Chain n 0) seed.is_node (begins seed.among (at, seed.within))
 

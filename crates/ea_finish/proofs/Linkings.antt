@@ -15,11 +15,11 @@ use Rattle.ea_road.proofs.Arcs.{is_question}
 use Rattle.ea_road.proofs.Same.{one_answer}
 use Rattle.ea_finish.specs.declared.link.Link.{Link}
 use Rattle.ea_finish.specs.declared.link.TheConstants.{NO_LEVEL}
-use Rattle.ea_finish.specs.Underway.{entry}
+use Rattle.ea_finish.specs.Underway.{bound_of}
 use Rattle.ea_finish.specs.Links.{no_link, link}
-use Rattle.ea_finish.specs.Offers.{Tight, IsSeed, Precedes, unlinked, levels, IsBounded, Offers, IsOne, IsSpread, IsSpent, Linking, AreSown}
+use Rattle.ea_finish.specs.Offers.{MeetsBound, IsSeed, Precedes, unlinked, levels, IsBounded, Offers, IsOne, IsSpread, IsSpent, Linking, AreSown}
 use Rattle.ea_finish.proofs.Worklists.{Contains-cons_cases, Contains-cons}
-use Rattle.ea_finish.proofs.Entries.{entry-at, step-head, step-answer}
+use Rattle.ea_finish.proofs.Entries.{bound_of-at, step-head, step-answer}
 
 pub link-at : (links : List Link) (v : ℕ) → 0 < v → link links v ≡ get_or links (v - 1) no_link
 unfolding link
@@ -253,20 +253,20 @@ Offers-takes nodes links waiting waiting' v x h l small before waits kept only f
 pub link_item : (links : List Link) (v : ℕ) (x : Link) → 0 < v → v ≤ length links → x ≡ get_or links (v - 1) x → x ≡ link links v
 link_item links v x h l read = get_or_read links (v - 1) x (omega arith) read no_link ∙ sym (link-at links v h)
 
-pub entry_item : (table : List ℕ) (v x : ℕ) → 0 < v → v ≤ length table → x ≡ get_or table (v - 1) x → x ≡ entry table v
-entry_item table v x h l read = get_or_read table (v - 1) x (omega arith) read NONE ∙ sym (entry-at table v h)
+pub bound_of_item : (table : List ℕ) (v x : ℕ) → 0 < v → v ≤ length table → x ≡ get_or table (v - 1) x → x ≡ bound_of table v
+bound_of_item table v x h l read = get_or_read table (v - 1) x (omega arith) read NONE ∙ sym (bound_of-at table v h)
 
 -- what the code reads of a node
 pub link_read : (links : List Link) (v : ℕ) → 0 < v → v ≤ length links → get_or links (v - 1) (record { level = 0; arc = 0; from = 0 }) ≡ link links v
 link_read links v h l = sym (link-at links v h ∙ get_or_default links (v - 1) no_link (record { level = 0; arc = 0; from = 0 }) (omega arith))
 
-pub entry_read : (table : List ℕ) (v : ℕ) → 0 < v → v ≤ length table → get_or table (v - 1) 0 ≡ entry table v
-entry_read table v h l = sym (entry-at table v h ∙ get_or_default table (v - 1) NONE 0 (omega arith))
+pub bound_of_read : (table : List ℕ) (v : ℕ) → 0 < v → v ≤ length table → get_or table (v - 1) 0 ≡ bound_of table v
+bound_of_read table v h l = sym (bound_of-at table v h ∙ get_or_default table (v - 1) NONE 0 (omega arith))
 
 -- an arc that was left at its tail's label, and arrived at its head's, is tight
-pub Tight-arc : (roads : Roads) (answers : ℕ → ℕ → ℕ → ℕ → Type 0) (table : List ℕ) (u e d b : ℕ) (arc : Arc) → IsArc roads e arc → arc.tail ≡ u → answers arc.class arc.weight d b → d ≤ HORIZON → b ≤ HORIZON → d ≡ entry table u → b ≡ entry table arc.head → Tight roads answers table u e arc.head
-Tight-arc roads answers table u e d b arc is_arc tail answer left in_time at_u at_head =
-    let P : ℕ → Type 0 = λ x. answers arc.class arc.weight x (entry table arc.head) in
+pub MeetsBound-arc : (roads : Roads) (answers : ℕ → ℕ → ℕ → ℕ → Type 0) (table : List ℕ) (u e d b : ℕ) (arc : Arc) → IsArc roads e arc → arc.tail ≡ u → answers arc.class arc.weight d b → d ≤ HORIZON → b ≤ HORIZON → d ≡ bound_of table u → b ≡ bound_of table arc.head → MeetsBound roads answers table u e arc.head
+MeetsBound-arc roads answers table u e d b arc is_arc tail answer left in_time at_u at_head =
+    let P : ℕ → Type 0 = λ x. answers arc.class arc.weight x (bound_of table arc.head) in
     let Q : ℕ → Type 0 = λ y. answers arc.class arc.weight d y in
     record {
       step = record {
@@ -281,34 +281,34 @@ Tight-arc roads answers table u e d b arc is_arc tail answer left in_time at_u a
     }
 
 -- what a tight arc says of the arrival along it
-pub tight-arrival : (roads : Roads) (answers : ℕ → ℕ → ℕ → ℕ → Type 0) (classes : ℕ) (table : List ℕ) (u e v d b : ℕ) (arc : Arc) → IsNetwork roads → top_class roads.arcs ≤ classes → IsFifo answers classes → IsArc roads e arc → d ≤ HORIZON → d ≡ entry table u → answers arc.class arc.weight d b → Tight roads answers table u e v → (arc.head ≡ v) × (b ≡ entry table v) × (entry table v ≤ HORIZON)
+pub tight-arrival : (roads : Roads) (answers : ℕ → ℕ → ℕ → ℕ → Type 0) (classes : ℕ) (table : List ℕ) (u e v d b : ℕ) (arc : Arc) → IsNetwork roads → top_class roads.arcs ≤ classes → IsFifo answers classes → IsArc roads e arc → d ≤ HORIZON → d ≡ bound_of table u → answers arc.class arc.weight d b → MeetsBound roads answers table u e v → (arc.head ≡ v) × (b ≡ bound_of table v) × (bound_of table v ≤ HORIZON)
 tight-arrival roads answers classes table u e v d b arc network classed fifo is_arc in_time at_u answer tight =
-    let P : ℕ → Type 0 = λ x. answers arc.class arc.weight x (entry table v) in
-    let there : answers arc.class arc.weight d (entry table v) = subst P (sym at_u) (step-answer roads answers u (entry table u) e v (entry table v) arc is_arc tight.step) in
-    let same = one_answer answers classes fifo arc.class arc.weight d b (entry table v) (is_question roads classes e d arc network classed is_arc in_time) answer there in
-    (step-head roads answers u (entry table u) e v (entry table v) arc is_arc tight.step, same, tight.step.in_time)
+    let P : ℕ → Type 0 = λ x. answers arc.class arc.weight x (bound_of table v) in
+    let there : answers arc.class arc.weight d (bound_of table v) = subst P (sym at_u) (step-answer roads answers u (bound_of table u) e v (bound_of table v) arc is_arc tight.step) in
+    let same = one_answer answers classes fifo arc.class arc.weight d b (bound_of table v) (is_question roads classes e d arc network classed is_arc in_time) answer there in
+    (step-head roads answers u (bound_of table u) e v (bound_of table v) arc is_arc tight.step, same, tight.step.in_time)
 
 -- a link by a tight arc that was offered to its head
-pub Offers-tight : (roads : Roads) (answers : ℕ → ℕ → ℕ → ℕ → Type 0) (table : List ℕ) (nodes e head : ℕ) (new : Link) (links links' : List Link) (waiting waiting' : List ℕ) → Tight roads answers table new.from e head → new.arc ≡ e → Offers nodes (IsOne head new) links waiting links' waiting' → Offers nodes (IsSpread roads answers table new.from new.level) links waiting links' waiting'
+pub Offers-tight : (roads : Roads) (answers : ℕ → ℕ → ℕ → ℕ → Type 0) (table : List ℕ) (nodes e head : ℕ) (new : Link) (links links' : List Link) (waiting waiting' : List ℕ) → MeetsBound roads answers table new.from e head → new.arc ≡ e → Offers nodes (IsOne head new) links waiting links' waiting' → Offers nodes (IsSpread roads answers table new.from new.level) links waiting links' waiting'
 Offers-tight roads answers table nodes e head new links links' waiting waiting' tight arc offers =
     Offers-weaker nodes (IsOne head new) (IsSpread roads answers table new.from new.level) links links' waiting waiting' wider offers
   where
     wider : (v : ℕ) (l : Link) → IsOne head new v l → IsSpread roads answers table new.from new.level v l
     wider v l one =
-        let P : ℕ → Type 0 = λ x. Tight roads answers table new.from e x in
+        let P : ℕ → Type 0 = λ x. MeetsBound roads answers table new.from e x in
         let same : new ≡ record { level = new.level; arc = e; from = new.from } = ap (λ (n : ℕ). record { level = new.level; arc = n; from = new.from }) arc in
         (e, subst P (sym one.0) tight, one.1 ∙ same)
 
 -- an arc's only head was offered the link
-pub passed-at : (roads : Roads) (answers : ℕ → ℕ → ℕ → ℕ → Type 0) (table : List ℕ) (u e : ℕ) (arc : Arc) (new : Link) (links : List Link) → IsArc roads e arc → (Precedes new (link links arc.head) → ⊥) → (v : ℕ) → Tight roads answers table u e v → Precedes new (link links v) → ⊥
+pub passed-at : (roads : Roads) (answers : ℕ → ℕ → ℕ → ℕ → Type 0) (table : List ℕ) (u e : ℕ) (arc : Arc) (new : Link) (links : List Link) → IsArc roads e arc → (Precedes new (link links arc.head) → ⊥) → (v : ℕ) → MeetsBound roads answers table u e v → Precedes new (link links v) → ⊥
 passed-at roads answers table u e arc new links is passed v tight better =
     let P : ℕ → Type 0 = λ x. Precedes new (link links x) in
-    passed (subst P (sym (step-head roads answers u (entry table u) e v (entry table v) arc is tight.step)) better)
+    passed (subst P (sym (step-head roads answers u (bound_of table u) e v (bound_of table v) arc is tight.step)) better)
 
 -- the same arc by an equal number
-pub passed-number : (roads : Roads) (answers : ℕ → ℕ → ℕ → ℕ → Type 0) (table : List ℕ) (u level e n : ℕ) (links : List Link) → n ≡ e → ((v : ℕ) → Tight roads answers table u n v → Precedes (record { level = level; arc = n; from = u }) (link links v) → ⊥) → (v : ℕ) → Tight roads answers table u e v → Precedes (record { level = level; arc = e; from = u }) (link links v) → ⊥
+pub passed-number : (roads : Roads) (answers : ℕ → ℕ → ℕ → ℕ → Type 0) (table : List ℕ) (u level e n : ℕ) (links : List Link) → n ≡ e → ((v : ℕ) → MeetsBound roads answers table u n v → Precedes (record { level = level; arc = n; from = u }) (link links v) → ⊥) → (v : ℕ) → MeetsBound roads answers table u e v → Precedes (record { level = level; arc = e; from = u }) (link links v) → ⊥
 passed-number roads answers table u level e n links same passed =
-    let P : ℕ → Type 0 = λ x. (v : ℕ) → Tight roads answers table u x v → Precedes (record { level = level; arc = x; from = u }) (link links v) → ⊥ in
+    let P : ℕ → Type 0 = λ x. (v : ℕ) → MeetsBound roads answers table u x v → Precedes (record { level = level; arc = x; from = u }) (link links v) → ⊥ in
     subst P same passed
 
 -- sources stay sown where no level rises
@@ -318,13 +318,13 @@ AreSown-lower sources table links links' n sown lower k d l same =
     let was = sown k d l same in
     omega arith
 
-pub AreSown-more : (sources : List Source) (table : List ℕ) (links links' : List Link) (n : ℕ) (s : Source) → AreSown sources table links n → n < length sources → ((get_or sources n s).departure ≡ entry table (get_or sources n s).node → (link links' (get_or sources n s).node).level ≡ 0) → ((v : ℕ) → (link links' v).level ≤ (link links v).level) → AreSown sources table links' (n + 1)
+pub AreSown-more : (sources : List Source) (table : List ℕ) (links links' : List Link) (n : ℕ) (s : Source) → AreSown sources table links n → n < length sources → ((get_or sources n s).departure ≡ bound_of table (get_or sources n s).node → (link links' (get_or sources n s).node).level ≡ 0) → ((v : ℕ) → (link links' v).level ≤ (link links v).level) → AreSown sources table links' (n + 1)
 AreSown-more sources table links links' n s sown within here lower k d l = elim (cases_lt k n) [
   | inl early ↦ AreSown-lower sources table links links' n sown lower k d early
   | inr late ↦ (
       let at : k ≡ n = omega arith in
       let same : get_or sources n s ≡ get_or sources k d = get_or_default sources n s d within ∙ ap (λ (x : ℕ). get_or sources x d) (sym at) in
-      let P : Source → Type 0 = λ x. x.departure ≡ entry table x.node → (link links' x.node).level ≡ 0 in
+      let P : Source → Type 0 = λ x. x.departure ≡ bound_of table x.node → (link links' x.node).level ≡ 0 in
       subst P same here)
 ]
 
@@ -352,7 +352,7 @@ module _ (roads : Roads) (answers : ℕ → ℕ → ℕ → ℕ → Type 0) (sou
       unlinked_all v there = let e = ap (λ (l : Link). l.level) (link-none roads.nodes v) in omega arith
 
   -- a linked node has a label
-  pub Linking-time : (links : List Link) (waiting : List ℕ) → Linking roads answers sources table links waiting → (v : ℕ) → (link links v).level < NO_LEVEL → entry table v ≤ HORIZON
+  pub Linking-time : (links : List Link) (waiting : List ℕ) → Linking roads answers sources table links waiting → (v : ℕ) → (link links v).level < NO_LEVEL → bound_of table v ≤ HORIZON
   Linking-time links waiting linking v there = elim (linking.linked v there) [
     | inl seed ↦ (let same = seed.1.departs in let low = seed.1.within in omega arith)
     | inr tight ↦ tight.0.step.in_time
@@ -360,7 +360,7 @@ module _ (roads : Roads) (answers : ℕ → ℕ → ℕ → ℕ → Type 0) (sou
 
   -- a link that may be given to v: a seed's, or by a tight arc from a lower level
   abbrev pub IsGood : List Link → ℕ → Link → Type 0
-  IsGood links v l = ((l.level ≡ 0) × IsSeed sources table v) ⊎ (Tight roads answers table l.from l.arc v × ((link links l.from).level < l.level))
+  IsGood links v l = ((l.level ≡ 0) × IsSeed sources table v) ⊎ (MeetsBound roads answers table l.from l.arc v × ((link links l.from).level < l.level))
 
   -- offers of good links, after which each node that waited before waits or has nothing to offer
   pub Linking-offers : (offer : ℕ → Link → Type 0) (links links' : List Link) (before waiting waiting' : List ℕ) → Linking roads answers sources table links before → ((v : ℕ) → Contains waiting v → Contains before v) → ((v : ℕ) → Contains before v → Contains waiting v ⊎ IsSpent roads answers table links' v ((link links' v).level + 1)) → ((v : ℕ) (l : Link) → offer v l → IsGood links v l) → ((v : ℕ) (l : Link) → offer v l → l.level < NO_LEVEL) → ((v : ℕ) (l : Link) → offer v l → l.level + unlinked links ≤ roads.nodes) → Offers roads.nodes offer links waiting links' waiting' → Linking roads answers sources table links' waiting'
@@ -481,11 +481,11 @@ module _ (roads : Roads) (answers : ℕ → ℕ → ℕ → ℕ → Type 0) (sou
   -- what sowing a source comes to
   pub record Sown (source : Source) (links links' : List Link) (waiting' : List ℕ) : Type 0 where
     pub linking : Linking roads answers sources table links' waiting'
-    pub here : source.departure ≡ entry table source.node → (link links' source.node).level ≡ 0
+    pub here : source.departure ≡ bound_of table source.node → (link links' source.node).level ≡ 0
     pub lower : (v : ℕ) → (link links' v).level ≤ (link links v).level
 
-  pub sow_step : (source : Source) (links links' : List Link) (waiting waiting' : List ℕ) → IsAmong sources source → source.departure ≤ HORIZON → Linking roads answers sources table links waiting → (source.departure ≡ entry table source.node → Offers roads.nodes (IsOne source.node (record { level = 0; arc = 0; from = 0 })) links waiting links' waiting' × ((link links' source.node).level ≡ 0)) → ((source.departure ≡ entry table source.node → ⊥) → (links' ≡ links) × (waiting' ≡ waiting)) → Sown source links links' waiting'
-  sow_step source links links' waiting waiting' among within linking seeds others = elim (cases_eq source.departure (entry table source.node)) [
+  pub sow_step : (source : Source) (links links' : List Link) (waiting waiting' : List ℕ) → IsAmong sources source → source.departure ≤ HORIZON → Linking roads answers sources table links waiting → (source.departure ≡ bound_of table source.node → Offers roads.nodes (IsOne source.node (record { level = 0; arc = 0; from = 0 })) links waiting links' waiting' × ((link links' source.node).level ≡ 0)) → ((source.departure ≡ bound_of table source.node → ⊥) → (links' ≡ links) × (waiting' ≡ waiting)) → Sown source links links' waiting'
+  sow_step source links links' waiting waiting' among within linking seeds others = elim (cases_eq source.departure (bound_of table source.node)) [
     | inl same ↦ (
         let sown = seeds same in
         record {

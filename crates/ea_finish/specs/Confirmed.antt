@@ -5,7 +5,7 @@ use Rattle.ea_road.specs.Roads.{Roads}
 use Rattle.ea_finish.specs.declared.link.Link.{Link}
 use Rattle.ea_finish.specs.declared.link.TheConstants.{NO_ARC, NO_LEVEL}
 use Rattle.ea_finish.specs.Links.{link}
-use Rattle.ea_finish.specs.Offers.{AreSown, IsSeed, Precedes, Tight}
+use Rattle.ea_finish.specs.Offers.{AreSown, IsSeed, Precedes, MeetsBound}
 
 -- Links with levels, whatever they are, and with no arc yet.
 pub record ArePreset (links : List Link) : Type 0 where
@@ -31,8 +31,8 @@ pub record AreConfirmed
     : Type 0 where
   pub places : length links ≡ roads.nodes
   pub low : (v : ℕ) → (link links v).level ≤ NO_LEVEL
-  pub linked : (v : ℕ) → (link links v).level < NO_LEVEL → ((link links v).arc ≡ NO_ARC) ⊎ ((((link links v).level ≡ 0) × IsSeed sources table v) ⊎ (Tight roads answers table (link links v).from (link links v).arc v × ((link links (link links v).from).level < (link links v).level)))
-  pub passed : (e u v : ℕ) → e ≤ count → Tight roads answers table u e v → (link links u).level + 1 < NO_LEVEL → Precedes (record { level = (link links u).level + 1; arc = e; from = u }) (link links v) → ⊥
+  pub linked : (v : ℕ) → (link links v).level < NO_LEVEL → ((link links v).arc ≡ NO_ARC) ⊎ ((((link links v).level ≡ 0) × IsSeed sources table v) ⊎ (MeetsBound roads answers table (link links v).from (link links v).arc v × ((link links (link links v).from).level < (link links v).level)))
+  pub passed : (e u v : ℕ) → e ≤ count → MeetsBound roads answers table u e v → (link links u).level + 1 < NO_LEVEL → Precedes (record { level = (link links u).level + 1; arc = e; from = u }) (link links v) → ⊥
 
 -- A link has its arc, if it needs one, and there is room for a level above it.
 abbrev pub IsReady : Link → Type 0

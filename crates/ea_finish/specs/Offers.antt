@@ -6,26 +6,27 @@ use Rattle.ea_road.specs.declared.source.Source.{Source}
 use Rattle.ea_road.specs.Roads.{Roads}
 use Rattle.ea_finish.specs.declared.link.Link.{Link}
 use Rattle.ea_finish.specs.declared.link.TheConstants.{NO_LEVEL}
-use Rattle.ea_finish.specs.Underway.{entry}
+use Rattle.ea_finish.specs.Underway.{bound_of}
 use Rattle.ea_finish.specs.Scans.{Step}
 use Rattle.ea_finish.specs.Links.{link}
 
--- Left at the label of its tail, the arc arrives at the label of its head, both within the horizon.
-pub record Tight
+-- Left at the bound of its tail, the arc arrives at the bound of its head, both within the horizon. It is the form of
+-- `IsTight` for the bounds of a table, in which the links are proved.
+pub record MeetsBound
     (roads : Roads)
     (answers : ℕ → ℕ → ℕ → ℕ → Type 0)
     (table : List ℕ)
     (node number head : ℕ)
     : Type 0 where
-  pub step : Step roads answers node (entry table node) number head (entry table head)
-  pub from_within : entry table node ≤ HORIZON
+  pub step : Step roads answers node (bound_of table node) number head (bound_of table head)
+  pub from_within : bound_of table node ≤ HORIZON
 
 -- a source's departure is its node's label
 pub record IsSeed (sources : List Source) (table : List ℕ) (node : ℕ) : Type 0 where
   pub source : Source
   pub among : IsAmong sources source
   pub is_node : source.node ≡ node
-  pub departs : source.departure ≡ entry table node
+  pub departs : source.departure ≡ bound_of table node
   pub within : source.departure ≤ HORIZON
 
 -- fewer arcs, or as many and a lower number
@@ -67,11 +68,11 @@ IsOne v new w l = (w ≡ v) × (l ≡ new)
 
 -- the links by tight arcs from a node, for nodes at this level
 abbrev pub IsSpread : Roads → (ℕ → ℕ → ℕ → ℕ → Type 0) → List ℕ → ℕ → ℕ → ℕ → Link → Type 0
-IsSpread roads answers table u level v l = (e : ℕ) × Tight roads answers table u e v × (l ≡ record { level = level; arc = e; from = u })
+IsSpread roads answers table u level v l = (e : ℕ) × MeetsBound roads answers table u e v × (l ≡ record { level = level; arc = e; from = u })
 
 -- No tight arc from the node is still to be offered.
 abbrev pub IsSpent : Roads → (ℕ → ℕ → ℕ → ℕ → Type 0) → List ℕ → List Link → ℕ → ℕ → Type 0
-IsSpent roads answers table links u level = (e v : ℕ) → Tight roads answers table u e v → Precedes (record { level = level; arc = e; from = u }) (link links v) → ⊥
+IsSpent roads answers table links u level = (e v : ℕ) → MeetsBound roads answers table u e v → Precedes (record { level = level; arc = e; from = u }) (link links v) → ⊥
 
 -- what is left to do is at the waiting nodes
 pub record Linking
@@ -83,7 +84,7 @@ pub record Linking
     (waiting : List ℕ)
     : Type 0 where
   pub places : length links ≡ roads.nodes
-  pub linked : (v : ℕ) → (link links v).level < NO_LEVEL → (((link links v).level ≡ 0) × IsSeed sources table v) ⊎ (Tight roads answers table (link links v).from (link links v).arc v × ((link links (link links v).from).level < (link links v).level))
+  pub linked : (v : ℕ) → (link links v).level < NO_LEVEL → (((link links v).level ≡ 0) × IsSeed sources table v) ⊎ (MeetsBound roads answers table (link links v).from (link links v).arc v × ((link links (link links v).from).level < (link links v).level))
   pub spent : (u : ℕ) → (link links u).level < NO_LEVEL → IsSpent roads answers table links u ((link links u).level + 1) ⊎ Contains waiting u
   pub bounded : IsBounded roads.nodes links
   pub waits : (v : ℕ) → Contains waiting v → (link links v).level < NO_LEVEL
@@ -91,4 +92,4 @@ pub record Linking
 
 -- each of the first so many sources that departs at its node's label begins a walk
 abbrev pub AreSown : List Source → List ℕ → List Link → ℕ → Type 0
-AreSown sources table links n = (k : ℕ) (d : Source) → k < n → (slice_index_or sources k d).departure ≡ entry table (slice_index_or sources k d).node → (link links (slice_index_or sources k d).node).level ≡ 0
+AreSown sources table links n = (k : ℕ) (d : Source) → k < n → (slice_index_or sources k d).departure ≡ bound_of table (slice_index_or sources k d).node → (link links (slice_index_or sources k d).node).level ≡ 0

@@ -9,7 +9,7 @@ use Rattle.ea_road.specs.Roads.{Roads, IsArc}
 use Rattle.ea_road.specs.Arrivals.{Reaches}
 use Rattle.ea_road.specs.Queries.{Asking}
 use Rattle.ea_road.specs.Labels.{limit}
-use Rattle.ea_finish.specs.Underway.{entry}
+use Rattle.ea_finish.specs.Underway.{bound_of}
 
 -- The arc of the number leads from one node to another, and left at a departure it arrives within the horizon.
 pub record Step
@@ -26,7 +26,7 @@ pub record Step
 
 -- A time was offered to a node: its label is the less of both, and where it fell the node waits to be scanned. What waited
 -- before waits still.
-pub record Lowers
+pub record KeepsLess
     (node time : ℕ)
     (table : List ℕ)
     (waits : ℕ → Type 0)
@@ -34,9 +34,9 @@ pub record Lowers
     (waits' : ℕ → Type 0)
     : Type 0 where
   pub places : length table' ≡ length table
-  pub least : entry table' node ≡ min time (entry table node)
-  pub others : (other : ℕ) → other ≢ node → entry table' other ≡ entry table other
-  pub opened : time < entry table node → waits' node
+  pub least : bound_of table' node ≡ min time (bound_of table node)
+  pub others : (other : ℕ) → other ≢ node → bound_of table' other ≡ bound_of table other
+  pub opened : time < bound_of table node → waits' node
   pub kept : (other : ℕ) → waits other → waits' other
 
 -- From a node, left at a departure, the arcs of these numbers were followed: labels only fell, each to an arrival from
@@ -51,17 +51,19 @@ pub record Scanned
     (waits' : ℕ → Type 0)
     : Type 0 where
   pub places : length table' ≡ length table
-  pub lower : (other : ℕ) → entry table' other ≤ entry table other
-  pub fallen : (other : ℕ) → entry table' other < entry table other → waits' other × ((number : ℕ) × Step roads answers node departure number other (entry table' other))
+  pub lower : (other : ℕ) → bound_of table' other ≤ bound_of table other
+  pub fallen : (other : ℕ) → bound_of table' other < bound_of table other → waits' other × ((number : ℕ) × Step roads answers node departure number other (bound_of table' other))
   pub kept : (other : ℕ) → waits other → waits' other
-  pub passed : (number head arrival : ℕ) → Contains numbers number → Step roads answers node departure number head arrival → entry table' head ≤ arrival
+  pub passed : (number head arrival : ℕ) → Contains numbers number → Step roads answers node departure number head arrival → bound_of table' head ≤ arrival
 
--- each arc from the node, left at the time, arrives no earlier than the label of its head, or beyond the horizon
-abbrev pub Satisfied : Roads → (ℕ → ℕ → ℕ → ℕ → Type 0) → List ℕ → ℕ → ℕ → Type 0
-Satisfied roads answers table node time = (number head arrival : ℕ) → Step roads answers node time number head arrival → entry table head ≤ arrival
+-- Scanning the node at the time would lower no label: each arc from it arrives no earlier than the bound of its head, or
+-- beyond the horizon. It is the form of `Satisfies` for the bounds of a table, in which the pass is proved.
+abbrev pub LowersNone : Roads → (ℕ → ℕ → ℕ → ℕ → Type 0) → List ℕ → ℕ → ℕ → Type 0
+LowersNone roads answers table node time = (number head arrival : ℕ) → Step roads answers node time number head arrival → bound_of table head ≤ arrival
 
--- What is left to do is at the nodes that wait, for some sources and some target.
-pub record Underway
+-- What is left to do is at the nodes that wait, for some sources and some target: the form of `IsUnderway` in which the pass
+-- is proved, however the nodes wait.
+pub record AwaitsScansFrom
     (roads : Roads)
     (answers : ℕ → ℕ → ℕ → ℕ → Type 0)
     (sources : List Source)
@@ -70,10 +72,10 @@ pub record Underway
     (waits : ℕ → Type 0)
     : Type 0 where
   pub places : length table ≡ roads.nodes
-  pub reached : (v : ℕ) → entry table v ≢ NONE → Reaches roads answers sources v (entry table v)
-  pub started : (s : Source) → IsAmong sources s → entry table s.node ≤ s.departure
-  pub settled : (v : ℕ) → entry table v ≢ NONE → Satisfied roads answers table v (entry table v) ⊎ (waits v ⊎ (limit target (entry table) < entry table v))
+  pub reached : (v : ℕ) → bound_of table v ≢ NONE → Reaches roads answers sources v (bound_of table v)
+  pub started : (s : Source) → IsAmong sources s → bound_of table s.node ≤ s.departure
+  pub settled : (v : ℕ) → bound_of table v ≢ NONE → LowersNone roads answers table v (bound_of table v) ⊎ (waits v ⊎ (limit target (bound_of table) < bound_of table v))
 
 -- So it is for the sources and the target of a query.
 abbrev pub AwaitsScans : Roads → (ℕ → ℕ → ℕ → ℕ → Type 0) → Asking → List ℕ → (ℕ → Type 0) → Type 0
-AwaitsScans roads answers query table waits = Underway roads answers query.sources query.target table waits
+AwaitsScans roads answers query table waits = AwaitsScansFrom roads answers query.sources query.target table waits

@@ -14,7 +14,7 @@ use Rattle.ea_finish.specs.Answers.{Answered}
 abbrev pub AreFollowable : List Link → Type 0
 AreFollowable links = (node : ℕ) → 0 < (link links node).level → (link links node).level < NO_LEVEL → IsNode (length links) (link links node).from × ((link links (link links node).from).level + 1 ≡ (link links node).level)
 
-pub record IsStored (answer : Answered) : Type 0 where
+pub record IsStoredAnswer (answer : Answered) : Type 0 where
   pub labels : length answer.labels ≡ answer.nodes
   pub links : answer.walks ≡ true → length answer.links ≡ answer.nodes
   pub followable : answer.walks ≡ true → AreFollowable answer.links

@@ -46,7 +46,8 @@ pub record IsFinished
   pub nobody : todo.waiting ≡ []
   pub room : todo.nodes ≡ roads.nodes
 
--- A node's place in a table, NONE for what is no node: the label that proofs of the pass speak of.
-unfoldable pub entry : List ℕ → ℕ → ℕ
-entry table zero = NONE
-entry table (suc place) = slice_index_or table place NONE
+-- The bound that a table holds for a node's arrival: its label, and NONE for what is no node. What the finishing pass does
+-- is said by bounds, and what it promises by labels, which are the same for nodes.
+unfoldable pub bound_of : List ℕ → ℕ → ℕ
+bound_of table zero = NONE
+bound_of table (suc place) = slice_index_or table place NONE

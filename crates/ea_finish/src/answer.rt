@@ -2,7 +2,7 @@ ghost use Rattle.std.specs.Prelude.{◌≡◌, ℕ, ◌<◌, ◌≤◌, ◌↔�
 ghost use Rattle.ea_road.specs.Queries.{IsAskedBy};
 ghost use Rattle.ea_road.specs.Roads.{IsNode};
 ghost use Rattle.ea_finish.specs.Answers.{Answered, answer_of, arrival_of, walk_of};
-ghost use Rattle.ea_finish.specs.Stored.{IsStored};
+ghost use Rattle.ea_finish.specs.Stored.{IsStoredAnswer};
 
 use crate::link::Link;
 use ea_road::NONE;
@@ -22,14 +22,14 @@ pub struct Answer {
 
 impl Model for Answer {
     ghost use Rattle.ea_finish.specs.Answers.{Answered, answer_of};
-    ghost use Rattle.ea_finish.specs.Stored.{IsStored};
+    ghost use Rattle.ea_finish.specs.Stored.{IsStoredAnswer};
 
     ghost Value = { Answered };
 
     ghost view = { λ a. answer_of a.nodes a.target a.table.items a.links.items a.walks };
 
     ghost invariant = { λ a.
-        IsStored (answer_of a.nodes a.target a.table.items a.links.items a.walks) };
+        IsStoredAnswer (answer_of a.nodes a.target a.table.items a.links.items a.walks) };
 }
 
 impl Answer {
@@ -40,7 +40,7 @@ impl Answer {
         links: Vec<Link>,
         walks: bool,
     ) -> Answer
-        requires { IsStored (answer_of nodes target table.items links.items walks) }
+        requires { IsStoredAnswer (answer_of nodes target table.items links.items walks) }
         ensures { result ≡ answer_of nodes target table.items links.items walks }
     {
         Answer {
@@ -70,7 +70,7 @@ impl Answer {
     /// is reached, its level in number, one comes over the arcs of its walk from the last to the first.
     pub fn links(&self) -> &[Link]
         ensures links { result.now ≡ self.now.links }
-        ensures stored { IsStored self.now }
+        ensures stored { IsStoredAnswer self.now }
     {
         &self.links
     }

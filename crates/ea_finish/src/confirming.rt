@@ -9,8 +9,8 @@ ghost use Rattle.ea_road.specs.Roads.{IsArc, IsNode, top_class};
 ghost use Rattle.ea_finish.specs.Answers.{IsAnswer};
 ghost use Rattle.ea_finish.specs.Confirmed.{AreBegun, AreConfirmed, ArePreset, AreReady, IsReady};
 ghost use Rattle.ea_finish.specs.Links.{AreLinks, AreStarts, link};
-ghost use Rattle.ea_finish.specs.Offers.{IsSpread, Offers, Precedes, Tight};
-ghost use Rattle.ea_finish.specs.Underway.{IsFinished, entry};
+ghost use Rattle.ea_finish.specs.Offers.{IsSpread, MeetsBound, Offers, Precedes};
+ghost use Rattle.ea_finish.specs.Underway.{IsFinished, bound_of};
 
 use crate::answer::Answer;
 use crate::finishing::Finished;
@@ -84,7 +84,7 @@ fn confirm<T: TravelTimes>(
         ((link links.old arc.tail).level + 1))
         links.old waiting.old.waiting links.new waiting.new.waiting }
     ensures passed { (link links.old arc.tail).level + 1 < NO_LEVEL → (v : ℕ)
-        → Tight network.now (T.answers times.now) table.now arc.tail number v
+        → MeetsBound network.now (T.answers times.now) table.now arc.tail number v
         → Precedes
         (record { level = (link links.old arc.tail).level + 1; arc = number; from = arc.tail })
         (link links.new v) → ⊥ }

@@ -4,8 +4,8 @@ ghost use Rattle.ea_road.specs.Arrivals.{IsLeast, IsLeastAt};
 ghost use Rattle.ea_road.specs.Labels.{label_of, limit, time_of};
 ghost use Rattle.ea_road.specs.Queries.{IsAsked, IsProblem};
 ghost use Rattle.ea_road.specs.Roads.{IsArc, IsNode, leaving, top_class};
-ghost use Rattle.ea_finish.specs.Scans.{Lowers, Scanned};
-ghost use Rattle.ea_finish.specs.Underway.{IsFinished, IsUnderway, entry};
+ghost use Rattle.ea_finish.specs.Scans.{KeepsLess, Scanned};
+ghost use Rattle.ea_finish.specs.Underway.{IsFinished, IsUnderway, bound_of};
 
 use crate::levels::{Track, Untracked};
 use crate::open::Open;
@@ -31,9 +31,9 @@ pub(crate) fn lower<K: Track, W: Opens>(
 )
     requires node { (0 < node) × (node ≤ (W.room todo.old).nodes) }
     requires places { length table.old ≡ (W.room todo.old).nodes }
-    ensures lowers { Lowers node time
-        table.old (W.waits todo.old (entry table.old))
-        table.new (W.waits todo.new (entry table.new)) }
+    ensures lowers { KeepsLess node time
+        table.old (W.waits todo.old (bound_of table.old))
+        table.new (W.waits todo.new (bound_of table.new)) }
     ensures spent { sum table.new + W.size todo.new ≤ sum table.old + W.size todo.old }
     ensures room { W.room todo.new ≡ W.room todo.old }
 {
@@ -65,8 +65,8 @@ fn follow<T: TravelTimes, K: Track, W: Opens>(
     requires places { length table.old ≡ network.now.nodes }
     requires nodes { (W.room todo.old).nodes ≡ network.now.nodes }
     ensures scanned { Scanned network.now (T.answers times.now) arc.tail departure (number ∷ [])
-        table.old (W.waits todo.old (entry table.old))
-        table.new (W.waits todo.new (entry table.new)) }
+        table.old (W.waits todo.old (bound_of table.old))
+        table.new (W.waits todo.new (bound_of table.new)) }
     ensures spent { sum table.new + W.size todo.new ≤ sum table.old + W.size todo.old }
     ensures room { W.room todo.new ≡ W.room todo.old }
 {
@@ -99,8 +99,8 @@ pub(crate) fn scan<T: TravelTimes, K: Track, W: Opens>(
     requires nodes { (W.room todo.old).nodes ≡ network.now.nodes }
     ensures scanned { Scanned network.now (T.answers times.now) node departure
         (leaving network.now node)
-        table.old (W.waits todo.old (entry table.old))
-        table.new (W.waits todo.new (entry table.new)) }
+        table.old (W.waits todo.old (bound_of table.old))
+        table.new (W.waits todo.new (bound_of table.new)) }
     ensures spent { sum table.new + W.size todo.new ≤ sum table.old + W.size todo.old }
     ensures room { W.room todo.new ≡ W.room todo.old }
 {

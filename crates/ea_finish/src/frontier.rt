@@ -1,7 +1,7 @@
 //! Nodes by their labels, nearly the least first.
 ghost use Rattle.std.specs.Prelude.{◌≡◌, ℕ, ◌+◌, ◌<◌, ◌≤◌, length, map, IfOk, MatchOption};
 ghost use Rattle.ea_finish.specs.Frontiers.{HaveNone, HasNone, KeepsWaiting, Puts, Takes};
-ghost use Rattle.ea_finish.specs.Underway.{entry};
+ghost use Rattle.ea_finish.specs.Underway.{bound_of};
 
 use crate::open::Open;
 use crate::opens::Opens;
@@ -215,7 +215,7 @@ impl Frontier {
     /// Moves entries from the window to the hand, but for those whose label fell since.
     fn draw(&mut self, table: &[u64])
         requires { length table.now ≡ self.old.todo.nodes }
-        ensures { KeepsWaiting (entry table.now) self.old self.new }
+        ensures { KeepsWaiting (bound_of table.now) self.old self.new }
     {
         'drawing: for _ in 0..AHEAD {
             let Some((time, node)) = self.pop(WINDOW) else {
@@ -231,7 +231,7 @@ impl Frontier {
     /// many loads are under way at once.
     fn refill(&mut self, network: &Network, table: &[u64])
         requires { length table.now ≡ self.old.todo.nodes }
-        ensures { KeepsWaiting (entry table.now) self.old self.new }
+        ensures { KeepsWaiting (bound_of table.now) self.old self.new }
     {
         self.narrow();
         self.advance();
@@ -255,8 +255,8 @@ impl Frontier {
     pub(crate) fn take(&mut self, network: &Network, table: &[u64]) -> Option<(u64, u32)>
         requires { length table.now ≡ self.old.todo.nodes }
         ensures { MatchOption result
-            (KeepsWaiting (entry table.now) self.old self.new × HaveNone self.new.lists)
-            (λ found. Takes (entry table.now) found self.old self.new) }
+            (KeepsWaiting (bound_of table.now) self.old self.new × HaveNone self.new.lists)
+            (λ found. Takes (bound_of table.now) found self.old self.new) }
     {
         if let Some(entry) = self.pop(HAND) {
             return Some(entry);

@@ -4,8 +4,8 @@ ghost use Rattle.ea_limits.specs.declared.TheConstants.{HORIZON};
 ghost use Rattle.ea_road.specs.Queries.{IsProblem};
 ghost use Rattle.ea_road.specs.Roads.{IsNode, leaving, top_class};
 ghost use Rattle.ea_finish.specs.Frontiers.{WaitsAt};
-ghost use Rattle.ea_finish.specs.Scans.{AwaitsScans, Scanned, Underway};
-ghost use Rattle.ea_finish.specs.Underway.{IsUnderway, entry};
+ghost use Rattle.ea_finish.specs.Scans.{AwaitsScans, Scanned};
+ghost use Rattle.ea_finish.specs.Underway.{IsUnderway, bound_of};
 
 use crate::finishing::{latest, lower, scan};
 use crate::frontier::Frontier;
@@ -26,7 +26,7 @@ fn begin<T: TravelTimes, K: Track>(
     requires problem { IsProblem network.now (T.classes times.now) query.now }
     requires room { frontier.old.todo.nodes ≡ network.now.nodes }
     ensures underway { IfOk result (λ table. AwaitsScans network.now (T.answers times.now) query.now
-        table.items (WaitsAt frontier.new (entry table.items))) }
+        table.items (WaitsAt frontier.new (bound_of table.items))) }
     ensures nodes { frontier.new.todo.nodes ≡ frontier.old.todo.nodes }
     ensures walks { frontier.new.todo.walks ≡ frontier.old.todo.walks }
 {
@@ -50,7 +50,7 @@ fn exhaust<T: TravelTimes, K: Track>(
     requires problem { IsProblem network.now (T.classes times.now) query.now }
     requires room { frontier.old.todo.nodes ≡ network.now.nodes }
     requires underway { AwaitsScans network.now (T.answers times.now) query.now
-        table.old.items (WaitsAt frontier.old (entry table.old.items)) }
+        table.old.items (WaitsAt frontier.old (bound_of table.old.items)) }
     ensures underway { AwaitsScans network.now (T.answers times.now) query.now
         table.new.items (Contains frontier.new.todo.waiting) }
     ensures nodes { frontier.new.todo.nodes ≡ frontier.old.todo.nodes }

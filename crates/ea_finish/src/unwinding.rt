@@ -7,8 +7,8 @@ ghost use Rattle.ea_road.specs.Queries.{IsProblem};
 ghost use Rattle.ea_road.specs.Roads.{IsArc, IsNode, top_class};
 ghost use Rattle.ea_finish.specs.Answers.{HasArrivals, IsAnswer};
 ghost use Rattle.ea_finish.specs.Links.{AreLinks, AreStarts, link};
-ghost use Rattle.ea_finish.specs.Offers.{AreSown, IsOne, IsSpent, IsSpread, Linking, Offers, Precedes, Tight};
-ghost use Rattle.ea_finish.specs.Underway.{IsFinished, entry};
+ghost use Rattle.ea_finish.specs.Offers.{AreSown, IsOne, IsSpent, IsSpread, Linking, MeetsBound, Offers, Precedes};
+ghost use Rattle.ea_finish.specs.Underway.{IsFinished, bound_of};
 
 use crate::answer::Answer;
 use crate::finishing::Finished;
@@ -51,7 +51,7 @@ pub(crate) fn pass<T: TravelTimes>(
 )
     requires arc { IsArc network.now new.arc arc }
     requires tail { arc.tail ≡ new.from }
-    requires departure { (departure ≤ HORIZON) × (departure ≡ entry table.now new.from) }
+    requires departure { (departure ≤ HORIZON) × (departure ≡ bound_of table.now new.from) }
     requires level { new.level < NO_LEVEL }
     requires classes { top_class network.now.arcs ≤ T.classes times.now }
     requires places { (length table.now ≡ network.now.nodes)
@@ -61,7 +61,7 @@ pub(crate) fn pass<T: TravelTimes>(
         (IsSpread network.now (T.answers times.now) table.now new.from new.level)
         links.old waiting.old.waiting links.new waiting.new.waiting }
     ensures passed { (v : ℕ)
-        → Tight network.now (T.answers times.now) table.now new.from new.arc v
+        → MeetsBound network.now (T.answers times.now) table.now new.from new.arc v
         → Precedes new (link links.new v) → ⊥ }
     ensures nodes { waiting.new.nodes ≡ waiting.old.nodes }
 {
@@ -87,7 +87,7 @@ fn spread<T: TravelTimes>(
     waiting: &mut Waiting,
 )
     requires node { IsNode network.now.nodes node }
-    requires departure { entry table.now node ≤ HORIZON }
+    requires departure { bound_of table.now node ≤ HORIZON }
     requires level { (link links.old node).level + 1 < NO_LEVEL }
     requires classes { top_class network.now.arcs ≤ T.classes times.now }
     requires places { (length table.now ≡ network.now.nodes)
@@ -130,11 +130,11 @@ pub(crate) fn sow(table: &[u64], source: Source, links: &mut [Link], waiting: &m
     requires node { (0 < source.node) × (source.node ≤ waiting.old.nodes) }
     requires places { (length table.now ≡ waiting.old.nodes)
         × (length links.old ≡ waiting.old.nodes) }
-    ensures seeds { source.departure ≡ entry table.now source.node
+    ensures seeds { source.departure ≡ bound_of table.now source.node
         → Offers waiting.old.nodes (IsOne source.node (record { level = 0; arc = 0; from = 0 }))
         links.old waiting.old.waiting links.new waiting.new.waiting
         × ((link links.new source.node).level ≡ 0) }
-    ensures others { (source.departure ≡ entry table.now source.node → ⊥)
+    ensures others { (source.departure ≡ bound_of table.now source.node → ⊥)
         → (links.new ≡ links.old) × (waiting.new ≡ waiting.old) }
     ensures nodes { waiting.new.nodes ≡ waiting.old.nodes }
 {

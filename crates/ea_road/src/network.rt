@@ -25,13 +25,13 @@ pub struct Network {
 
 impl Model for Network {
     ghost use Rattle.ea_road.specs.Roads.{Roads};
-    ghost use Rattle.ea_road.specs.Index.{IsStored};
+    ghost use Rattle.ea_road.specs.Index.{IsStoredNetwork};
 
     ghost Value = { Roads };
 
     ghost view = { λ n. record { nodes = n.nodes; arcs = n.arcs.items } };
 
-    ghost invariant = { λ n. IsStored (record { nodes = n.nodes; arcs = n.arcs.items })
+    ghost invariant = { λ n. IsStoredNetwork (record { nodes = n.nodes; arcs = n.arcs.items })
         n.starts.items n.numbers.items n.by_tail.items };
 }
 

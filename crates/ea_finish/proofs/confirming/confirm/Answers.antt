@@ -1,13 +1,13 @@
 use Rattle.std.proofs.Common.{◌≡◌, ◌∙◌, sym, ap, subst, arith}
 use Rattle.ea_finish.specs.declared.link.Link.{Link}
-use Rattle.ea_finish.proofs.Linkings.{entry_read, link_read}
+use Rattle.ea_finish.proofs.Linkings.{bound_of_read, link_read}
 use Rattle.ea_finish.proofs.confirming.confirm.Goals.{else-departure-le-HORIZON-via-then-departure-le-HORIZON+else-level, else-departure-le-HORIZON-via-else-departure-le-HORIZON}
 use Rattle.ea_finish.proofs.confirming.confirm.Goals as goal
 
 pub pass-requires-clause-departure : goal.pass-requires-clause-departure
 pass-requires-clause-departure g c =
     let tail = (c.keeps_limits.ensures.each_fits c.args.number c.args.arc c.requires.arc).tail in
-    (omega (arith, c.if-departure-le-HORIZON.true), entry_read c.args.table.now c.args.arc.tail tail.from_one (omega (arith, tail.to_last, c.requires.places.0)))
+    (omega (arith, c.if-departure-le-HORIZON.true), bound_of_read c.args.table.now c.args.arc.tail tail.from_one (omega (arith, tail.to_last, c.requires.places.0)))
 
 pub returns-then-level-clause-offers : goal.returns-then-level-clause-offers
 returns-then-level-clause-offers g c =
@@ -30,6 +30,6 @@ returns-else-departure-le-HORIZON-clause-passed g c = λ room v tight better.
           let read = ap (λ (l : Link). l.level) (link_read c.args.links.now c.args.arc.tail tail.from_one (omega (arith, tail.to_last, c.requires.places.1))) in
           omega (arith, w.if-level.false))
       | else-departure-le-HORIZON-via-else-departure-le-HORIZON w ↦ (
-          let read = entry_read c.args.table.now c.args.arc.tail tail.from_one (omega (arith, tail.to_last, c.requires.places.0)) in
+          let read = bound_of_read c.args.table.now c.args.arc.tail tail.from_one (omega (arith, tail.to_last, c.requires.places.0)) in
           omega (arith, w.if-departure-le-HORIZON.false, tight.from_within))
     ]

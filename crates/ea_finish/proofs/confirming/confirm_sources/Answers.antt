@@ -4,7 +4,7 @@ use Rattle.std.proofs.lemmas.List.{get_or_default}
 use Rattle.std.proofs.lemmas.Bool.{cases_eq}
 use Rattle.ea_road.specs.declared.source.Source.{Source}
 use Rattle.ea_finish.specs.Confirmed.{AreBegun}
-use Rattle.ea_finish.specs.Underway.{entry}
+use Rattle.ea_finish.specs.Underway.{bound_of}
 use Rattle.ea_finish.proofs.Confirmings.{AreBegun-preset, AreBegun-seed, AreBegun-other}
 use Rattle.ea_finish.proofs.confirming.confirm_sources.Goals as goal
 
@@ -35,11 +35,11 @@ loop-source-preserved c =
     let among = among_at sources place c.loop-source-test.true in
     let start = c.requires.sources here among in
     let nobody : length c.sow.new.waiting.waiting ≡ 0 = omega (arith, c.if-len-gt0.false) in
-    let begun : AreBegun sources c.args.table.now c.sow.new.links (place + 1) = elim (cases_eq here.departure (entry c.args.table.now here.node)) [
+    let begun : AreBegun sources c.args.table.now c.sow.new.links (place + 1) = elim (cases_eq here.departure (bound_of c.args.table.now here.node)) [
       | inl departs ↦ (let seeds = c.sow.ensures.seeds departs in AreBegun-seed sources c.args.table.now _ place none _ _ _ _ c.loop-source-test.true among start.1 nobody c.loop-source.invariant.begun departs seeds.0 seeds.1)
       | inr differs ↦ AreBegun-other sources c.args.table.now 0 place none _ _ [] [] c.loop-source-test.true c.loop-source.invariant.begun differs (c.sow.ensures.others differs).0
     ] in
-    let places : length c.sow.new.links ≡ length c.loop-source.links = elim (cases_eq here.departure (entry c.args.table.now here.node)) [
+    let places : length c.sow.new.links ≡ length c.loop-source.links = elim (cases_eq here.departure (bound_of c.args.table.now here.node)) [
       | inl departs ↦ (c.sow.ensures.seeds departs).0.places
       | inr differs ↦ ap length (c.sow.ensures.others differs).0
     ] in

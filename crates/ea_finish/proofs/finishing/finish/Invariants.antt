@@ -1,10 +1,10 @@
 use Rattle.std.proofs.Common.{◌≡◌, ◌+◌, sum, length, Contains}
-use Rattle.ea_finish.specs.Scans.{Underway}
+use Rattle.ea_finish.specs.Scans.{AwaitsScansFrom}
 use Rattle.ea_finish.proofs.finishing.finish.Given as goal
 
 abbrev pub invariant-loop-node : goal.invariant-loop-node
 invariant-loop-node g l = record {
-  underway : Underway l.network (g.T.TravelTimes.answers l.times) l.query.sources l.query.target l.table.items (Contains l.todo.waiting);
+  underway : AwaitsScansFrom l.network (g.T.TravelTimes.answers l.times) l.query.sources l.query.target l.table.items (Contains l.todo.waiting);
   room : l.todo.nodes ≡ l.network.nodes;
   walks : l.todo.walks ≡ l.initial.todo.walks;
 }

@@ -2,7 +2,7 @@ use Rattle.std.proofs.Common.{◌-◌, arith}
 use Rattle.std.proofs.lemmas.List.{get_or_default}
 use Rattle.ea_road.specs.declared.TheConstants.{NONE}
 use Rattle.ea_road.proofs.Arcs.{is_question}
-use Rattle.ea_finish.proofs.Entries.{entry-at, Scanned-lowers, Scanned-late, Scanned-settled}
+use Rattle.ea_finish.proofs.Entries.{bound_of-at, Scanned-lowers, Scanned-late, Scanned-settled}
 use Rattle.ea_finish.proofs.finishing.follow.Goals as goal
 
 pub arrive-arrival-requires : goal.arrive-arrival-requires
@@ -37,6 +37,6 @@ returns-then-table-arc-clause-scanned g c =
     let fifo = g.met.T.TravelTimes.fifo c.args.times.now in
     let question = is_question c.args.network.now _ c.args.number c.args.departure arc c.keeps_limits.ensures c.requires.classes c.requires.arc c.requires.departure in
     let head = (c.keeps_limits.ensures.each_fits c.args.number arc c.requires.arc).head in
-    let at = entry-at table arc.head head.from_one in
+    let at = bound_of-at table arc.head head.from_one in
     let same = get_or_default table (arc.head - 1) 0 NONE (omega (arith, head.from_one, head.to_last, c.requires.places)) in
     Scanned-settled _ _ _ c.args.departure arc table _ c.requires.arc (omega (arith, at, same, c.if-table-arc.true)) (λ a answer. fifo.not_before arc.class arc.weight c.args.departure a question answer)

@@ -1,12 +1,12 @@
 use Rattle.std.proofs.Common.{◌≡◌, ◌≤◌, ◌+◌, sum, take}
 use Rattle.ea_finish.specs.Scans.{Scanned}
-use Rattle.ea_finish.specs.Underway.{entry}
+use Rattle.ea_finish.specs.Underway.{bound_of}
 use Rattle.ea_finish.proofs.finishing.scan.Given as goal
 
 -- the arcs so far were followed
 abbrev pub invariant-loop-place : goal.invariant-loop-place
 invariant-loop-place g l = record {
-  scanned : Scanned l.network (g.T.TravelTimes.answers l.times) l.node l.departure (take l.place l.numbers) l.initial.table (g.W.Opens.waits l.initial.todo (entry l.initial.table)) l.table (g.W.Opens.waits l.todo (entry l.table));
+  scanned : Scanned l.network (g.T.TravelTimes.answers l.times) l.node l.departure (take l.place l.numbers) l.initial.table (g.W.Opens.waits l.initial.todo (bound_of l.initial.table)) l.table (g.W.Opens.waits l.todo (bound_of l.table));
   spent : sum l.table + g.W.Opens.size l.todo ≤ sum l.initial.table + g.W.Opens.size l.initial.todo;
   room : g.W.Opens.room l.todo ≡ g.W.Opens.room l.initial.todo;
 }

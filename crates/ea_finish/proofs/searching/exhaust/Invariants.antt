@@ -1,12 +1,12 @@
 use Rattle.std.proofs.Common.{◌≡◌, ◌+◌, sum}
 use Rattle.ea_finish.specs.Frontiers.{WaitsAt, entries_in}
-use Rattle.ea_finish.specs.Scans.{Underway}
-use Rattle.ea_finish.specs.Underway.{entry}
+use Rattle.ea_finish.specs.Scans.{AwaitsScansFrom}
+use Rattle.ea_finish.specs.Underway.{bound_of}
 use Rattle.ea_finish.proofs.searching.exhaust.Given as goal
 
 abbrev pub invariant-loop-key : goal.invariant-loop-key
 invariant-loop-key g l = record {
-  underway : Underway l.network (g.T.TravelTimes.answers l.times) l.query.sources l.query.target l.table.items (WaitsAt l.frontier (entry l.table.items));
+  underway : AwaitsScansFrom l.network (g.T.TravelTimes.answers l.times) l.query.sources l.query.target l.table.items (WaitsAt l.frontier (bound_of l.table.items));
   nodes : l.frontier.todo.nodes ≡ l.initial.frontier.todo.nodes;
   walks : l.frontier.todo.walks ≡ l.initial.frontier.todo.walks;
 }

@@ -1,7 +1,7 @@
 use Rattle.std.proofs.Common.{sym, ◌∙◌, inl, inr, arith}
 use Rattle.std.proofs.lemmas.Bool.{cases_lt}
 use Rattle.ea_finish.specs.Links.{link}
-use Rattle.ea_finish.proofs.Linkings.{entry_read}
+use Rattle.ea_finish.proofs.Linkings.{bound_of_read}
 use Rattle.ea_finish.proofs.unwinding.sow.Goals as goal
 
 pub returns-then-table-source-clause-seeds : goal.returns-then-table-source-clause-seeds
@@ -15,10 +15,10 @@ returns-then-table-source-clause-seeds c = λ same. (
 
 pub returns-then-table-source-clause-others : goal.returns-then-table-source-clause-others
 returns-then-table-source-clause-others c = λ never.
-    let read = entry_read c.args.table.now c.args.source.node c.requires.node.0 (omega (arith, c.requires.node, c.requires.places)) in
+    let read = bound_of_read c.args.table.now c.args.source.node c.requires.node.0 (omega (arith, c.requires.node, c.requires.places)) in
     absurd (never (sym c.if-table-source.true ∙ read))
 
 pub returns-else-table-source-clause-seeds : goal.returns-else-table-source-clause-seeds
 returns-else-table-source-clause-seeds c = λ same.
-    let read = entry_read c.args.table.now c.args.source.node c.requires.node.0 (omega (arith, c.requires.node, c.requires.places)) in
+    let read = bound_of_read c.args.table.now c.args.source.node c.requires.node.0 (omega (arith, c.requires.node, c.requires.places)) in
     absurd (c.if-table-source.false (read ∙ sym same))

@@ -6,7 +6,7 @@ use Rattle.ea_road.proofs.ByTail.{arc_beside, tail_beside, leaving_has}
 use Rattle.ea_finish.specs.declared.link.Link.{Link}
 use Rattle.ea_finish.specs.Links.{link}
 use Rattle.ea_finish.proofs.Entries.{Contains-one}
-use Rattle.ea_finish.proofs.Linkings.{link_read, entry_read, Offers-more, Offers-passed, passed-number}
+use Rattle.ea_finish.proofs.Linkings.{link_read, bound_of_read, Offers-more, Offers-passed, passed-number}
 use Rattle.ea_finish.proofs.unwinding.spread.Goals as goal
 
 abbrev none : Arc
@@ -28,7 +28,7 @@ pass-requires-clause-tail g c =
 
 pub pass-requires-clause-departure : goal.pass-requires-clause-departure
 pass-requires-clause-departure g c =
-    let read = entry_read c.args.table.now c.args.node c.requires.node.from_one (omega (arith, c.requires.node.to_last, c.requires.places.0)) in
+    let read = bound_of_read c.args.table.now c.args.node c.requires.node.from_one (omega (arith, c.requires.node.to_last, c.requires.places.0)) in
     (omega arith, read)
 
 pub pass-requires-clause-level : goal.pass-requires-clause-level

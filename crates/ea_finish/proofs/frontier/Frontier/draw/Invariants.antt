@@ -1,6 +1,6 @@
 use Rattle.ea_finish.specs.Frontiers.{KeepsWaiting}
-use Rattle.ea_finish.specs.Underway.{entry}
+use Rattle.ea_finish.specs.Underway.{bound_of}
 use Rattle.ea_finish.proofs.frontier.Frontier.draw.Given as goal
 
 abbrev pub invariant-drawing : goal.invariant-drawing
-invariant-drawing l = KeepsWaiting (entry l.table) l.initial.self l.self
+invariant-drawing l = KeepsWaiting (bound_of l.table) l.initial.self l.self
