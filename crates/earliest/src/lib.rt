@@ -3,10 +3,10 @@
 
 mod answering;
 mod checking;
+mod finding;
 pub mod laws;
 mod performing;
 mod progress;
-mod solving;
 mod totals;
 
 pub use answering::{answer, answer_pairs};

@@ -15,7 +15,7 @@ ghost use Rattle.earliest.specs.Fronts.{AreSent, IsCutShort, IsSent, IsStoppedBy
 ghost use Rattle.earliest.specs.Solved.{AnswersOn, ArrivesOn};
 ghost use Rattle.earliest.specs.Workers.{settings_by};
 
-use crate::solving::{Found, find};
+use crate::finding::{Found, find};
 use crate::totals::{add_totals, no_totals};
 use ea_files::Road;
 use ea_input::ByteOut;

@@ -27,7 +27,7 @@ pub(crate) fn no_totals() -> Totals
     }
 }
 
-/// What all workers did.
+/// What all workers did. By what they handed back it is known that what a problem handed back is little.
 #[derive(Clone, Copy)]
 pub(crate) struct Work {
     pub pushed: u128,
