@@ -1,4 +1,4 @@
-ghost use Rattle.std.specs.Prelude.{◌≡◌, ℕ, ◌<◌, ◌≤◌, ◌↔◌, Bool, true, List, Some, None, length, IfOk, IsTrue, MatchOption};
+ghost use Rattle.std.specs.Prelude.{◌≡◌, ◌<◌, ◌↔◌, true, Some, None, IfOk, IsTrue, MatchOption};
 ghost use Rattle.ea_road.specs.Queries.{IsAskedBy};
 ghost use Rattle.ea_road.specs.Roads.{IsNode};
 ghost use Rattle.ea_finish.specs.Answers.{Answered, answer_of, arrival_of, walk_of};

@@ -1,16 +1,15 @@
 //! Walks from levels that a search noted: one look at each arc confirms the levels, or the walks are found anew.
-ghost use Rattle.std.specs.Prelude.{◌≡◌, ◌≢◌, ◌↔◌, ℕ, ◌+◌, ◌<◌, ◌≤◌, [], true, List, length, IsTrue};
-ghost use Rattle.std.specs.List.{IsAmong};
+ghost use Rattle.std.specs.Prelude.{◌≡◌, ◌↔◌, ℕ, ◌+◌, ◌<◌, ◌≤◌, [], true, List, length, IsTrue};
 ghost use Rattle.ea_limits.specs.declared.TheConstants.{HORIZON};
 ghost use Rattle.ea_road.specs.declared.source.Source.{Source};
 ghost use Rattle.ea_road.specs.Labels.{IsLabel, label_of};
 ghost use Rattle.ea_road.specs.Queries.{IsProblem};
-ghost use Rattle.ea_road.specs.Roads.{IsArc, IsNode, top_class};
+ghost use Rattle.ea_road.specs.Roads.{IsArc, top_class};
 ghost use Rattle.ea_finish.specs.Answers.{IsAnswer};
 ghost use Rattle.ea_finish.specs.Confirmed.{AreBegun, AreConfirmed, ArePreset, AreReady, IsReady};
 ghost use Rattle.ea_finish.specs.Links.{AreLinks, AreStarts, link};
 ghost use Rattle.ea_finish.specs.Offers.{IsSpread, MeetsBound, Offers, Precedes};
-ghost use Rattle.ea_finish.specs.Underway.{IsFinished, bound_of};
+ghost use Rattle.ea_finish.specs.Underway.{IsFinished};
 
 use crate::answer::Answer;
 use crate::finishing::Finished;

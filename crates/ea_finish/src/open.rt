@@ -1,4 +1,5 @@
-ghost use Rattle.std.specs.Prelude.{◌≡◌, ℕ, ◌<◌, ◌≤◌, ◌+◌, [], ◌∷◌, ◌++◌, true, false, length, Contains, IfOk, IfSome, MatchOption, replicate};
+ghost use Rattle.std.specs.Prelude.{◌≡◌, ℕ, ◌<◌, ◌≤◌, ◌+◌, [], ◌∷◌, ◌++◌, true, false, length};
+ghost use Rattle.std.specs.Prelude.{Contains, IfOk, IfSome, MatchOption, replicate};
 ghost use Rattle.ea_finish.specs.Links.{no_link};
 
 use crate::link::{Link, NO_LEVEL};

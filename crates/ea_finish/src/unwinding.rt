@@ -1,5 +1,4 @@
-ghost use Rattle.std.specs.Prelude.{◌≡◌, ℕ, ◌+◌, ◌<◌, ◌≤◌, [], ◌∷◌, true, false, List, length};
-ghost use Rattle.std.specs.List.{IsAmong};
+ghost use Rattle.std.specs.Prelude.{◌≡◌, ℕ, ◌+◌, ◌<◌, ◌≤◌, [], true, false, List, length};
 ghost use Rattle.ea_limits.specs.declared.TheConstants.{HORIZON};
 ghost use Rattle.ea_road.specs.declared.source.Source.{Source};
 ghost use Rattle.ea_road.specs.Labels.{IsLabel, label_of};
@@ -7,7 +6,7 @@ ghost use Rattle.ea_road.specs.Queries.{IsProblem};
 ghost use Rattle.ea_road.specs.Roads.{IsArc, IsNode, top_class};
 ghost use Rattle.ea_finish.specs.Answers.{HasArrivals, IsAnswer};
 ghost use Rattle.ea_finish.specs.Links.{AreLinks, AreStarts, link};
-ghost use Rattle.ea_finish.specs.Offers.{AreSown, IsOne, IsSpent, IsSpread, Linking, MeetsBound, Offers, Precedes};
+ghost use Rattle.ea_finish.specs.Offers.{IsOne, IsSpent, IsSpread, MeetsBound, Offers, Precedes};
 ghost use Rattle.ea_finish.specs.Underway.{IsFinished, bound_of};
 
 use crate::answer::Answer;

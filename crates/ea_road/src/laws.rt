@@ -1,5 +1,6 @@
 //! Laws of networks, travel times and walks, as functions that do nothing.
-ghost use Rattle.std.specs.Prelude.{◌≡◌, ◌<◌, ◌≤◌, ◌+◌, ◌↔◌, ◌∷◌, ◌++◌, [], ℕ, Contains, List, Option, length, slice_index};
+ghost use Rattle.std.specs.Prelude.{◌≡◌, ◌<◌, ◌≤◌, ◌+◌, ◌↔◌, ◌∷◌, ◌++◌, [], ℕ};
+ghost use Rattle.std.specs.Prelude.{Contains, List, Option, length, slice_index};
 ghost use Rattle.ea_road.specs.Answers.{IsFifo};
 ghost use Rattle.ea_road.specs.Arrivals.{Attains, IsLeast, IsLeastAt};
 ghost use Rattle.ea_road.specs.Labels.{IsFixed, label_of, limit, time_of};
