@@ -20,7 +20,7 @@ fn open_if_named(
     word: FileWord,
     name: Option<&str>,
 ) -> Result<Option<StdIn<File>>, FileWord>
-    ensures { IfOk result (λ file. is_some file ≡ is_some name) }
+    ensures { IfOk result (λ file. is_some file ≡ is_some name.entry) }
 {
     match name {
         None => Ok(None),
@@ -43,7 +43,7 @@ struct Names<'a> {
 
 /// Opens the files of a command, in this order.
 fn open_all(rt: &HostRuntime, names: Names<'_>) -> Result<Opened<StdIn<File>>, FileWord>
-    ensures { IfOk result (λ files. is_some files.report ≡ is_some names.report) }
+    ensures { IfOk result (λ files. is_some files.report ≡ is_some names.entry.report) }
 {
     let gr = open(rt, FileWord::Gr, names.gr)?;
     let starts = open(rt, names.word, names.starts)?;
