@@ -1,7 +1,9 @@
 //! Which heaps are looked at: seeds and pops with known words over eight heaps.
 use crate::constant::Constant;
-use crate::given::{FOUR_NODES, Given, pose};
+use crate::given::{FOUR_NODES, Given, Row, pose};
 use crate::in_turn::InTurn;
+use crate::numbered::Numbered;
+use crate::ran::run_crew;
 use ea_engine::{Crew, Flow, NoGate, Settings, Turn, solve};
 use ea_road::is_problem;
 use rand_core::Rng;
@@ -101,5 +103,65 @@ fn push_goes_to_the_heap_of_its_word(rt: HostRuntime) -> Result<(), Fail> {
     let words = InTurn { word: 3, next: 11 };
     let told = run_turns(alloc, &rt, &given, words, 2)?.ok_or("problem")?;
     assert_eq!(rt; (told.popped, told.node), (2, 4));
+    Ok(())
+}
+
+/// Two workers with eight heaps each share sixteen: words 8 and 24 look at heap 8 and another, and of
+/// eight heaps they would look at the seed's.
+#[test]
+fn heaps_are_as_many_for_each_worker(rt: HostRuntime) -> Result<(), Fail> {
+    let alloc = rt.alloc();
+    let given = pose(alloc, 4, &FOUR_NODES, &[(1, 0)])?.ok_or("rows")?;
+    for word in [2, 8, 24] {
+        let mut rngs = Vec::new(alloc);
+        rngs.push(Constant(word))?;
+        rngs.push(Constant(word))?;
+        let came = run_crew(alloc, &rt, &given, 8, 100, rngs, &NoGate)?.ok_or("problem")?;
+        assert_eq!(rt; (came.seeded, came.drained, came.finish), (1, 1, 1));
+        assert_eq!(rt; came.counters.len(), 2);
+        for counters in &came.counters {
+            assert_eq!(rt;
+                (counters.turns, counters.empty, counters.popped),
+                (32, 32, 0)
+            );
+        }
+    }
+    // Words 16 and 32 pick heap 0 of sixteen.
+    for word in [16, 32] {
+        let mut rngs = Vec::new(alloc);
+        rngs.push(Constant(word))?;
+        rngs.push(Constant(word))?;
+        let came = run_crew(alloc, &rt, &given, 8, 100, rngs, &NoGate)?.ok_or("problem")?;
+        let mut popped = 0;
+        for counters in &came.counters {
+            popped = counters.popped.max(popped);
+        }
+        assert!(rt; popped > 0);
+    }
+    Ok(())
+}
+
+/// Six arcs of one node among others, so that the order of heads, of weights and of arcs differ.
+const FAN: [Row; 8] = [
+    (2, 7, 90, 0),
+    (1, 5, 6, 0),
+    (1, 3, 50, 0),
+    (1, 7, 30, 0),
+    (3, 2, 90, 0),
+    (1, 2, 20, 0),
+    (1, 6, 70, 0),
+    (1, 4, 10, 0),
+];
+
+/// The words count: 0 and 1 pop the seed from heap 0, and then 2 to 7 bring the heads to heaps 2 to 7 in the order of the arcs. The
+/// next turns look at heaps 0 and 3, 2 and 7, 4 and 3, 6 and 0.
+#[test]
+fn arcs_are_followed_in_ascending_order(rt: HostRuntime) -> Result<(), Fail> {
+    let alloc = rt.alloc();
+    let given = pose(alloc, 7, &FAN, &[(1, 0)])?.ok_or("rows")?;
+    for (turns, node) in [(1, 1), (2, 3), (3, 5), (4, 7), (5, 6)] {
+        let told = run_turns(alloc, &rt, &given, Numbered(0), turns)?.ok_or("problem")?;
+        assert_eq!(rt; (told.popped, told.node), (u64::from(turns), node));
+    }
     Ok(())
 }

@@ -1,7 +1,9 @@
-//! Tests of whole runs, and of tables and heaps: the worked examples, many small networks beside one thread, large inputs, and
-//! calls whose memory is refused.
+//! Tests of whole runs, and of tables and heaps: the worked examples, many small networks beside one thread, inputs of the size
+//! of real use, and calls whose memory is refused.
 #![tactic(auto)]
 
+#[cfg(test)]
+mod asked;
 #[cfg(test)]
 mod constant;
 #[cfg(test)]
@@ -13,11 +15,17 @@ mod gated;
 #[cfg(test)]
 mod given;
 #[cfg(test)]
+mod heaps;
+#[cfg(test)]
 mod in_turn;
+#[cfg(test)]
+mod large;
 #[cfg(test)]
 mod left;
 #[cfg(test)]
 mod met;
+#[cfg(test)]
+mod numbered;
 #[cfg(test)]
 mod pairs;
 #[cfg(test)]
@@ -25,6 +33,10 @@ mod ran;
 #[cfg(test)]
 mod random;
 #[cfg(test)]
+mod ranked;
+#[cfg(test)]
 mod refused;
 #[cfg(test)]
 mod same;
+#[cfg(test)]
+mod sources;

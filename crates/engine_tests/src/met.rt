@@ -1,8 +1,10 @@
 //! Two workers that wait for each other: each is there while the other one is.
 use crate::constant::Constant;
-use crate::given::{FOUR_NODES, pose};
+use crate::given::{FOUR_NODES, Row, pose};
+use crate::ran::{arrives, run_crew};
 use ea_engine::{Crew, Flow, Gate, Settings, Turn, solve};
 use ea_road::is_problem;
+use std::alloc::{AllocError, Global};
 use std::hint;
 use std::sync::atomic::{AtomicU64, Ordering};
 use std::test::Fail;
@@ -83,5 +85,174 @@ fn two_workers_meet(rt: HostRuntime) -> Result<(), Fail> {
         popped = counters.popped.max(popped);
     }
     assert!(rt; popped > 0);
+    Ok(())
+}
+
+/// Each of four workers raises its flag before its first turn and then looks for all others'.
+#[derive(Drop)]
+struct MeetingOfFour {
+    flags: [AtomicU64; 4],
+    missed: AtomicU64,
+}
+
+impl MeetingOfFour {
+    fn new() -> MeetingOfFour {
+        MeetingOfFour {
+            flags: [
+                AtomicU64::new(0),
+                AtomicU64::new(0),
+                AtomicU64::new(0),
+                AtomicU64::new(0),
+            ],
+            missed: AtomicU64::new(0),
+        }
+    }
+
+    fn are_all_there(&self) -> bool {
+        self.flags
+            .iter()
+            .all(|flag| flag.load(Ordering::SeqCst) == 1)
+    }
+
+    /// Looks so often whether all are there, and notes if they aren't.
+    fn wait(&self) {
+        for _ in 0..100_000_000 {
+            if self.are_all_there() || self.missed.load(Ordering::SeqCst) == 1 {
+                return;
+            }
+            hint::spin_loop();
+        }
+        self.missed.store(1, Ordering::SeqCst);
+    }
+}
+
+impl Gate for MeetingOfFour {
+    fn at(&self, worker: u32, turn: u64) {
+        if turn == 0 && worker < 4 {
+            self.flags[worker as usize].store(1, Ordering::SeqCst);
+            self.wait();
+        }
+    }
+}
+
+#[test]
+fn four_workers_meet(rt: HostRuntime) -> Result<(), Fail> {
+    let alloc = rt.alloc();
+    let given = pose(alloc, 4, &FOUR_NODES, &[(1, 0)])?.ok_or("rows")?;
+    let meeting = MeetingOfFour::new();
+    let mut rngs = Vec::new(alloc);
+    for _ in 0..4 {
+        rngs.push(Constant(0))?;
+    }
+    let came = run_crew(alloc, &rt, &given, 2, 100, rngs, &meeting)?.ok_or("problem")?;
+    assert_eq!(rt; meeting.missed.load(Ordering::SeqCst), 0);
+    assert!(rt; meeting.are_all_there());
+    assert_eq!(rt; came.counters.len(), 4);
+    for (node, arrival) in [(1, 0), (2, 5), (3, 2), (4, 6)] {
+        assert!(rt; arrives(&came.answer, node, Some(arrival)));
+    }
+    Ok(())
+}
+
+/// A worker that popped something waits until all have. One that found nothing at its first turn waits until the star is spread.
+#[derive(Drop)]
+struct Sharing {
+    popped: MeetingOfFour,
+    spread: AtomicU64,
+}
+
+impl Sharing {
+    fn show(&self, worker: u32, turn: Turn) {
+        if worker < 4 && turn.node > 0 {
+            self.popped.flags[worker as usize].store(1, Ordering::SeqCst);
+        }
+        if turn.lowered > 0 {
+            self.spread.store(1, Ordering::SeqCst);
+        }
+    }
+
+    fn wait_until_spread(&self) {
+        for _ in 0..100_000_000 {
+            if self.spread.load(Ordering::SeqCst) == 1 {
+                return;
+            }
+            hint::spin_loop();
+        }
+    }
+}
+
+impl Gate for Sharing {
+    fn at(&self, worker: u32, turn: u64) {
+        if worker > 3 || turn == 0 {
+            return;
+        }
+        if self.popped.flags[worker as usize].load(Ordering::SeqCst) == 1 {
+            self.popped.wait();
+        } else {
+            self.wait_until_spread();
+        }
+    }
+}
+
+/// The rows of a star.
+fn star(alloc: Global) -> Result<Vec<Row>, AllocError> {
+    let mut rows: Vec<Row> = Vec::new(alloc);
+    for node in 2..4_001u32 {
+        rows.push((1, node, node, 0))?;
+    }
+    Ok(rows)
+}
+
+#[test]
+fn each_of_four_workers_pops_some(rt: HostRuntime) -> Result<(), Fail> {
+    let alloc = rt.alloc();
+    let rows = star(alloc)?;
+    let given = pose(alloc, 4_000, &rows, &[(1, 0)])?.ok_or("rows")?;
+    if !is_problem(&given.network, given.times.classes(), &given.query) {
+        assert!(rt; false);
+        return Ok(());
+    }
+    let sharing = Sharing {
+        popped: MeetingOfFour::new(),
+        spread: AtomicU64::new(0),
+    };
+    let shown = &sharing;
+    let mut rngs = Vec::new(alloc);
+    let mut tracers = Vec::new(alloc);
+    for worker in 0..4u32 {
+        rngs.push(Constant(0))?;
+        tracers.push(move |turn: Turn| -> Flow {
+            shown.show(worker, turn);
+            Flow::Go
+        })?;
+    }
+    if rngs.len() != 4 || tracers.len() != 4 {
+        assert!(rt; false);
+        return Ok(());
+    }
+    let settings = Settings {
+        workers: 4,
+        heaps: 2,
+        turns: 10_000,
+    };
+    let solved = solve(
+        alloc,
+        &rt,
+        &given.network,
+        &given.times,
+        &given.query,
+        Crew {
+            settings,
+            rngs,
+            gate: &sharing,
+            tracers,
+        },
+    )?;
+    assert_eq!(rt; sharing.popped.missed.load(Ordering::SeqCst), 0);
+    assert_eq!(rt; solved.counters.len(), 4);
+    for counters in &solved.counters {
+        assert!(rt; counters.popped > 0);
+    }
+    assert!(rt; arrives(&solved.answer, 4_000, Some(4_000)));
     Ok(())
 }

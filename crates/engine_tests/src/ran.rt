@@ -1,8 +1,8 @@
 //! Runs, and what is read of them.
 use crate::given::Given;
-use ea_engine::{Answer, Counters, Crew, Flow, NoGate, Settings, Turn, solve};
+use ea_engine::{Answer, Counters, Crew, Flow, Gate, NoGate, Settings, Turn, solve};
 use ea_road::is_problem;
-use rand_core::SeedableRng;
+use rand_core::{Rng, SeedableRng};
 use rand_xoshiro::Xoshiro256PlusPlus;
 use std::alloc::{AllocError, Global};
 use std::thread::Threads;
@@ -120,4 +120,67 @@ pub fn walks(alloc: Global, answer: &Answer, node: u32, walk: &[u32]) -> Result<
         Some(arcs) => Ok(arcs.as_slice() == walk),
         None => Ok(false),
     }
+}
+
+/// What a run of a crew came to.
+#[derive(Drop)]
+pub struct Came {
+    pub answer: Answer,
+    pub seeded: u128,
+    pub returned: u128,
+    pub drained: u128,
+    pub finish: u128,
+    pub counters: Vec<Counters>,
+}
+
+/// Runs workers by generators of the test, one a worker; none where the settings don't fit or what is given makes no problem.
+pub fn run_crew<H: Threads + Sync, R: Rng + Send + Drop, G: Gate>(
+    alloc: Global,
+    rt: &H,
+    given: &Given,
+    heaps: u32,
+    turns: u32,
+    rngs: Vec<R>,
+    gate: &G,
+) -> Result<Option<Came>, AllocError> {
+    let mut tracers = Vec::new(alloc);
+    for _ in 0..rngs.len() {
+        tracers.push(|_turn: Turn| -> Flow { Flow::Go })?;
+    }
+    if rngs.is_empty()
+        || rngs.len() > 16
+        || tracers.len() != rngs.len()
+        || heaps < 2
+        || heaps > 8
+        || turns > 1_000_000
+        || !is_problem(&given.network, given.times.classes(), &given.query)
+    {
+        return Ok(None);
+    }
+    let settings = Settings {
+        workers: rngs.len() as u32,
+        heaps,
+        turns: u64::from(turns),
+    };
+    let solved = solve(
+        alloc,
+        rt,
+        &given.network,
+        &given.times,
+        &given.query,
+        Crew {
+            settings,
+            rngs,
+            gate,
+            tracers,
+        },
+    )?;
+    Ok(Some(Came {
+        answer: solved.answer,
+        seeded: solved.seeded,
+        returned: solved.returned,
+        drained: solved.drained,
+        finish: solved.finish,
+        counters: solved.counters,
+    }))
 }
