@@ -103,7 +103,7 @@ fn answer_is_refused_or_right(rt: HostRuntime) -> Result<(), Fail> {
         Alone::ArrivalsBy,
     ] {
         let mut small = Held::new(alloc, 20_000)?;
-        let pieces = pieces(alloc, 32, 16)?;
+        let pieces = pieces(alloc, 32, 96)?;
         let mut large = Held::of_large(alloc)?;
         let mut refused: u32 = 0;
         let mut right: u32 = 0;
