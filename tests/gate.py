@@ -107,7 +107,7 @@ def proved(room, names):
     for path in ill:
         print(f"{path}: an edit stands right in must-fail/, and its name ends in .edit")
     print(f"edits: {refused} refused, {unrefused} not refused, {little} refused only because a proof names what they took away")
-    return int(counts[1]) + refused, unrefused + little + len(ill)
+    return int(counts[1]) + refused + little, unrefused + len(ill)
 
 
 def wanted(names, is_above):
