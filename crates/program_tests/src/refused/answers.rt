@@ -99,7 +99,7 @@ fn arrays_of_the_first_problem(rt: HostRuntime) -> Result<(), Fail> {
     let whole = unreached(alloc)?;
     let mut room = Vec::from_elem(alloc, 0u8, 40_000)?;
     for many in [false, true] {
-        let sizes = pieces(alloc, 0, 110, 1_024)?;
+        let sizes = pieces(alloc, 0, 220, 512)?;
         let mut large = Held::of_large(alloc)?;
         let mut count = Count::new();
         for piece in sizes {
