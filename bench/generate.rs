@@ -1,9 +1,10 @@
 //! Road-like test inputs. One file, stock Rust: `rustc -O generate.rs`.
 //!
-//! `generate ARCS OUT [plain|odd] [seed]` writes OUT.gr, OUT.ss and OUT.tp: a grid of nodes with
-//! about 2.5 arcs a node, both ways along streets, with weights like travel times, some missing
-//! streets and some fast roads; up to 100 sources; and 16 kinds of timetable, given to a third of
-//! the arcs. `odd` writes the same texts with tabs, carriage returns, runs of blanks and comments.
+//! `generate ARCS OUT [plain|odd] [seed]` writes OUT.gr, OUT.ss, OUT.tp and OUT.co: a grid of nodes
+//! with about 2.5 arcs a node, both ways along streets, with weights like travel times, some missing
+//! streets and some fast roads; up to 100 sources; 16 kinds of timetable, given to a third of the
+//! arcs; and where each node lies, 1,000 units from its neighbours but for a little. `odd` writes the
+//! same texts with tabs, carriage returns, runs of blanks and comments.
 use std::fs::File;
 use std::io::{BufWriter, Result, Write};
 
@@ -106,6 +107,18 @@ fn main() -> Result<()> {
         }
     }
     gr.flush()?;
+
+    let mut places = Words(seed ^ 0x5EED);
+    let mut co = BufWriter::with_capacity(1 << 20, File::create(format!("{base}.co"))?);
+    style.line(&mut co, &["p", "aux", "sp", "co", &nodes.to_string()])?;
+    for y in 0..height {
+        for x in 0..width {
+            let node = y * width + x + 1;
+            let (east, north) = (1000 * x + places.below(500), 1000 * y + places.below(500));
+            style.line(&mut co, &["v", &node.to_string(), &east.to_string(), &north.to_string()])?;
+        }
+    }
+    co.flush()?;
 
     let sources = nodes.min(100);
     let mut ss = BufWriter::new(File::create(format!("{base}.ss"))?);

@@ -2,7 +2,7 @@
 ghost use Rattle.std.specs.Prelude.{◌≡◌, ◌≤◌, ◌-◌, ◌*◌, ◌<◌, ℕ, ◌∷◌, [], List, vec_len};
 ghost use Rattle.std.specs.Vec.{vec_capacity};
 ghost use Rattle.ea_limits.specs.declared.TheConstants.{SHARES as LABEL_SHARES};
-ghost use Rattle.ea_limits.specs.declared.TheConstants.{SHARES};
+ghost use Rattle.ea_limits.specs.declared.TheConstants.{MOST_WORKERS, SHARES};
 ghost use Rattle.ea_road.specs.Queries.{IsProblem};
 ghost use Rattle.ea_engine.specs.Problems.{IsNamed};
 ghost use Rattle.ea_engine.specs.Reserved.{AreArrays};
@@ -45,7 +45,8 @@ pub fn seat_workers<K: Known + Posed, R: Drop, F: Drop>(
     requires fit { AreSeatsOf (tables labels.now pool.now) seats.label_seat seats.pool_seat }
     requires label_shares { seats.label_seat.history.shares ≡ LABEL_SHARES }
     requires pool_shares { seats.pool_seat.account.shares ≡ SHARES }
-    requires workers { (1 ≤ vec_len rngs) × (vec_len rngs ≤ 16) × (vec_len tracers ≡ vec_len rngs) }
+    requires workers { (1 ≤ vec_len rngs) × (vec_len rngs ≤ MOST_WORKERS)
+        × (vec_len tracers ≡ vec_len rngs) }
     requires none { (others.items ≡ []) × (row.old.items ≡ []) }
     requires room { (vec_len rngs ≤ vec_capacity others) × (vec_len rngs ≤ vec_capacity row.old) }
     ensures len { vec_len row.new ≡ vec_len rngs }

@@ -7,3 +7,4 @@ pub mod Confirmings
 pub mod Followed
 pub mod Answered
 pub mod Fronts
+pub mod Listings

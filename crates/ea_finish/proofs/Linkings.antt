@@ -346,6 +346,7 @@ module _ (roads : Roads) (answers : ℕ → ℕ → ℕ → ℕ → Type 0) (sou
     bounded = λ v there. absurd (unlinked_all v there);
     waits = λ v there. absurd (omega (arith, there.1));
     low = λ v. (let e = ap (λ (l : Link). l.level) (link-none roads.nodes v) in omega arith);
+    clean = λ v _. link-none roads.nodes v;
   }
     where
       unlinked_all : (v : ℕ) → (link (replicate roads.nodes no_link) v).level < NO_LEVEL → ⊥
@@ -357,6 +358,15 @@ module _ (roads : Roads) (answers : ℕ → ℕ → ℕ → ℕ → Type 0) (sou
     | inl seed ↦ (let same = seed.1.departs in let low = seed.1.within in omega arith)
     | inr tight ↦ tight.0.step.in_time
   ]
+
+  -- what has no label has no link
+  pub Linking-unlabelled : (links : List Link) (waiting : List ℕ) → Linking roads answers sources table links waiting → (v : ℕ) → bound_of table v ≡ NONE → link links v ≡ no_link
+  Linking-unlabelled links waiting linking v none =
+      let low = linking.low v in
+      elim (cases_lt (link links v).level NO_LEVEL) [
+        | inl there ↦ (let time = Linking-time links waiting linking v there in absurd (omega arith))
+        | inr above ↦ linking.clean v (omega arith)
+      ]
 
   -- a link that may be given to v: a seed's, or by a tight arc from a lower level
   abbrev pub IsGood : List Link → ℕ → Link → Type 0
@@ -371,6 +381,7 @@ module _ (roads : Roads) (answers : ℕ → ℕ → ℕ → ℕ → Type 0) (sou
     bounded = offers.bounded room linking.bounded;
     waits = waits;
     low = λ v. (let falls = lower v in let was = linking.low v in omega arith);
+    clean = clean;
   }
     where
       lower : (v : ℕ) → (link links' v).level ≤ (link links v).level
@@ -388,6 +399,12 @@ module _ (roads : Roads) (answers : ℕ → ℕ → ℕ → ℕ → Type 0) (sou
             let P : Link → Type 0 = λ l. IsGood links' v l in
             subst P (sym same) (still v (link links v) (linking.linked v (omega arith))))
         | inr new ↦ still v (link links' v) (good v (link links' v) new.0)
+      ]
+
+      clean : (v : ℕ) → (link links' v).level ≡ NO_LEVEL → link links' v ≡ no_link
+      clean v none = elim (offers.each v) [
+        | inl same ↦ same ∙ linking.clean v (ap (λ (l : Link). l.level) (sym same) ∙ none)
+        | inr new ↦ (let low = small v (link links' v) new.0 in absurd (omega arith))
       ]
 
       -- what a node had nothing to offer to, it has nothing to offer to now

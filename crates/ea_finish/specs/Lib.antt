@@ -7,3 +7,4 @@ pub mod Confirmed
 pub mod Answers
 pub mod Stored
 pub mod Frontiers
+pub mod Listings

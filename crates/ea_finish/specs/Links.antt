@@ -1,5 +1,5 @@
 -- Links: how the canonical walk to each node ends.
-use Rattle.std.specs.Prelude.{◌≡◌, ◌≢◌, ℕ, zero, suc, ◌-◌, ◌<◌, ◌≤◌, List, [], ◌∷◌, ◌++◌, length, slice_index_or}
+use Rattle.std.specs.Prelude.{◌≡◌, ◌≢◌, ℕ, zero, suc, ◌-◌, ◌<◌, ◌≤◌, Bool, List, [], ◌∷◌, ◌++◌, length, replicate, slice_index_or, if◌then◌else◌}
 use Rattle.std.specs.List.{IsAmong}
 use Rattle.ea_limits.specs.declared.TheConstants.{HORIZON}
 use Rattle.ea_road.specs.declared.source.Source.{Source}
@@ -14,6 +14,10 @@ AreStarts nodes sources = (source : Source) → IsAmong sources source → IsNod
 
 abbrev pub no_link : Link
 no_link = record { level = NO_LEVEL; arc = 0; from = 0 }
+
+-- The links at first: one for each node where there is room for walks.
+abbrev pub no_links : ℕ → Bool → List Link
+no_links nodes walks = replicate (if walks then nodes else 0) no_link
 
 -- A node's link in a list with a place for each node.
 unfoldable pub link : List Link → ℕ → Link

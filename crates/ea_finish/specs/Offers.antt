@@ -8,7 +8,7 @@ use Rattle.ea_finish.specs.declared.link.Link.{Link}
 use Rattle.ea_finish.specs.declared.link.TheConstants.{NO_LEVEL}
 use Rattle.ea_finish.specs.Underway.{bound_of}
 use Rattle.ea_finish.specs.Scans.{Step}
-use Rattle.ea_finish.specs.Links.{link}
+use Rattle.ea_finish.specs.Links.{link, no_link}
 
 -- Left at the bound of its tail, the arc arrives at the bound of its head, both within the horizon. It is the form of
 -- `IsTight` for the bounds of a table, in which the links are proved.
@@ -89,6 +89,7 @@ pub record Linking
   pub bounded : IsBounded roads.nodes links
   pub waits : (v : ℕ) → Contains waiting v → (link links v).level < NO_LEVEL
   pub low : (v : ℕ) → (link links v).level ≤ NO_LEVEL
+  pub clean : (v : ℕ) → (link links v).level ≡ NO_LEVEL → link links v ≡ no_link
 
 -- each of the first so many sources that departs at its node's label begins a walk
 abbrev pub AreSown : List Source → List ℕ → List Link → ℕ → Type 0

@@ -4,12 +4,7 @@ ghost use Rattle.ea_road.specs.Queries.{IsProblem};
 ghost use Rattle.ea_finish.specs.Answers.{HasArrivals, IsAnswer};
 
 use crate::answer::Answer;
-use crate::confirming::unwind_noted;
-use crate::finishing::finish;
-use crate::levels::{Levels, Untracked};
-use crate::open::Open;
-use crate::searching::search;
-use crate::unwinding::{unwind, without_walks};
+use crate::search::Search;
 use ea_road::{ArrivalFunction, Network, Profiles, Query, TravelTimes};
 use std::alloc::{AllocError, Global};
 
@@ -24,16 +19,8 @@ pub fn solve_alone<T: TravelTimes>(
     requires { IsProblem network.now (T.classes times.now) query.now }
     ensures { IfOk result (IsAnswer network.now (T.answers times.now) query.now) }
 {
-    let todo = Open::reserve(alloc, network.nodes())?;
-    let mut levels = Levels::reserve(alloc, network.nodes())?;
-    // In so narrow a window hardly a node is scanned before its label and its level are right.
-    let width = network.mean_weight() / 8;
-    let (table, todo) = search(alloc, network, times, query, todo, width, &mut levels)?;
-    let finished = finish(network, times, query, table, todo);
-    if levels.are_many() {
-        return Ok(unwind_noted(network, times, query, finished, levels.as_slice()));
-    }
-    Ok(unwind(network, times, query, finished))
+    let search = Search::reserve(alloc, network.nodes())?;
+    Ok(search.find_walks(network, times, query).into_answer())
 }
 
 /// The earliest arrivals without walks, found by one thread. The error is that of `solve_alone`.
@@ -47,15 +34,8 @@ pub fn arrivals_alone<T: TravelTimes>(
     ensures arrivals { IfOk result (HasArrivals network.now (T.answers times.now) query.now) }
     ensures none { IfOk result (λ answer. answer.walks ≡ false) }
 {
-    let todo = Open::reserve_without_walks(alloc, network.nodes())?;
-    let width = network.mean_weight();
-    let (table, todo) = search(alloc, network, times, query, todo, width, &mut Untracked)?;
-    Ok(without_walks(
-        network,
-        times,
-        query,
-        finish(network, times, query, table, todo),
-    ))
+    let search = Search::reserve_without_walks(alloc, network.nodes())?;
+    Ok(search.find_arrivals(network, times, query).into_answer())
 }
 
 /// `solve_alone` by a caller's closure from class, weight and departure to the arrival, for classes up to the greatest.

@@ -52,6 +52,14 @@ impl Answer {
         }
     }
 
+    /// The labels and the links.
+    pub(crate) fn into_arrays(self) -> (Vec<u64>, Vec<Link>)
+        ensures labels { result.0.items ≡ self.labels }
+        ensures links { result.1.items ≡ self.links }
+    {
+        (self.table, self.links)
+    }
+
     /// Whether the answer has walks.
     pub fn has_walks(&self) -> bool
         ensures { result ≡ self.now.walks }

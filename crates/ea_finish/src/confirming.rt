@@ -1,23 +1,19 @@
 //! Walks from levels that a search noted: one look at each arc confirms the levels, or the walks are found anew.
-ghost use Rattle.std.specs.Prelude.{◌≡◌, ◌↔◌, ℕ, ◌+◌, ◌<◌, ◌≤◌, [], true, List, length, IsTrue};
+ghost use Rattle.std.specs.Prelude.{◌≡◌, ◌↔◌, ℕ, ◌+◌, ◌<◌, ◌≤◌, [], List, length, replicate, IsTrue};
 ghost use Rattle.ea_limits.specs.declared.TheConstants.{HORIZON};
 ghost use Rattle.ea_road.specs.declared.source.Source.{Source};
 ghost use Rattle.ea_road.specs.Labels.{IsLabel, label_of};
-ghost use Rattle.ea_road.specs.Queries.{IsProblem};
 ghost use Rattle.ea_road.specs.Roads.{IsArc, top_class};
-ghost use Rattle.ea_finish.specs.Answers.{IsAnswer};
 ghost use Rattle.ea_finish.specs.Confirmed.{AreBegun, AreConfirmed, ArePreset, AreReady, IsReady};
-ghost use Rattle.ea_finish.specs.Links.{AreLinks, AreStarts, link};
+ghost use Rattle.ea_finish.specs.Links.{AreLinks, AreStarts, link, no_link};
+ghost use Rattle.ea_finish.specs.Listings.{AreLabelsListed, AreLinksListed, IsListed, KeepsListed};
 ghost use Rattle.ea_finish.specs.Offers.{IsSpread, MeetsBound, Offers, Precedes};
-ghost use Rattle.ea_finish.specs.Underway.{IsFinished};
 
-use crate::answer::Answer;
-use crate::finishing::Finished;
-use crate::link::{Link, NO_ARC, NO_LEVEL};
-use crate::open::Open;
-use crate::unwinding::{find_links, pass, sow};
+use crate::levels::Levels;
+use crate::link::{Link, NO_ARC, NO_LEVEL, NO_LINK};
+use crate::unwinding::{link_all, pass, sow};
 use crate::waiting::Waiting;
-use ea_road::{Arc, HORIZON, Network, Query, Source, TravelTimes};
+use ea_road::{Arc, HORIZON, Network, Source, TravelTimes};
 
 /// Gives each node its noted level, and no arc yet.
 fn preset(levels: &[u32], links: &mut [Link])
@@ -179,6 +175,7 @@ fn confirm_levels<T: TravelTimes>(
     requires nobody { waiting.old.waiting ≡ [] }
     ensures places { length links.new ≡ length links.old }
     ensures nodes { waiting.new.nodes ≡ waiting.old.nodes }
+    ensures nobody { IsTrue result → waiting.new.waiting ≡ [] }
     ensures links { IsTrue result → AreLinks network.now (T.answers times.now) sources.now
         (IsLabel (label_of table.now)) links.new }
 {
@@ -193,54 +190,45 @@ fn confirm_levels<T: TravelTimes>(
     are_ready(links)
 }
 
-/// What `find_links` finds, sooner where the noted levels are right.
-fn find_noted<T: TravelTimes>(
+/// What `link_all` finds, sooner where the noted levels are right.
+pub(crate) fn link_noted<T: TravelTimes>(
     network: &Network,
     times: &T,
     sources: &[Source],
     table: &[u64],
-    levels: &[u32],
-    todo: Open,
-) -> Vec<Link>
+    levels: &mut Levels,
+    links: &mut [Link],
+    waiting: &mut Waiting,
+)
     requires classes { top_class network.now.arcs ≤ T.classes times.now }
     requires sources { AreStarts network.now.nodes sources.now }
     requires places { length table.now ≡ network.now.nodes }
-    requires nobody { todo.waiting ≡ [] }
-    requires room { (todo.nodes ≡ network.now.nodes) × (todo.walks ≡ true) }
-    ensures { AreLinks network.now (T.answers times.now) sources.now
-        (IsLabel (label_of table.now)) result.items }
+    requires nobody { waiting.old.waiting ≡ [] }
+    requires nodes { waiting.old.nodes ≡ network.now.nodes }
+    requires none { links.old ≡ replicate network.now.nodes no_link }
+    requires labels { AreLabelsListed table.now (IsListed levels.old.listed) }
+    ensures links { AreLinks network.now (T.answers times.now) sources.now
+        (IsLabel (label_of table.now)) links.new }
+    ensures nobody { waiting.new.waiting ≡ [] }
+    ensures nodes { waiting.new.nodes ≡ waiting.old.nodes }
+    ensures kept { KeepsListed (IsListed levels.old.listed) (IsListed levels.new.listed) }
+    ensures listed { AreLinksListed links.new (IsListed levels.new.listed) }
 {
-    let (mut waiting, mut links) = todo.into_parts();
-    if confirm_levels(
-        network,
-        times,
-        sources,
-        table,
-        levels,
-        &mut links,
-        &mut waiting,
-    ) {
-        return links;
+    if levels.are_many() {
+        levels.listed.add_all();
+        if confirm_levels(
+            network,
+            times,
+            sources,
+            table,
+            &levels.noted,
+            links,
+            waiting,
+        ) {
+            return;
+        }
+        links.fill(NO_LINK);
+        waiting.clear();
     }
-    find_links(network, times, sources, table, Open::again(waiting, links))
-}
-
-/// What `unwind` gives, sooner where the noted levels are right.
-pub(crate) fn unwind_noted<T: TravelTimes>(
-    network: &Network,
-    times: &T,
-    query: &Query,
-    finished: Finished,
-    levels: &[u32],
-) -> Answer
-    requires problem { IsProblem network.now (T.classes times.now) query.now }
-    requires finished { IsFinished network.now (T.answers times.now) query.now
-        finished.table.items finished.todo }
-    requires walks { finished.todo.walks ≡ true }
-    ensures { IsAnswer network.now (T.answers times.now) query.now result }
-{
-    let nodes = network.nodes();
-    let Finished { table, todo } = finished;
-    let links = find_noted(network, times, query.sources(), &table, levels, todo);
-    Answer::new(nodes, query.target(), table, links, true)
+    link_all(network, times, sources, table, links, waiting);
 }

@@ -1,9 +1,11 @@
 ghost use Rattle.std.specs.Prelude.{◌≡◌, ℕ, ◌+◌, ◌<◌, ◌≤◌, [], ◌∷◌, List, length, sum, IfSome};
 ghost use Rattle.ea_limits.specs.declared.TheConstants.{HORIZON};
+ghost use Rattle.ea_road.specs.declared.TheConstants.{NONE};
 ghost use Rattle.ea_road.specs.Arrivals.{IsLeast, IsLeastAt};
 ghost use Rattle.ea_road.specs.Labels.{label_of, limit, time_of};
 ghost use Rattle.ea_road.specs.Queries.{IsAsked, IsProblem};
 ghost use Rattle.ea_road.specs.Roads.{IsArc, IsNode, leaving, top_class};
+ghost use Rattle.ea_finish.specs.Listings.{AreLabelsListed, KeepsListed};
 ghost use Rattle.ea_finish.specs.Scans.{KeepsLess, Scanned};
 ghost use Rattle.ea_finish.specs.Underway.{IsFinished, IsUnderway, bound_of};
 
@@ -21,6 +23,17 @@ pub struct Finished {
     pub todo: Open,
 }
 
+/// Notes that a label falls.
+fn note<K: Track>(track: &mut K, node: u32, before: u64)
+    ensures kept { KeepsListed (K.lists track.old) (K.lists track.new) }
+    ensures there { before ≡ NONE → K.lists track.new node }
+{
+    if before == NONE {
+        track.reach(node);
+    }
+    track.fell(node);
+}
+
 /// Offers a time to a node: a label above it falls to it, and the node is opened.
 pub(crate) fn lower<K: Track, W: Opens>(
     track: &mut K,
@@ -36,13 +49,15 @@ pub(crate) fn lower<K: Track, W: Opens>(
         table.new (W.waits todo.new (bound_of table.new)) }
     ensures spent { sum table.new + W.size todo.new ≤ sum table.old + W.size todo.old }
     ensures room { W.room todo.new ≡ W.room todo.old }
+    ensures listed { AreLabelsListed table.old (K.lists track.old)
+        → AreLabelsListed table.new (K.lists track.new) }
 {
     let place = node as usize - 1;
     let before = table[place];
     if time < before {
         table[place] = time;
         todo.open(node, time);
-        track.fell(node);
+        note(track, node, before);
     } else if time == before {
         track.met(node);
     }
@@ -69,6 +84,8 @@ fn follow<T: TravelTimes, K: Track, W: Opens>(
         table.new (W.waits todo.new (bound_of table.new)) }
     ensures spent { sum table.new + W.size todo.new ≤ sum table.old + W.size todo.old }
     ensures room { W.room todo.new ≡ W.room todo.old }
+    ensures listed { AreLabelsListed table.old (K.lists track.old)
+        → AreLabelsListed table.new (K.lists track.new) }
 {
     network.keeps_limits();
     let _ = number;
@@ -103,6 +120,8 @@ pub(crate) fn scan<T: TravelTimes, K: Track, W: Opens>(
         table.new (W.waits todo.new (bound_of table.new)) }
     ensures spent { sum table.new + W.size todo.new ≤ sum table.old + W.size todo.old }
     ensures room { W.room todo.new ≡ W.room todo.old }
+    ensures listed { AreLabelsListed table.old (K.lists track.old)
+        → AreLabelsListed table.new (K.lists track.new) }
 {
     let leaving = network.leaving(node);
     let numbers = leaving.numbers;
@@ -132,6 +151,39 @@ pub(crate) fn latest(target: Option<u32>, table: &[u64]) -> u64
     }
 }
 
+/// Scans waiting nodes at their labels, in the order in which they were opened, until nobody waits.
+pub(crate) fn finish_noted<T: TravelTimes, K: Track>(
+    network: &Network,
+    times: &T,
+    query: &Query,
+    mut table: Vec<u64>,
+    mut todo: Open,
+    track: &mut K,
+) -> Finished
+    requires problem { IsProblem network.now (T.classes times.now) query.now }
+    requires underway { IsUnderway network.now (T.answers times.now) query.now
+        table.items todo.waiting }
+    requires room { todo.nodes ≡ network.now.nodes }
+    ensures finished { IsFinished network.now (T.answers times.now) query.now
+        result.table.items result.todo }
+    ensures walks { result.todo.walks ≡ todo.walks }
+    ensures listed { AreLabelsListed table.items (K.lists track.old)
+        → AreLabelsListed result.table.items (K.lists track.new) }
+{
+    network.keeps_limits();
+    let target = query.target();
+    while let Some(node) = todo.take() {
+        let departure = table[node as usize - 1];
+        let last = latest(target, &table).min(HORIZON);
+        if departure <= last {
+            scan(
+                network, times, node, departure, track, &mut table, &mut todo,
+            );
+        }
+    }
+    Finished { table, todo }
+}
+
 /// Scans waiting nodes at their labels, in the order in which they were opened, until nobody waits. Then each label is
 /// the least arrival; in a pair query, each up to the target's. It takes no memory.
 ///
@@ -141,8 +193,8 @@ pub fn finish<T: TravelTimes>(
     network: &Network,
     times: &T,
     query: &Query,
-    mut table: Vec<u64>,
-    mut todo: Open,
+    table: Vec<u64>,
+    todo: Open,
 ) -> Finished
     requires problem { IsProblem network.now (T.classes times.now) query.now }
     requires underway { IsUnderway network.now (T.answers times.now) query.now
@@ -160,16 +212,5 @@ pub fn finish<T: TravelTimes>(
         → label_of result.table.items node ≡ time }
 {
     network.keeps_limits();
-    let target = query.target();
-    let mut track = Untracked;
-    while let Some(node) = todo.take() {
-        let departure = table[node as usize - 1];
-        let last = latest(target, &table).min(HORIZON);
-        if departure <= last {
-            scan(
-                network, times, node, departure, &mut track, &mut table, &mut todo,
-            );
-        }
-    }
-    Finished { table, todo }
+    finish_noted(network, times, query, table, todo, &mut Untracked)
 }

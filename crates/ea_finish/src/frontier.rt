@@ -1,6 +1,6 @@
 //! Nodes by their labels, nearly the least first.
 ghost use Rattle.std.specs.Prelude.{◌≡◌, ℕ, ◌+◌, ◌<◌, ◌≤◌, length, map, IfOk, MatchOption};
-ghost use Rattle.ea_finish.specs.Frontiers.{HaveNone, HasNone, KeepsWaiting, Puts, Takes};
+ghost use Rattle.ea_finish.specs.Frontiers.{AreEntries, HaveNone, HasNone, KeepsWaiting, Puts, Takes};
 ghost use Rattle.ea_finish.specs.Underway.{bound_of};
 
 use crate::open::Open;
@@ -64,7 +64,7 @@ fn window_bits(width: u64) -> u64 {
 }
 
 /// Lists without an entry.
-fn empty_lists(alloc: Global) -> Result<Vec<Vec<(u64, u32)>>, AllocError>
+pub(crate) fn empty_lists(alloc: Global) -> Result<Vec<Vec<(u64, u32)>>, AllocError>
     ensures length { IfOk result (λ lists. length lists.items ≡ 66) }
     ensures empty { IfOk result (λ lists. HaveNone (map (λ l. l.items) lists.items)) }
 {
@@ -76,12 +76,14 @@ fn empty_lists(alloc: Global) -> Result<Vec<Vec<(u64, u32)>>, AllocError>
 }
 
 impl Frontier {
-    /// No entry yet, and a list. The window is from a half to the whole of a width, and one time where that is 0.
-    pub(crate) fn new(alloc: Global, todo: Open, width: u64) -> Result<Frontier, AllocError>
-        ensures { IfOk result (λ frontier. frontier.todo ≡ todo) }
+    /// Lists, and a list of nodes that wait. The window is from a half to the whole of a width, and one time where that
+    /// is 0.
+    pub(crate) fn over(lists: Vec<Vec<(u64, u32)>>, todo: Open, width: u64) -> Frontier
+        requires length { length lists.items ≡ 66 }
+        requires entries { AreEntries todo.nodes (map (λ l. l.items) lists.items) }
+        ensures { result ≡ record { lists = map (λ l. l.items) lists.items; todo = todo } }
     {
-        let lists = empty_lists(alloc)?;
-        Ok(Frontier {
+        Frontier {
             lists,
             todo,
             low: 0,
@@ -90,7 +92,7 @@ impl Frontier {
             again: 0,
             step: 2,
             seen: 0,
-        })
+        }
     }
 
     /// The list in which a time belongs.
@@ -265,11 +267,13 @@ impl Frontier {
         self.pop_lowest()
     }
 
-    /// The list.
-    pub(crate) fn into_todo(self) -> Open
-        ensures { result ≡ self.todo }
+    /// The lists, and the nodes that wait.
+    pub(crate) fn into_parts(self) -> (Vec<Vec<(u64, u32)>>, Open)
+        ensures length { length result.0.items ≡ 66 }
+        ensures lists { map (λ l. l.items) result.0.items ≡ self.lists }
+        ensures todo { result.1 ≡ self.todo }
     {
-        self.todo
+        (self.lists, self.todo)
     }
 }
 

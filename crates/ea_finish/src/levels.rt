@@ -1,60 +1,93 @@
-//! Levels of nodes as a search sees them: guesses, of which nothing is promised.
+//! What a search notes: which nodes it reached, and their levels as it sees them, which are guesses.
+ghost use Rattle.std.specs.Prelude.{◌≡◌, ℕ};
+ghost use Rattle.ea_finish.specs.Listings.{KeepsListed};
 
-use crate::link::NO_LEVEL;
-use std::alloc::{AllocError, Global};
+use crate::listed::Listed;
 
-/// What a search notes of levels, which is known where it is compiled.
+/// What a search notes, which is known where it is compiled: the nodes that it reached, and levels.
 pub(crate) trait Track {
+    /// Whether a node is listed as reached.
+    ghost lists: { Self → ℕ → Type 0 };
+
     /// The nodes whose labels fall from now on are those of sources.
-    fn begin(&mut self);
+    fn begin(&mut self)
+        ensures { KeepsListed (lists self.old) (lists self.new) };
 
     /// The nodes whose labels fall from now on are heads of the arcs from this one.
-    fn leave(&mut self, node: u32);
+    fn leave(&mut self, node: u32)
+        ensures { KeepsListed (lists self.old) (lists self.new) };
+
+    /// A node got its first label.
+    fn reach(&mut self, node: u32)
+        ensures there { lists self.new node }
+        ensures kept { KeepsListed (lists self.old) (lists self.new) };
 
     /// A node's label fell.
-    fn fell(&mut self, node: u32);
+    fn fell(&mut self, node: u32)
+        ensures { KeepsListed (lists self.old) (lists self.new) };
 
     /// A node's label was reached again.
-    fn met(&mut self, node: u32);
+    fn met(&mut self, node: u32)
+        ensures { KeepsListed (lists self.old) (lists self.new) };
 }
 
-/// No levels are noted.
+/// Nothing is noted.
 #[derive(Drop)]
 pub(crate) struct Untracked;
 
 impl Track for Untracked {
+    ghost lists = { λ untracked node. Unit };
+
     fn begin(&mut self) {}
 
     fn leave(&mut self, _node: u32) {}
+
+    fn reach(&mut self, _node: u32) {}
 
     fn fell(&mut self, _node: u32) {}
 
     fn met(&mut self, _node: u32) {}
 }
 
-/// A level for each node.
+impl Track for Listed {
+    ghost use Rattle.ea_finish.specs.Listings.{IsListed};
+
+    ghost lists = { λ listed node. IsListed listed node };
+
+    fn begin(&mut self) {}
+
+    fn leave(&mut self, _node: u32) {}
+
+    fn reach(&mut self, node: u32) {
+        self.add(node);
+    }
+
+    fn fell(&mut self, _node: u32) {}
+
+    fn met(&mut self, _node: u32) {}
+}
+
+/// The nodes that were reached, and a level for each node.
 #[derive(Drop)]
 pub(crate) struct Levels {
-    noted: Vec<u32>,
+    pub listed: Listed,
+    pub noted: Vec<u32>,
     /// The level to which the arcs lead that are followed.
     above: u32,
     falls: usize,
 }
 
 impl Levels {
-    /// Room for the levels of so many nodes.
-    pub(crate) fn reserve(alloc: Global, nodes: u32) -> Result<Levels, AllocError> {
-        let noted = vec![in alloc; NO_LEVEL; nodes as usize]?;
-        Ok(Levels {
+    /// No level is noted yet.
+    pub(crate) fn new(listed: Listed, noted: Vec<u32>) -> Levels
+        ensures { result.listed ≡ listed }
+    {
+        Levels {
+            listed,
             noted,
             above: 0,
             falls: 0,
-        })
-    }
-
-    /// The levels, that of node 1 first.
-    pub(crate) fn as_slice(&self) -> &[u32] {
-        &self.noted
+        }
     }
 
     /// Whether so many nodes were reached that one look at each arc costs less than to find their links anew.
@@ -64,6 +97,10 @@ impl Levels {
 }
 
 impl Track for Levels {
+    ghost use Rattle.ea_finish.specs.Listings.{IsListed};
+
+    ghost lists = { λ levels node. IsListed levels.listed node };
+
     fn begin(&mut self) {
         self.above = 0;
     }
@@ -73,6 +110,10 @@ impl Track for Levels {
             Some(level) => level.saturating_add(1),
             None => 0,
         };
+    }
+
+    fn reach(&mut self, node: u32) {
+        self.listed.add(node);
     }
 
     fn fell(&mut self, node: u32) {

@@ -8,8 +8,10 @@ mod finishing;
 mod frontier;
 mod levels;
 mod link;
+mod listed;
 mod open;
 mod opens;
+mod search;
 mod searching;
 mod touching;
 mod unwinding;
@@ -20,6 +22,7 @@ pub use answer::Answer;
 pub use finishing::{Finished, finish};
 pub use link::{Link, NO_LEVEL};
 pub use open::Open;
+pub use search::Search;
 pub use unwinding::{find_links, unwind, without_walks};
 
 #[cfg(test)]

@@ -1,8 +1,8 @@
 ghost use Rattle.std.specs.Prelude.{◌≡◌, ℕ, ◌<◌, ◌≤◌, ◌+◌, [], ◌∷◌, ◌++◌, true, false, length};
-ghost use Rattle.std.specs.Prelude.{Contains, IfOk, IfSome, MatchOption, replicate};
-ghost use Rattle.ea_finish.specs.Links.{no_link};
+ghost use Rattle.std.specs.Prelude.{Contains, IfOk, IfSome, MatchOption};
+ghost use Rattle.ea_finish.specs.Links.{no_links};
 
-use crate::link::{Link, NO_LEVEL};
+use crate::link::{Link, NO_LINK};
 use crate::opens::Opens;
 use crate::waiting::Waiting;
 use std::alloc::{AllocError, Global};
@@ -17,16 +17,16 @@ pub struct Open {
 }
 
 impl Model for Open {
-    ghost use Rattle.std.specs.Prelude.{◌≡◌, true, replicate};
+    ghost use Rattle.std.specs.Prelude.{◌≡◌};
     ghost use Rattle.ea_finish.specs.Worklist.{Worklist};
-    ghost use Rattle.ea_finish.specs.Links.{no_link};
+    ghost use Rattle.ea_finish.specs.Links.{no_links};
 
     ghost Value = { Worklist };
 
     ghost view = { λ o.
         record { nodes = o.waiting.nodes; waiting = o.waiting.waiting; walks = o.walks } };
 
-    ghost invariant = { λ o. o.walks ≡ true → o.links.items ≡ replicate o.waiting.nodes no_link };
+    ghost invariant = { λ o. o.links.items ≡ no_links o.waiting.nodes o.walks };
 }
 
 impl Open {
@@ -36,12 +36,7 @@ impl Open {
             todo ≡ record { nodes = nodes; waiting = []; walks = true }) }
     {
         let waiting = Waiting::reserve(alloc, nodes)?;
-        let none = Link {
-            level: NO_LEVEL,
-            arc: 0,
-            from: 0,
-        };
-        let links = vec![in alloc; none; nodes as usize]?;
+        let links = vec![in alloc; NO_LINK; nodes as usize]?;
         Ok(Open {
             waiting,
             links,
@@ -94,39 +89,26 @@ impl Open {
         self.waiting.take()
     }
 
-    /// The list of nodes, and a link for each node where there is room for walks.
-    pub(crate) fn into_parts(self) -> (Waiting, Vec<Link>)
-        requires { self.walks ≡ true }
-        ensures nodes { result.0.nodes ≡ self.nodes }
-        ensures waiting { result.0.waiting ≡ self.waiting }
-        ensures links { result.1.items ≡ replicate self.nodes no_link }
+    /// The list, with storage for links that are as they were at first.
+    pub(crate) fn of(waiting: Waiting, links: Vec<Link>, walks: bool) -> Open
+        requires { links.items ≡ no_links waiting.nodes walks }
+        ensures { result ≡ record { nodes = waiting.nodes; waiting = waiting.waiting; walks = walks } }
     {
-        let Open { waiting, links, .. } = self;
-        (waiting, links)
-    }
-
-    /// The list of nodes emptied, with the storage for links as it was at first.
-    pub(crate) fn again(mut waiting: Waiting, mut links: Vec<Link>) -> Open
-        requires { length links.items ≡ waiting.nodes }
-        ensures { result ≡ record { nodes = waiting.nodes; waiting = []; walks = true } }
-    {
-        let none = Link {
-            level: NO_LEVEL,
-            arc: 0,
-            from: 0,
-        };
-        links.fill(none);
-        waiting.clear();
         Open {
             waiting,
             links,
-            walks: true,
+            walks,
         }
     }
 
-    /// The storage for links, whatever it holds.
-    pub(crate) fn into_links(self) -> Vec<Link> {
-        self.links
+    /// The list, and the storage for links as they were at first.
+    pub(crate) fn into_parts(self) -> (Waiting, Vec<Link>)
+        ensures nodes { result.0.nodes ≡ self.nodes }
+        ensures waiting { result.0.waiting ≡ self.waiting }
+        ensures links { result.1.items ≡ no_links self.nodes self.walks }
+    {
+        let Open { waiting, links, .. } = self;
+        (waiting, links)
     }
 }
 

@@ -1,11 +1,12 @@
-ghost use Rattle.std.specs.Prelude.{◌≡◌, ℕ, ◌+◌, ◌<◌, ◌≤◌, [], true, false, List, length};
+ghost use Rattle.std.specs.Prelude.{◌≡◌, ℕ, ◌+◌, ◌<◌, ◌≤◌, [], true, false, List, length, replicate};
 ghost use Rattle.ea_limits.specs.declared.TheConstants.{HORIZON};
 ghost use Rattle.ea_road.specs.declared.source.Source.{Source};
 ghost use Rattle.ea_road.specs.Labels.{IsLabel, label_of};
 ghost use Rattle.ea_road.specs.Queries.{IsProblem};
 ghost use Rattle.ea_road.specs.Roads.{IsArc, IsNode, top_class};
 ghost use Rattle.ea_finish.specs.Answers.{HasArrivals, IsAnswer};
-ghost use Rattle.ea_finish.specs.Links.{AreLinks, AreStarts, link};
+ghost use Rattle.ea_finish.specs.Links.{AreLinks, AreStarts, link, no_link};
+ghost use Rattle.ea_road.specs.declared.TheConstants.{NONE};
 ghost use Rattle.ea_finish.specs.Offers.{IsOne, IsSpent, IsSpread, MeetsBound, Offers, Precedes};
 ghost use Rattle.ea_finish.specs.Underway.{IsFinished, bound_of};
 
@@ -173,6 +174,39 @@ impl Ahead {
     }
 }
 
+/// Finds the links of nodes, which are as they were at first. Then nobody waits, and what has no label has no link.
+pub(crate) fn link_all<T: TravelTimes>(
+    network: &Network,
+    times: &T,
+    sources: &[Source],
+    table: &[u64],
+    links: &mut [Link],
+    waiting: &mut Waiting,
+)
+    requires classes { top_class network.now.arcs ≤ T.classes times.now }
+    requires sources { AreStarts network.now.nodes sources.now }
+    requires places { length table.now ≡ network.now.nodes }
+    requires nobody { waiting.old.waiting ≡ [] }
+    requires nodes { waiting.old.nodes ≡ network.now.nodes }
+    requires none { links.old ≡ replicate network.now.nodes no_link }
+    ensures links { AreLinks network.now (T.answers times.now) sources.now
+        (IsLabel (label_of table.now)) links.new }
+    ensures nobody { waiting.new.waiting ≡ [] }
+    ensures nodes { waiting.new.nodes ≡ waiting.old.nodes }
+    ensures labelled { (node : ℕ) → bound_of table.now node ≡ NONE
+        → link links.new node ≡ no_link }
+{
+    network.keeps_limits();
+    for source in sources {
+        sow(table, *source, links, waiting);
+    }
+    let mut ahead = Ahead { left: 0, seen: 0 };
+    while let Some(node) = waiting.take() {
+        spread(network, times, table, node, links, waiting);
+        ahead.look(network, table, links, waiting);
+    }
+}
+
 /// Finds the levels of nodes and the ends of their canonical walks, over the times of any table, be they least or
 /// not. It takes no memory.
 pub fn find_links<T: TravelTimes>(
@@ -190,16 +224,8 @@ pub fn find_links<T: TravelTimes>(
     ensures { AreLinks network.now (T.answers times.now) sources.now
         (IsLabel (label_of table.now)) result.items }
 {
-    network.keeps_limits();
     let (mut waiting, mut links) = todo.into_parts();
-    for source in sources {
-        sow(table, *source, &mut links, &mut waiting);
-    }
-    let mut ahead = Ahead { left: 0, seen: 0 };
-    while let Some(node) = waiting.take() {
-        spread(network, times, table, node, &mut links, &mut waiting);
-        ahead.look(network, table, &links, &waiting);
-    }
+    link_all(network, times, sources, table, &mut links, &mut waiting);
     links
 }
 
@@ -237,5 +263,6 @@ pub fn without_walks<T: TravelTimes>(
 {
     let nodes = network.nodes();
     let Finished { table, todo } = finished;
-    Answer::new(nodes, query.target(), table, todo.into_links(), false)
+    let (_, links) = todo.into_parts();
+    Answer::new(nodes, query.target(), table, links, false)
 }

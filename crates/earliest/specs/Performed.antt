@@ -8,7 +8,7 @@ use Rattle.ea_outcomes.specs.declared.saying.Outcome.{Outcome}
 use Rattle.ea_outcomes.specs.declared.saying.Outcome.TheVariants.{Accepted, Answer, Check as Refused}
 use Rattle.ea_ranking.specs.Ranks.{rank_asks}
 use Rattle.ea_words.specs.declared.options.Command.{Command}
-use Rattle.ea_words.specs.declared.options.Command.TheVariants.{Stored, Run, Pairs, Rank, Check}
+use Rattle.ea_words.specs.declared.options.Command.TheVariants.{Stored, Run, Pairs, Rank, Check, Explain, Formats}
 use Rattle.earliest.specs.Checks.{IsJudged, IsUnjudged}
 use Rattle.earliest.specs.Runs.{run_asks, pair_asks}
 use Rattle.earliest.specs.declared.performing.Opened.{Opened}
@@ -18,6 +18,8 @@ use Rattle.earliest.specs.declared.performing.Performed.TheVariants.{Reported, R
 -- The command names files, and for a check there is a report.
 abbrev pub HasFiles : {R : Type 0} → Command → Option R → Type 0
 HasFiles Stored report = ⊥
+HasFiles (Explain fault) report = ⊥
+HasFiles Formats report = ⊥
 HasFiles (Check gr ss tp name options) None = ⊥
 HasFiles _ report = Unit {0}
 
@@ -42,12 +44,12 @@ IsCheckedBy IsSo _ _ = ⊥
 -- Each command comes to what its own call promises, with its own files and options: a run and pairs to a report, rank errors to
 -- their lines, a check to a verdict and nothing written.
 abbrev pub IsPerformed : Command → PerformedOn → Seen → Seen → Result Performed AnswerFault → Type 0
-IsPerformed (Run gr ss tp options) on first now (Ok (Reported totals)) = IsAnswered (run_asks options) on.files first now totals
-IsPerformed (Run gr ss tp options) on first now (Err fault) = IsFailed (run_asks options) on.files first now fault
-IsPerformed (Pairs gr p2p tp options) on first now (Ok (Reported totals)) = IsAnswered (pair_asks options) on.files first now totals
-IsPerformed (Pairs gr p2p tp options) on first now (Err fault) = IsFailed (pair_asks options) on.files first now fault
-IsPerformed (Rank gr ss tp options) on first now (Ok Ranked) = IsAnswered (rank_asks options) on.files first now tt
-IsPerformed (Rank gr ss tp options) on first now (Err fault) = IsFailed (rank_asks options) on.files first now fault
+IsPerformed (Run gr ss tp output options) on first now (Ok (Reported totals)) = IsAnswered (run_asks options) on.files first now totals
+IsPerformed (Run gr ss tp output options) on first now (Err fault) = IsFailed (run_asks options) on.files first now fault
+IsPerformed (Pairs gr p2p tp output options) on first now (Ok (Reported totals)) = IsAnswered (pair_asks options) on.files first now totals
+IsPerformed (Pairs gr p2p tp output options) on first now (Err fault) = IsFailed (pair_asks options) on.files first now fault
+IsPerformed (Rank gr ss tp output options) on first now (Ok Ranked) = IsAnswered (rank_asks options) on.files first now tt
+IsPerformed (Rank gr ss tp output options) on first now (Err fault) = IsFailed (rank_asks options) on.files first now fault
 IsPerformed (Check gr ss tp name options) on first now (Ok (Checked verdict)) =
     (now ≡ first) × IsCheckedBy (λ report. IsJudged options on.files report verdict) on.report_old on.report_new
 IsPerformed (Check gr ss tp name options) on first now (Err fault) =

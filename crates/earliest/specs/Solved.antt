@@ -1,7 +1,10 @@
 -- What is found of a problem of a road.
+use Rattle.std.specs.Prelude.{◌≡◌, Bool}
 use Rattle.ea_road.specs.Queries.{Asking}
+use Rattle.ea_road.specs.Roads.{Roads}
 use Rattle.ea_files.specs.declared.road.Road.{Road}
 use Rattle.ea_finish.specs.Answers.{Answered, HasArrivals, IsAnswer}
+use Rattle.ea_finish.specs.Listings.{Searched}
 use Rattle.ea_outcomes.specs.Posed.{times_on}
 
 -- The answer has the least arrivals of the query on the road.
@@ -11,3 +14,7 @@ ArrivesOn road query answer = HasArrivals road.network (times_on road) query ans
 -- And the canonical walks.
 abbrev pub AnswersOn : Road → Asking → Answered → Type 0
 AnswersOn road query answer = IsAnswer road.network (times_on road) query answer
+
+-- The arrays of the search are those for the road's nodes, with room for walks where these are asked for.
+abbrev pub Serves : Roads → Bool → Searched → Type 0
+Serves roads walks search = (search.nodes ≡ roads.nodes) × (search.walks ≡ walks)

@@ -1,5 +1,5 @@
-//! The answer of a problem, by several threads.
-ghost use Rattle.std.specs.Prelude.{◌≡◌, ◌≤◌, ℕ, All, IfOk, length, replicate, true, vec_len};
+//! The answer of a problem, by workers or by the search of one thread.
+ghost use Rattle.std.specs.Prelude.{◌≡◌, ◌≤◌, ℕ, All, IfOk, IfSome, length, replicate, true, vec_len};
 ghost use Rattle.ea_limits.specs.declared.TheConstants.{MOST_STARTS};
 ghost use Rattle.ea_road.specs.Queries.{IsProblem};
 ghost use Rattle.ea_engine.specs.Limits.{AreSettings};
@@ -7,13 +7,13 @@ ghost use Rattle.ea_engine.specs.Tallies.{IsTally};
 ghost use Rattle.ea_words.specs.Limits.{AreOptions};
 ghost use Rattle.earliest.specs.Counted.{AreBalanced, AreSmall, IsTotal, totals_by};
 ghost use Rattle.ea_ranking.specs.Generators.{generators_from};
-ghost use Rattle.earliest.specs.Solved.{AnswersOn, ArrivesOn};
+ghost use Rattle.earliest.specs.Solved.{AnswersOn, ArrivesOn, Serves};
 ghost use Rattle.earliest.specs.Workers.{settings_by};
 
-use crate::totals::{no_totals, work_of};
+use crate::totals::work_of;
 use ea_engine::{Answer, Counters, Crew, Flow, NoGate, Settings, Turn, solve, solve_arrivals};
 use ea_files::Road;
-use ea_finish::{arrivals_alone, solve_alone};
+use ea_finish::Search;
 use ea_report::Totals;
 use ea_road::Query;
 use ea_words::RunOptions;
@@ -219,25 +219,7 @@ fn find_by<H: Threads + Sync, T: FnMut(Turn) -> Flow + Send + Drop + Copy>(
     }
 }
 
-/// The answer of a problem by one thread without workers, of which nothing is counted.
-fn find_alone(alloc: Global, road: &Road, query: &Query, walks: bool) -> Result<Found, AllocError>
-    requires { IsProblem road.now.network (length road.now.times.list.items) query.now }
-    ensures arrivals { IfOk result (λ found. ArrivesOn road.now query.now found.answer) }
-    ensures walks { IfOk result (λ found. walks ≡ true → AnswersOn road.now query.now found.answer) }
-    ensures balanced { IfOk result (λ found. AreBalanced found.totals) }
-    ensures small { IfOk result (λ found. AreSmall 1 found.totals) }
-{
-    let totals = no_totals();
-    if walks {
-        let answer = solve_alone(alloc, &road.network, &road.times, query)?;
-        return Ok(Found { answer, totals });
-    }
-    let answer = arrivals_alone(alloc, &road.network, &road.times, query)?;
-    Ok(Found { answer, totals })
-}
-
-/// The answer of a problem, with walks where the options ask for them. One worker is the search of one thread where nothing
-/// is to be counted.
+/// The answer of a problem, with walks where the options ask for them, by workers.
 pub(crate) fn find<H: Threads + Sync>(
     alloc: Global,
     rt: &H,
@@ -255,10 +237,44 @@ pub(crate) fn find<H: Threads + Sync>(
     ensures balanced { IfOk result (λ found. AreBalanced found.totals) }
     ensures small { IfOk result (λ found. AreSmall 1 found.totals) }
 {
-    if options.workers == 1 && !options.stats {
-        return find_alone(alloc, road, query, options.walks);
-    }
     find_by(alloc, rt, road, query, options, |_turn: Turn| -> Flow {
         Flow::Go
     })
+}
+
+/// Arrays for searches of one thread on a road.
+fn reserve(alloc: Global, road: &Road, walks: bool) -> Result<Search, AllocError>
+    ensures { IfOk result (Serves road.now.network walks) }
+{
+    let nodes = road.network.nodes();
+    if walks {
+        Search::reserve(alloc, nodes)
+    } else {
+        Search::reserve_without_walks(alloc, nodes)
+    }
+}
+
+/// A search with the answer of a problem, on the arrays of the last one where there was one.
+pub(crate) fn search(
+    alloc: Global,
+    road: &Road,
+    query: &Query,
+    walks: bool,
+    last: Option<Search>,
+) -> Result<Search, AllocError>
+    requires problem { IsProblem road.now.network (length road.now.times.list.items) query.now }
+    requires serves { IfSome last (Serves road.now.network walks) }
+    ensures arrivals { IfOk result (λ search. ArrivesOn road.now query.now search.answer) }
+    ensures walks { IfOk result (λ search. walks ≡ true → AnswersOn road.now query.now search.answer) }
+    ensures serves { IfOk result (Serves road.now.network walks) }
+{
+    let search = match last {
+        Some(search) => search,
+        None => reserve(alloc, road, walks)?,
+    };
+    if walks {
+        Ok(search.find_walks(&road.network, &road.times, query))
+    } else {
+        Ok(search.find_arrivals(&road.network, &road.times, query))
+    }
 }

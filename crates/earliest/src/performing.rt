@@ -106,7 +106,7 @@ pub fn perform<H: Threads + Sync, R: ByteIn, W: ByteOut>(
                 None => unreachable!(),
             }
         }
-        Command::Stored => unreachable!(),
+        Command::Stored | Command::Explain { .. } | Command::Formats => unreachable!(),
     }
 }
 

@@ -1,5 +1,5 @@
 //! Reports of problems, written one after the other.
-ghost use Rattle.std.specs.Prelude.{◌≡◌, ◌≤◌, ◌<◌, ◌+◌, ◌*◌, ◌^◌, ℕ, [], IfOk, IfErr, OnOk, if◌then◌else◌, length, true};
+ghost use Rattle.std.specs.Prelude.{◌≡◌, ◌≤◌, ◌<◌, ◌+◌, ◌*◌, ◌^◌, ℕ, [], IfOk, IfErr, IfSome, OnOk, if◌then◌else◌, length, true};
 ghost use Rattle.std.specs.Io.KnownBytes.{Appends};
 ghost use Rattle.ea_text.specs.Device.{BearsOn, GivesUp};
 ghost use Rattle.ea_limits.specs.declared.TheConstants.{MOST_NODES, MOST_STARTS};
@@ -12,12 +12,14 @@ ghost use Rattle.earliest.specs.Counted.{AreBalanced, AreSmall, AreTotals, IsTot
 ghost use Rattle.ea_outcomes.specs.Faults;
 ghost use Rattle.ea_outcomes.specs.Posed.{AreProblems, times_on};
 ghost use Rattle.earliest.specs.Fronts.{AreSent, IsCutShort, IsSent, IsStoppedBy, IsWritten};
-ghost use Rattle.earliest.specs.Solved.{AnswersOn, ArrivesOn};
+ghost use Rattle.earliest.specs.Solved.{AnswersOn, ArrivesOn, Serves};
 ghost use Rattle.earliest.specs.Workers.{settings_by};
 
-use crate::finding::{Found, find};
+use crate::finding::{find, search};
 use crate::totals::{add_totals, no_totals};
+use ea_engine::Answer;
 use ea_files::Road;
+use ea_finish::Search;
 use ea_input::ByteOut;
 use ea_outcomes::AnswerFault;
 use ea_report::{ReportOptions, Totals, WriteFault, WriteFaultKind, write_problem, write_stats};
@@ -26,11 +28,12 @@ use ea_words::RunOptions;
 use std::alloc::Global;
 use std::thread::Threads;
 
-/// What went out so far, and the totals of its problems.
+/// What went out so far, the totals of its problems, and the arrays of the last search by one thread.
 #[derive(Drop)]
 pub(crate) struct Progress {
     pub totals: Totals,
     pub written: u128,
+    pub search: Option<Search>,
 }
 
 /// What a fault of one problem's report is, after so many bytes of those before.
@@ -52,27 +55,28 @@ impl Progress {
         alloc: Global,
         road: &Road,
         query: &Query,
-        found: &Found,
+        answer: &Answer,
         walks: bool,
         out: &mut W,
     ) -> Result<(), AnswerFault>
         requires problem { IsProblem road.now.network (length road.now.times.list.items) query.now }
         requires few { (length query.now.sources ≤ MOST_STARTS) × (road.now.network.nodes ≤ MOST_NODES) }
         requires room { self.old.written ≤ MOST_STARTS * 2 ^ 90 }
-        requires arrivals { ArrivesOn road.now query.now found.now.answer }
-        requires canonical { walks ≡ true → AnswersOn road.now query.now found.now.answer }
+        requires arrivals { ArrivesOn road.now query.now answer.now }
+        requires canonical { walks ≡ true → AnswersOn road.now query.now answer.now }
         ensures ok { OnOk result (IsSent walks road.now.network (times_on road.now) query.now
             (W.seen out.old) (W.seen out.new) self.old.written self.new.written) }
         ensures err { IfErr result (IsStoppedBy walks road.now.network (times_on road.now) query.now
             (W.seen out.old) (W.seen out.new) self.old.written) }
         ensures bound { OnOk result (self.new.written ≤ self.old.written + 2 ^ 90) }
         ensures totals { self.new.totals ≡ self.old.totals }
+        ensures search { self.new.search ≡ self.old.search }
     {
         match write_problem(
             alloc,
             &road.network,
             query,
-            &found.answer,
+            answer,
             ReportOptions { walks },
             out,
         ) {
@@ -86,8 +90,8 @@ impl Progress {
 }
 
 impl Progress {
-    /// Finds the answer of a problem and writes its report.
-    fn report<H: Threads + Sync, W: ByteOut>(
+    /// Finds the answer of a problem by workers and writes its report.
+    fn report_by_workers<H: Threads + Sync, W: ByteOut>(
         &mut self,
         alloc: Global,
         rt: &H,
@@ -115,10 +119,11 @@ impl Progress {
         ensures balanced { OnOk result (AreBalanced self.new.totals) }
         ensures small { OnOk result ((problems : ℕ) →
             AreSmall problems self.old.totals → AreSmall (problems + 1) self.new.totals) }
+        ensures search { self.new.search ≡ self.old.search }
     {
         match find(alloc, rt, road, query, options) {
             Ok(found) => {
-                self.write(alloc, road, query, &found, options.walks, out)?;
+                self.write(alloc, road, query, &found.answer, options.walks, out)?;
                 add_totals(&mut self.totals, &found.totals);
                 Ok(())
             }
@@ -126,6 +131,78 @@ impl Progress {
                 written: self.written,
             }),
         }
+    }
+
+    /// Finds the answer of a problem by one thread, on the arrays of the last search, and writes its report.
+    fn report_alone<W: ByteOut>(
+        &mut self,
+        alloc: Global,
+        road: &Road,
+        query: &Query,
+        walks: bool,
+        out: &mut W,
+    ) -> Result<(), AnswerFault>
+        requires problem { IsProblem road.now.network (length road.now.times.list.items) query.now }
+        requires few { (length query.now.sources ≤ MOST_STARTS) × (road.now.network.nodes ≤ MOST_NODES) }
+        requires room { self.old.written ≤ MOST_STARTS * 2 ^ 90 }
+        requires search { IfSome self.old.search (Serves road.now.network walks) }
+        ensures ok { OnOk result (IsSent walks road.now.network (times_on road.now) query.now
+            (W.seen out.old) (W.seen out.new) self.old.written self.new.written) }
+        ensures err { IfErr result (IsStoppedBy walks road.now.network (times_on road.now) query.now
+            (W.seen out.old) (W.seen out.new) self.old.written) }
+        ensures bound { OnOk result (self.new.written ≤ self.old.written + 2 ^ 90) }
+        ensures totals { self.new.totals ≡ self.old.totals }
+        ensures search { IfSome self.new.search (Serves road.now.network walks) }
+    {
+        match search(alloc, road, query, walks, self.search.take()) {
+            Ok(search) => {
+                self.write(alloc, road, query, search.answer(), walks, out)?;
+                self.search = Some(search);
+                Ok(())
+            }
+            Err(_) => Err(AnswerFault::OutOfMemory {
+                written: self.written,
+            }),
+        }
+    }
+
+    /// Finds the answer of a problem and writes its report. One worker is the search of one thread where nothing is to be
+    /// counted.
+    fn report<H: Threads + Sync, W: ByteOut>(
+        &mut self,
+        alloc: Global,
+        rt: &H,
+        road: &Road,
+        query: &Query,
+        options: &RunOptions,
+        out: &mut W,
+    ) -> Result<(), AnswerFault>
+        requires problem { IsProblem road.now.network (length road.now.times.list.items) query.now }
+        requires few { (length query.now.sources ≤ MOST_STARTS) × (road.now.network.nodes ≤ MOST_NODES) }
+        requires options { AreOptions options.now }
+        requires room { self.old.written ≤ MOST_STARTS * 2 ^ 90 }
+        requires small { (problems : ℕ) × (problems < MOST_STARTS) × AreSmall problems self.old.totals }
+        requires balanced { AreBalanced self.old.totals }
+        requires search { IfSome self.old.search (Serves road.now.network options.now.walks) }
+        ensures ok { OnOk result (IsSent
+            options.now.walks road.now.network (times_on road.now) query.now
+            (W.seen out.old) (W.seen out.new) self.old.written self.new.written) }
+        ensures err { IfErr result (IsStoppedBy
+            options.now.walks road.now.network (times_on road.now) query.now
+            (W.seen out.old) (W.seen out.new) self.old.written) }
+        ensures bound { OnOk result (self.new.written ≤ self.old.written + 2 ^ 90) }
+        ensures counted { OnOk result (options.now.stats ≡ true →
+            (more : Totals) × IsTotal (settings_by options.now) query.now more
+            × (self.new.totals ≡ plus self.old.totals more)) }
+        ensures balanced { OnOk result (AreBalanced self.new.totals) }
+        ensures small { OnOk result ((problems : ℕ) →
+            AreSmall problems self.old.totals → AreSmall (problems + 1) self.new.totals) }
+        ensures search { IfSome self.new.search (Serves road.now.network options.now.walks) }
+    {
+        if options.workers == 1 && !options.stats {
+            return self.report_alone(alloc, road, query, options.walks, out);
+        }
+        self.report_by_workers(alloc, rt, road, query, options, out)
     }
 }
 
@@ -154,6 +231,7 @@ fn report_each<H: Threads + Sync, W: ByteOut>(
     let mut progress = Progress {
         totals: no_totals(),
         written: 0,
+        search: None,
     };
     // Tells that the count is one of 64 bits.
     let _ = out.interruptions();

@@ -1,79 +1,11 @@
-use Rattle.std.proofs.Common.{◌≡◌, ◌-◌, ◌<◌, ◌≤◌, length, sym, ◌∙◌, ap, arith, rules, inl, inr}
-use Rattle.std.proofs.lemmas.List.{get_or_read, with_items_is}
-use Rattle.std.proofs.lemmas.Bool.{cases_lt}
-use Rattle.ea_road.specs.Labels.{label_of, limit}
-use Rattle.ea_road.specs.declared.TheConstants.{NONE}
-use Rattle.ea_road.proofs.ByTail.{leaving_has}
+use Rattle.ea_road.specs.Labels.{label_of}
 use Rattle.ea_road.proofs.Fixed.{asked_labels_are_least, least_is_label}
-use Rattle.ea_finish.specs.Underway.{bound_of}
-use Rattle.ea_finish.specs.Worklist.{Room}
-use Rattle.ea_finish.proofs.Worklists.{Contains-cons_cases}
-use Rattle.ea_finish.proofs.Boundary.{underway_of, same_limit, fixed_of}
-use Rattle.ea_finish.proofs.Entries.{bound_of-at, AwaitsScansFrom-scanned, AwaitsScansFrom-unlabelled, AwaitsScansFrom-above}
 use Rattle.ea_finish.proofs.finishing.finish.Goals as goal
 
-pub loop-node-init : goal.loop-node-init
-loop-node-init g c = record {
-  underway = underway_of c.args.network.now _ _ c.args.query.now c.keeps_limits.ensures c.requires.problem c.args.table.items c.requires.underway.places c.args.todo.waiting c.requires.underway;
-  room = c.requires.room;
-  walks = search rules;
-}
-
-pub loop-node-preserved-then-departure-last :
-    goal.loop-node-preserved-then-departure-last
-loop-node-preserved-then-departure-last g c =
-    let table = c.loop-node.table.items in
-    let node = c.in-Some.node in
-    let before = rw c.in-Some.ensures.taken at c.loop-node.invariant.underway in
-    let is_node : (0 < node) × (node ≤ c.loop-node.todo.nodes) = c.in-Some.ensures.node in
-    let room = c.loop-node.invariant.room in
-    let places = before.places in
-    let at_label : c.index-departure.result.now ≡ bound_of table node = get_or_read table (node - 1) c.index-departure.result.now (omega arith) c.index-departure.ensures NONE ∙ sym (bound_of-at table node is_node.0) in
-    let scanned = rw c.deref_mut.ensures.value at c.scan.ensures.scanned in
-    let filled : length c.scan.new.table ≡ c.loop-node.table.len = omega (arith, scanned.places, c.loop-node.table.ok.0) in
-    record {
-      underway = rw (with_items_is c.loop-node.table c.scan.new.table filled) (AwaitsScansFrom-scanned _ _ _ _ node _ _ _ _ _ _ _ before (λ v there. Contains-cons_cases node v _ there) at_label (omega arith) (λ n arc is_arc tail. leaving_has c.args.network.now node n arc is_arc tail) scanned);
-      room = ap (λ (r : Room). r.nodes) c.scan.ensures.room ∙ c.in-Some.ensures.room.0 ∙ room;
-      walks = ap (λ (r : Room). r.walks) c.scan.ensures.room ∙ c.in-Some.ensures.room.1 ∙ c.loop-node.invariant.walks;
-    }
-
-pub loop-node-preserved : goal.loop-node-preserved
-loop-node-preserved g c =
-    let table = c.loop-node.table.items in
-    let node = c.in-Some.node in
-    let before = rw c.in-Some.ensures.taken at c.loop-node.invariant.underway in
-    let is_node : (0 < node) × (node ≤ c.loop-node.todo.nodes) = c.in-Some.ensures.node in
-    let room = c.loop-node.invariant.room in
-    let places = before.places in
-    let at_label : c.index-departure.result.now ≡ bound_of table node = get_or_read table (node - 1) c.index-departure.result.now (omega arith) c.index-departure.ensures NONE ∙ sym (bound_of-at table node is_node.0) in
-    let limited = rw (c.target-target.ensures.target, c.deref.ensures.value, ← same_limit c.args.network.now (g.T.TravelTimes.answers c.args.times.now) _ c.args.query.now c.keeps_limits.ensures c.requires.problem table places) at c.latest.ensures in
-    record {
-      underway = elim (cases_lt (limit c.args.query.now.target (bound_of table)) (bound_of table node)) [
-        | inl above ↦ AwaitsScansFrom-above _ _ _ _ node table _ _ before (λ v there. Contains-cons_cases node v _ there) above
-        | inr below ↦ AwaitsScansFrom-unlabelled _ _ _ _ node table _ _ before (λ v there. Contains-cons_cases node v _ there) (omega (arith, limited, c.min-last.ensures))
-      ];
-      room = c.in-Some.ensures.room.0 ∙ room;
-      walks = c.in-Some.ensures.room.1 ∙ c.loop-node.invariant.walks;
-    }
-
-pub returns-clause-finished : goal.returns-clause-finished
-returns-clause-finished g c =
-    let under = rw c.in_default.ensures.taken.0 at c.loop-node.invariant.underway in
-    record {
-      places = under.places;
-      fixed = fixed_of c.args.network.now _ _ c.args.query.now c.keeps_limits.ensures c.requires.problem c.loop-node.table.items under.places under;
-      nobody = rw c.in_default.ensures.taken.1 c.in_default.ensures.taken.0;
-      room = c.in_default.ensures.room.0 ∙ c.loop-node.invariant.room;
-    }
-
 pub returns-clause-least : goal.returns-clause-least
-returns-clause-least g c =
-    let under = rw c.in_default.ensures.taken.0 at c.loop-node.invariant.underway in
-    let fixed = fixed_of c.args.network.now _ _ c.args.query.now c.keeps_limits.ensures c.requires.problem c.loop-node.table.items under.places under in
-    λ node is_node asked. asked_labels_are_least c.args.network.now _ _ c.args.query.now (label_of c.loop-node.table.items) c.keeps_limits.ensures c.requires.problem.classed (g.met.T.TravelTimes.fifo c.args.times.now) fixed node is_node asked
+returns-clause-least g c = λ node is_node asked.
+    asked_labels_are_least c.args.network.now _ _ c.args.query.now (label_of c.finish_noted.result.table.items) c.keeps_limits.ensures c.requires.problem.classed (g.met.T.TravelTimes.fifo c.args.times.now) c.finish_noted.ensures.finished.fixed node is_node asked
 
 pub returns-clause-exact : goal.returns-clause-exact
-returns-clause-exact g c =
-    let under = rw c.in_default.ensures.taken.0 at c.loop-node.invariant.underway in
-    let fixed = fixed_of c.args.network.now _ _ c.args.query.now c.keeps_limits.ensures c.requires.problem c.loop-node.table.items under.places under in
-    λ node time is_node least low. (least_is_label c.args.network.now _ _ c.args.query.now (label_of c.loop-node.table.items) c.keeps_limits.ensures c.requires.problem.classed (g.met.T.TravelTimes.fifo c.args.times.now) fixed node time is_node low least).0
+returns-clause-exact g c = λ node time is_node least low.
+    (least_is_label c.args.network.now _ _ c.args.query.now (label_of c.finish_noted.result.table.items) c.keeps_limits.ensures c.requires.problem.classed (g.met.T.TravelTimes.fifo c.args.times.now) c.finish_noted.ensures.finished.fixed node time is_node low least).0

@@ -25,5 +25,6 @@ loop-place-preserved g c =
     record {
       scanned = rw (take_more numbers place 0 near) (Scanned-more _ _ _ _ _ _ _ _ _ _ _ _ c.loop-place.invariant.scanned by_node);
       spent = omega (arith, c.follow.ensures.spent, c.loop-place.invariant.spent);
+      listed = λ first. c.follow.ensures.listed (c.loop-place.invariant.listed first);
       room = c.follow.ensures.room ∙ c.loop-place.invariant.room;
     }

@@ -1,4 +1,5 @@
 use Rattle.std.proofs.Common.{◌≡◌, ◌≤◌, ◌+◌, sum, take}
+use Rattle.ea_finish.specs.Listings.{AreLabelsListed}
 use Rattle.ea_finish.specs.Scans.{Scanned}
 use Rattle.ea_finish.specs.Underway.{bound_of}
 use Rattle.ea_finish.proofs.finishing.scan.Given as goal
@@ -9,4 +10,5 @@ invariant-loop-place g l = record {
   scanned : Scanned l.network (g.T.TravelTimes.answers l.times) l.node l.departure (take l.place l.numbers) l.initial.table (g.W.Opens.waits l.initial.todo (bound_of l.initial.table)) l.table (g.W.Opens.waits l.todo (bound_of l.table));
   spent : sum l.table + g.W.Opens.size l.todo ≤ sum l.initial.table + g.W.Opens.size l.initial.todo;
   room : g.W.Opens.room l.todo ≡ g.W.Opens.room l.initial.todo;
+  listed : AreLabelsListed l.initial.table (g.K.Track.lists l.initial.track) → AreLabelsListed l.table (g.K.Track.lists l.track);
 }

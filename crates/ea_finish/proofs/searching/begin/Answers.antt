@@ -1,12 +1,12 @@
 use Rattle.std.proofs.Common.{◌≡◌, ◌<◌, ℕ, List, length, get_or, ◌∙◌, subst, ap, arith, rules}
 use Rattle.std.specs.List.{IsAmong}
-use Rattle.std.proofs.lemmas.List.{with_items_is, take_more, take_all, get_or_default}
+use Rattle.std.proofs.lemmas.List.{take_more, take_all, get_or_default}
 use Rattle.ea_road.specs.declared.source.Source.{Source}
 use Rattle.ea_finish.specs.Frontiers.{WaitsAt}
 use Rattle.ea_finish.specs.Underway.{bound_of}
 use Rattle.ea_finish.specs.Worklist.{Room}
 use Rattle.ea_finish.specs.Scans.{AwaitsScansFrom}
-use Rattle.ea_finish.proofs.Entries.{AwaitsScansFrom-none, AwaitsScansFrom-source}
+use Rattle.ea_finish.proofs.Entries.{bound_of-none, AwaitsScansFrom-none, AwaitsScansFrom-source}
 use Rattle.ea_finish.proofs.searching.begin.Goals as goal
 
 abbrev none : Source
@@ -17,9 +17,10 @@ among_at sources place inside = (place, (inside, get_or_default sources place no
 
 pub loop-source-init : goal.loop-source-init
 loop-source-init g c = record {
-  underway = rw (c.in_ok-table.ensures.items_if_clones_equal (λ y e. search rules), c.nodes.ensures.nodes) (AwaitsScansFrom-none _ _ _ _);
+  underway = rw c.requires.none (AwaitsScansFrom-none _ _ _ _);
   nodes = search rules;
   walks = search rules;
+  listed = λ v has. absurd (has (ap (λ xs. bound_of xs v) c.requires.none ∙ bound_of-none c.args.network.now.nodes v));
 }
 
 pub lower-requires-clause-node : goal.lower-requires-clause-node
@@ -34,13 +35,13 @@ loop-source-preserved g c =
     let at = c.loop-source.source-index in
     let within = rw c.sources-source-items.ensures.sources at c.loop-source-test.true in
     let among = among_at sources at within in
-    let lowers = rw (c.sources-source-items.ensures.sources, c.deref_mut.ensures.value) at c.lower.ensures.lowers in
+    let lowers = rw c.sources-source-items.ensures.sources at c.lower.ensures.lowers in
     let under = AwaitsScansFrom-source _ _ _ _ (get_or sources at none) _ _ _ _ (c.requires.problem.departures _ among) c.loop-source.invariant.underway lowers in
-    let filled : length c.lower.new.table ≡ c.loop-source.table.len = omega (arith, lowers.places, c.loop-source.table.ok.0) in
     record {
-      underway = rw (with_items_is c.loop-source.table c.lower.new.table filled, take_more sources at none within) under;
+      underway = rw (take_more sources at none within) under;
       nodes = ap (λ (r : Room). r.nodes) c.lower.ensures.room ∙ c.loop-source.invariant.nodes;
       walks = ap (λ (r : Room). r.walks) c.lower.ensures.room ∙ c.loop-source.invariant.walks;
+      listed = c.lower.ensures.listed c.loop-source.invariant.listed;
     }
 
 pub returns-clause-underway : goal.returns-clause-underway
@@ -48,5 +49,5 @@ returns-clause-underway g c =
     let sources = c.args.query.now.sources in
     let past = rw c.sources-source-items.ensures.sources at c.loop-source-test.false in
     let all = take_all c.loop-source.source-index sources past in
-    let P : List Source → Type 0 = λ xs. AwaitsScansFrom c.args.network.now (g.T.TravelTimes.answers c.args.times.now) xs c.args.query.now.target c.loop-source.table.items (WaitsAt c.loop-source.frontier (bound_of c.loop-source.table.items)) in
+    let P : List Source → Type 0 = λ xs. AwaitsScansFrom c.args.network.now (g.T.TravelTimes.answers c.args.times.now) xs c.args.query.now.target c.loop-source.table (WaitsAt c.loop-source.frontier (bound_of c.loop-source.table)) in
     subst P all c.loop-source.invariant.underway

@@ -1,5 +1,6 @@
 use Rattle.std.proofs.Common.{◌≡◌, take}
 use Rattle.ea_finish.specs.Frontiers.{WaitsAt}
+use Rattle.ea_finish.specs.Listings.{AreLabelsListed}
 use Rattle.ea_finish.specs.Scans.{AwaitsScansFrom}
 use Rattle.ea_finish.specs.Underway.{bound_of}
 use Rattle.ea_finish.proofs.searching.begin.Given as goal
@@ -7,7 +8,8 @@ use Rattle.ea_finish.proofs.searching.begin.Given as goal
 -- right for the sources so far
 abbrev pub invariant-loop-source : goal.invariant-loop-source
 invariant-loop-source g l = record {
-  underway : AwaitsScansFrom l.network (g.T.TravelTimes.answers l.times) (take l.source-index l.query.sources) l.query.target l.table.items (WaitsAt l.frontier (bound_of l.table.items));
+  underway : AwaitsScansFrom l.network (g.T.TravelTimes.answers l.times) (take l.source-index l.query.sources) l.query.target l.table (WaitsAt l.frontier (bound_of l.table));
   nodes : l.frontier.todo.nodes ≡ l.initial.frontier.todo.nodes;
   walks : l.frontier.todo.walks ≡ l.initial.frontier.todo.walks;
+  listed : AreLabelsListed l.table (g.K.Track.lists l.track);
 }

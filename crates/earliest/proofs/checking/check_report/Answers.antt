@@ -1,4 +1,4 @@
-use Rattle.std.proofs.Common.{rules, ◌≡◌, ◌<◌, length, sym, ◌∙◌, subst, ap, arith}
+use Rattle.std.proofs.Common.{rules, inr, refl, ◌≡◌, ◌<◌, length, sym, ◌∙◌, subst, ap, arith}
 use Rattle.std.specs.Prelude.{All, IsTrue, None}
 use Rattle.std.proofs.lemmas.Result.{err_from_is_err_and}
 use Rattle.ea_input.specs.Sources.{DenotesSources}
@@ -40,6 +40,17 @@ returns-in_err-text-clause-unjudged g c =
     let report = reading g.R.Device.seen c.args.report.now c.read_report.new.report in
     let sound = sound_there (run_asks o) g.T.Device.seen gr ss c.args.tp.now c.read_run.new.tp given.0 found.sources.items given.1 c.in_ok-files.ensures.gr_borne c.in_ok-files.ensures.ss_borne c.in_ok-files.ensures.tp_borne in
     rw (p.1, p.2) (unread o files report _ (in_report (given.0, found.sources.items, sound) c.in_err-text.ensures.fault))
+
+pub returns-in_err-queries-clause-unjudged : goal.returns-in_err-queries-clause-unjudged
+returns-in_err-queries-clause-unjudged g c =
+    let p = err_from_is_err_and c.from_residual-in_err-queries.result c.from_residual-in_err-queries.ensures.1 in
+    let given = c.in_ok-files.ensures.given in
+    let found = c.in_ok-files.files in
+    let o = c.args.options.now in
+    let gr = reading g.G.Device.seen c.args.gr.now c.read_run.new.gr in
+    let ss = reading g.S.Device.seen c.args.ss.now c.read_run.new.ss in
+    let sound = sound_there (run_asks o) g.T.Device.seen gr ss c.args.tp.now c.read_run.new.tp given.0 found.sources.items given.1 c.in_ok-files.ensures.gr_borne c.in_ok-files.ensures.ss_borne c.in_ok-files.ensures.tp_borne in
+    rw (p.1, p.2) (refl, inr (sound.read, c.in_ok-text.ensures.text.borne))
 
 pub run_queries-requires-clause-nodes : goal.run_queries-requires-clause-nodes
 run_queries-requires-clause-nodes g c =

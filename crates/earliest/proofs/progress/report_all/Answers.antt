@@ -7,8 +7,8 @@ returns-in-Ok-clause-ok g c =
     let now = g.W.Device.seen c.write_totals.new.out in
     all_written c.args.options.now c.args.road.now.network (times_on c.args.road.now) c.args.queries.now _ _ now _ c.in_ok-progress.progress.totals c.in_ok-progress.ensures.ok c.in-Ok.ensures.ok c.in-Ok.ensures.borne c.in_ok-progress.ensures.counted c.in_ok-progress.ensures.balanced
 
-pub returns-in-Err-clause-err : goal.returns-in-Err-clause-err
-returns-in-Err-clause-err g c =
+pub returns-clause-err : goal.returns-clause-err
+returns-clause-err g c =
     let now = g.W.Device.seen c.write_totals.new.out in
     let first = g.W.Device.seen c.args.out.now in
     let cut = c.in-Err.ensures.err in

@@ -25,4 +25,5 @@ loop-query-preserved g c =
       counted = λ asked. let more = c.in_ok-report.ensures.counted asked in totals_next (settings_by c.args.options.now) c.args.queries.now i c.query-item.result c.loop-query-test.true c.query-item.is _ _ (inv.counted asked) more.0 more.1 more.2;
       small = c.in_ok-report.ensures.small i inv.small;
       balanced = c.in_ok-report.ensures.balanced;
+      search = c.report.ensures.search;
     }

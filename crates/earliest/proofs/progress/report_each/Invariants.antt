@@ -1,7 +1,8 @@
-use Rattle.std.proofs.Common.{◌≡◌, ◌≤◌, ◌<◌, ◌*◌, true, ◌^◌, take}
+use Rattle.std.proofs.Common.{◌≡◌, ◌≤◌, ◌<◌, ◌*◌, true, ◌^◌, take, IfSome}
 use Rattle.earliest.specs.Counted.{AreBalanced, AreSmall, AreTotals}
 use Rattle.ea_outcomes.specs.Posed.{times_on}
 use Rattle.earliest.specs.Fronts.{AreSent}
+use Rattle.earliest.specs.Solved.{Serves}
 use Rattle.earliest.specs.Workers.{settings_by}
 use Rattle.earliest.proofs.progress.report_each.Given as goal
 
@@ -13,4 +14,5 @@ invariant-loop-query g l = record {
   counted : l.options.stats ≡ true → AreTotals (settings_by l.options) (take l.query-index l.queries) l.progress.totals;
   small : AreSmall l.query-index l.progress.totals;
   balanced : AreBalanced l.progress.totals;
+  search : IfSome l.progress.search (Serves l.road.network l.options.walks);
 }

@@ -3,8 +3,8 @@ use Rattle.std.specs.List.{IsAmong}
 use Rattle.std.proofs.lemmas.List.{with_items_is, get_or_default}
 use Rattle.ea_road.specs.declared.source.Source.{Source}
 use Rattle.ea_finish.proofs.Linked.{are_links, Settled-linking}
-use Rattle.ea_finish.proofs.Linkings.{Linking-none, Linking-spread, Linking-time, AreSown-more, AreSown-lower, Offers-lower, sow_step}
-use Rattle.ea_finish.proofs.unwinding.find_links.Goals as goal
+use Rattle.ea_finish.proofs.Linkings.{Linking-none, Linking-spread, Linking-time, Linking-unlabelled, AreSown-more, AreSown-lower, Offers-lower, sow_step}
+use Rattle.ea_finish.proofs.unwinding.link_all.Goals as goal
 
 abbrev none : Source
 none = record { node = 0; departure = 0 }
@@ -14,9 +14,9 @@ among_at sources place inside = (place, (inside, get_or_default sources place no
 
 pub loop-source-init : goal.loop-source-init
 loop-source-init g c = record {
-  linking = rw (c.into_parts-waiting.ensures.links, c.into_parts-waiting.ensures.waiting, c.requires.nobody, c.requires.room.0) (Linking-none _ _ _ _);
+  linking = rw (c.requires.none, c.requires.nobody) (Linking-none _ _ _ _);
   sown = λ k d l. absurd (omega arith);
-  nodes = c.into_parts-waiting.ensures.nodes ∙ c.requires.room.0;
+  nodes = c.requires.nodes;
 }
 
 pub sow-requires-clause-node : goal.sow-requires-clause-node
@@ -30,14 +30,13 @@ loop-source-preserved g c =
     let place = c.loop-source.source-index in
     let among = among_at sources place c.loop-source-test.true in
     let start = c.requires.sources _ among in
-    let seeds = rw (c.deref_mut.ensures.value, c.loop-source.invariant.nodes) at c.sow.ensures.seeds in
-    let others = rw c.deref_mut.ensures.value at c.sow.ensures.others in
-    let step = sow_step _ _ _ _ (get_or sources place none) c.loop-source.links.items c.sow.new.links c.loop-source.waiting.waiting c.sow.new.waiting.waiting among start.1 c.loop-source.invariant.linking seeds
+    let seeds = rw c.loop-source.invariant.nodes at c.sow.ensures.seeds in
+    let others = c.sow.ensures.others in
+    let step = sow_step _ _ _ _ (get_or sources place none) c.loop-source.links c.sow.new.links c.loop-source.waiting.waiting c.sow.new.waiting.waiting among start.1 c.loop-source.invariant.linking seeds
     (λ differs. ((others differs).0, ap (λ w. w.waiting) (others differs).1)) in
-    let filled : length c.sow.new.links ≡ c.loop-source.links.len = omega (arith, step.linking.places, c.loop-source.invariant.linking.places, c.loop-source.links.ok.0) in
     record {
-      linking = rw (with_items_is c.loop-source.links c.sow.new.links filled) step.linking;
-      sown = rw (with_items_is c.loop-source.links c.sow.new.links filled) (AreSown-more _ _ _ _ place none c.loop-source.invariant.sown c.loop-source-test.true step.here step.lower);
+      linking = step.linking;
+      sown = AreSown-more _ _ _ _ place none c.loop-source.invariant.sown c.loop-source-test.true step.here step.lower;
       nodes = c.sow.ensures.nodes ∙ c.loop-source.invariant.nodes;
     }
 
@@ -51,24 +50,25 @@ spread-requires-clause-level g c =
     let before = rw c.in-Some.ensures.taken at c.loop-node.invariant.linking in
     let bound = before.bounded c.in-Some.node (before.waits c.in-Some.node (0, omega arith, refl)) in
     let few = c.keeps_limits.ensures.nodes_limit in
-    rw c.deref_mut-in-Some.ensures.value (omega arith)
+    omega arith
 
 pub loop-node-preserved : goal.loop-node-preserved
 loop-node-preserved g c =
     let before = rw c.in-Some.ensures.taken at c.loop-node.invariant.linking in
     let few = c.keeps_limits.ensures.nodes_limit in
-    let offers = rw c.deref_mut-in-Some.ensures.value at c.spread.ensures.offers in
-    let spent = rw c.deref_mut-in-Some.ensures.value at c.spread.ensures.spent in
-    let linking = Linking-spread _ _ _ _ c.in-Some.node _ _ _ _ (omega arith) before offers spent in
-    let filled : length c.spread.new.links ≡ c.loop-node.links.len = omega (arith, offers.places, c.loop-node.links.ok.0) in
+    let offers = c.spread.ensures.offers in
     record {
-      linking = rw (with_items_is c.loop-node.links c.spread.new.links filled) linking;
-      sown = rw (with_items_is c.loop-node.links c.spread.new.links filled) (AreSown-lower _ _ _ _ _ c.loop-node.invariant.sown (Offers-lower _ _ _ _ _ _ offers));
+      linking = Linking-spread _ _ _ _ c.in-Some.node _ _ _ _ (omega arith) before offers c.spread.ensures.spent;
+      sown = AreSown-lower _ _ _ _ _ c.loop-node.invariant.sown (Offers-lower _ _ _ _ _ _ offers);
       nodes = c.spread.ensures.nodes ∙ c.in-Some.ensures.nodes ∙ c.loop-node.invariant.nodes;
     }
 
-pub returns : goal.returns
-returns g c =
+pub returns-clause-links : goal.returns-clause-links
+returns-clause-links g c =
     let linking = rw c.in_default.ensures.taken.0 at c.loop-node.invariant.linking in
     let few = c.keeps_limits.ensures.nodes_limit in
-    are_links c.args.network.now _ _ c.args.sources.now c.keeps_limits.ensures c.requires.classes (g.met.T.TravelTimes.fifo c.args.times.now) c.requires.sources c.args.table.now c.requires.places c.loop-node.links.items (Settled-linking _ _ _ _ _ (omega arith) linking) c.loop-node.invariant.sown
+    are_links c.args.network.now _ _ c.args.sources.now c.keeps_limits.ensures c.requires.classes (g.met.T.TravelTimes.fifo c.args.times.now) c.requires.sources c.args.table.now c.requires.places c.loop-node.links (Settled-linking _ _ _ _ _ (omega arith) linking) c.loop-node.invariant.sown
+
+pub returns-clause-labelled : goal.returns-clause-labelled
+returns-clause-labelled g c =
+    Linking-unlabelled _ _ _ _ c.loop-node.links _ c.loop-node.invariant.linking

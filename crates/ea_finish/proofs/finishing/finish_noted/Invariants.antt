@@ -1,12 +1,14 @@
 use Rattle.std.proofs.Common.{◌≡◌, ◌+◌, sum, length, Contains}
+use Rattle.ea_finish.specs.Listings.{AreLabelsListed}
 use Rattle.ea_finish.specs.Scans.{AwaitsScansFrom}
-use Rattle.ea_finish.proofs.finishing.finish.Given as goal
+use Rattle.ea_finish.proofs.finishing.finish_noted.Given as goal
 
 abbrev pub invariant-loop-node : goal.invariant-loop-node
 invariant-loop-node g l = record {
   underway : AwaitsScansFrom l.network (g.T.TravelTimes.answers l.times) l.query.sources l.query.target l.table.items (Contains l.todo.waiting);
   room : l.todo.nodes ≡ l.network.nodes;
   walks : l.todo.walks ≡ l.initial.todo.walks;
+  listed : AreLabelsListed l.initial.table.items (g.K.Track.lists l.initial.track) → AreLabelsListed l.table.items (g.K.Track.lists l.track);
 }
 
 -- each lowering takes one from the sum at least, and adds one waiting node at most

@@ -1,0 +1,26 @@
+use Rattle.std.proofs.Common.{◌≡◌, false, length, sym, ap, ◌∙◌, inl}
+use Rattle.std.proofs.lemmas.List.{length-map, length-replicate}
+use Rattle.ea_finish.proofs.Answered.{has_arrivals}
+use Rattle.ea_finish.specs.Listings.{Searched}
+use Rattle.ea_finish.specs.Worklist.{Worklist}
+use Rattle.ea_finish.proofs.Linkings.{link-none}
+use Rattle.ea_finish.proofs.Listings.{room_again}
+use Rattle.ea_finish.proofs.search.Search.find_arrivals.Goals as goal
+
+pub invariant_of-result : goal.invariant_of-result
+invariant_of-result g c =
+    let finished = c.find-found.ensures.finished in
+    rw c.new.ensures (record {
+      nobody = c.into_parts-waiting.ensures.waiting ∙ finished.nobody;
+      labels = finished.places ∙ sym (c.into_parts-waiting.ensures.nodes ∙ finished.room);
+      links = room_again _ _ _ _ _ c.into_parts-waiting.ensures.links c.into_parts-waiting.ensures.nodes (c.find-found.ensures.walks ∙ ap (λ (w : Worklist). w.walks) c.into_arrays-arrays.ensures.todo ∙ sym (ap (λ (s : Searched). s.walks) c.self.view_is));
+      many = rw length-map c.find-found.ensures.lists.0;
+      none = c.find-found.ensures.lists.1;
+      reached = c.find-found.ensures.listed;
+      linked = rw c.into_parts-waiting.ensures.links (λ v. inl (link-none _ v));
+    })
+
+pub returns-clause-arrivals : goal.returns-clause-arrivals
+returns-clause-arrivals g c =
+    let finished = c.find-found.ensures.finished in
+    rw (c.new.ensures, c.nodes.ensures.nodes, c.target.ensures.target) (has_arrivals c.args.network.now _ _ c.args.query.now c.nodes.ensures.network c.requires.problem (g.met.T.TravelTimes.fifo c.args.times.now) c.find-found.result.table.items finished.places finished.fixed _ false)

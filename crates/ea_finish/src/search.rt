@@ -1,0 +1,234 @@
+//! The arrays of searches by one thread, which answer query after query.
+ghost use Rattle.std.specs.Prelude.{◌≡◌, [], true, false, length, map, replicate, if◌then◌else◌, IfOk};
+ghost use Rattle.ea_road.specs.Queries.{IsProblem};
+ghost use Rattle.ea_road.specs.declared.TheConstants.{NONE};
+ghost use Rattle.ea_finish.specs.Answers.{HasArrivals, IsAnswer};
+ghost use Rattle.ea_finish.specs.Frontiers.{HaveNone};
+ghost use Rattle.ea_finish.specs.Listings.{AreLabelsListed, nothing};
+ghost use Rattle.ea_finish.specs.Underway.{IsFinished};
+
+use crate::answer::Answer;
+use crate::confirming::link_noted;
+use crate::finishing::{Finished, finish_noted};
+use crate::frontier::{Frontier, empty_lists};
+use crate::levels::{Levels, Track};
+use crate::link::{NO_LEVEL, NO_LINK};
+use crate::listed::Listed;
+use crate::open::Open;
+use crate::searching::search;
+use crate::waiting::Waiting;
+use ea_road::{NONE, Network, Query, TravelTimes};
+use std::alloc::{AllocError, Global};
+use std::marker::Model;
+
+/// The arrays of a search by one thread, with its last answer in them. They are reserved once and answer query after query:
+/// what a query costs follows the nodes that it and the one before it reach, not the size of the network.
+#[derive(Drop)]
+pub struct Search {
+    answer: Answer,
+    walks: bool,
+    waiting: Waiting,
+    lists: Vec<Vec<(u64, u32)>>,
+    listed: Listed,
+    noted: Vec<u32>,
+}
+
+impl Model for Search {
+    ghost use Rattle.std.specs.Prelude.{map};
+    ghost use Rattle.ea_finish.specs.Listings.{CanSearch, Searched};
+
+    ghost Value = { Searched };
+
+    ghost view = { λ s.
+        record { nodes = s.waiting.nodes; walks = s.walks; answer = s.answer } };
+
+    ghost invariant = { λ s. CanSearch s.waiting s.walks s.answer s.listed
+        (map (λ l. l.items) s.lists.items) };
+}
+
+/// How many links there is room for.
+fn room_of(nodes: u32, walks: bool) -> usize
+    ensures { result ≡ (if walks then nodes else 0) }
+{
+    if walks { nodes as usize } else { 0 }
+}
+
+/// The arrays on which a search runs.
+#[derive(Drop)]
+struct Arrays {
+    table: Vec<u64>,
+    todo: Open,
+    lists: Vec<Vec<(u64, u32)>>,
+}
+
+/// Searches from the sources until each label is least, on arrays as they were at first.
+fn find<T: TravelTimes, K: Track>(
+    network: &Network,
+    times: &T,
+    query: &Query,
+    width: u64,
+    arrays: Arrays,
+    track: &mut K,
+) -> Arrays
+    requires problem { IsProblem network.now (T.classes times.now) query.now }
+    requires labels { arrays.table.items ≡ replicate network.now.nodes NONE }
+    requires room { arrays.todo.nodes ≡ network.now.nodes }
+    requires lists { (length arrays.lists.items ≡ 66)
+        × HaveNone (map (λ l. l.items) arrays.lists.items) }
+    ensures finished { IsFinished network.now (T.answers times.now) query.now
+        result.table.items result.todo }
+    ensures walks { result.todo.walks ≡ arrays.todo.walks }
+    ensures lists { (length result.lists.items ≡ 66)
+        × HaveNone (map (λ l. l.items) result.lists.items) }
+    ensures listed { AreLabelsListed result.table.items (K.lists track.new) }
+{
+    let Arrays {
+        mut table,
+        todo,
+        lists,
+    } = arrays;
+    let mut frontier = Frontier::over(lists, todo, width);
+    search(network, times, query, track, &mut table, &mut frontier);
+    let (lists, todo) = frontier.into_parts();
+    let Finished { table, todo } = finish_noted(network, times, query, table, todo, track);
+    Arrays { table, todo, lists }
+}
+
+impl Search {
+    /// Arrays for so many nodes, with room for walks or without.
+    fn with_room(alloc: Global, nodes: u32, walks: bool) -> Result<Search, AllocError>
+        ensures nodes { IfOk result (λ search. search.nodes ≡ nodes) }
+        ensures walks { IfOk result (λ search. search.walks ≡ walks) }
+    {
+        let waiting = Waiting::reserve(alloc, nodes)?;
+        let lists = empty_lists(alloc)?;
+        let table = vec![in alloc; NONE; nodes as usize]?;
+        let room = room_of(nodes, walks);
+        let links = vec![in alloc; NO_LINK; room]?;
+        let noted = vec![in alloc; NO_LEVEL; room]?;
+        Ok(Search {
+            answer: Answer::new(nodes, None, table, links, false),
+            walks,
+            waiting,
+            lists,
+            listed: Listed::new(alloc, nodes),
+            noted,
+        })
+    }
+
+    /// Arrays for searches in networks of so many nodes, and for their walks. The error comes only where memory is refused.
+    pub fn reserve(alloc: Global, nodes: u32) -> Result<Search, AllocError>
+        ensures nodes { IfOk result (λ search. search.nodes ≡ nodes) }
+        ensures walks { IfOk result (λ search. search.walks ≡ true) }
+    {
+        Search::with_room(alloc, nodes, true)
+    }
+
+    /// Arrays for searches in networks of so many nodes, where no walks are asked for. The error comes only where memory is
+    /// refused.
+    pub fn reserve_without_walks(alloc: Global, nodes: u32) -> Result<Search, AllocError>
+        ensures nodes { IfOk result (λ search. search.nodes ≡ nodes) }
+        ensures walks { IfOk result (λ search. search.walks ≡ false) }
+    {
+        Search::with_room(alloc, nodes, false)
+    }
+
+    /// The last answer; before the first query, one in which no node is reached.
+    pub fn answer(&self) -> &Answer
+        ensures { result.now ≡ self.now.answer }
+    {
+        &self.answer
+    }
+
+    /// The last answer, without the arrays that the next query would need.
+    pub fn into_answer(self) -> Answer
+        ensures { result ≡ self.answer }
+    {
+        self.answer
+    }
+
+    /// The arrays as they were at first, and what lists the nodes that are reached.
+    fn into_arrays(self) -> (Arrays, Listed, Vec<u32>)
+        ensures labels { result.0.table.items ≡ replicate self.nodes NONE }
+        ensures todo { result.0.todo
+            ≡ record { nodes = self.nodes; waiting = []; walks = self.walks } }
+        ensures lists { (length result.0.lists.items ≡ 66)
+            × HaveNone (map (λ l. l.items) result.0.lists.items) }
+        ensures listed { result.1 ≡ nothing }
+    {
+        let Search {
+            answer,
+            walks,
+            waiting,
+            lists,
+            mut listed,
+            mut noted,
+        } = self;
+        let (mut table, mut links) = answer.into_arrays();
+        listed.put_back(&mut table, &mut links, &mut noted);
+        let todo = Open::of(waiting, links, walks);
+        (Arrays { table, todo, lists }, listed, noted)
+    }
+
+    /// Answers a query without walks: the search is handed over and comes back with its answer. It takes no memory but what
+    /// the nodes that it reaches need; where that is refused, the search takes longer.
+    pub fn find_arrivals<T: TravelTimes>(
+        self,
+        network: &Network,
+        times: &T,
+        query: &Query,
+    ) -> Search
+        requires problem { IsProblem network.now (T.classes times.now) query.now }
+        requires nodes { self.nodes ≡ network.now.nodes }
+        ensures arrivals { HasArrivals network.now (T.answers times.now) query.now result.answer }
+        ensures none { result.answer.walks ≡ false }
+        ensures room { (result.nodes ≡ self.nodes) × (result.walks ≡ self.walks) }
+    {
+        let walks = self.walks;
+        let (arrays, mut listed, noted) = self.into_arrays();
+        let width = network.mean_weight();
+        let found = find(network, times, query, width, arrays, &mut listed);
+        let (waiting, links) = found.todo.into_parts();
+        Search {
+            answer: Answer::new(network.nodes(), query.target(), found.table, links, false),
+            walks,
+            waiting,
+            lists: found.lists,
+            listed,
+            noted,
+        }
+    }
+
+    /// Answers a query with its canonical walks. Else as `find_arrivals`.
+    pub fn find_walks<T: TravelTimes>(self, network: &Network, times: &T, query: &Query) -> Search
+        requires problem { IsProblem network.now (T.classes times.now) query.now }
+        requires nodes { self.nodes ≡ network.now.nodes }
+        requires walks { self.walks ≡ true }
+        ensures answer { IsAnswer network.now (T.answers times.now) query.now result.answer }
+        ensures room { (result.nodes ≡ self.nodes) × (result.walks ≡ true) }
+    {
+        let (arrays, listed, noted) = self.into_arrays();
+        let mut levels = Levels::new(listed, noted);
+        // In so narrow a window hardly a node is scanned before its label and its level are right.
+        let width = network.mean_weight() / 8;
+        let found = find(network, times, query, width, arrays, &mut levels);
+        let (mut waiting, mut links) = found.todo.into_parts();
+        link_noted(
+            network,
+            times,
+            query.sources(),
+            &found.table,
+            &mut levels,
+            &mut links,
+            &mut waiting,
+        );
+        Search {
+            answer: Answer::new(network.nodes(), query.target(), found.table, links, true),
+            walks: true,
+            waiting,
+            lists: found.lists,
+            listed: levels.listed,
+            noted: levels.noted,
+        }
+    }
+}
