@@ -14,7 +14,7 @@ use Rattle.ea_input.proofs.Items.{after_kinds_ok, after_kinds_of}
 use Rattle.ea_input.specs.declared.fault.FaultKind.{FaultKind}
 use Rattle.ea_input.specs.declared.fault.FaultKind.TheVariants.{TooManyLines}
 use Rattle.ea_input.specs.declared.table.RawKind.{RawKind}
-use Rattle.ea_input.specs.declared.table.RawKind.TheVariants.{Plain, Every, Closed, Rush}
+use Rattle.ea_input.specs.declared.table.RawKind.TheVariants.{Plain, Every, Closed, Rush, Speeds, Trips}
 use Rattle.ea_input.specs.declared.table.TableSize.{TableSize}
 use Rattle.ea_input.specs.declared.table.TableLine.{TableLine}
 use Rattle.ea_input.specs.declared.table.TableLine.TheVariants.{Silent, Problem, Kind, Assigned}
@@ -171,26 +171,38 @@ kind_takes number j [] Plain small at is = absurd is
 kind_takes number j [] (Every p o) small at is = absurd is
 kind_takes number j [] (Closed lo hi) small at is = absurd is
 kind_takes number j [] (Rush lo hi extra) small at is = absurd is
+kind_takes number j [] (Speeds period first count) small at is = absurd is
+kind_takes number j [] (Trips period first count) small at is = absurd is
 kind_takes number j (name ∷ []) Plain small at is = rw is (plain_takes number j small at)
 kind_takes number j (name ∷ []) (Every p o) small at is = absurd is
 kind_takes number j (name ∷ []) (Closed lo hi) small at is = absurd is
 kind_takes number j (name ∷ []) (Rush lo hi extra) small at is = absurd is
+kind_takes number j (name ∷ []) (Speeds period first count) small at is = absurd is
+kind_takes number j (name ∷ []) (Trips period first count) small at is = absurd is
 kind_takes number j (name ∷ a ∷ []) Plain small at is = absurd is
 kind_takes number j (name ∷ a ∷ []) (Every p o) small at is = absurd is
 kind_takes number j (name ∷ a ∷ []) (Closed lo hi) small at is = absurd is
 kind_takes number j (name ∷ a ∷ []) (Rush lo hi extra) small at is = absurd is
+kind_takes number j (name ∷ a ∷ []) (Speeds period first count) small at is = absurd is
+kind_takes number j (name ∷ a ∷ []) (Trips period first count) small at is = absurd is
 kind_takes number j (name ∷ a ∷ b ∷ []) Plain small at is = absurd is
 kind_takes number j (name ∷ a ∷ b ∷ []) (Every p o) small at is = rw (is.0) (every_takes number j a b p o small at is.1 is.2)
 kind_takes number j (name ∷ a ∷ b ∷ []) (Closed lo hi) small at is = rw (is.0) (closed_takes number j a b lo hi small at is.1 is.2)
 kind_takes number j (name ∷ a ∷ b ∷ []) (Rush lo hi extra) small at is = absurd is
+kind_takes number j (name ∷ a ∷ b ∷ []) (Speeds period first count) small at is = absurd is
+kind_takes number j (name ∷ a ∷ b ∷ []) (Trips period first count) small at is = absurd is
 kind_takes number j (name ∷ a ∷ b ∷ c ∷ []) Plain small at is = absurd is
 kind_takes number j (name ∷ a ∷ b ∷ c ∷ []) (Every p o) small at is = absurd is
 kind_takes number j (name ∷ a ∷ b ∷ c ∷ []) (Closed lo hi) small at is = absurd is
 kind_takes number j (name ∷ a ∷ b ∷ c ∷ []) (Rush lo hi extra) small at is = rw (is.0) (rush_takes number j a b c lo hi extra small at is.1 is.2 is.3)
+kind_takes number j (name ∷ a ∷ b ∷ c ∷ []) (Speeds period first count) small at is = absurd is
+kind_takes number j (name ∷ a ∷ b ∷ c ∷ []) (Trips period first count) small at is = absurd is
 kind_takes number j (name ∷ a ∷ b ∷ c ∷ d ∷ rest) Plain small at is = absurd is
 kind_takes number j (name ∷ a ∷ b ∷ c ∷ d ∷ rest) (Every p o) small at is = absurd is
 kind_takes number j (name ∷ a ∷ b ∷ c ∷ d ∷ rest) (Closed lo hi) small at is = absurd is
 kind_takes number j (name ∷ a ∷ b ∷ c ∷ d ∷ rest) (Rush lo hi extra) small at is = absurd is
+kind_takes number j (name ∷ a ∷ b ∷ c ∷ d ∷ rest) (Speeds period first count) small at is = absurd is
+kind_takes number j (name ∷ a ∷ b ∷ c ∷ d ∷ rest) (Trips period first count) small at is = absurd is
 
 -- ---- sizes and assignments
 

@@ -28,12 +28,36 @@ pub enum RawKind {
     /// At once.
     Plain,
     /// At the next time with the remainder `offset` by `period`, which is 1 to 2^32.
-    Every { period: u64, offset: u64 },
+    Every {
+        period: u64,
+        offset: u64,
+    },
     /// From `lo` on not before `hi`, which is later.
-    Closed { lo: u64, hi: u64 },
+    Closed {
+        lo: u64,
+        hi: u64,
+    },
     /// At once, and from `lo` on before `hi` it takes `extra` more, at most 2^32. From `hi` on an arc isn't arrived at before
     /// one that was left just before `hi`: not before `hi + weight + extra`.
-    Rush { lo: u64, hi: u64, extra: u64 },
+    Rush {
+        lo: u64,
+        hi: u64,
+        extra: u64,
+    },
+    /// At once, at the speeds of the steps of a period: `count` steps from the one at `first` on, each a time of the period and,
+    /// from it to the next step's time, the speed in thousandths of the full one. At full speed an arc takes its weight.
+    Speeds {
+        period: u64,
+        first: usize,
+        count: usize,
+    },
+    /// At the next trip: `count` steps from the one at `first` on, each the time at which a trip leaves in each period, or once
+    /// where the period is 0, and what its ride takes beside the weight.
+    Trips {
+        period: u64,
+        first: usize,
+        count: usize,
+    },
 }
 
 /// The numbers of kinds and assignments that a problem line announces.

@@ -1,5 +1,7 @@
 //! The moves of a run of one thread.
 ghost use Rattle.std.specs.Prelude.{◌≡◌, ◌<◌, ◌≤◌, ◌-◌, [], length, replicate, slice_index, IfOk, MatchOption};
+ghost use Rattle.ea_limits.specs.declared.TheConstants.{LEAST_HEAPS};
+ghost use Rattle.ea_pool.specs.declared.words.TheConstants.{MOST_IN_POOL};
 ghost use Rattle.ea_road.specs.declared.TheConstants.{NONE};
 ghost use Rattle.ea_lists.specs.Totals.{total};
 ghost use Rattle.ea_rank.specs.Courses.{LowersBy};
@@ -16,7 +18,7 @@ use std::alloc::Global;
 /// first are tried. None where no heap has an entry.
 fn find_entry(solo: &mut Solo<Global>, heaps: usize, first: u64, second: u64) -> Option<Entry>
     requires heaps { length solo.old ≡ heaps }
-    requires range { (2 ≤ heaps) × (heaps ≤ 128) }
+    requires range { (LEAST_HEAPS ≤ heaps) × (heaps ≤ MOST_IN_POOL) }
     ensures { MatchOption result ((total length solo.old ≡ 0) × (solo.new ≡ solo.old))
         (λ entry. Finds first second entry solo.old solo.new) }
 {
@@ -32,7 +34,7 @@ fn find_entry(solo: &mut Solo<Global>, heaps: usize, first: u64, second: u64) ->
 impl Run {
     /// No labels, empty heaps and an empty record.
     pub(crate) fn new(alloc: Global, nodes: u32, heaps: usize) -> Result<Run, OutOfMemory>
-        requires { (2 ≤ heaps) × (heaps ≤ 128) }
+        requires { (LEAST_HEAPS ≤ heaps) × (heaps ≤ MOST_IN_POOL) }
         ensures { IfOk result (λ run. (run.labels.items ≡ replicate nodes NONE)
             × (run.heaps ≡ replicate heaps []) × (run.events.items ≡ [])) }
     {
@@ -78,7 +80,7 @@ impl Run {
         second: u64,
     ) -> Result<Option<Entry>, OutOfMemory>
         requires heaps { length self.old.heaps ≡ heaps }
-        requires range { (2 ≤ heaps) × (heaps ≤ 128) }
+        requires range { (LEAST_HEAPS ≤ heaps) × (heaps ≤ MOST_IN_POOL) }
         ensures { IfOk result (λ found. MatchOption found
             ((total length self.old.heaps ≡ 0) × (state_of self.new ≡ state_of self.old))
             (λ entry. PopsFound first second entry (state_of self.old) (state_of self.new))) }

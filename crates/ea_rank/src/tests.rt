@@ -1,4 +1,6 @@
 ghost use Rattle.std.specs.Prelude.{◌≡◌, ◌+◌, ◌<◌, ◌≤◌, ◌^◌};
+ghost use Rattle.ea_limits.specs.declared.TheConstants.{LEAST_HEAPS};
+ghost use Rattle.ea_pool.specs.declared.words.TheConstants.{MOST_IN_POOL};
 
 use crate::turning::Turning;
 use crate::{Event, RankFault, Record, Summary, ranks, record_run, record_run_by};
@@ -39,7 +41,7 @@ fn recorded<R: Rng + Drop>(
     heaps: usize,
     rng: R,
 ) -> Result<Option<Record>, AllocError>
-    requires { (2 ≤ heaps) × (heaps ≤ 128) }
+    requires { (LEAST_HEAPS ≤ heaps) × (heaps ≤ MOST_IN_POOL) }
 {
     let Some(network) = network_of(alloc, nodes, rows)? else {
         return Ok(None);

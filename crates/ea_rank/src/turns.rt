@@ -1,6 +1,7 @@
 //! A recorded run of one thread.
 ghost use Rattle.std.specs.Prelude.{◌≡◌, ◌+◌, ◌<◌, ◌≤◌, [], None, length, IfOk, ℕ};
-ghost use Rattle.ea_limits.specs.declared.TheConstants.{HORIZON};
+ghost use Rattle.ea_limits.specs.declared.TheConstants.{HORIZON, LEAST_HEAPS};
+ghost use Rattle.ea_pool.specs.declared.words.TheConstants.{MOST_IN_POOL};
 ghost use Rattle.ea_road.specs.Answers.{IsFifoFunction};
 ghost use Rattle.ea_road.specs.Labels.{label_of};
 ghost use Rattle.ea_road.specs.Queries.{IsProblem};
@@ -95,7 +96,7 @@ pub fn record_run<T: TravelTimes, R: Rng + Drop>(
     heaps: usize,
     mut rng: R,
 ) -> Result<Record, OutOfMemory>
-    requires heaps { (2 ≤ heaps) × (heaps ≤ 128) }
+    requires heaps { (LEAST_HEAPS ≤ heaps) × (heaps ≤ MOST_IN_POOL) }
     requires problem { IsProblem network.now (T.classes times.now) query.now }
     requires asks_all { query.now.target ≡ None }
     // each key is there when it is popped, and with two heaps no smaller one is
@@ -135,7 +136,7 @@ pub fn record_run_by<F: ArrivalFunction + Drop, R: Rng + Drop>(
     heaps: usize,
     rng: R,
 ) -> Result<Record, OutOfMemory>
-    requires heaps { (2 ≤ heaps) × (heaps ≤ 128) }
+    requires heaps { (LEAST_HEAPS ≤ heaps) × (heaps ≤ MOST_IN_POOL) }
     requires fifo { IsFifoFunction (F.may closure) (F.answers closure) classes }
     requires problem { IsProblem network.now classes query.now }
     requires asks_all { query.now.target ≡ None }

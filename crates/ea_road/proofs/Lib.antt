@@ -18,3 +18,9 @@ pub mod Rooted
 pub mod Walked
 pub mod BoxLaws
 pub mod Assigning
+pub mod Speeding
+pub mod Periods
+pub mod TripSteps
+pub mod RunSums
+pub mod Classes
+pub mod FoundFit

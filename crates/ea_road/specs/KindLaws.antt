@@ -3,7 +3,7 @@ use Rattle.std.proofs.Common.{ℕ, ◌+◌, ◌-◌, ◌%◌, ◌<◌, ◌≤◌
 use Rattle.std.specs.Prelude.{IsTrue}
 use Rattle.std.proofs.lemmas.Bool.Decides.{leb_tells, nat_tests}
 use Rattle.ea_input.specs.declared.table.RawKind.{RawKind}
-use Rattle.ea_input.specs.declared.table.RawKind.TheVariants.{Plain, Every, Closed, Rush}
+use Rattle.ea_input.specs.declared.table.RawKind.TheVariants.{Plain, Every, Closed, Rush, Speeds, Trips}
 use Rattle.ea_road.specs.Answers.{IsFifo}
 use Rattle.ea_road.specs.Timetables.{is_kind, KindAnswers, IsNextTime}
 use Rattle.ea_road.specs.Times.{next_this_turn, next_turn}
@@ -25,6 +25,8 @@ kind_has_answer (Every period offset) weight departure range =
     (next.0 + weight, (next.0, next.1, refl))
 kind_has_answer (Closed lo hi) weight departure range = (_, refl)
 kind_has_answer (Rush lo hi extra) weight departure range = (_, refl)
+kind_has_answer (Speeds period first count) weight departure range = cc
+kind_has_answer (Trips period first count) weight departure range = cc
 
 closed_not_before : (lo hi weight departure arrival : ℕ) → KindAnswers (Closed lo hi) weight departure arrival → departure ≤ arrival
 closed_not_before lo hi weight departure arrival answer = grind (arith, nat_tests)
@@ -37,6 +39,8 @@ kind_not_before Plain weight departure arrival answer = omega arith
 kind_not_before (Every period offset) weight departure arrival answer = omega (arith, answer.1.not_before, answer.2)
 kind_not_before (Closed lo hi) weight departure arrival answer = closed_not_before lo hi weight departure arrival answer
 kind_not_before (Rush lo hi extra) weight departure arrival answer = rush_not_before lo hi extra weight departure arrival answer
+kind_not_before (Speeds period first count) weight departure arrival answer = absurd answer
+kind_not_before (Trips period first count) weight departure arrival answer = absurd answer
 
 closed_in_order : (lo hi weight departure later arrival next : ℕ) → KindAnswers (Closed lo hi) weight departure arrival → KindAnswers (Closed lo hi) weight later next → departure ≤ later → arrival ≤ next
 closed_in_order lo hi weight departure later arrival next answer other order = grind (arith, nat_tests)
@@ -57,6 +61,8 @@ kind_in_order (Closed lo hi) weight departure later arrival next answer other or
     closed_in_order lo hi weight departure later arrival next answer other order
 kind_in_order (Rush lo hi extra) weight departure later arrival next answer other order =
     rush_in_order lo hi extra weight departure later arrival next answer other order
+kind_in_order (Speeds period first count) weight departure later arrival next answer other order = absurd answer
+kind_in_order (Trips period first count) weight departure later arrival next answer other order = absurd answer
 
 -- a kind with its numbers in range is first in, first out
 pub kind_is_fifo : (kind : RawKind) (classes : ℕ) → IsTrue (is_kind kind) → IsFifo (λ class weight departure arrival. KindAnswers kind weight departure arrival) classes

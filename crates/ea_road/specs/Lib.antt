@@ -5,11 +5,16 @@ pub mod QueryForms
 pub mod Arrivals
 pub mod Labels
 pub mod Levels
+pub mod Speeds
+pub mod Trips
+pub mod SpeedLaws
+pub mod TripLaws
 pub mod Timetables
 pub mod Index
 pub mod Truncated
 pub mod Times
 pub mod TimetableLists
+pub mod StepLists
 pub mod KindLaws
 pub mod TimetableLaws
 pub mod ProfileLists

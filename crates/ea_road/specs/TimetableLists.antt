@@ -1,12 +1,11 @@
--- A list of timetables as travel times: class 0 is plain, class J is the J-th timetable.
-use Rattle.std.specs.Prelude.{ℕ, List, ◌∷◌, map, slice_index_or}
+-- A list of timetables as travel times: class 0 is plain, class J is the J-th kind, whose steps are among those of all classes.
+use Rattle.std.specs.Prelude.{ℕ, List, ◌∷◌, slice_index_or}
 use Rattle.ea_input.specs.declared.table.RawKind.{RawKind}
 use Rattle.ea_input.specs.declared.table.RawKind.TheVariants.{Plain}
-use Rattle.ea_road.specs.declared.timetable.Timetable.{Timetable}
-use Rattle.ea_road.specs.Timetables.{KindAnswers}
+use Rattle.ea_road.specs.Timetables.{ClassAnswers}
 
-abbrev pub kind_of : List Timetable → ℕ → RawKind
-kind_of tables class = slice_index_or (Plain ∷ map (λ table. table.kind) tables) class Plain
+abbrev pub kind_of : List RawKind → ℕ → RawKind
+kind_of kinds class = slice_index_or (Plain ∷ kinds) class Plain
 
-abbrev pub TimetablesAnswer : List Timetable → ℕ → ℕ → ℕ → ℕ → Type 0
-TimetablesAnswer tables class weight departure arrival = KindAnswers (kind_of tables class) weight departure arrival
+abbrev pub TimetablesAnswer : List RawKind → List (ℕ × ℕ) → ℕ → ℕ → ℕ → ℕ → Type 0
+TimetablesAnswer kinds steps class weight departure arrival = ClassAnswers steps (kind_of kinds class) weight departure arrival

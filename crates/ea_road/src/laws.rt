@@ -1,5 +1,5 @@
 //! Laws of networks, travel times and walks, as functions that do nothing.
-ghost use Rattle.std.specs.Prelude.{◌≡◌, ◌<◌, ◌≤◌, ◌+◌, ◌↔◌, ◌∷◌, ◌++◌, [], ℕ};
+ghost use Rattle.std.specs.Prelude.{◌≡◌, ◌<◌, ◌≤◌, ◌+◌, ◌-◌, ◌↔◌, ◌∷◌, ◌++◌, [], ℕ};
 ghost use Rattle.std.specs.Prelude.{Contains, List, Option, length, slice_index};
 ghost use Rattle.ea_road.specs.Answers.{IsFifo};
 ghost use Rattle.ea_road.specs.Arrivals.{Attains, IsLeast, IsLeastAt};
@@ -7,8 +7,11 @@ ghost use Rattle.ea_road.specs.Labels.{IsFixed, label_of, limit, time_of};
 ghost use Rattle.ea_road.specs.Levels.{IsCanonical, IsLevel, IsTight};
 ghost use Rattle.ea_road.specs.Queries.{IsAsked, IsProblem};
 ghost use Rattle.ea_road.specs.Roads.{IsArc, IsNode, leaving};
+ghost use Rattle.ea_road.specs.Speeds.{IsArrivalBySpeeds, speed_sum};
+ghost use Rattle.ea_road.specs.StepLists.{steps_in};
 ghost use Rattle.ea_road.specs.TimetableLists.{TimetablesAnswer};
 ghost use Rattle.ea_road.specs.Timetables.{KindAnswers};
+ghost use Rattle.ea_road.specs.Trips.{AreTrips, IsArrivalByTrips};
 
 use crate::arc::Arc;
 use crate::network::Network;
@@ -131,7 +134,29 @@ pub fn timetable_is_fifo(table: &Timetable)
         classes }
 {}
 
-/// Travel times by a list of timetables are first in, first out.
+/// Travel times by a list of timetables, of whichever kinds, are first in, first out.
 pub fn timetables_are_fifo(times: &Timetables)
-    ensures { (classes : ℕ) → IsFifo (TimetablesAnswer times.now.list.items) classes }
+    ensures { (classes : ℕ) → IsFifo
+        (TimetablesAnswer times.now.list.items (steps_in times.now.steps)) classes }
+{}
+
+/// Travel times by speeds are first in, first out, whatever the speeds of the times are.
+pub fn speeds_are_fifo()
+    ensures { (speed : ℕ → ℕ) (classes : ℕ) → IsFifo
+        (λ class weight departure arrival. IsArrivalBySpeeds speed weight departure arrival)
+        classes }
+{}
+
+/// Travel times by trips of which none overtakes another are first in, first out.
+pub fn trips_are_fifo()
+    ensures { (period : ℕ) (steps : List (ℕ × ℕ)) (classes : ℕ) → AreTrips period steps → IsFifo
+        (λ class weight departure arrival. IsArrivalByTrips period steps weight departure arrival)
+        classes }
+{}
+
+/// The sum of the speeds of times is that of a part of them and of the rest.
+pub fn sums_of_speeds_add()
+    ensures { (speed : ℕ → ℕ) (first middle last : ℕ) → first ≤ middle → middle ≤ last
+        → speed_sum speed first (last - first)
+        ≡ speed_sum speed first (middle - first) + speed_sum speed middle (last - middle) }
 {}

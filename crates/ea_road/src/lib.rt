@@ -4,6 +4,7 @@
 
 mod arc;
 mod arrival_function;
+mod fitting;
 mod graph_arcs;
 mod index;
 mod known;
@@ -15,6 +16,8 @@ mod profile_list;
 mod profiles;
 mod query;
 mod source;
+mod step_table;
+mod steps;
 mod timetable;
 mod timetables;
 mod travel_times;
@@ -34,6 +37,7 @@ pub use profiles::Profiles;
 pub use query::Query;
 pub use source::Source;
 pub use std::alloc::AllocError as OutOfMemory;
+pub use step_table::StepTable;
 pub use timetable::Timetable;
 pub use timetables::Timetables;
 pub use travel_times::TravelTimes;
@@ -42,5 +46,7 @@ pub use walk::run_walk;
 /// No label.
 pub const NONE: u64 = u64::MAX;
 
+#[cfg(test)]
+mod step_tests;
 #[cfg(test)]
 mod tests;

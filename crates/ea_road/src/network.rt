@@ -19,19 +19,23 @@ pub struct Network {
     numbers: Vec<u32>,
     /// The arcs themselves, in the order of `numbers`.
     by_tail: Vec<Arc>,
+    /// The greatest class of an arc.
+    top: u32,
     /// The mean weight of the arcs.
     mean: u64,
 }
 
 impl Model for Network {
-    ghost use Rattle.ea_road.specs.Roads.{Roads};
+    ghost use Rattle.std.specs.Prelude.{◌≡◌};
+    ghost use Rattle.ea_road.specs.Roads.{Roads, top_class};
     ghost use Rattle.ea_road.specs.Index.{IsStoredNetwork};
 
     ghost Value = { Roads };
 
     ghost view = { λ n. record { nodes = n.nodes; arcs = n.arcs.items } };
 
-    ghost invariant = { λ n. IsStoredNetwork (record { nodes = n.nodes; arcs = n.arcs.items })
+    ghost invariant = { λ n. (n.top ≡ top_class n.arcs.items)
+        × IsStoredNetwork (record { nodes = n.nodes; arcs = n.arcs.items })
         n.starts.items n.numbers.items n.by_tail.items };
 }
 
@@ -49,6 +53,7 @@ impl Network {
         requires { IsNetwork (record { nodes = nodes; arcs = arcs.items }) }
         ensures { IfOk result (λ network. network ≡ record { nodes = nodes; arcs = arcs.items }) }
     {
+        let top = top_of(&arcs);
         let mean = mean_weight(&arcs);
         let mut starts = ends_by_tail(alloc, nodes, &arcs)?;
         let (numbers, by_tail) = place_by_tail(alloc, nodes, &arcs, &mut starts)?;
@@ -58,6 +63,7 @@ impl Network {
             starts,
             numbers,
             by_tail,
+            top,
             mean,
         })
     }
@@ -82,11 +88,7 @@ impl Network {
     pub fn top_class(&self) -> u32
         ensures { result ≡ top_class self.now.arcs }
     {
-        let mut top = 0;
-        for arc in &self.arcs {
-            top = arc.class.max(top);
-        }
-        top
+        self.top
     }
 
     /// The mean weight of the arcs, rounded down; 0 with no arc. A search may choose by it how it goes on; nothing is promised
@@ -153,6 +155,17 @@ impl Network {
             arcs: &self.by_tail[from..to],
         }
     }
+}
+
+/// The greatest class of arcs, 0 with no arc.
+fn top_of(arcs: &[Arc]) -> u32
+    ensures { result ≡ top_class arcs.now }
+{
+    let mut top = 0;
+    for arc in arcs {
+        top = arc.class.max(top);
+    }
+    top
 }
 
 /// The mean weight of arcs, rounded down.

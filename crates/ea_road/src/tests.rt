@@ -39,14 +39,14 @@ fn walked(
 
 /// Class 0 is plain, class 1 leaves at each multiple of the period.
 fn every(alloc: Global, period: u32) -> Result<Timetables, AllocError> {
-    let mut list = Vec::new(alloc);
-    if period > 0 {
-        list.push(Timetable::of(RawKind::Every {
-            period: u64::from(period),
-            offset: 0,
-        }))?;
+    if period == 0 {
+        return Ok(Timetables::new(Vec::new(alloc)));
     }
-    Ok(Timetables::new(list))
+    let kinds = [RawKind::Every {
+        period: u64::from(period),
+        offset: 0,
+    }];
+    Timetables::of(alloc, &kinds)
 }
 
 #[test]

@@ -6,7 +6,7 @@ use crate::HORIZON;
 use crate::travel_times::TravelTimes;
 use ea_input::RawKind;
 
-/// A timetable: a kind whose numbers are in their ranges.
+/// A timetable by itself: a kind that has no steps, and whose numbers are in their ranges.
 #[derive(Clone, Copy)]
 pub struct Timetable {
     pub kind: RawKind,
@@ -15,7 +15,7 @@ pub struct Timetable {
 
 impl Timetable {
     /// Whether a kind's numbers are in their ranges: a period of 1 to 2^32 with an offset below it; an interval that is not
-    /// empty and ends at HORIZON at the latest; at most 2^32 extra.
+    /// empty and ends at HORIZON at the latest; at most 2^32 extra. A kind that has steps is none by itself.
     pub fn fits(kind: RawKind) -> bool
         ensures { result ≡ is_kind kind }
     {
@@ -26,10 +26,11 @@ impl Timetable {
             RawKind::Rush { lo, hi, extra } => {
                 lo < hi && hi <= HORIZON && extra <= 4_294_967_296
             }
+            RawKind::Speeds { .. } | RawKind::Trips { .. } => false,
         }
     }
 
-    /// The timetable of a kind.
+    /// The timetable of a kind that has no steps.
     pub fn of(kind: RawKind) -> Timetable
         requires { IsTrue (is_kind kind) }
         ensures { result.kind ≡ kind }
@@ -44,26 +45,7 @@ impl Timetable {
         ensures answer { KindAnswers self.now.kind weight departure result }
         ensures small { result < 2 ^ 50 }
     {
-        match self.kind {
-            RawKind::Plain => departure + weight,
-            RawKind::Every { period, offset } => next_time(period, offset, departure) + weight,
-            RawKind::Closed { lo, hi } => {
-                if lo <= departure && departure < hi {
-                    hi + weight
-                } else {
-                    departure + weight
-                }
-            }
-            RawKind::Rush { lo, hi, extra } => {
-                if departure < lo {
-                    departure + weight
-                } else if departure < hi {
-                    departure + weight + extra
-                } else {
-                    (departure + weight).max(hi + weight + extra)
-                }
-            }
-        }
+        arrive_by(self.kind, weight, departure)
     }
 }
 
@@ -82,6 +64,37 @@ impl TravelTimes for Timetable {
     }
 
     ghost fifo = { λ table. kind_is_fifo table.kind 4294967295 table.in_range };
+}
+
+/// The arrival of a kind that has no steps.
+pub(crate) fn arrive_by(kind: RawKind, weight: u64, departure: u64) -> u64
+    requires kind { IsTrue (is_kind kind) }
+    requires weight { weight < 2 ^ 32 }
+    requires departure { departure ≤ HORIZON }
+    ensures answer { KindAnswers kind weight departure result }
+    ensures small { result < 2 ^ 50 }
+{
+    match kind {
+        RawKind::Plain => departure + weight,
+        RawKind::Every { period, offset } => next_time(period, offset, departure) + weight,
+        RawKind::Closed { lo, hi } => {
+            if lo <= departure && departure < hi {
+                hi + weight
+            } else {
+                departure + weight
+            }
+        }
+        RawKind::Rush { lo, hi, extra } => {
+            if departure < lo {
+                departure + weight
+            } else if departure < hi {
+                departure + weight + extra
+            } else {
+                (departure + weight).max(hi + weight + extra)
+            }
+        }
+        RawKind::Speeds { .. } | RawKind::Trips { .. } => departure,
+    }
 }
 
 /// The least time at or after the departure that leaves the offset when divided by the period.

@@ -1,39 +1,72 @@
-ghost use Rattle.std.specs.Prelude.{◌≡◌, IfOk, IsTrue, length, map};
+ghost use Rattle.std.specs.Prelude.{◌≡◌, ◌≤◌, ◌<◌, ◌^◌, IfOk, IsTrue, [], length, true};
 ghost use Rattle.std.specs.List.{IsAmong};
 ghost use Rattle.ea_input.specs.declared.table.RawKind.{RawKind};
+ghost use Rattle.ea_limits.specs.declared.TheConstants.{HORIZON};
 ghost use Rattle.ea_road.specs.Answers.{IsQuestion};
+ghost use Rattle.ea_road.specs.StepLists.{steps_in};
 ghost use Rattle.ea_road.specs.TimetableLists.{TimetablesAnswer};
-ghost use Rattle.ea_road.specs.Timetables.{is_kind};
+ghost use Rattle.ea_road.specs.Timetables.{AreFit, ClassAnswers, IsClass, is_kind};
 
-use crate::timetable::Timetable;
+use crate::fitting::all_fit;
+use crate::step_table::StepTable;
+use crate::timetable::arrive_by;
 use crate::travel_times::TravelTimes;
 use ea_input::RawKind;
 use std::alloc::{AllocError, Global};
 
-/// Timetables by their classes: class 0 is plain, class J is the J-th timetable.
+/// Timetables by their classes: class 0 is plain, class J is the J-th kind, and the steps of kinds that have some.
 #[derive(Drop)]
 pub struct Timetables {
-    pub list: Vec<Timetable>,
+    pub list: Vec<RawKind>,
+    pub steps: Option<StepTable>,
+    pub ghost fit: { AreFit list.items (steps_in steps) },
 }
 
 impl Timetables {
-    /// Travel times by these timetables.
-    pub fn new(list: Vec<Timetable>) -> Timetables
-        ensures { result.list.items ≡ list.items }
+    /// Travel times by these kinds of timetable, of which none has steps.
+    pub fn new(kinds: Vec<RawKind>) -> Timetables
+        requires { (kind : RawKind) → IsAmong kinds.items kind → IsTrue (is_kind kind) }
+        ensures kinds { result.list.items ≡ kinds.items }
+        ensures steps { steps_in result.steps ≡ [] }
     {
-        Timetables { list }
+        Timetables {
+            list: kinds,
+            steps: None,
+        }
     }
 
-    /// Travel times by these kinds of timetable. An error comes only where memory for the list was refused.
+    /// The same of a slice. An error comes only where memory for the list was refused.
     pub fn of(alloc: Global, kinds: &[RawKind]) -> Result<Timetables, AllocError>
         requires { (kind : RawKind) → IsAmong kinds.now kind → IsTrue (is_kind kind) }
-        ensures { IfOk result (λ times. map (λ table. table.kind) times.list.items ≡ kinds.now) }
+        ensures { IfOk result (λ times. (times.list.items ≡ kinds.now) × (steps_in times.steps ≡ [])) }
     {
         let mut list = Vec::with_capacity(alloc, kinds.len())?;
         for kind in kinds {
-            list.push(Timetable::of(*kind))?;
+            list.push(*kind)?;
         }
-        Ok(Timetables { list })
+        Ok(Timetables::new(list))
+    }
+
+    /// Travel times by kinds of timetable, whose steps are among these. An error comes only where memory for the sums beside the
+    /// steps was refused.
+    pub fn with_steps(
+        alloc: Global,
+        kinds: Vec<RawKind>,
+        steps: Vec<(u64, u64)>,
+    ) -> Result<Timetables, AllocError>
+        requires { AreFit kinds.items steps.items }
+        ensures { IfOk result (λ times.
+            (times.list.items ≡ kinds.items) × (steps_in times.steps ≡ steps.items)) }
+    {
+        let steps = Some(StepTable::of(alloc, steps)?);
+        Ok(Timetables { list: kinds, steps })
+    }
+
+    /// Whether the numbers of kinds are in their ranges, and the steps of those that have some.
+    pub fn fits(kinds: &[RawKind], steps: &[(u64, u64)]) -> bool
+        ensures { result ≡ true → AreFit kinds.now steps.now }
+    {
+        all_fit(kinds, steps)
     }
 
     /// The greatest class.
@@ -46,30 +79,65 @@ impl Timetables {
     /// When an arc of a class and a weight arrives that is left at a departure.
     pub fn arrive(&self, class: u32, weight: u64, departure: u64) -> u64
         requires { IsQuestion (length self.now.list.items) class weight departure }
-        ensures { TimetablesAnswer self.now.list.items class weight departure result }
+        ensures answer { TimetablesAnswer self.now.list.items (steps_in self.now.steps)
+            class weight departure result }
     {
         if class == 0 {
-            departure + weight
-        } else {
-            let table = &self.list[class as usize - 1];
-            table.arrive(weight, departure)
+            return departure + weight;
         }
+        arrive_in(
+            &self.steps,
+            self.list[class as usize - 1],
+            weight,
+            departure,
+        )
+    }
+}
+
+/// The arrival of a kind, with the steps of those that have some.
+fn arrive_in(steps: &Option<StepTable>, kind: RawKind, weight: u64, departure: u64) -> u64
+    requires class { IsClass (steps_in steps.now) kind }
+    requires weight { weight < 2 ^ 32 }
+    requires departure { departure ≤ HORIZON }
+    ensures { ClassAnswers (steps_in steps.now) kind weight departure result }
+{
+    match kind {
+        RawKind::Speeds {
+            period,
+            first,
+            count,
+        } => match steps {
+            Some(table) => table.by_speeds(period, first, count, weight, departure),
+            None => departure,
+        },
+        RawKind::Trips {
+            period,
+            first,
+            count,
+        } => match steps {
+            Some(table) => table.by_trips(period, first, count, weight, departure),
+            None => departure,
+        },
+        _ => arrive_by(kind, weight, departure),
     }
 }
 
 impl TravelTimes for Timetables {
     ghost use Rattle.std.specs.Prelude.{length};
+    ghost use Rattle.ea_road.specs.StepLists.{steps_in};
     ghost use Rattle.ea_road.specs.TimetableLists.{TimetablesAnswer};
     ghost use Rattle.ea_road.specs.TimetableLaws.{timetables_are_fifo};
 
     ghost classes = { λ times. length times.list.items };
 
     ghost answers = { λ times class weight departure arrival.
-        TimetablesAnswer times.list.items class weight departure arrival };
+        TimetablesAnswer times.list.items (steps_in times.steps) class weight departure arrival };
 
     fn arrive(&self, class: u32, weight: u64, departure: u64) -> u64 {
         Timetables::arrive(self, class, weight, departure)
     }
 
-    ghost fifo = { λ times. timetables_are_fifo times.list.items (length times.list.items) };
+    ghost fifo = { λ times.
+        timetables_are_fifo times.list.items (steps_in times.steps)
+        (length times.list.items) times.fit };
 }
