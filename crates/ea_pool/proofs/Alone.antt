@@ -1,5 +1,5 @@
 -- What a seat with all shares concludes from what it saw of two heaps.
-use Rattle.std.proofs.Common.{◌≡◌, ◌≢◌, ℕ, suc, ◌+◌, ◌<◌, ◌≤◌, List, [], ◌∷◌, length, sym, refl, ap, arith, subst, slice_index_or, min, ◌⊎◌, ⊎_elim}
+use Rattle.std.proofs.Common.{◌≡◌, ◌≢◌, ℕ, suc, ◌+◌, ◌<◌, ◌≤◌, Bool, true, Option, Some, List, [], ◌∷◌, length, sym, refl, ap, arith, subst, slice_index_or, min, ◌⊎◌, ⊎_elim}
 use Rattle.std.specs.List.{AllByRecursion}
 use mathlib.Core.Logic.{dite}
 use native.Mathlib.Decide.{ℕ_discrete, dec_lt}
@@ -10,11 +10,17 @@ use Rattle.ea_pool.specs.declared.reply.Popped.TheVariants as reply
 use Rattle.ea_lists.specs.Totals.{total}
 use Rattle.ea_limits.specs.declared.TheConstants.{HORIZON}
 use Rattle.ea_pool.specs.declared.words.TheConstants.{EMPTY}
-use Rattle.ea_pool.specs.Entries.{only, times, IsKnown, face}
+use Rattle.ea_pool.specs.declared.account.LastTake.{LastTake}
+use Rattle.ea_pool.specs.Entries.{only, times, IsKnown, AreKnown, face}
 use Rattle.ea_pool.specs.States.{saw}
 use Rattle.ea_pool.specs.Plays.{Surveys}
-use Rattle.ea_pool.specs.Pools.{books, SameBooks, Pops, NothingLeft, IsLeft, IsLeastLeft}
+use Rattle.ea_limits.specs.declared.TheConstants.{SHARES}
+use Rattle.ea_pool.specs.Pools.{books, SameBooks, Pops, PopsAll, NothingLeft, IsLeft, AreLeft, IsLeastLeft}
 use Rattle.ea_pool.specs.Replies.{MatchPopped}
+use Rattle.ea_pool.specs.Solos.{lesser}
+use Rattle.ea_pool.specs.Tries.{TookLeast, TookLesser}
+use Rattle.ea_pool.specs.Batches.{PopsSome, IsLowest}
+use Rattle.ea_pool.proofs.Batching.{face_out}
 use Rattle.ea_pool.proofs.Weights.{only-same, only-one}
 
 face_le : (d : Entry) (es : List Entry) → 0 < times d es → face es ≤ d.key
@@ -45,6 +51,15 @@ answered v w i x j y picked answer is one all =
     let both = subst (λ (a : SeatMemory). AllByRecursion (λ p. picked.0 ≡ p.0 → picked.1 ≡ p.1 → MatchPopped answer (λ e. Unit {0}) ⊥ ⊥) a.seen) is all in
     ⊎_elim (λ (e : picked ≡ (i, x)). both.1.0 (ap (λ (p : ℕ × ℕ). p.0) e) (ap (λ (p : ℕ × ℕ). p.1) e)) (λ (e : picked ≡ (j, y)). both.0 (ap (λ (p : ℕ × ℕ). p.0) e) (ap (λ (p : ℕ × ℕ). p.1) e)) one
 
+pub hits_one : (v w : SeatMemory) (i x j y : ℕ) (picked : ℕ × ℕ) (r : Bool) → w ≡ saw (saw v i x) j y → (picked ≡ (i, x)) ⊎ (picked ≡ (j, y)) → AllByRecursion (λ p. picked.0 ≡ p.0 → picked.1 ≡ p.1 → r ≡ true) w.seen → r ≡ true
+hits_one v w i x j y picked r is one all =
+    let both = subst (λ (a : SeatMemory). AllByRecursion (λ p. picked.0 ≡ p.0 → picked.1 ≡ p.1 → r ≡ true) a.seen) is all in
+    ⊎_elim (λ (e : picked ≡ (i, x)). both.1.0 (ap (λ (p : ℕ × ℕ). p.0) e) (ap (λ (p : ℕ × ℕ). p.1) e)) (λ (e : picked ≡ (j, y)). both.0 (ap (λ (p : ℕ × ℕ). p.0) e) (ap (λ (p : ℕ × ℕ). p.1) e)) one
+
+pub all_true : (k x : ℕ) (pairs : List (ℕ × ℕ)) → AllByRecursion (λ p. k ≡ p.0 → x ≡ p.1 → ◌≡◌ {A = Bool} true true) pairs
+all_true k x [] = tt
+all_true k x (p ∷ ps) = ((λ _ _. refl), all_true k x ps)
+
 module _ (known : ℕ → ℕ → Type 0) (in_time : (node time : ℕ) → known node time → time ≤ HORIZON) (v w : SeatMemory) (i x j y : ℕ) (survey : Surveys known 2 w) (is : w ≡ saw (saw v i x) j y) (near : i < 2) (other : j < 2) (apart : i ≢ j) where
   seen : AllByRecursion (λ p. p.0 < 2 → face (slice_index_or survey.contents p.0 []) ≡ p.1) ((j, y) ∷ (i, x) ∷ v.seen)
   seen = subst (λ (a : SeatMemory). AllByRecursion (λ p. p.0 < 2 → face (slice_index_or survey.contents p.0 []) ≡ p.1) a.seen) is survey.seen
@@ -58,6 +73,12 @@ module _ (known : ℕ → ℕ → Type 0) (in_time : (node time : ℕ) → known
       let s₁ = seen.1.0 near in
       let s₀ = seen.0 other in
       both i j k (λ n. s ≤ face (slice_index_or survey.contents n [])) near other apart (omega arith) (omega arith) (omega arith)
+
+  -- entries whose first is the least of the heap with the lesser word
+  pub is_lowest : (p : List Entry) (heap s : ℕ) (before : List (ℕ × ℕ)) (last : Option LastTake) → TookLeast heap s p before last → s ≡ min x y → 0 < length p → AreKnown known p → (d : Entry) → IsLeft d (books v) → face p ≤ d.key
+  is_lowest p heap s before last t word some knows d more =
+      let low = face_out p t.content t.least.0 t.least.1 some (λ e there. in_time e.node e.key (knows e there)) in
+      bounds_all (face p) survey.contents (bounded (face p) (omega (arith, t.word_is)) (omega (arith, t.word_is))) d (omega (arith, left (only d)))
 
   pub is_least : (e : Entry) → e.key ≤ x → e.key ≤ y → (d : Entry) → IsLeft d (books v) → e.key ≤ d.key
   is_least e a b d more = bounds_all e.key survey.contents (bounded e.key a b) d (omega (arith, left (only d)))
@@ -81,3 +102,44 @@ module _ (known : ℕ → ℕ → Type 0) (in_time : (node time : ℕ) → known
   )
   pops_least_of_two reply.Empty b s m t busy there = absurd t
   pops_least_of_two reply.Busy b s m t busy there = busy
+
+-- entries that came from the heap with the lesser word of two that were looked at
+module _
+    (known : ℕ → ℕ → Type 0)
+    (in_time : (node time : ℕ) → known node time → time ≤ HORIZON)
+    (most heaps : ℕ)
+    (before after : List Entry)
+    (v w b : SeatMemory)
+    (i x j y : ℕ)
+    (picked : ℕ × ℕ)
+    (is : w ≡ saw (saw v i x) j y)
+    (heap : picked.0 ≡ lesser i (Some x) j (Some y))
+    (word : picked.1 ≡ min x y)
+    (p : PopsSome known most before after (books w) (books b) (λ out. TookLeast picked.0 picked.1 out w.seen b.last_take) b.last_take) where
+  took_lesser : TookLesser i j p.out v.seen b.last_take
+  took_lesser = record {
+    x = x;
+    y = y;
+    took = subst (λ (k : ℕ). TookLeast k (min x y) p.out ((j, y) ∷ (i, x) ∷ v.seen) b.last_take) heap
+        (subst (λ (n : ℕ). TookLeast picked.0 n p.out ((j, y) ∷ (i, x) ∷ v.seen) b.last_take) word
+        (subst (λ (a : SeatMemory). TookLeast picked.0 picked.1 p.out a.seen b.last_take) is p.took));
+  }
+
+  pub pops_lesser : i < heaps → j < heaps → i ≢ j → (v.shares ≡ SHARES → Surveys known heaps w)
+      → (pops : PopsSome known most before after (books v) (books b) (λ out. TookLesser i j out v.seen b.last_take) b.last_take) × IsLowest heaps pops.out (books v)
+  pops_lesser near other apart survey = (
+    record {
+      out = p.out;
+      brought = p.brought;
+      some = p.some;
+      popped = subst (λ (a : SeatMemory). PopsAll (books a) p.out (books b)) is p.popped;
+      known_all = p.known_all;
+      took = took_lesser;
+      few = p.few;
+      enough = p.enough;
+      left = subst (λ (a : SeatMemory). a.shares ≡ SHARES → AreLeft p.out (books a)) is p.left;
+    },
+    λ whole two. is_lowest known in_time v w i x j y (subst (λ (h : ℕ). Surveys known h w) two (survey whole)) is
+        (subst (λ (h : ℕ). i < h) two near) (subst (λ (h : ℕ). j < h) two other) apart
+        p.out picked.0 picked.1 w.seen b.last_take p.took word p.some p.known_all,
+  )

@@ -1,5 +1,5 @@
 -- What a `BinaryHeap` of turned entries says of the entries.
-use Rattle.std.proofs.Common.{◌≡◌, ℕ, lt-ltb, le-ltb, eq-eqb, ◌<◌, ◌≤◌, true, false, List, [], ◌∷◌, map, arith, length, get_or, ap, subst, refl, ◌∙◌, Option, Some, None, min, MatchOption}
+use Rattle.std.proofs.Common.{◌≡◌, ℕ, lt-ltb, le-ltb, eq-eqb, ◌<◌, ◌≤◌, true, false, List, [], ◌∷◌, map, arith, length, get_or, ap, subst, sym, refl, ◌∙◌, Option, Some, None, min, MatchOption}
 use mathlib.Core.Logic.{dite}
 use native.Mathlib.Decide.{dec_lt}
 use Rattle.std.specs.List.{AllByRecursion}
@@ -38,6 +38,19 @@ module _ {R : Type 0} (entry_of : R → Entry) where
   pub top_is_there : (x : R) (xs : List R) → 0 < length xs → x ≡ get_or xs 0 x → 0 < times (entry_of x) (map entry_of xs)
   top_is_there x [] l e = absurd (omega arith)
   top_is_there x (r ∷ rs) l e = omega (arith, only-same (entry_of x), ap (λ (y : R). only (entry_of x) (entry_of y)) e)
+
+-- what comes before all comes before each that is there
+pub comes_before : (x d : Entry) (es : List Entry) → IsLeastOf x es → 0 < times d es → ComesFirst x d
+comes_before x d [] h there = absurd (omega arith)
+comes_before x d (e ∷ es) h there = dite (dec_lt 0 (times d es)) (λ later. comes_before x d es h.1 later) (λ none. subst (ComesFirst x) (sym (only-one d e (omega arith))) h.0)
+
+comes_before_all : (x : Entry) (es : List Entry) → ((d : Entry) → 0 < times d es → ComesFirst x d) → IsLeastOf x es
+comes_before_all x [] h = tt
+comes_before_all x (e ∷ es) h = (h e (omega (arith, only-same e)), comes_before_all x es (λ d there. h d (omega arith)))
+
+-- and so it comes before some of them
+pub least_of_part : (x : Entry) (es part : List Entry) → ((d : Entry) → times d part ≤ times d es) → IsLeastOf x es → IsLeastOf x part
+least_of_part x es part few h = comes_before_all x part (λ d there. comes_before x d es h (omega (arith, few d)))
 
 face_above : (k : ℕ) (es : List Entry) → AllByRecursion (λ y. k ≤ y.key) es → k ≤ EMPTY → k ≤ face es
 face_above k [] h low = low

@@ -21,7 +21,6 @@ use Rattle.ea_pool.specs.States.{seat_state, first_state, nobody, content_of, co
 use Rattle.ea_pool.specs.Core.{Core, at_home, Fits, AreWords, IsLawful}
 use Rattle.ea_pool.specs.Events.{opening}
 use Rattle.ea_pool.specs.Plays.{Surveys}
-use Rattle.ea_pool.proofs.Weights.{only-one}
 
 abbrev pub Homes : Type 0
 Homes = List (maybe.Option (List Entry))
@@ -170,7 +169,7 @@ module _ (known : ℕ → ℕ → Type 0) where
 
   -- what a seat with all shares knows
   pub surveys : (s : Core) (o : IsLawful known s) (id : ℕ) (a : SeatMemory) → get_elem? s.seats id ≡ maybe.some a → a.shares ≡ SHARES → a.held ≡ None → (pairs : List (ℕ × ℕ)) → AreWords s.words pairs
-      → Surveys known (length s.homes) (seat_state a.shares a.pushed a.popped a.held pairs)
+      → Surveys known (length s.homes) (seat_state a.shares a.pushed a.popped a.held pairs a.last_take)
   surveys s o id a me whole rests pairs words =
       let alone : (f : SeatMemory → ℕ) → f nobody ≡ 0 → total f s.seats ≡ f a = λ f z. total_alone f (λ (b : SeatMemory). b.shares) s.seats id a me (omega (arith, o.shares_add_up)) (λ j b at none. ap f (o.live j b at none) ∙ z) in
       let unheld = unheld_all s o id a me whole rests in
@@ -249,15 +248,17 @@ module _ (known : ℕ → ℕ → Type 0) where
       new
       (λ _. subst (λ (l : List (ℕ × ℕ)). AreWords (set s.words k (face es')) l) (sym blank) tt)
 
-  pub push_lawful : (s : Core) (o : IsLawful known s) (id k : ℕ) (v : SeatMemory) (es es' : List Entry) (e : Entry) → get_elem? s.seats id ≡ maybe.some v → 0 < v.shares → v.held ≡ Some (held_at k es) → SameEntries es' (e ∷ es) → IsKnown known e
-      → IsLawful known (board (set s.words k (face es')) (set s.homes k (maybe.some es')) (set s.seats id (pushed v e)))
-  push_lawful s o id k v es es' e me live holds same may =
-      puts_back s o id k v (pushed v e) es es' me live holds refl refl refl (λ f. omega (arith, same f)) (λ x none some. subst (IsKnown known) (sym (only-one x e (omega arith))) may)
+  pub push_lawful : (s : Core) (o : IsLawful known s) (id k : ℕ) (v : SeatMemory) (es es' added : List Entry) → get_elem? s.seats id ≡ maybe.some v → 0 < v.shares → v.held ≡ Some (held_at k es) → SameEntries es' (added ++ es) → AreKnown known added
+      → IsLawful known (board (set s.words k (face es')) (set s.homes k (maybe.some es')) (set s.seats id (pushed v added)))
+  push_lawful s o id k v es es' added me live holds same may =
+      puts_back s o id k v (pushed v added) es es' me live holds refl refl refl
+      (λ f. omega (arith, same f, total-append f added es, total-append f added v.pushed))
+      (λ x none some. may x (omega (arith, total-append (only x) added v.pushed)))
 
-  pub pop_lawful : (s : Core) (o : IsLawful known s) (id k : ℕ) (v : SeatMemory) (es es' : List Entry) (e : Entry) → get_elem? s.seats id ≡ maybe.some v → 0 < v.shares → v.held ≡ Some (held_at k es) → SameEntries es (e ∷ es')
-      → IsLawful known (board (set s.words k (face es')) (set s.homes k (maybe.some es')) (set s.seats id (popped v e)))
-  pop_lawful s o id k v es es' e me live holds same =
-      puts_back s o id k v (popped v e) es es' me live holds refl refl refl (λ f. omega (arith, same f)) (λ x none some. absurd (omega arith))
+  pub pop_lawful : (s : Core) (o : IsLawful known s) (id k : ℕ) (v : SeatMemory) (es es' gone : List Entry) → get_elem? s.seats id ≡ maybe.some v → 0 < v.shares → v.held ≡ Some (held_at k es) → SameEntries es (gone ++ es')
+      → IsLawful known (board (set s.words k (face es')) (set s.homes k (maybe.some es')) (set s.seats id (popped v gone)))
+  pop_lawful s o id k v es es' gone me live holds same =
+      puts_back s o id k v (popped v gone) es es' me live holds refl refl refl (λ f. omega (arith, same f, total-append f gone es', total-append f gone v.popped)) (λ x none some. absurd (omega arith))
 
   pub back_lawful : (s : Core) (o : IsLawful known s) (id k : ℕ) (v : SeatMemory) (es : List Entry) → get_elem? s.seats id ≡ maybe.some v → 0 < v.shares → v.held ≡ Some (held_at k es)
       → IsLawful known (board (set s.words k (face es)) (set s.homes k (maybe.some es)) (set s.seats id (gave v)))

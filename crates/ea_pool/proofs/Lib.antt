@@ -10,3 +10,4 @@ pub mod Rows
 pub mod SoloPops
 pub mod Ranks
 pub mod Leaving
+pub mod Batching

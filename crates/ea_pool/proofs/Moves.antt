@@ -11,19 +11,19 @@ use prog.Atomic.{either}
 use Rattle.atomic_table.specs.Table.{State, step, Act, keeps, takes, gives, Valid, stepped, carried_after, rest, Allows, Splits, Joins, Final, Seen, opening as opening_table}
 use Rattle.atomic_table.proofs.Lists.{set_else, exchanged}
 use Rattle.ea_lists.specs.Totals.{total}
-use Rattle.ea_lists.proofs.Totals.{term_le, total-map}
+use Rattle.ea_lists.proofs.Totals.{term_le, total-append, total-map}
 use Rattle.ea_lists.proofs.Places.{value_at, contains_at}
 use Rattle.ea_pool.specs.declared.entry.Entry.{Entry}
 use Rattle.ea_pool.specs.declared.account.Held.{Held}
 use Rattle.ea_pool.specs.declared.account.SeatMemory.{SeatMemory}
 use Rattle.ea_limits.specs.declared.TheConstants.{SHARES}
 use Rattle.ea_pool.specs.declared.words.TheConstants.{OUT, EMPTY, WORDS_APART}
-use Rattle.ea_pool.specs.Entries.{only, times, SameEntries, IsKnown, face, gathered}
+use Rattle.ea_pool.specs.Entries.{only, times, SameEntries, InSomeOrder, IsKnown, AreKnown, face, gathered}
 use Rattle.ea_pool.specs.States.{first_state, nobody, content_of, held_at, IfHeld, saw, forgot, took, gave, pushed, popped, left_of, newcomer, joined}
 use Rattle.ea_pool.specs.Core.{Core, at_home, AreWords, IsLawful}
 use Rattle.ea_pool.specs.Events.{load, take, give_pushed, give_popped, give_back, split, join, opening, state_of, home_of, with_taken, with_home, with_state, after, MayCome, IsReached}
-use Rattle.ea_pool.specs.Pools.{books, IsRunEnd}
-use Rattle.ea_pool.specs.Plays.{word_place, AreSpread, IsPoolState, Place, value_of, Surveys, Looked, Took, Taken, GavePushed, GavePopped, GaveBack}
+use Rattle.ea_pool.specs.Pools.{books, AreLeft, IsRunEnd}
+use Rattle.ea_pool.specs.Plays.{word_place, AreSpread, IsPoolState, Place, value_of, Surveys, Looked, Took, Taken, PutsPushed, PutsPopped, GavePushed, GavePopped, GaveBack}
 use Rattle.ea_pool.proofs.Weights.{only-same, added_same}
 use Rattle.ea_pool.proofs.Lawful.{Homes, board, empty_homes, unheld_all, balance_alone, balance_whole, surveys, word_low, known_in, unheld_home}
 use Rattle.ea_pool.proofs.Runs.{home_at, reached_lawful, reached_next, reached_take, opening_reached}
@@ -174,55 +174,55 @@ module _ (known : ℕ → ℕ → Type 0) (heaps : ℕ) where
     abbrev carrying : Place
     carrying = (v, (k, es') ∷ [])
 
-    pub gives_pushed : (e : Entry) → SameEntries es' (e ∷ es) → IsKnown known e → Allows Rule n id carrying (word_place k) (λ _. word) (λ _. GavePushed (step n (word_place k) word 0 maybe.none) carrying word)
-    gives_pushed e same may s h wide me _ =
+    pub gives_pushed : (added : List Entry) → SameEntries es' (added ++ es) → AreKnown known added → Allows Rule n id carrying (word_place k) (λ _. word) (λ _. GavePushed (step n (word_place k) word 0 maybe.none) carrying word)
+    gives_pushed added same may s h wide me _ =
         let own = mine s h id v me in
         let long = wide_core s h n wide in
         let inside : k < length h.core.words = omega arith in
-        let event : MayCome known h.core (give_pushed id e es') = subst (λ (u : SeatMemory). (0 < u.shares) × IfHeld u.held (λ xs. SameEntries es' (e ∷ xs)) × IsKnown known e) own
-        (live, subst (λ (held : Option Held). IfHeld held (λ xs. SameEntries es' (e ∷ xs))) (sym holds) same, may) in
-        let reached = subst (λ (u : SeatMemory). IsReached known heaps (with_home h.core id es' (pushed u e) u.held)) (sym own) (reached_next known heaps h.core (give_pushed id e es') h.reached event) in (
-          pushed v e,
+        let event : MayCome known h.core (give_pushed id added es') = subst (λ (u : SeatMemory). (0 < u.shares) × IfHeld u.held (λ xs. SameEntries es' (added ++ xs)) × AreKnown known added) own
+        (live, subst (λ (held : Option Held). IfHeld held (λ xs. SameEntries es' (added ++ xs))) (sym holds) same, may) in
+        let reached = subst (λ (u : SeatMemory). IsReached known heaps (with_home h.core id es' (pushed u added) u.held)) (sym own) (reached_next known heaps h.core (give_pushed id added es') h.reached event) in (
+          pushed v added,
           gives,
           tt,
-          back_home s h id k word (pushed v e) (pushed v e) es' inside is refl (came_home h.core id k v (pushed v e) es es' holds reached),
-          λ d other.
-              let other' : SameEntries es' (d ∷ es) = λ f. other f ∙ ap (λ (h : Option Held). f d + total f (content_of h)) holds in
-              ap (λ (x : Entry). (pushed v x, [])) (added_same e d es' es same other'),
+          back_home s h id k word (pushed v added) (pushed v added) es' inside is refl (came_home h.core id k v (pushed v added) es es' holds reached),
+          λ ds other.
+              let other' : SameEntries es' (ds ++ es) = λ f. other f ∙ ap (λ (h : Option Held). total f (ds ++ content_of h)) holds in
+              (added, added_same added ds es' es same other', refl),
         )
 
-    pub gives_popped : (e : Entry) → SameEntries es (e ∷ es') → Allows Rule n id carrying (word_place k) (λ _. word) (λ _. GavePopped known (step n (word_place k) word 0 maybe.none) carrying word)
-    gives_popped e same s h wide me _ =
+    pub gives_popped : (gone : List Entry) → SameEntries es (gone ++ es') → Allows Rule n id carrying (word_place k) (λ _. word) (λ _. GavePopped known (step n (word_place k) word 0 maybe.none) carrying word)
+    gives_popped gone same s h wide me _ =
         let o = lawful s h in
         let own = mine s h id v me in
         let long = wide_core s h n wide in
         let inside : k < length h.core.words = omega arith in
-        let event : MayCome known h.core (give_popped id e es') = subst (λ (u : SeatMemory). (0 < u.shares) × IfHeld u.held (λ xs. SameEntries xs (e ∷ es'))) own
-        (live, subst (λ (held : Option Held). IfHeld held (λ xs. SameEntries xs (e ∷ es'))) (sym holds) same) in
-        let reached = subst (λ (u : SeatMemory). IsReached known heaps (with_home h.core id es' (popped u e) u.held)) (sym own) (reached_next known heaps h.core (give_popped id e es') h.reached event) in (
-          popped v e,
+        let event : MayCome known h.core (give_popped id gone es') = subst (λ (u : SeatMemory). (0 < u.shares) × IfHeld u.held (λ xs. SameEntries xs (gone ++ es'))) own
+        (live, subst (λ (held : Option Held). IfHeld held (λ xs. SameEntries xs (gone ++ es'))) (sym holds) same) in
+        let reached = subst (λ (u : SeatMemory). IsReached known heaps (with_home h.core id es' (popped u gone) u.held)) (sym own) (reached_next known heaps h.core (give_popped id gone es') h.reached event) in (
+          popped v gone,
           gives,
           tt,
-          back_home s h id k word (popped v e) (popped v e) es' inside is refl (came_home h.core id k v (popped v e) es es' holds reached),
-          λ d other.
-              let other' : SameEntries es (d ∷ es') = λ f. sym (ap (λ (h : Option Held). total f (content_of h)) holds) ∙ other f in
-              let one : e ≡ d = added_same e d es es' same other' in (
-                ap (λ (x : Entry). (popped v x, [])) one,
-                subst (IsKnown known) one (o.known_all e (omega (
+          back_home s h id k word (popped v gone) (popped v gone) es' inside is refl (came_home h.core id k v (popped v gone) es es' holds reached),
+          λ ds other.
+              let other' : SameEntries es (ds ++ es') = λ f. sym (ap (λ (h : Option Held). total f (content_of h)) holds) ∙ other f in
+              let here = λ (e : Entry). ap (λ (h : Option Held). total (only e) (content_of h)) holds in (
+                (gone, added_same gone ds es es' same other', refl),
+                (λ e there. o.known_all e (omega (
                   arith,
                   o.balanced (only e),
                   term_le (λ (a : SeatMemory). total (only e) (content_of a.held)) h.core.seats id v (at_core s h id v me),
-                  ap (λ (h : Option Held). total (only e) (content_of h)) holds,
-                  same (only e),
-                  only-same e,
+                  here e,
+                  other' (only e),
+                  total-append (only e) ds es',
                 ))),
-                λ whole. subst (λ (x : Entry). times x v.popped < times x v.pushed) one (omega (
+                λ whole e. omega (
                   arith,
                   balance_whole known h.core o id v (at_core s h id v me) whole (only e),
-                  ap (λ (h : Option Held). total (only e) (content_of h)) holds,
-                  same (only e),
-                  only-same e,
-                )),
+                  here e,
+                  other' (only e),
+                  total-append (only e) ds es',
+                ),
               ),
         )
 
@@ -268,15 +268,15 @@ module _ (known : ℕ → ℕ → Type 0) (heaps : ℕ) where
       }
 
   -- the same, of a seat that holds the heap alone
-  pub gives_pushed_at : (n id k word : ℕ) (m : Place) (es es' : List Entry) → m.1 ≡ (k, es') ∷ [] → 0 < m.0.shares → k < n → m.0.held ≡ Some (held_at k es) → word ≡ face es' → (e : Entry) → SameEntries es' (e ∷ es) → IsKnown known e
+  pub gives_pushed_at : (n id k word : ℕ) (m : Place) (es es' : List Entry) → m.1 ≡ (k, es') ∷ [] → 0 < m.0.shares → k < n → m.0.held ≡ Some (held_at k es) → word ≡ face es' → (added : List Entry) → SameEntries es' (added ++ es) → AreKnown known added
       → Allows Rule n id m (word_place k) (λ _. word) (λ _. GavePushed (step n (word_place k) word 0 maybe.none) m word)
-  gives_pushed_at n id k word m es es' carries live near holds is e same may =
-      subst (λ (c : List (ℕ × List Entry)). Allows Rule n id (m.0, c) (word_place k) (λ _. word) (λ _. GavePushed (step n (word_place k) word 0 maybe.none) (m.0, c) word)) (sym carries) (gives_pushed n id k word m.0 es es' live near holds is e same may)
+  gives_pushed_at n id k word m es es' carries live near holds is added same may =
+      subst (λ (c : List (ℕ × List Entry)). Allows Rule n id (m.0, c) (word_place k) (λ _. word) (λ _. GavePushed (step n (word_place k) word 0 maybe.none) (m.0, c) word)) (sym carries) (gives_pushed n id k word m.0 es es' live near holds is added same may)
 
-  pub gives_popped_at : (n id k word : ℕ) (m : Place) (es es' : List Entry) → m.1 ≡ (k, es') ∷ [] → 0 < m.0.shares → k < n → m.0.held ≡ Some (held_at k es) → word ≡ face es' → (e : Entry) → SameEntries es (e ∷ es')
+  pub gives_popped_at : (n id k word : ℕ) (m : Place) (es es' : List Entry) → m.1 ≡ (k, es') ∷ [] → 0 < m.0.shares → k < n → m.0.held ≡ Some (held_at k es) → word ≡ face es' → (gone : List Entry) → SameEntries es (gone ++ es')
       → Allows Rule n id m (word_place k) (λ _. word) (λ _. GavePopped known (step n (word_place k) word 0 maybe.none) m word)
-  gives_popped_at n id k word m es es' carries live near holds is e same =
-      subst (λ (c : List (ℕ × List Entry)). Allows Rule n id (m.0, c) (word_place k) (λ _. word) (λ _. GavePopped known (step n (word_place k) word 0 maybe.none) (m.0, c) word)) (sym carries) (gives_popped n id k word m.0 es es' live near holds is e same)
+  gives_popped_at n id k word m es es' carries live near holds is gone same =
+      subst (λ (c : List (ℕ × List Entry)). Allows Rule n id (m.0, c) (word_place k) (λ _. word) (λ _. GavePopped known (step n (word_place k) word 0 maybe.none) (m.0, c) word)) (sym carries) (gives_popped n id k word m.0 es es' live near holds is gone same)
 
   pub gives_back_at : (n id k word : ℕ) (m : Place) (es es' : List Entry) → m.1 ≡ (k, es') ∷ [] → 0 < m.0.shares → k < n → m.0.held ≡ Some (held_at k es) → word ≡ face es' → es' ≡ es
       → Allows Rule n id m (word_place k) (λ _. word) (λ _. GaveBack (step n (word_place k) word 0 maybe.none) m word)
@@ -343,17 +343,17 @@ module _ (known : ℕ → ℕ → Type 0) (heaps : ℕ) where
       account_is = refl;
     }
 
-pub told_popped : (known : ℕ → ℕ → Type 0) (m n : Place) (k : ℕ) (es es' : List Entry) (e : Entry) → m.1 ≡ (k, es') ∷ [] → m.0.held ≡ Some (held_at k es) → SameEntries es (e ∷ es')
-    → ((d : Entry) → SameEntries (content_of m.0.held) (d ∷ value_of m.1) → (n ≡ (popped m.0 d, rest m.1)) × IsKnown known d × (m.0.shares ≡ SHARES → times d m.0.popped < times d m.0.pushed))
-    → (n ≡ (popped m.0 e, [])) × IsKnown known e × (m.0.shares ≡ SHARES → times e m.0.popped < times e m.0.pushed)
-told_popped known m n k es es' e carries holds same told =
-    let t = told e (λ f. ap (λ (h : Option Held). total f (content_of h)) holds ∙ (same f ∙ ap (λ (c : List (ℕ × List Entry)). f e + total f (value_of c)) (sym carries))) in
-    (t.0 ∙ ap (λ (c : List (ℕ × List Entry)). (popped m.0 e, rest c)) carries, t.1, t.2)
+pub told_popped : (known : ℕ → ℕ → Type 0) (m n : Place) (k : ℕ) (es es' gone : List Entry) → m.1 ≡ (k, es') ∷ [] → m.0.held ≡ Some (held_at k es) → SameEntries es (gone ++ es') → PutsPopped known m n
+    → InSomeOrder gone (λ ds. n ≡ (popped m.0 ds, [])) × AreKnown known gone × (m.0.shares ≡ SHARES → AreLeft gone (books m.0))
+told_popped known m n k es es' gone carries holds same told =
+    let t = told gone (λ f. ap (λ (h : Option Held). total f (content_of h)) holds ∙ (same f ∙ ap (λ (c : List (ℕ × List Entry)). total f (gone ++ value_of c)) (sym carries))) in
+    ((t.0.0, t.0.1, t.0.2 ∙ ap (λ (c : List (ℕ × List Entry)). (popped m.0 t.0.0, rest c)) carries), t.1, t.2)
 
-pub told_pushed : (m n : Place) (k : ℕ) (es es' : List Entry) (e : Entry) → m.1 ≡ (k, es') ∷ [] → m.0.held ≡ Some (held_at k es) → SameEntries es' (e ∷ es) → ((d : Entry) → SameEntries (value_of m.1) (d ∷ content_of m.0.held) → n ≡ (pushed m.0 d, rest m.1)) → n ≡ (pushed m.0 e, [])
-told_pushed m n k es es' e carries holds same told =
-    told e (λ f. ap (λ (c : List (ℕ × List Entry)). total f (value_of c)) carries ∙ (same f ∙ ap (λ (h : Option Held). f e + total f (content_of h)) (sym holds)))
-    ∙ ap (λ (c : List (ℕ × List Entry)). (pushed m.0 e, rest c)) carries
+pub told_pushed : (m n : Place) (k : ℕ) (es es' added : List Entry) → m.1 ≡ (k, es') ∷ [] → m.0.held ≡ Some (held_at k es) → SameEntries es' (added ++ es) → PutsPushed m n
+    → InSomeOrder added (λ ds. n ≡ (pushed m.0 ds, []))
+told_pushed m n k es es' added carries holds same told =
+    let t = told added (λ f. ap (λ (c : List (ℕ × List Entry)). total f (value_of c)) carries ∙ (same f ∙ ap (λ (h : Option Held). total f (added ++ content_of h)) (sym holds))) in
+    (t.0, t.1, t.2 ∙ ap (λ (c : List (ℕ × List Entry)). (pushed m.0 t.0, rest c)) carries)
 
 pub took_seen : (known : ℕ → ℕ → Type 0) (m n : Place) (k r seen : ℕ) → r ≡ seen → Took known m k r n → Took known m k seen n
 took_seen known m n k r seen e t = subst (λ (x : ℕ). Took known m k x n) e t

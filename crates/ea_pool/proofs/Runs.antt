@@ -1,5 +1,5 @@
 -- Every run leaves the pool lawful.
-use Rattle.std.proofs.Common.{◌≡◌, ◌≢◌, ℕ, ◌<◌, Bool, true, false, cond, List, ◌∷◌, length, get_or, sym, refl, ap, ◌∙◌, subst, arith, eqb, eqb-true, Option, Some, None}
+use Rattle.std.proofs.Common.{◌≡◌, ◌≢◌, ℕ, ◌<◌, Bool, true, false, cond, List, ◌∷◌, ◌++◌, length, get_or, sym, refl, ap, ◌∙◌, subst, arith, eqb, eqb-true, Option, Some, None}
 use Rattle.std.specs.Prelude.{slice_index}
 use mathlib.Core.Option as maybe
 use lib.ListN.{get_elem?}
@@ -10,7 +10,7 @@ use Rattle.ea_pool.specs.declared.entry.Entry.{Entry}
 use Rattle.ea_pool.specs.declared.account.Held.{Held}
 use Rattle.ea_pool.specs.declared.account.SeatMemory.{SeatMemory}
 use Rattle.ea_pool.specs.declared.words.TheConstants.{OUT}
-use Rattle.ea_pool.specs.Entries.{SameEntries, IsKnown}
+use Rattle.ea_pool.specs.Entries.{SameEntries, AreKnown}
 use Rattle.ea_pool.specs.States.{nobody, content_of, IfHeld, forgot, pushed, popped, gave, joined}
 use Rattle.ea_pool.specs.Core.{Core, at_home, IsLawful}
 use Rattle.ea_pool.specs.Events.{Event, load, take, give_pushed, give_popped, give_back, split, join, opening, state_of, home_of, with_state, with_taken, with_home, after, IsLive, MayCome, after_all, MayRun, IsReached}
@@ -35,15 +35,15 @@ module _ (known : ℕ → ℕ → Type 0) where
       rw e (take_lawful known core o id heap (state_of core id) (home_of core heap) (live_at core.seats id may.0) may.0 may.3 (home_at core o heap may.1 (λ out. may.2 (sym hit ∙ out))))
   take_event core id heap seen o may false e = rw e (miss_lawful known core o id (state_of core id) (live_at core.seats id may.0) may.0)
 
-  push_event : (core : Core) (id : ℕ) (entry : Entry) (content : List Entry) (held : Option Held) → IsLawful known core → IsLive core id → (state_of core id).held ≡ held → IfHeld held (λ es. SameEntries content (entry ∷ es)) → IsKnown known entry
-      → IsLawful known (with_home core id content (pushed (state_of core id) entry) held)
-  push_event core id entry content None o live is same may = absurd same
-  push_event core id entry content (Some h) o live is same may = push_lawful known core o id h.heap (state_of core id) h.content content entry (live_at core.seats id live) live is same may
+  push_event : (core : Core) (id : ℕ) (added content : List Entry) (held : Option Held) → IsLawful known core → IsLive core id → (state_of core id).held ≡ held → IfHeld held (λ es. SameEntries content (added ++ es)) → AreKnown known added
+      → IsLawful known (with_home core id content (pushed (state_of core id) added) held)
+  push_event core id added content None o live is same may = absurd same
+  push_event core id added content (Some h) o live is same may = push_lawful known core o id h.heap (state_of core id) h.content content added (live_at core.seats id live) live is same may
 
-  pop_event : (core : Core) (id : ℕ) (entry : Entry) (content : List Entry) (held : Option Held) → IsLawful known core → IsLive core id → (state_of core id).held ≡ held → IfHeld held (λ es. SameEntries es (entry ∷ content))
-      → IsLawful known (with_home core id content (popped (state_of core id) entry) held)
-  pop_event core id entry content None o live is same = absurd same
-  pop_event core id entry content (Some h) o live is same = pop_lawful known core o id h.heap (state_of core id) h.content content entry (live_at core.seats id live) live is same
+  pop_event : (core : Core) (id : ℕ) (gone content : List Entry) (held : Option Held) → IsLawful known core → IsLive core id → (state_of core id).held ≡ held → IfHeld held (λ es. SameEntries es (gone ++ content))
+      → IsLawful known (with_home core id content (popped (state_of core id) gone) held)
+  pop_event core id gone content None o live is same = absurd same
+  pop_event core id gone content (Some h) o live is same = pop_lawful known core o id h.heap (state_of core id) h.content content gone (live_at core.seats id live) live is same
 
   back_event : (core : Core) (id : ℕ) (held : Option Held) → IsLawful known core → IsLive core id → (state_of core id).held ≡ held → IfHeld held (λ es. Unit {0})
       → IsLawful known (with_home core id (content_of held) (gave (state_of core id)) held)
@@ -53,8 +53,8 @@ module _ (known : ℕ → ℕ → Type 0) where
   step_lawful : (core : Core) (event : Event) → IsLawful known core → MayCome known core event → IsLawful known (after core event)
   step_lawful core (load id heap) o may = load_lawful known core o id heap (state_of core id) (live_at core.seats id may.0) may.0
   step_lawful core (take id heap seen) o may = take_event core id heap seen o may (eqb (slice_index core.words heap) seen) refl
-  step_lawful core (give_pushed id entry content) o may = push_event core id entry content (state_of core id).held o may.0 refl may.1 may.2
-  step_lawful core (give_popped id entry content) o may = pop_event core id entry content (state_of core id).held o may.0 refl may.1
+  step_lawful core (give_pushed id added content) o may = push_event core id added content (state_of core id).held o may.0 refl may.1 may.2
+  step_lawful core (give_popped id gone content) o may = pop_event core id gone content (state_of core id).held o may.0 refl may.1
   step_lawful core (give_back id) o may = back_event core id (state_of core id).held o may.0 refl may.1
   step_lawful core (split id) o may = split_lawful known core o id (state_of core id) (live_at core.seats id (omega arith)) may
   step_lawful core (join id other) o may =

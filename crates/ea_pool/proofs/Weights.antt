@@ -1,9 +1,10 @@
 -- How often an entry is among entries.
-use Rattle.std.proofs.Common.{◌≡◌, ◌<◌, List, ◌∷◌, refl, sym, ap, ◌∙◌, arith, eqb, eq-eqb, ne_eqb, cond, ◌&&◌}
+use Rattle.std.proofs.Common.{◌≡◌, ◌<◌, ◌+◌, ℕ, List, [], ◌∷◌, ◌++◌, refl, sym, ap, ◌∙◌, subst, arith, eqb, eq-eqb, ne_eqb, cond, ◌&&◌}
 use mathlib.Core.Logic.{dite}
 use native.Mathlib.Decide.{ℕ_discrete}
 use Rattle.ea_pool.specs.declared.entry.Entry.{Entry}
-use Rattle.ea_pool.specs.Entries.{only, SameEntries}
+use Rattle.ea_lists.proofs.Totals.{total-append}
+use Rattle.ea_pool.specs.Entries.{only, SameEntries, IsKnown, AreKnown}
 
 pub only-same : (e : Entry) → only e e ≡ 1
 only-same e = ap (λ b. cond (b && eqb e.node e.node) 1 0) (eq-eqb e.key e.key refl) ∙ ap (λ b. cond b 1 0) (eq-eqb e.node e.node refl)
@@ -18,5 +19,15 @@ only-one e x h = dite (ℕ_discrete x.key e.key)
     (λ ne. let z : only e x ≡ 0 = ap (λ b. cond (b && eqb x.node e.node) 1 0) (ne_eqb x.key e.key ne) in absurd (omega arith))
 
 -- what was added to the same entries is the same
-pub added_same : (e d : Entry) (xs ys : List Entry) → SameEntries xs (e ∷ ys) → SameEntries xs (d ∷ ys) → e ≡ d
-added_same e d xs ys a b = only-one e d (omega (arith, a (only e), b (only e), only-same e))
+pub added_same : (es ds xs ys : List Entry) → SameEntries xs (es ++ ys) → SameEntries xs (ds ++ ys) → SameEntries es ds
+added_same es ds xs ys a b = λ f. omega (arith, a f, b f, total-append f es ys, total-append f ds ys)
+
+-- one entry stands in one list only
+pub one_entry : (e : Entry) (ds : List Entry) → SameEntries ds (e ∷ []) → ds ≡ e ∷ []
+one_entry e [] h = absurd (omega (arith, h (only e), only-same e))
+one_entry e (d ∷ []) h = ap (λ (x : Entry). x ∷ []) (sym (only-one e d (omega (arith, h (only e), only-same e))))
+one_entry e (d ∷ x ∷ ds) h = absurd (omega (arith, h (λ _. 1)))
+
+-- and is the one that is there
+pub known_one : (known : ℕ → ℕ → Type 0) (e : Entry) → IsKnown known e → AreKnown known (e ∷ [])
+known_one known e may x there = subst (IsKnown known) (sym (only-one x e (omega arith))) may

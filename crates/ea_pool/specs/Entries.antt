@@ -11,6 +11,14 @@ use Rattle.ea_pool.specs.declared.words.TheConstants.{EMPTY}
 abbrev pub SameEntries : List Entry → List Entry → Type 0
 SameEntries xs ys = (f : Entry → ℕ) → total f xs ≡ total f ys
 
+-- P holds of these entries in some order
+abbrev pub InSomeOrder : List Entry → (List Entry → Type 0) → Type 0
+InSomeOrder es P = (ds : List Entry) × SameEntries ds es × P ds
+
+-- there are some entries more, of which P holds
+abbrev pub HasMore : List Entry → List Entry → (List Entry → Type 0) → Type 0
+HasMore few many P = (es : List Entry) × SameEntries many (es ++ few) × P es
+
 -- 1 for this entry, and 0 for others
 abbrev pub only : Entry → Entry → ℕ
 only e x = cond ((x.key == e.key) && (x.node == e.node)) 1 0
@@ -32,6 +40,20 @@ ComesFirst x y = (x.key ≤ y.key) × (x.key ≡ y.key → x.node ≤ y.node)
 
 abbrev pub IsLeastOf : Entry → List Entry → Type 0
 IsLeastOf x ys = AllByRecursion (ComesFirst x) ys
+
+-- each comes before those behind it
+abbrev pub IsAscending : List Entry → Type 0
+IsAscending [] = Unit {0}
+IsAscending (x ∷ xs) = IsLeastOf x xs × IsAscending xs
+
+-- these entries, in ascending order, are taken out of a content, and none of those that are left comes before one of them
+pub record AreTakenOut (entries content rest : List Entry) : Type 0 where
+  pub parts : SameEntries content (entries ++ rest)
+  pub ascending : IsAscending entries
+  pub least : AllByRecursion (λ e. IsLeastOf e rest) entries
+
+abbrev pub AreLeastOf : List Entry → List Entry → Type 0
+AreLeastOf entries content = (rest : List Entry) × AreTakenOut entries content rest
 
 -- no key is below this entry's
 abbrev pub HasLeastKey : Entry → List Entry → Type 0

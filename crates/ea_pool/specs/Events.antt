@@ -6,16 +6,16 @@ use Rattle.ea_pool.specs.declared.entry.Entry.{Entry}
 use Rattle.ea_pool.specs.declared.account.Held.{Held}
 use Rattle.ea_pool.specs.declared.account.SeatMemory.{SeatMemory}
 use Rattle.ea_pool.specs.declared.words.TheConstants.{EMPTY, OUT}
-use Rattle.ea_pool.specs.Entries.{SameEntries, IsKnown, face}
+use Rattle.ea_pool.specs.Entries.{SameEntries, AreKnown, face}
 use Rattle.ea_pool.specs.States.{first_state, nobody, content_of, IfHeld, saw, forgot, took, pushed, popped, gave, left_of, newcomer, joined}
 use Rattle.ea_pool.specs.Core.{Core, at_home, IsLawful}
 
--- The seat that steps comes first. A take names the heap and the value that was seen; a give-back names the entry and the heap's new content, in whatever order the heap keeps it
+-- The seat that steps comes first. A take names the heap and the value that was seen; a give-back names the entries that went in or came out and the heap's new content, in whatever order the heap keeps it
 pub data Event : Type 0 where
   load : ℕ → ℕ → Event
   take : ℕ → ℕ → ℕ → Event
-  give_pushed : ℕ → Entry → List Entry → Event
-  give_popped : ℕ → Entry → List Entry → Event
+  give_pushed : ℕ → List Entry → List Entry → Event
+  give_popped : ℕ → List Entry → List Entry → Event
   give_back : ℕ → Event
   split : ℕ → Event
   join : ℕ → ℕ → Event
@@ -53,8 +53,8 @@ with_home core id content seat (Some held) = record {
 abbrev pub after : Core → Event → Core
 after core (load id heap) = with_state core id (saw (state_of core id) heap (slice_index core.words heap))
 after core (take id heap seen) = if slice_index core.words heap == seen then with_taken core id heap else with_state core id (forgot (state_of core id))
-after core (give_pushed id entry content) = with_home core id content (pushed (state_of core id) entry) (state_of core id).held
-after core (give_popped id entry content) = with_home core id content (popped (state_of core id) entry) (state_of core id).held
+after core (give_pushed id entries content) = with_home core id content (pushed (state_of core id) entries) (state_of core id).held
+after core (give_popped id entries content) = with_home core id content (popped (state_of core id) entries) (state_of core id).held
 after core (give_back id) = with_home core id (content_of (state_of core id).held) (gave (state_of core id)) (state_of core id).held
 after core (split id) = record { words = core.words; homes = core.homes; seats = slice_set core.seats id (left_of (state_of core id)) ++ newcomer (state_of core id) ∷ [] }
 after core (join id other) = with_state (with_state core id (joined (state_of core id) (state_of core other))) other nobody
@@ -66,8 +66,8 @@ IsLive core id = 0 < (state_of core id).shares
 abbrev pub MayCome : (ℕ → ℕ → Type 0) → Core → Event → Type 0
 MayCome known core (load id heap) = IsLive core id × (heap < length core.words)
 MayCome known core (take id heap seen) = IsLive core id × (heap < length core.words) × (seen ≢ OUT) × ((state_of core id).held ≡ None)
-MayCome known core (give_pushed id entry content) = IsLive core id × IfHeld (state_of core id).held (λ es. SameEntries content (entry ∷ es)) × IsKnown known entry
-MayCome known core (give_popped id entry content) = IsLive core id × IfHeld (state_of core id).held (λ es. SameEntries es (entry ∷ content))
+MayCome known core (give_pushed id entries content) = IsLive core id × IfHeld (state_of core id).held (λ es. SameEntries content (entries ++ es)) × AreKnown known entries
+MayCome known core (give_popped id entries content) = IsLive core id × IfHeld (state_of core id).held (λ es. SameEntries es (entries ++ content))
 MayCome known core (give_back id) = IsLive core id × IfHeld (state_of core id).held (λ es. Unit {0})
 MayCome known core (split id) = 2 ≤ (state_of core id).shares
 MayCome known core (join id other) = IsLive core id × IsLive core other × (other ≢ id) × ((state_of core other).held ≡ None)

@@ -10,3 +10,4 @@ pub mod Seats
 pub mod Tries
 pub mod Solos
 pub mod Left
+pub mod Batches

@@ -1,5 +1,5 @@
 -- A pool as an `atomic_table`, and what its steps tell: of the step, the seat before, the number found and the seat after.
-use Rattle.std.specs.Prelude.{◌≡◌, ◌≢◌, ℕ, ◌+◌, ◌*◌, ◌<◌, ◌≤◌, List, [], ◌∷◌, length, None, slice_index, slice_index_or}
+use Rattle.std.specs.Prelude.{◌≡◌, ◌≢◌, ℕ, ◌+◌, ◌*◌, ◌<◌, ◌≤◌, List, [], ◌∷◌, ◌++◌, length, None, slice_index, slice_index_or}
 use Rattle.std.specs.List.{AllByRecursion}
 use Rattle.atomic_table.specs.Table.{State, Me, Step, rest}
 use Rattle.ea_lists.specs.Totals.{total}
@@ -7,7 +7,7 @@ use Rattle.ea_pool.specs.declared.entry.Entry.{Entry}
 use Rattle.ea_pool.specs.declared.account.SeatMemory.{SeatMemory}
 use Rattle.ea_limits.specs.declared.TheConstants.{SHARES}
 use Rattle.ea_pool.specs.declared.words.TheConstants.{OUT, WORDS_APART}
-use Rattle.ea_pool.specs.Entries.{times, SameEntries, IsKnown, AreKnown, face}
+use Rattle.ea_pool.specs.Entries.{times, SameEntries, InSomeOrder, AreKnown, face}
 use Rattle.ea_pool.specs.States.{content_of, saw, forgot, took, pushed, popped, gave}
 use Rattle.ea_pool.specs.Core.{Core}
 use Rattle.ea_pool.specs.Events.{IsReached}
@@ -62,13 +62,21 @@ module _ (known : ℕ → ℕ → Type 0) where
       × (r ≢ st.first → n ≡ (forgot m.0, m.1))
       × (m.0.shares ≡ SHARES → AllByRecursion (λ p. st.word ≡ word_place p.0 → r ≡ p.1) m.0.seen)
 
-  -- an entry that a seat with all shares takes out is one that was pushed and not popped yet
+  -- A heap was put back without some of its entries. They come out in some order. Those that a seat with all shares takes out
+  -- were pushed and not popped yet
+  abbrev pub PutsPopped : Place → Place → Type 0
+  PutsPopped m n = (es : List Entry) → SameEntries (content_of m.0.held) (es ++ value_of m.1)
+      → InSomeOrder es (λ ds. n ≡ (popped m.0 ds, rest m.1)) × AreKnown known es × (m.0.shares ≡ SHARES → (e : Entry) → times e m.0.popped + times e es ≤ times e m.0.pushed)
+
   abbrev pub GavePopped : Step (List Entry) → Place → ℕ → Place → Type 0
-  GavePopped st m r n = (e : Entry) → SameEntries (content_of m.0.held) (e ∷ value_of m.1)
-      → (n ≡ (popped m.0 e, rest m.1)) × IsKnown known e × (m.0.shares ≡ SHARES → times e m.0.popped < times e m.0.pushed)
+  GavePopped st m r n = PutsPopped m n
+
+-- a heap was put back with some entries more, which went in in some order
+abbrev pub PutsPushed : Place → Place → Type 0
+PutsPushed m n = (es : List Entry) → SameEntries (value_of m.1) (es ++ content_of m.0.held) → InSomeOrder es (λ ds. n ≡ (pushed m.0 ds, rest m.1))
 
 abbrev pub GavePushed : Step (List Entry) → Place → ℕ → Place → Type 0
-GavePushed st m r n = (e : Entry) → SameEntries (value_of m.1) (e ∷ content_of m.0.held) → n ≡ (pushed m.0 e, rest m.1)
+GavePushed st m r n = PutsPushed m n
 
 abbrev pub GaveBack : Step (List Entry) → Place → ℕ → Place → Type 0
 GaveBack st m r n = n ≡ (gave m.0, rest m.1)

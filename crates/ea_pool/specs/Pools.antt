@@ -1,5 +1,5 @@
 -- What contracts say of a seat's account, and of a seat within a call.
-use Rattle.std.specs.Prelude.{◌≡◌, ℕ, ◌<◌, ◌≤◌, List, [], ◌∷◌, map, Some, None, Contains}
+use Rattle.std.specs.Prelude.{◌≡◌, ℕ, ◌+◌, ◌<◌, ◌≤◌, List, [], ◌∷◌, ◌++◌, map, Some, None, Contains}
 use mathlib.Core.Option as maybe
 use Rattle.ea_limits.specs.declared.TheConstants.{HORIZON}
 use Rattle.ea_pool.specs.declared.entry.Entry.{Entry}
@@ -19,6 +19,14 @@ SameBooks a b = (b.shares ≡ a.shares) × (b.pushed ≡ a.pushed) × (b.popped 
 abbrev pub Pushes : Account → Entry → Account → Type 0
 Pushes a e b = (b.shares ≡ a.shares) × (b.pushed ≡ e ∷ a.pushed) × (b.popped ≡ a.popped)
 
+-- it gains these pushed entries, and nothing else changes
+abbrev pub PushesAll : Account → List Entry → Account → Type 0
+PushesAll a es b = (b.shares ≡ a.shares) × SameEntries b.pushed (es ++ a.pushed) × (b.popped ≡ a.popped)
+
+-- it gains these popped entries, and nothing else changes
+abbrev pub PopsAll : Account → List Entry → Account → Type 0
+PopsAll a es b = (b.shares ≡ a.shares) × (b.pushed ≡ a.pushed) × SameEntries b.popped (es ++ a.popped)
+
 -- it gains one popped entry, and nothing else changes
 abbrev pub Pops : Account → Entry → Account → Type 0
 Pops a e b = (b.shares ≡ a.shares) × (b.pushed ≡ a.pushed) × (b.popped ≡ e ∷ a.popped)
@@ -34,6 +42,10 @@ NothingLeft a = SameEntries a.pushed a.popped
 -- or entries, of which this is one
 abbrev pub IsLeft : Entry → Account → Type 0
 IsLeft e a = times e a.popped < times e a.pushed
+
+-- or entries, of which these are some
+abbrev pub AreLeft : List Entry → Account → Type 0
+AreLeft es a = (e : Entry) → times e a.popped + times e es ≤ times e a.pushed
 
 -- and none has a key below this one's
 abbrev pub IsLeastLeft : Entry → Account → Type 0

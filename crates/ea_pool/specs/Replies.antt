@@ -21,14 +21,18 @@ OnBusy (Ok done) P = Unit {0}
 OnBusy (Err (Busy e)) P = P
 OnBusy (Err (OutOfMemory e)) P = Unit {0}
 
--- P where memory was refused to a push
-abbrev pub OnOutOfMemory : Result (Unit {0}) PushRefused → Type 0 → Type 0
-OnOutOfMemory (Ok done) P = Unit {0}
-OnOutOfMemory (Err (Busy e)) P = Unit {0}
-OnOutOfMemory (Err (OutOfMemory e)) P = P
+-- P unless a push was busy
+abbrev pub UnlessBusy : Result (Unit {0}) PushRefused → Type 0 → Type 0
+UnlessBusy (Ok done) P = P
+UnlessBusy (Err (Busy e)) P = Unit {0}
+UnlessBusy (Err (OutOfMemory e)) P = P
 
 -- P of the entry, Q where there was none, and R where the pool was busy
 abbrev pub MatchPopped : Popped → (Entry → Type 0) → Type 0 → Type 0 → Type 0
 MatchPopped (popped.Entry e) P Q R = P e
 MatchPopped popped.Empty P Q R = Q
 MatchPopped popped.Busy P Q R = R
+
+-- P of the entry, where there was one
+abbrev pub OnPopped : Popped → (Entry → Type 0) → Type 0
+OnPopped reply P = MatchPopped reply P (Unit {0}) (Unit {0})

@@ -1,18 +1,20 @@
 -- A pool and its seats, as a contract sees them.
-use Rattle.std.specs.Prelude.{◌≡◌, ℕ, List}
+use Rattle.std.specs.Prelude.{◌≡◌, ℕ, List, Option}
 use Rattle.atomic_table.specs.Seated.{TableId}
 use Rattle.ea_pool.specs.declared.account.Account.{Account}
+use Rattle.ea_pool.specs.declared.account.LastTake.{LastTake}
 
 -- which table the pool is, and its number of heaps
 pub record PoolView : Type 0 where
   pub table : TableId
   pub heaps : ℕ
 
--- whose table's seat it is, its account, and the words that it has seen since its last step of another kind, each with its heap
+-- whose table's seat it is, its account, the words that it has seen since its last step of another kind, each with its heap, and the heap that it took last
 pub record SeatView : Type 0 where
   pub table : TableId
   pub account : Account
   pub seen : List (ℕ × ℕ)
+  pub last_take : Option LastTake
 
 abbrev pub heaps_of : PoolView → ℕ
 heaps_of pool = pool.heaps

@@ -1,23 +1,27 @@
--- What a seat knows, and what each kind of step makes of it. Each step but a load forgets what was seen.
+-- What a seat knows, and what each kind of step makes of it. Each step but a load forgets what was seen, and a take keeps it with the heap.
 use Rattle.std.specs.Prelude.{ℕ, ◌+◌, ◌-◌, ◌<◌, ◌==◌, cond, List, [], ◌∷◌, ◌++◌, Option, Some, None}
 use Rattle.ea_pool.specs.declared.entry.Entry.{Entry}
 use Rattle.ea_pool.specs.declared.account.Held.{Held}
+use Rattle.ea_pool.specs.declared.account.LastTake.{LastTake}
 use Rattle.ea_pool.specs.declared.account.SeatMemory.{SeatMemory}
 use Rattle.ea_limits.specs.declared.TheConstants.{SHARES}
 
-abbrev pub seat_state : ℕ → List Entry → List Entry → Option Held → List (ℕ × ℕ) → SeatMemory
-seat_state shares pushed popped held seen = record { shares = shares; pushed = pushed; popped = popped; held = held; seen = seen }
+abbrev pub seat_state : ℕ → List Entry → List Entry → Option Held → List (ℕ × ℕ) → Option LastTake → SeatMemory
+seat_state shares pushed popped held seen last_take = record { shares = shares; pushed = pushed; popped = popped; held = held; seen = seen; last_take = last_take }
 
 -- a new pool's first seat
 abbrev pub first_state : SeatMemory
-first_state = seat_state SHARES [] [] None []
+first_state = seat_state SHARES [] [] None [] None
 
 -- of a seat that was joined
 abbrev pub nobody : SeatMemory
-nobody = seat_state 0 [] [] None []
+nobody = seat_state 0 [] [] None [] None
 
 abbrev pub held_at : ℕ → List Entry → Held
 held_at heap content = record { heap = heap; content = content }
+
+abbrev pub take_at : ℕ → List Entry → List (ℕ × ℕ) → LastTake
+take_at heap content seen = record { heap = heap; content = content; seen = seen }
 
 -- the entries of the heap that is held
 abbrev pub content_of : Option Held → List Entry
@@ -46,33 +50,33 @@ IsInside heaps (Some h) = h.heap < heaps
 
 -- a load of heap k found the word x
 abbrev pub saw : SeatMemory → ℕ → ℕ → SeatMemory
-saw a k x = seat_state a.shares a.pushed a.popped a.held ((k, x) ∷ a.seen)
+saw a k x = seat_state a.shares a.pushed a.popped a.held ((k, x) ∷ a.seen) a.last_take
 
 -- a take that failed
 abbrev pub forgot : SeatMemory → SeatMemory
-forgot a = seat_state a.shares a.pushed a.popped a.held []
+forgot a = seat_state a.shares a.pushed a.popped a.held [] a.last_take
 
 -- a take of heap k, which has these entries
 abbrev pub took : SeatMemory → ℕ → List Entry → SeatMemory
-took a k es = seat_state a.shares a.pushed a.popped (Some (held_at k es)) []
+took a k es = seat_state a.shares a.pushed a.popped (Some (held_at k es)) [] (Some (take_at k es a.seen))
 
--- the heap was given back after a push, after a pop, and unchanged
-abbrev pub pushed : SeatMemory → Entry → SeatMemory
-pushed a e = seat_state a.shares (e ∷ a.pushed) a.popped None []
+-- the heap was given back after these entries were pushed, after they were popped, and unchanged
+abbrev pub pushed : SeatMemory → List Entry → SeatMemory
+pushed a es = seat_state a.shares (es ++ a.pushed) a.popped None [] a.last_take
 
-abbrev pub popped : SeatMemory → Entry → SeatMemory
-popped a e = seat_state a.shares a.pushed (e ∷ a.popped) None []
+abbrev pub popped : SeatMemory → List Entry → SeatMemory
+popped a es = seat_state a.shares a.pushed (es ++ a.popped) None [] a.last_take
 
 abbrev pub gave : SeatMemory → SeatMemory
-gave a = seat_state a.shares a.pushed a.popped None []
+gave a = seat_state a.shares a.pushed a.popped None [] a.last_take
 
 -- a split: the seat that gives a share, and the new seat
 abbrev pub left_of : SeatMemory → SeatMemory
-left_of a = seat_state (a.shares - 1) a.pushed a.popped a.held []
+left_of a = seat_state (a.shares - 1) a.pushed a.popped a.held [] a.last_take
 
 abbrev pub newcomer : SeatMemory → SeatMemory
-newcomer a = seat_state 1 [] [] None []
+newcomer a = seat_state 1 [] [] None [] None
 
 -- a join: the seat has gained all that the other had
 abbrev pub joined : SeatMemory → SeatMemory → SeatMemory
-joined a b = seat_state (a.shares + b.shares) (a.pushed ++ b.pushed) (a.popped ++ b.popped) a.held []
+joined a b = seat_state (a.shares + b.shares) (a.pushed ++ b.pushed) (a.popped ++ b.popped) a.held [] a.last_take

@@ -1,7 +1,12 @@
 -- What calls that found no entry or no room looked at, in order. Words that were seen stand with their heaps, the newest first.
-use Rattle.std.specs.Prelude.{◌≡◌, ℕ, ◌*◌, ◌<◌, zero, suc, ◌⊎◌, List, [], ◌∷◌}
+use Rattle.std.specs.Prelude.{◌≡◌, ℕ, ◌*◌, ◌<◌, zero, suc, ◌⊎◌, List, [], ◌∷◌, Option, Some, None, min}
+use Rattle.ea_pool.specs.declared.entry.Entry.{Entry}
+use Rattle.ea_pool.specs.declared.account.LastTake.{LastTake}
 use Rattle.ea_pool.specs.declared.words.TheConstants.{OUT}
 use Rattle.ea_pool.specs.Draws.{try_draw}
+use Rattle.ea_pool.specs.Entries.{SameEntries, face, AreLeastOf}
+use Rattle.ea_pool.specs.Solos.{lesser}
+use Rattle.ea_pool.specs.States.{take_at}
 
 -- heap i was looked at and then heap j, and these words were found
 abbrev pub LookedAt : ℕ → ℕ → ℕ → ℕ → List (ℕ × ℕ) → List (ℕ × ℕ) → Type 0
@@ -20,11 +25,32 @@ abbrev pub Missed : ℕ → ℕ → ℕ → List (ℕ × ℕ) → List (ℕ × �
 Missed heaps word zero before after = after ≡ before
 Missed heaps word (suc n) before after = (between : List (ℕ × ℕ)) × Missed heaps word n before between × MissedHeap (try_draw heaps word n) between after
 
--- some tries of a push have missed, fewer than there may be, and then a step followed that forgets what was seen, as giving
--- a heap back does and finding one out doesn't
-pub record RanOut (heaps word : ℕ) (before after : List (ℕ × ℕ)) : Type 0 where
+-- this heap was taken last, after it was looked at. What had been seen before stands behind
+abbrev pub TookThere : ℕ → List (ℕ × ℕ) → Option LastTake → Type 0
+TookThere heap before last = (content : List Entry) × (last ≡ Some (take_at heap content ((heap, face content) ∷ before)))
+
+-- Some tries of a push have missed, fewer than there may be, and the next one took its heap
+pub record TookAtTry (heaps word : ℕ) (before : List (ℕ × ℕ)) (last : Option LastTake) : Type 0 where
   pub tries : ℕ
   pub few : tries < 2 * heaps
   pub between : List (ℕ × ℕ)
   pub missed : Missed heaps word tries before between
-  pub forgot : after ≡ []
+  pub took : TookThere (try_draw heaps word tries) between last
+
+-- This heap was taken last, under this word, and these entries were the least of what it had
+pub record TookLeast (heap word : ℕ) (entries : List Entry) (before : List (ℕ × ℕ)) (last : Option LastTake) : Type 0 where
+  pub content : List Entry
+  pub took : last ≡ Some (take_at heap content before)
+  pub word_is : face content ≡ word
+  pub least : AreLeastOf entries content
+
+-- A pop looked at heap i and then at heap j, and took the one with the lesser word, of two equal words the lower number
+pub record TookLesser (i j : ℕ) (entries : List Entry) (before : List (ℕ × ℕ)) (last : Option LastTake) : Type 0 where
+  pub x : ℕ
+  pub y : ℕ
+  pub took : TookLeast (lesser i (Some x) j (Some y)) (min x y) entries ((j, y) ∷ (i, x) ∷ before) last
+
+-- these entries were all that the heap had that was taken last
+abbrev pub TookAll : List Entry → Option LastTake → Type 0
+TookAll entries None = ⊥
+TookAll entries (Some take) = SameEntries take.content entries

@@ -20,12 +20,20 @@ pub struct Held {
     pub content: LinkedList<Entry>,
 }
 
-/// All that a seat knows between two steps: its account, the heap that it holds, and the heaps that it
-/// looked at since its last step of another kind, each with its word.
+/// The heap that a seat took last with what it had then, and the heaps that the seat had looked at by then, each with its word.
+pub struct LastTake {
+    pub heap: u64,
+    pub content: LinkedList<Entry>,
+    pub seen: LinkedList<(u64, u64)>,
+}
+
+/// All that a seat knows between two steps: its account, the heap that it holds, the heaps that it looked at since its last
+/// step of another kind, each with its word, and the heap that it took last.
 pub struct SeatMemory {
     pub shares: u32,
     pub pushed: LinkedList<Entry>,
     pub popped: LinkedList<Entry>,
     pub held: Option<Held>,
     pub seen: LinkedList<(u64, u64)>,
+    pub last_take: Option<LastTake>,
 }

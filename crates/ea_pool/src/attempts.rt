@@ -1,9 +1,9 @@
 //! Attempts: a heap is taken, used and put back.
-ghost use Rattle.std.specs.Prelude.{◌≡◌, ◌≢◌, ◌*◌, ◌<◌, false, [], IfErr, OnOk};
+ghost use Rattle.std.specs.Prelude.{◌≡◌, ◌≢◌, ◌*◌, ◌<◌, false, [], ◌∷◌, IfErr, OnOk};
 ghost use Rattle.std.specs.List.{AllByRecursion};
 ghost use Rattle.ea_pool.specs.Pools.{Rests, books, SameBooks, Pushes, Pops, IsLeft, IsLeastLeft, NothingLeft};
-ghost use Rattle.ea_pool.specs.Replies.{handed_back, is_busy, OnBusy, OnOutOfMemory, MatchPopped};
-ghost use Rattle.ea_pool.specs.Tries.{LookedAt, WasBusy, MissedHeap, Missed, RanOut};
+ghost use Rattle.ea_pool.specs.Replies.{handed_back, is_busy, OnBusy, UnlessBusy, MatchPopped, OnPopped};
+ghost use Rattle.ea_pool.specs.Tries.{LookedAt, WasBusy, MissedHeap, Missed, TookThere, TookAtTry, TookLeast, TookLesser};
 
 use crate::SHARES;
 use crate::draws::{draw_try, pick};
@@ -32,7 +32,7 @@ impl<K: Known, A: Allocator> Pool<K, A> {
         ensures refused { IfErr result (λ refused.
             (handed_back refused ≡ entry) × SameBooks (books seat.old.me.0) (books seat.new.me.0)) }
         ensures missed { OnBusy result (MissedHeap heap seat.old.me.0.seen seat.new.me.0.seen) }
-        ensures forgot { OnOutOfMemory result (seat.new.me.0.seen ≡ []) }
+        ensures took { UnlessBusy result (TookThere heap seat.old.me.0.seen seat.new.me.0.last_take) }
         ensures alone { seat.old.me.0.shares ≡ SHARES
             → IfErr result (λ refused. is_busy refused ≡ false) }
     {
@@ -42,7 +42,7 @@ impl<K: Known, A: Allocator> Pool<K, A> {
         }
         match self.push_in(seat, heap, entry) {
             (Ok(()), word) => {
-                self.give_pushed(seat, heap, word, entry);
+                self.give_pushed(seat, heap, word);
                 Ok(())
             }
             (Err(back), word) => {
@@ -64,6 +64,8 @@ impl<K: Known, A: Allocator> Pool<K, A> {
             × K.is_known entry.node entry.key × (entry.key ≡ seen))
             ⊥
             (SameBooks (books seat.old.me.0) (books seat.new.me.0) × (seat.new.me.0.seen ≡ [])) }
+        ensures took { OnPopped result (λ entry.
+            TookLeast heap seen (entry ∷ []) seat.old.me.0.seen seat.new.me.0.last_take) }
         ensures alone { seat.old.me.0.shares ≡ SHARES → AllByRecursion
             (λ p. heap ≡ p.0 → seen ≡ p.1 → MatchPopped result (λ _. Unit {0}) ⊥ ⊥) seat.old.me.0.seen }
         ensures left { seat.old.me.0.shares ≡ SHARES
@@ -74,7 +76,7 @@ impl<K: Known, A: Allocator> Pool<K, A> {
         }
         match self.pop_in(seat, heap) {
             (Some(entry), word) => {
-                self.give_popped(seat, heap, word, entry);
+                self.give_popped(seat, heap, word);
                 Popped::Entry(entry)
             }
             (None, _) => unreachable!(),
@@ -98,8 +100,8 @@ impl<K: Known, A: Allocator> Pool<K, A> {
             (handed_back refused ≡ entry) × SameBooks (books seat.old.me.0) (books seat.new.me.0)) }
         ensures missed { OnBusy result
             (Missed self.now.heaps word (2 * self.now.heaps) seat.old.me.0.seen seat.new.me.0.seen) }
-        ensures ran_out { OnOutOfMemory result
-            (RanOut self.now.heaps word seat.old.me.0.seen seat.new.me.0.seen) }
+        ensures took { UnlessBusy result
+            (TookAtTry self.now.heaps word seat.old.me.0.seen seat.new.me.0.last_take) }
         ensures alone { seat.old.me.0.shares ≡ SHARES
             → IfErr result (λ refused. is_busy refused ≡ false) }
     {
@@ -127,6 +129,8 @@ impl<K: Known, A: Allocator> Pool<K, A> {
         ensures looked { MatchPopped result (λ entry. Unit {0})
             (LookedAt i EMPTY j EMPTY seat.old.me.0.seen seat.new.me.0.seen)
             (WasBusy i j seat.old.me.0.seen seat.new.me.0.seen) }
+        ensures lesser { OnPopped result (λ entry.
+            TookLesser i j (entry ∷ []) seat.old.me.0.seen seat.new.me.0.last_take) }
         ensures alone { seat.old.me.0.shares ≡ SHARES → MatchPopped result (λ _. Unit {0}) (Unit {0}) ⊥ }
         ensures least { seat.old.me.0.shares ≡ SHARES → self.now.heaps ≡ 2 → MatchPopped result
             (λ entry. IsLeastLeft entry (books seat.old.me.0)) (NothingLeft (books seat.old.me.0)) ⊥ }

@@ -1,10 +1,10 @@
 //! What callers do with a shared pool.
-ghost use Rattle.std.specs.Prelude.{◌≡◌, ◌+◌, ◌*◌, ◌<◌, false, ◌++◌, IfErr, OnOk};
+ghost use Rattle.std.specs.Prelude.{◌≡◌, ◌+◌, ◌*◌, ◌<◌, false, [], ◌∷◌, ◌++◌, IfErr, OnOk};
 ghost use Rattle.ea_pool.specs.Pools.{SameBooks, Pushes, Pops, Opened, IsLeastLeft, NothingLeft};
 ghost use Rattle.ea_pool.specs.Draws.{first_draw, second_draw};
-ghost use Rattle.ea_pool.specs.Replies.{handed_back, is_busy, OnBusy, OnOutOfMemory, MatchPopped};
+ghost use Rattle.ea_pool.specs.Replies.{handed_back, is_busy, OnBusy, UnlessBusy, MatchPopped, OnPopped};
 ghost use Rattle.ea_pool.specs.Seats.{account_of, heaps_of, IsSeatOf};
-ghost use Rattle.ea_pool.specs.Tries.{LookedAt, WasBusy, Missed, RanOut};
+ghost use Rattle.ea_pool.specs.Tries.{LookedAt, WasBusy, Missed, TookAtTry, TookLesser};
 
 use crate::SHARES;
 use crate::draws::{draw_first, draw_second};
@@ -38,9 +38,9 @@ impl<K: Known, A: Allocator> Pool<K, A> {
         // Each of the 2H tries, in turn, found its heap out or failed to take it.
         ensures missed { OnBusy result
             (Missed (heaps_of self.now) word (2 * heaps_of self.now) seat.old.seen seat.new.seen) }
-        // Memory is refused at a try after others that missed, and never at a heap that is out.
-        ensures ran_out { OnOutOfMemory result
-            (RanOut (heaps_of self.now) word seat.old.seen seat.new.seen) }
+        // After others that missed, one of the tries took its heap: there the entry went in, or memory was refused.
+        ensures took { UnlessBusy result
+            (TookAtTry (heaps_of self.now) word seat.old.seen seat.new.last_take) }
         ensures alone { (account_of seat.old).shares ≡ SHARES
             → IfErr result (λ refused. is_busy refused ≡ false) }
     {
@@ -63,6 +63,10 @@ impl<K: Known, A: Allocator> Pool<K, A> {
             MatchPopped result (λ _. Unit {0})
             (LookedAt i EMPTY j EMPTY seat.old.seen seat.new.seen)
             (WasBusy i j seat.old.seen seat.new.seen) }
+        // It took the one with the lesser word, and the least entry of that.
+        ensures lesser { let i = first_draw (heaps_of self.now) first in
+            let j = second_draw (heaps_of self.now) first second in
+            OnPopped result (λ entry. TookLesser i j (entry ∷ []) seat.old.seen seat.new.last_take) }
         ensures alone { (account_of seat.old).shares ≡ SHARES
             → MatchPopped result (λ _. Unit {0}) (Unit {0}) ⊥ }
         ensures least { (account_of seat.old).shares ≡ SHARES → heaps_of self.now ≡ 2

@@ -1,9 +1,13 @@
 //! Which heaps a call looks at.
-ghost use Rattle.std.specs.Prelude.{◌≡◌, ◌≢◌, ◌*◌, ◌<◌, ◌≤◌, ◌⊎◌, min};
+ghost use Rattle.std.specs.Prelude.{◌≡◌, ◌≢◌, ◌*◌, ◌<◌, ◌≤◌, ◌⊎◌, min, Some};
 ghost use Rattle.ea_pool.specs.Draws.{first_draw, second_draw, try_draw};
+ghost use Rattle.ea_pool.specs.Solos.{lesser};
+
+use crate::words::MOST_IN_POOL;
+use ea_limits::LEAST_HEAPS;
 
 pub fn draw_first(heaps: usize, first: u64) -> usize
-    requires { (2 ≤ heaps) × (heaps ≤ 128) }
+    requires { (LEAST_HEAPS ≤ heaps) × (heaps ≤ MOST_IN_POOL) }
     ensures draw { result ≡ first_draw heaps first }
     ensures near { result < heaps }
 {
@@ -11,7 +15,7 @@ pub fn draw_first(heaps: usize, first: u64) -> usize
 }
 
 pub fn draw_second(heaps: usize, first: u64, second: u64) -> usize
-    requires { (2 ≤ heaps) × (heaps ≤ 128) }
+    requires { (LEAST_HEAPS ≤ heaps) × (heaps ≤ MOST_IN_POOL) }
     ensures draw { result ≡ second_draw heaps first second }
     ensures near { result < heaps }
     ensures other { result ≢ first_draw heaps first }
@@ -24,7 +28,7 @@ pub fn draw_second(heaps: usize, first: u64, second: u64) -> usize
 
 // The heap of a push's attempt, from 0: from the first draw on, in turn.
 pub fn draw_try(heaps: usize, word: u64, attempt: usize) -> usize
-    requires { (2 ≤ heaps) × (heaps ≤ 128) × (attempt < 2 * heaps) }
+    requires { (LEAST_HEAPS ≤ heaps) × (heaps ≤ MOST_IN_POOL) × (attempt < 2 * heaps) }
     ensures draw { result ≡ try_draw heaps word attempt }
     ensures near { result < heaps }
 {
@@ -37,7 +41,7 @@ pub fn draw_try(heaps: usize, word: u64, attempt: usize) -> usize
 pub fn pick(i: usize, x: u64, j: usize, y: u64) -> (usize, u64)
     ensures one { (result ≡ (i, x)) ⊎ (result ≡ (j, y)) }
     ensures least { result.1 ≡ min x y }
-    ensures tie { x ≡ y → result.0 ≡ min i j }
+    ensures lesser { result.0 ≡ lesser i (Some x) j (Some y) }
 {
     if y < x || (y == x && j < i) {
         (j, y)

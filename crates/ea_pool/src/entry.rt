@@ -1,7 +1,7 @@
 //! What a heap holds.
 
 /// A node to be looked at, and the time at which it was reached. Entries are ordered by key, then by node.
-#[derive(Clone, Copy, PartialEq, Eq, PartialOrd, Ord, Debug)]
+#[derive(Clone, Copy, Default, PartialEq, Eq, PartialOrd, Ord, Debug)]
 pub struct Entry {
     /// A time, from 0 to HORIZON.
     pub key: u64,

@@ -3,6 +3,8 @@
 
 mod account;
 mod attempts;
+mod batch;
+mod batches;
 mod calls;
 mod closed;
 mod draws;
@@ -20,14 +22,17 @@ mod steps;
 mod tests;
 mod words;
 
-pub use account::{Account, Held, SeatMemory};
+pub use account::{Account, Held, LastTake, SeatMemory};
+pub use batch::Batch;
 pub use closed::ClosedPool;
 pub use ea_limits::SHARES;
 pub use entry::Entry;
-pub use law::{every_run_is_lawful, words_stand_apart};
+pub use law::{
+    a_batch_is_short, a_pool_serves_all_workers, every_run_is_lawful, words_stand_apart,
+};
 pub use pool::Pool;
-pub use reply::{Popped, PushRefused};
+pub use reply::{Popped, PoppedSome, PushAllRefused, PushRefused};
 pub use seat::PoolSeat;
 pub use solo::{Solo, rank_is_bounded};
 pub use std::alloc::AllocError as OutOfMemory;
-pub use words::{EMPTY, OUT, WORDS_APART};
+pub use words::{EMPTY, MOST_IN_BATCH, MOST_IN_POOL, OUT, WORDS_APART};

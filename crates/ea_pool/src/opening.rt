@@ -8,9 +8,10 @@ use crate::closed::ClosedPool;
 use crate::least::LeastHeap;
 use crate::pool::Pool;
 use crate::seat::PoolSeat;
-use crate::words::{EMPTY, WORDS_APART};
+use crate::words::{EMPTY, MOST_IN_POOL, WORDS_APART};
 use crate::{OutOfMemory, SHARES};
 use atomic_table::Table;
+use ea_limits::LEAST_HEAPS;
 use ea_road::Known;
 use std::alloc::Allocator;
 use std::marker::PhantomData;
@@ -33,7 +34,7 @@ impl<K: Known, A: Allocator + Copy> Pool<K, A> {
     /// It takes the memory for `close` too, and reserves nothing for entries. Err comes only where
     /// memory was refused.
     pub fn open(alloc: A, heaps: usize) -> Result<(Pool<K, A>, PoolSeat<K, A>), OutOfMemory>
-        requires { (2 ≤ heaps) × (heaps ≤ 128) }
+        requires { (LEAST_HEAPS ≤ heaps) × (heaps ≤ MOST_IN_POOL) }
         ensures pool { IfOk result (λ made. heaps_of made.0 ≡ heaps) }
         ensures seat { IfOk result (λ made. IsSeatOf made.0 made.1 × Opened SHARES (account_of made.1)) }
     {

@@ -21,7 +21,8 @@ pub struct Pool<K: Known, A: Allocator = Global> {
 impl<K: Known, A: Allocator> Model for Pool<K, A> {
     ghost use Rattle.std.specs.Prelude.{◌≡◌, ◌+◌, ◌*◌, ◌≤◌};
     ghost use Rattle.std.specs.Vec.{vec_len, vec_capacity};
-    ghost use Rattle.ea_pool.specs.declared.words.TheConstants.{WORDS_APART};
+    ghost use Rattle.ea_limits.specs.declared.TheConstants.{LEAST_HEAPS};
+    ghost use Rattle.ea_pool.specs.declared.words.TheConstants.{MOST_IN_POOL, WORDS_APART};
     ghost use Rattle.ea_pool.specs.Seats.{PoolView};
 
     ghost Value = { PoolView };
@@ -30,5 +31,6 @@ impl<K: Known, A: Allocator> Model for Pool<K, A> {
 
     ghost invariant = { λ p. (p.table.shared.table_id.words ≡ WORDS_APART * (p.heaps + 1))
         × (p.table.shared.table_id.slots ≡ p.heaps) × (p.table.shared.key ≡ p.heaps)
-        × (2 ≤ p.heaps) × (p.heaps ≤ 128) × (vec_len p.spare ≡ 0) × (p.heaps ≤ vec_capacity p.spare) };
+        × (LEAST_HEAPS ≤ p.heaps) × (p.heaps ≤ MOST_IN_POOL)
+        × (vec_len p.spare ≡ 0) × (p.heaps ≤ vec_capacity p.spare) };
 }

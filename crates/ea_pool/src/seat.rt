@@ -9,8 +9,8 @@ use std::marker::{Model, PhantomData};
 
 pub(crate) type Seat<A> = atomic_table::Seat<LeastHeap<A>, SeatMemory>;
 
-/// The right to step on one pool. Contracts see which table it is, the seat's account (its shares,
-/// and what it has pushed and popped), and the words that it saw last.
+/// The right to step on one pool. Contracts see which table it is, the seat's account (its shares, and what it has pushed and
+/// popped), the words that it saw last, and the heap that it took last.
 #[derive(Drop)]
 pub struct PoolSeat<K, A: Allocator = Global> {
     pub(crate) seat: Seat<A>,
@@ -26,7 +26,12 @@ impl<K, A: Allocator> Model for PoolSeat<K, A> {
 
     ghost Value = { SeatView };
 
-    ghost view = { λ s. record { table = s.seat.table_id; account = books s.seat.me.0; seen = s.seat.me.0.seen } };
+    ghost view = { λ s. record {
+      table = s.seat.table_id;
+      account = books s.seat.me.0;
+      seen = s.seat.me.0.seen;
+      last_take = s.seat.me.0.last_take;
+    } };
 
     ghost invariant = { λ s. Rests s.seat.me × (s.shares ≡ s.seat.me.0.shares) × (s.shares ≤ SHARES) };
 }

@@ -9,6 +9,8 @@ use crate::draws::{draw_first, draw_second};
 use crate::entry::Entry;
 use crate::least::LeastHeap;
 use crate::opening::empty_heaps;
+use crate::words::MOST_IN_POOL;
+use ea_limits::LEAST_HEAPS;
 use std::alloc::{Allocator, Global};
 use std::marker::Model;
 
@@ -20,13 +22,16 @@ pub struct Solo<A: Allocator = Global> {
 
 impl<A: Allocator> Model for Solo<A> {
     ghost use Rattle.std.specs.Prelude.{◌≤◌, List, length};
+    ghost use Rattle.ea_limits.specs.declared.TheConstants.{LEAST_HEAPS};
     ghost use Rattle.ea_pool.specs.declared.entry.Entry.{Entry};
+    ghost use Rattle.ea_pool.specs.declared.words.TheConstants.{MOST_IN_POOL};
 
     ghost Value = { List (List Entry) };
 
     ghost view = { λ s. s.heaps.items };
 
-    ghost invariant = { λ s. (2 ≤ length s.heaps.items) × (length s.heaps.items ≤ 128) };
+    ghost invariant = { λ s. (LEAST_HEAPS ≤ length s.heaps.items)
+        × (length s.heaps.items ≤ MOST_IN_POOL) };
 }
 
 // The heap with the smaller least key, on equal keys the one with the lower number.
@@ -51,7 +56,7 @@ fn choose(i: usize, x: Option<u64>, j: usize, y: Option<u64>) -> usize
 impl<A: Allocator + Copy> Solo<A> {
     /// This many heaps, 2 to 128, with no entry. Err comes only where memory was refused.
     pub fn new(alloc: A, heaps: usize) -> Result<Solo<A>, OutOfMemory>
-        requires { (2 ≤ heaps) × (heaps ≤ 128) }
+        requires { (LEAST_HEAPS ≤ heaps) × (heaps ≤ MOST_IN_POOL) }
         ensures { IfOk result (λ solo. solo ≡ replicate heaps []) }
     {
         let heaps = empty_heaps(alloc, heaps)?;

@@ -1,10 +1,10 @@
 //! The steps of a pool: on a word, and on a heap that is out.
-ghost use Rattle.std.specs.Prelude.{◌≡◌, ◌≢◌, ◌<◌, ◌≤◌, true, false, [], ◌∷◌, MatchResult, MatchOption};
+ghost use Rattle.std.specs.Prelude.{◌≡◌, ◌≢◌, ◌<◌, ◌≤◌, true, false, [], ◌∷◌, ◌++◌, MatchResult, MatchOption};
 ghost use Rattle.std.specs.List.{AllByRecursion};
-ghost use Rattle.ea_pool.specs.Entries.{SameEntries, IsLeastOf, face};
-ghost use Rattle.ea_pool.specs.Plays.{Surveys, Took};
-ghost use Rattle.ea_pool.specs.States.{saw, forgot, pushed, popped, gave};
-ghost use Rattle.ea_pool.specs.Pools.{Rests, books, HoldsHeap, IsHeld, IsLeft, AreInTime};
+ghost use Rattle.ea_pool.specs.Entries.{SameEntries, HasMore, IsLeastOf, AreKnown, face};
+ghost use Rattle.ea_pool.specs.Plays.{Surveys, Took, PutsPushed, PutsPopped};
+ghost use Rattle.ea_pool.specs.States.{saw, forgot, gave};
+ghost use Rattle.ea_pool.specs.Pools.{Rests, HoldsHeap, IsHeld, AreInTime};
 
 use crate::SHARES;
 use crate::entry::Entry;
@@ -17,7 +17,7 @@ use ea_road::Known;
 use std::alloc::Allocator;
 
 // The word under which the heap is put back.
-fn word_for<A: Allocator>(heap: &LeastHeap<A>) -> u64
+pub(crate) fn word_for<A: Allocator>(heap: &LeastHeap<A>) -> u64
     requires { AreInTime heap.now }
     ensures { result ≡ face heap.now }
 {
@@ -94,36 +94,29 @@ impl<K: Known, A: Allocator> Pool<K, A> {
         (answer, word_for(held))
     }
 
-    // Puts the heap back, with one entry more than it had.
-    pub(crate) fn give_pushed(&self, seat: &mut Seat<A>, heap: usize, word: u64, entry: Entry)
+    // Puts the heap back, with some entries more than it had.
+    pub(crate) fn give_pushed(&self, seat: &mut Seat<A>, heap: usize, word: u64)
         requires table { (seat.old.table_id ≡ self.now.table) × (heap < self.now.heaps) }
         requires share { 0 < seat.old.me.0.shares }
-        requires known { K.is_known entry.node entry.key }
         requires held { HoldsHeap seat.old.me heap (λ left. IsHeld seat.old.me.0 heap (λ es.
-            SameEntries left (entry ∷ es) × (word ≡ face left))) }
+            (word ≡ face left) × HasMore es left (AreKnown K.is_known))) }
         ensures table { seat.new.table_id ≡ seat.old.table_id }
-        ensures pushed { seat.new.me ≡ (pushed seat.old.me.0 entry, []) }
+        ensures pushed { PutsPushed seat.old.me seat.new.me }
     {
-        // The entry is for the contract alone.
-        let _ = entry;
         self.table
             .shared
             .store::<GivePushed>(seat, WORDS_APART * (heap + 1), word);
     }
 
-    // Puts the heap back, with this entry less than it had.
-    pub(crate) fn give_popped(&self, seat: &mut Seat<A>, heap: usize, word: u64, entry: Entry)
+    // Puts the heap back, with some entries less than it had.
+    pub(crate) fn give_popped(&self, seat: &mut Seat<A>, heap: usize, word: u64)
         requires table { (seat.old.table_id ≡ self.now.table) × (heap < self.now.heaps) }
         requires share { 0 < seat.old.me.0.shares }
         requires held { HoldsHeap seat.old.me heap (λ left. IsHeld seat.old.me.0 heap (λ es.
-            SameEntries es (entry ∷ left) × (word ≡ face left))) }
+            (word ≡ face left) × HasMore left es (λ _. Unit {0}))) }
         ensures table { seat.new.table_id ≡ seat.old.table_id }
-        ensures popped { seat.new.me ≡ (popped seat.old.me.0 entry, []) }
-        ensures known { K.is_known entry.node entry.key }
-        ensures alone { seat.old.me.0.shares ≡ SHARES → IsLeft entry (books seat.old.me.0) }
+        ensures popped { PutsPopped K.is_known seat.old.me seat.new.me }
     {
-        // The entry is for the contract alone.
-        let _ = entry;
         self.table
             .shared
             .store::<GivePopped<K>>(seat, WORDS_APART * (heap + 1), word);

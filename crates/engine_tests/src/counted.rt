@@ -1,8 +1,8 @@
 //! The worked examples, by their counters.
 use crate::constant::Constant;
 use crate::given::{FOUR_NODES, pose};
-use ea_engine::{Answer, Crew, Flow, NoGate, Settings, Turn, TurnKind, solve};
-use ea_road::is_problem;
+use crate::ran::{run_crew, run_one, run_with};
+use ea_engine::{Answer, Flow, NoGate, Turn, TurnKind};
 use rand_core::SeedableRng;
 use rand_xoshiro::Xoshiro256PlusPlus;
 use std::sync::atomic::{AtomicU64, Ordering};
@@ -36,55 +36,32 @@ fn is_right(turn: &Turn) -> bool {
 fn one_worker(rt: HostRuntime) -> Result<(), Fail> {
     let alloc = rt.alloc();
     let given = pose(alloc, 4, &FOUR_NODES, &[(1, 0)])?.ok_or("rows")?;
-    if !is_problem(&given.network, given.times.classes(), &given.query) {
-        assert!(rt; false);
-        return Ok(());
-    }
     let calls = AtomicU64::new(0);
     let right = AtomicU64::new(0);
     let (shown, rights) = (&calls, &right);
-    let mut rngs = Vec::new(alloc);
-    rngs.push(Xoshiro256PlusPlus::seed_from_u64(1))?;
-    let mut tracers = Vec::new(alloc);
-    tracers.push(move |turn: Turn| -> Flow {
+    let tracer = move |turn: Turn| -> Flow {
         if shown.fetch_add(1, Ordering::SeqCst) == turn.number && is_right(&turn) {
             rights.fetch_add(1, Ordering::SeqCst);
         }
         Flow::Go
-    })?;
-    let settings = Settings {
-        workers: 1,
-        heaps: 2,
-        turns: 100,
     };
-    let solved = solve(
-        alloc,
-        &rt,
-        &given.network,
-        &given.times,
-        &given.query,
-        Crew {
-            settings,
-            rngs,
-            gate: &NoGate,
-            tracers,
-        },
-    )?;
+    let ran = run_one(alloc, &rt, &given, 100, tracer)?.ok_or("problem")?;
     assert_eq!(rt; calls.load(Ordering::SeqCst), 38);
     assert_eq!(rt; right.load(Ordering::SeqCst), 38);
-    assert!(rt; has_four(&solved.answer));
-    assert_eq!(rt; solved.seeded, 1);
-    assert_eq!(rt; solved.returned, 0);
-    assert_eq!(rt; solved.drained, 0);
-    assert_eq!(rt; solved.finish, 0);
-    assert_eq!(rt; solved.counters.len(), 1);
-    let counters = solved.counters[0];
-    assert_eq!(rt; counters.turns, 38);
-    assert_eq!(rt; counters.empty, 32);
-    assert_eq!(rt; counters.popped, 6);
-    assert_eq!(rt; counters.stale, 2);
-    assert_eq!(rt; counters.scanned, 4);
-    assert_eq!(rt; counters.pushed, 5);
+    assert!(rt; has_four(&ran.answer));
+    assert_eq!(rt;
+        (ran.seeded, ran.returned, ran.drained, ran.finish),
+        (1, 0, 0, 0)
+    );
+    let counters = ran.counters;
+    assert_eq!(rt;
+        (counters.turns, counters.empty, counters.popped),
+        (38, 32, 6)
+    );
+    assert_eq!(rt;
+        (counters.stale, counters.scanned, counters.pushed),
+        (2, 4, 5)
+    );
     Ok(())
 }
 
@@ -102,44 +79,18 @@ fn has_four(answer: &Answer) -> bool {
 fn no_turns(rt: HostRuntime) -> Result<(), Fail> {
     let alloc = rt.alloc();
     let given = pose(alloc, 4, &FOUR_NODES, &[(1, 0)])?.ok_or("rows")?;
-    if !is_problem(&given.network, given.times.classes(), &given.query) {
-        assert!(rt; false);
-        return Ok(());
-    }
     let mut rngs = Vec::new(alloc);
-    let mut tracers = Vec::new(alloc);
     for seed in 0..4 {
         rngs.push(Xoshiro256PlusPlus::seed_from_u64(seed))?;
-        tracers.push(|_turn: Turn| -> Flow { Flow::Go })?;
     }
-    if rngs.len() != 4 || tracers.len() != 4 {
-        assert!(rt; false);
-        return Ok(());
-    }
-    let settings = Settings {
-        workers: 4,
-        heaps: 2,
-        turns: 0,
-    };
-    let solved = solve(
-        alloc,
-        &rt,
-        &given.network,
-        &given.times,
-        &given.query,
-        Crew {
-            settings,
-            rngs,
-            gate: &NoGate,
-            tracers,
-        },
-    )?;
-    assert!(rt; has_four(&solved.answer));
-    assert_eq!(rt; solved.seeded, 1);
-    assert_eq!(rt; solved.returned, 0);
-    assert_eq!(rt; solved.drained, 1);
-    assert_eq!(rt; solved.finish, 1);
-    for counters in &solved.counters {
+    let came = run_crew(alloc, &rt, &given, 2, 0, rngs, &NoGate)?.ok_or("problem")?;
+    assert!(rt; has_four(&came.answer));
+    assert_eq!(rt;
+        (came.seeded, came.returned, came.drained, came.finish),
+        (1, 0, 1, 1)
+    );
+    assert_eq!(rt; came.counters.len(), 4);
+    for counters in &came.counters {
         assert_eq!(rt; counters.turns, 0);
     }
     Ok(())
@@ -149,37 +100,13 @@ fn no_turns(rt: HostRuntime) -> Result<(), Fail> {
 fn leave_at_once(rt: HostRuntime) -> Result<(), Fail> {
     let alloc = rt.alloc();
     let given = pose(alloc, 4, &FOUR_NODES, &[(1, 0)])?.ok_or("rows")?;
-    if !is_problem(&given.network, given.times.classes(), &given.query) {
-        assert!(rt; false);
-        return Ok(());
-    }
-    let mut rngs = Vec::new(alloc);
-    rngs.push(Xoshiro256PlusPlus::seed_from_u64(1))?;
-    let mut tracers = Vec::new(alloc);
-    tracers.push(|_turn: Turn| -> Flow { Flow::Leave })?;
-    let settings = Settings {
-        workers: 1,
-        heaps: 2,
-        turns: 100,
-    };
-    let solved = solve(
-        alloc,
-        &rt,
-        &given.network,
-        &given.times,
-        &given.query,
-        Crew {
-            settings,
-            rngs,
-            gate: &NoGate,
-            tracers,
-        },
-    )?;
-    assert!(rt; has_four(&solved.answer));
-    assert_eq!(rt; solved.drained, 2);
-    assert_eq!(rt; solved.finish, 2);
-    assert_eq!(rt; solved.counters.len(), 1);
-    let counters = solved.counters[0];
+    let ran = run_one(alloc, &rt, &given, 100, |_turn: Turn| -> Flow {
+        Flow::Leave
+    })?
+    .ok_or("problem")?;
+    assert!(rt; has_four(&ran.answer));
+    assert_eq!(rt; (ran.drained, ran.finish), (2, 2));
+    let counters = ran.counters;
     assert_eq!(rt;
         (counters.pushed, counters.popped, counters.scanned),
         (2, 1, 1)
@@ -191,36 +118,19 @@ fn leave_at_once(rt: HostRuntime) -> Result<(), Fail> {
 fn eight_heaps(rt: HostRuntime) -> Result<(), Fail> {
     let alloc = rt.alloc();
     let given = pose(alloc, 4, &FOUR_NODES, &[(1, 0)])?.ok_or("rows")?;
-    if !is_problem(&given.network, given.times.classes(), &given.query) {
-        assert!(rt; false);
-        return Ok(());
-    }
-    let mut rngs = Vec::new(alloc);
-    rngs.push(Constant(2))?;
-    let mut tracers = Vec::new(alloc);
-    tracers.push(|_turn: Turn| -> Flow { Flow::Go })?;
-    let settings = Settings {
-        workers: 1,
-        heaps: 8,
-        turns: 100,
-    };
-    let solved = solve(
+    let ran = run_with(
         alloc,
         &rt,
-        &given.network,
-        &given.times,
-        &given.query,
-        Crew {
-            settings,
-            rngs,
-            gate: &NoGate,
-            tracers,
-        },
-    )?;
-    assert!(rt; has_four(&solved.answer));
-    assert_eq!(rt; (solved.seeded, solved.drained, solved.finish), (1, 1, 1));
-    assert_eq!(rt; solved.counters.len(), 1);
-    let counters = solved.counters[0];
+        &given,
+        8,
+        100,
+        Constant(2),
+        |_turn: Turn| -> Flow { Flow::Go },
+    )?
+    .ok_or("problem")?;
+    assert!(rt; has_four(&ran.answer));
+    assert_eq!(rt; (ran.seeded, ran.drained, ran.finish), (1, 1, 1));
+    let counters = ran.counters;
     assert_eq!(rt;
         (counters.turns, counters.empty, counters.popped),
         (32, 32, 0)

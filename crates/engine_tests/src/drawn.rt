@@ -3,9 +3,8 @@ use crate::constant::Constant;
 use crate::given::{FOUR_NODES, Given, Row, pose};
 use crate::in_turn::InTurn;
 use crate::numbered::Numbered;
-use crate::ran::run_crew;
-use ea_engine::{Crew, Flow, NoGate, Settings, Turn, solve};
-use ea_road::is_problem;
+use crate::ran::{run_crew, run_with};
+use ea_engine::{Flow, NoGate, Turn};
 use rand_core::Rng;
 use std::alloc::{AllocError, Global};
 use std::sync::atomic::{AtomicU64, Ordering};
@@ -28,41 +27,20 @@ fn run_turns<H: Threads + Sync, R: Rng + Send + Drop>(
     rng: R,
     turns: u32,
 ) -> Result<Option<Told>, AllocError> {
-    if turns > 1000 || !is_problem(&given.network, given.times.classes(), &given.query) {
-        return Ok(None);
-    }
     let shown = AtomicU64::new(0);
     let node = &shown;
-    let mut rngs = Vec::new(alloc);
-    rngs.push(rng)?;
-    let mut tracers = Vec::new(alloc);
-    tracers.push(move |turn: Turn| -> Flow {
+    let tracer = move |turn: Turn| -> Flow {
         node.store(u64::from(turn.node), Ordering::SeqCst);
         Flow::Go
-    })?;
-    let settings = Settings {
-        workers: 1,
-        heaps: 8,
-        turns: u64::from(turns),
     };
-    let solved = solve(
-        alloc,
-        rt,
-        &given.network,
-        &given.times,
-        &given.query,
-        Crew {
-            settings,
-            rngs,
-            gate: &NoGate,
-            tracers,
-        },
-    )?;
-    Ok(Some(Told {
-        seeded: solved.seeded,
-        popped: solved.counters[0].popped,
-        node: shown.load(Ordering::SeqCst),
-    }))
+    match run_with(alloc, rt, given, 8, turns, rng, tracer)? {
+        Some(ran) => Ok(Some(Told {
+            seeded: ran.seeded,
+            popped: ran.counters.popped,
+            node: shown.load(Ordering::SeqCst),
+        })),
+        None => Ok(None),
+    }
 }
 
 /// A word is taken for each push and not for each source: the third source's entry is in heap 1.

@@ -1,7 +1,7 @@
 //! The gate is called before each turn of each worker, once, with the worker's and the turn's numbers.
 use crate::given::{FOUR_NODES, pose};
-use ea_engine::{Crew, Flow, Gate, Settings, Turn, solve};
-use ea_road::is_problem;
+use crate::ran::run;
+use ea_engine::{Crew, Flow, Gate, Settings, Turn};
 use rand_core::SeedableRng;
 use rand_xoshiro::Xoshiro256PlusPlus;
 use std::sync::atomic::{AtomicU64, Ordering};
@@ -37,10 +37,6 @@ impl Counting {
 fn gate_counts_the_turns(rt: HostRuntime) -> Result<(), Fail> {
     let alloc = rt.alloc();
     let given = pose(alloc, 4, &FOUR_NODES, &[(1, 0)])?.ok_or("rows")?;
-    if !is_problem(&given.network, given.times.classes(), &given.query) {
-        assert!(rt; false);
-        return Ok(());
-    }
     let gate = Counting {
         calls: [AtomicU64::new(0), AtomicU64::new(0), AtomicU64::new(0)],
         wrong: AtomicU64::new(0),
@@ -60,31 +56,21 @@ fn gate_counts_the_turns(rt: HostRuntime) -> Result<(), Fail> {
             }
         })?;
     }
-    if rngs.len() != 3 || tracers.len() != 3 {
-        assert!(rt; false);
-        return Ok(());
-    }
     let settings = Settings {
         workers: 3,
         heaps: 2,
         turns: 100,
     };
-    let solved = solve(
-        alloc,
-        &rt,
-        &given.network,
-        &given.times,
-        &given.query,
-        Crew {
-            settings,
-            rngs,
-            gate: &gate,
-            tracers,
-        },
-    )?;
+    let crew = Crew {
+        settings,
+        rngs,
+        gate: &gate,
+        tracers,
+    };
+    let came = run(alloc, &rt, &given, crew)?.ok_or("problem")?;
     assert_eq!(rt; gate.wrong.load(Ordering::SeqCst), 0);
-    assert_eq!(rt; solved.counters.len(), 3);
-    for (calls, counters) in gate.calls.iter().zip(&solved.counters) {
+    assert_eq!(rt; came.counters.len(), 3);
+    for (calls, counters) in gate.calls.iter().zip(&came.counters) {
         assert!(rt; counters.turns > 0);
         assert_eq!(rt; calls.load(Ordering::SeqCst), counters.turns);
     }

@@ -1,5 +1,5 @@
 //! What the runs are given.
-use ea_road::{Arc, Network, Query, RawKind, Source, Timetable, Timetables};
+use ea_road::{Arc, Network, Query, RawKind, Source, Timetables};
 use std::alloc::{AllocError, Global};
 
 /// An arc by its tail, head, weight and class.
@@ -82,12 +82,12 @@ pub fn with_period(
 
 /// Travel times without classes, or with class 1 that leaves at each multiple of the period.
 fn times_of(alloc: Global, period: u32) -> Result<Timetables, AllocError> {
-    let mut list = Vec::new(alloc);
-    if period > 0 {
-        list.push(Timetable::of(RawKind::Every {
-            period: u64::from(period),
-            offset: 0,
-        }))?;
+    if period == 0 {
+        return Ok(Timetables::new(Vec::new(alloc)));
     }
-    Ok(Timetables::new(list))
+    let kinds = [RawKind::Every {
+        period: u64::from(period),
+        offset: 0,
+    }];
+    Timetables::of(alloc, &kinds)
 }

@@ -1,9 +1,11 @@
 // Heaps of many entries, 128 heaps, and calls of one seat where nothing stands in the way.
-ghost use Rattle.std.specs.Prelude.{◌≡◌, ◌<◌, ◌≤◌};
+ghost use Rattle.std.specs.Prelude.{◌≡◌, ◌<◌, ◌≤◌, ◌+◌};
+ghost use Rattle.arrayvec.specs.ArrayVec.{array_vec_len};
+ghost use Rattle.ea_pool.specs.Entries.{AreKnown};
 ghost use Rattle.ea_pool.specs.Seats.{account_of, IsSeatOf};
 
 use ea_labels::{Labels, Offered};
-use ea_pool::{Entry, Pool, PoolSeat, Popped, Solo};
+use ea_pool::{Batch, Entry, MOST_IN_BATCH, Pool, PoolSeat, Popped, PoppedSome, Solo};
 use ea_road::{AnyPair, HORIZON, NONE};
 use std::test::Fail;
 
@@ -152,5 +154,54 @@ fn each_lower_offer_lowers(rt: HostRuntime) -> Result<(), Fail> {
     assert_eq!(rt; lowered, MANY);
     assert_eq!(rt; labels.read(&mut seat, 2), 1);
     assert_eq!(rt; labels.read(&mut seat, 1), NONE);
+    Ok(())
+}
+
+// Appends an entry that is in time.
+fn add(batch: &mut Batch, new: Entry)
+    requires room { array_vec_len batch.old < MOST_IN_BATCH }
+    requires in_time { AreKnown (λ node time. time ≤ HORIZON) batch.old.items × (new.key ≤ HORIZON) }
+    ensures len { array_vec_len batch.new ≡ array_vec_len batch.old + 1 }
+    ensures in_time { AreKnown (λ node time. time ≤ HORIZON) batch.new.items }
+{
+    batch.push(new);
+}
+
+// Three entries, the least in the middle.
+fn three() -> Batch
+    ensures len { array_vec_len result ≡ 3 }
+    ensures in_time { AreKnown (λ node time. time ≤ HORIZON) result.items }
+{
+    let mut batch = Batch::new();
+    add(&mut batch, entry(5, 1));
+    add(&mut batch, entry(3, 1));
+    add(&mut batch, entry(4, 1));
+    batch
+}
+
+/// A batch goes into one heap whole, and comes out by twos, the least first.
+#[test]
+fn batch_of_two(rt: HostRuntime) -> Result<(), Fail> {
+    let (pool, mut seat) = Pool::<AnyPair>::open(rt.alloc(), 2)?;
+    let mut batch = three();
+    assert_eq!(rt; pool.push_all_as(&mut seat, 0, &mut batch), Ok(()));
+    assert_eq!(rt; batch.len(), 0);
+    let mut first = Batch::new();
+    assert_eq!(rt;
+        pool.pop_some_as(&mut seat, 0, 0, 2, &mut first),
+        PoppedSome::Entries
+    );
+    assert_eq!(rt; first.as_slice(), [entry(3, 1), entry(4, 1)].as_slice());
+    let mut second = Batch::new();
+    assert_eq!(rt;
+        pool.pop_some_as(&mut seat, 0, 0, 2, &mut second),
+        PoppedSome::Entries
+    );
+    assert_eq!(rt; second.as_slice(), [entry(5, 1)].as_slice());
+    assert_eq!(rt;
+        pool.pop_some_as(&mut seat, 0, 0, 2, &mut second),
+        PoppedSome::Empty
+    );
+    assert_eq!(rt; second.len(), 1);
     Ok(())
 }

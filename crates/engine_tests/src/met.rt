@@ -1,9 +1,8 @@
 //! Two workers that wait for each other: each is there while the other one is.
 use crate::constant::Constant;
 use crate::given::{FOUR_NODES, Row, pose};
-use crate::ran::{arrives, run_crew};
-use ea_engine::{Crew, Flow, Gate, Settings, Turn, solve};
-use ea_road::is_problem;
+use crate::ran::{arrives, run, run_crew};
+use ea_engine::{Crew, Flow, Gate, Settings, Turn};
 use std::alloc::{AllocError, Global};
 use std::hint;
 use std::sync::atomic::{AtomicU64, Ordering};
@@ -36,52 +35,23 @@ impl Gate for Meeting {
 fn two_workers_meet(rt: HostRuntime) -> Result<(), Fail> {
     let alloc = rt.alloc();
     let given = pose(alloc, 4, &FOUR_NODES, &[(1, 0)])?.ok_or("rows")?;
-    if !is_problem(&given.network, given.times.classes(), &given.query) {
-        assert!(rt; false);
-        return Ok(());
-    }
     let meeting = Meeting {
         flags: [AtomicU64::new(0), AtomicU64::new(0)],
         missed: AtomicU64::new(0),
     };
     let mut rngs = Vec::new(alloc);
-    let mut tracers = Vec::new(alloc);
-    for _ in 0..2 {
-        rngs.push(Constant(0))?;
-        tracers.push(|_turn: Turn| -> Flow { Flow::Go })?;
-    }
-    if rngs.len() != 2 || tracers.len() != 2 {
-        assert!(rt; false);
-        return Ok(());
-    }
-    let settings = Settings {
-        workers: 2,
-        heaps: 2,
-        turns: 100,
-    };
-    let solved = solve(
-        alloc,
-        &rt,
-        &given.network,
-        &given.times,
-        &given.query,
-        Crew {
-            settings,
-            rngs,
-            gate: &meeting,
-            tracers,
-        },
-    )?;
+    rngs.push(Constant(0))?;
+    rngs.push(Constant(0))?;
+    let came = run_crew(alloc, &rt, &given, 2, 100, rngs, &meeting)?.ok_or("problem")?;
     assert_eq!(rt; meeting.missed.load(Ordering::SeqCst), 0);
     for flag in &meeting.flags {
         assert_eq!(rt; flag.load(Ordering::SeqCst), 1);
     }
-    let answer = &solved.answer;
     for (node, arrival) in [(1, 0), (2, 5), (3, 2), (4, 6)] {
-        assert!(rt; answer.asks(node) && answer.arrival(node) == Some(arrival));
+        assert!(rt; arrives(&came.answer, node, Some(arrival)));
     }
     let mut popped = 0;
-    for counters in &solved.counters {
+    for counters in &came.counters {
         popped = counters.popped.max(popped);
     }
     assert!(rt; popped > 0);
@@ -208,10 +178,6 @@ fn each_of_four_workers_pops_some(rt: HostRuntime) -> Result<(), Fail> {
     let alloc = rt.alloc();
     let rows = star(alloc)?;
     let given = pose(alloc, 4_000, &rows, &[(1, 0)])?.ok_or("rows")?;
-    if !is_problem(&given.network, given.times.classes(), &given.query) {
-        assert!(rt; false);
-        return Ok(());
-    }
     let sharing = Sharing {
         popped: MeetingOfFour::new(),
         spread: AtomicU64::new(0),
@@ -226,33 +192,23 @@ fn each_of_four_workers_pops_some(rt: HostRuntime) -> Result<(), Fail> {
             Flow::Go
         })?;
     }
-    if rngs.len() != 4 || tracers.len() != 4 {
-        assert!(rt; false);
-        return Ok(());
-    }
     let settings = Settings {
         workers: 4,
         heaps: 2,
         turns: 10_000,
     };
-    let solved = solve(
-        alloc,
-        &rt,
-        &given.network,
-        &given.times,
-        &given.query,
-        Crew {
-            settings,
-            rngs,
-            gate: &sharing,
-            tracers,
-        },
-    )?;
+    let crew = Crew {
+        settings,
+        rngs,
+        gate: &sharing,
+        tracers,
+    };
+    let came = run(alloc, &rt, &given, crew)?.ok_or("problem")?;
     assert_eq!(rt; sharing.popped.missed.load(Ordering::SeqCst), 0);
-    assert_eq!(rt; solved.counters.len(), 4);
-    for counters in &solved.counters {
+    assert_eq!(rt; came.counters.len(), 4);
+    for counters in &came.counters {
         assert!(rt; counters.popped > 0);
     }
-    assert!(rt; arrives(&solved.answer, 4_000, Some(4_000)));
+    assert!(rt; arrives(&came.answer, 4_000, Some(4_000)));
     Ok(())
 }

@@ -1,6 +1,7 @@
 //! Many small networks, solved by several workers and by one thread.
-use crate::given::{Row, pose};
-use ea_engine::{Answer, Crew, Flow, NoGate, Settings, Turn, solve, solve_alone};
+use crate::given::{Given, Row, pose};
+use crate::ran::run_all;
+use ea_engine::{Answer, Settings, solve_alone};
 use ea_road::is_problem;
 use rand_core::{Rng, SeedableRng};
 use rand_xoshiro::Xoshiro256PlusPlus;
@@ -31,47 +32,30 @@ fn are_same(one: &Answer, other: &Answer) -> bool {
     same
 }
 
+/// The answer of one thread; none where what is given makes no problem.
+fn answer_alone(alloc: Global, given: &Given) -> Result<Option<Answer>, AllocError> {
+    if !is_problem(&given.network, given.times.classes(), &given.query) {
+        return Ok(None);
+    }
+    let answer = solve_alone(alloc, &given.network, &given.times, &given.query)?;
+    Ok(Some(answer))
+}
+
 #[test]
 fn workers_answer_as_one_thread(rt: HostRuntime) -> Result<(), Fail> {
     let alloc = rt.alloc();
     for seed in 0..60 {
         let rows = rows_of(alloc, seed)?;
         let given = pose(alloc, NODES, &rows, &[(1, 3), (2, 0)])?.ok_or("rows")?;
-        if !is_problem(&given.network, given.times.classes(), &given.query) {
-            assert!(rt; false);
-            return Ok(());
-        }
-        let alone = solve_alone(alloc, &given.network, &given.times, &given.query)?;
+        let alone = answer_alone(alloc, &given)?.ok_or("problem")?;
         for workers in 1..5u32 {
-            let mut rngs = Vec::new(alloc);
-            let mut tracers = Vec::new(alloc);
-            for worker in 0..workers {
-                rngs.push(Xoshiro256PlusPlus::seed_from_u64(u64::from(worker)))?;
-                tracers.push(|_turn: Turn| -> Flow { Flow::Go })?;
-            }
-            if rngs.len() != workers as usize || tracers.len() != workers as usize {
-                assert!(rt; false);
-                return Ok(());
-            }
             let settings = Settings {
                 workers,
                 heaps: 2,
                 turns: 7 * (seed % 9),
             };
-            let solved = solve(
-                alloc,
-                &rt,
-                &given.network,
-                &given.times,
-                &given.query,
-                Crew {
-                    settings,
-                    rngs,
-                    gate: &NoGate,
-                    tracers,
-                },
-            )?;
-            assert!(rt; are_same(&solved.answer, &alone), "seed {seed}");
+            let answer = run_all(alloc, &rt, &given, settings, 0)?.ok_or("problem")?;
+            assert!(rt; are_same(&answer, &alone), "seed {seed}");
         }
     }
     Ok(())

@@ -1,7 +1,7 @@
-//! What is counted of sources.
+//! What is counted of sources, and a run of as many workers as there may be.
 use crate::given::{FOUR_NODES, pose};
-use crate::ran::{arrives, run_one};
-use ea_engine::{Flow, Turn};
+use crate::ran::{arrives, run_all, run_one};
+use ea_engine::{Flow, Settings, Turn};
 use std::test::Fail;
 
 /// A source that lowers nothing is neither seeded nor returned.
@@ -42,5 +42,22 @@ fn ten_sources_are_seeded(rt: HostRuntime) -> Result<(), Fail> {
     let given = pose(alloc, 10, &FOUR_NODES, &sources)?.ok_or("rows")?;
     let ran = run_one(alloc, &rt, &given, 0, |_turn: Turn| -> Flow { Flow::Go })?.ok_or("problem")?;
     assert_eq!(rt; (ran.seeded, ran.returned, ran.drained), (10, 0, 10));
+    Ok(())
+}
+
+/// As many workers as there may be, with as many heaps for each.
+#[test]
+fn sixteen_workers_with_eight_heaps_each(rt: HostRuntime) -> Result<(), Fail> {
+    let alloc = rt.alloc();
+    let given = pose(alloc, 4, &FOUR_NODES, &[(1, 0)])?.ok_or("rows")?;
+    let settings = Settings {
+        workers: 16,
+        heaps: 8,
+        turns: 1000,
+    };
+    let answer = run_all(alloc, &rt, &given, settings, 1)?.ok_or("problem")?;
+    for (node, arrival) in [(1, 0), (2, 5), (3, 2), (4, 6)] {
+        assert!(rt; arrives(&answer, node, Some(arrival)));
+    }
     Ok(())
 }

@@ -1,6 +1,8 @@
 // Runs whose growths are refused.
 ghost use Rattle.std.specs.Prelude.{◌≡◌, ◌<◌, ◌+◌, ◌^◌};
 
+use crate::given::{FOUR_NODES, pose};
+use crate::ran::run;
 use crate::refused::finishing::has_four;
 use crate::refused::given::{four_nodes, from_first};
 use crate::refused::greedy::Greedy;
@@ -43,9 +45,7 @@ fn greedy(alloc: Global, workers: u32, calls: u32, room: usize) -> Result<Vec<Gr
 #[test]
 fn refused_push(rt: HostRuntime) -> Result<(), Fail> {
     let alloc = rt.alloc();
-    let network = four_nodes(alloc)?.ok_or("arcs")?;
-    let times = Timetables::new(Vec::new(alloc));
-    let query = from_first(alloc)?;
+    let given = pose(alloc, 4, &FOUR_NODES, &[(1, 0)])?.ok_or("rows")?;
     let settings = Settings {
         workers: 1,
         heaps: 2,
@@ -68,38 +68,29 @@ fn refused_push(rt: HostRuntime) -> Result<(), Fail> {
         }
         Flow::Go
     })?;
-    if rngs.len() != 1 || !is_problem(&network, times.classes(), &query) {
-        assert!(rt; false);
-        return Ok(());
-    }
+    let crew = Crew {
+        settings,
+        rngs,
+        gate: &NoGate,
+        tracers,
+    };
     let mut large = Held::of_large(alloc)?;
-    let answer = solve(
-        alloc,
-        &rt,
-        &network,
-        &times,
-        &query,
-        Crew {
-            settings,
-            rngs,
-            gate: &NoGate,
-            tracers,
-        },
-    );
+    let answer = run(alloc, &rt, &given, crew);
     large.release();
-    let mut solved = answer?;
-    solved.rngs.clear();
-    assert!(rt; has_four(&solved.answer));
+    let came = answer?.ok_or("problem")?;
+    assert!(rt; has_four(&came.answer));
     assert_eq!(rt; shown.load(Ordering::SeqCst), 1);
     assert_eq!(rt; right.load(Ordering::SeqCst), 1);
-    assert_eq!(rt; (solved.seeded, solved.returned), (1, 2));
-    assert_eq!(rt; (solved.drained, solved.finish), (0, 2));
-    let counters = solved.counters[0];
-    assert_eq!(rt;
-        (counters.pushed, counters.popped, counters.scanned),
-        (0, 1, 0)
-    );
-    assert_eq!(rt; (counters.refused, counters.returned), (1, 2));
+    assert_eq!(rt; (came.seeded, came.returned), (1, 2));
+    assert_eq!(rt; (came.drained, came.finish), (0, 2));
+    assert_eq!(rt; came.counters.len(), 1);
+    for counters in &came.counters {
+        assert_eq!(rt;
+            (counters.pushed, counters.popped, counters.scanned),
+            (0, 1, 0)
+        );
+        assert_eq!(rt; (counters.refused, counters.returned), (1, 2));
+    }
     Ok(())
 }
 

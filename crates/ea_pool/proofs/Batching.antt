@@ -1,0 +1,102 @@
+-- A batch goes into a heap entry by entry, and comes out so.
+use Rattle.std.proofs.Common.{◌≡◌, ℕ, ◌+◌, ◌<◌, ◌≤◌, List, [], ◌∷◌, ◌++◌, length, sym, refl, ap, ◌∙◌, arith, subst, append_assoc, length-append, Option, Some, ◌⊎◌, ⊎_elim, inl, inr}
+use mathlib.Core.Logic.{dite}
+use native.Mathlib.Decide.{dec_lt}
+use Rattle.std.specs.List.{AllByRecursion}
+use Rattle.ea_lists.specs.Totals.{total}
+use Rattle.ea_lists.proofs.Totals.{total-append}
+use Rattle.ea_pool.specs.declared.entry.Entry.{Entry}
+use Rattle.ea_pool.specs.declared.account.LastTake.{LastTake}
+use Rattle.ea_limits.specs.declared.TheConstants.{HORIZON}
+use Rattle.ea_pool.specs.declared.words.TheConstants.{EMPTY}
+use Rattle.ea_pool.specs.Entries.{only, times, SameEntries, ComesFirst, IsLeastOf, IsAscending, AreTakenOut, face}
+use Rattle.ea_pool.specs.States.{take_at}
+use Rattle.ea_pool.specs.Tries.{TookAll}
+use Rattle.ea_pool.specs.Pools.{AreInTime}
+use Rattle.ea_pool.specs.Batches.{GoesIn, AreFirst}
+use Rattle.ea_pool.proofs.Weights.{only-same, only-one}
+use Rattle.ea_pool.proofs.Gathered.{no_weight}
+use Rattle.ea_pool.proofs.HeapOrder.{comes_before, least_of_part}
+
+-- the last one of a batch goes in
+pub goes_one : (before batch batch' heap₀ heap heap' : List Entry) (e : Entry) → GoesIn before batch heap₀ heap → batch ≡ batch' ++ e ∷ [] → SameEntries heap' (e ∷ heap) → GoesIn before batch' heap₀ heap'
+goes_one before batch batch' heap₀ heap heap' e h is more = record {
+  went = e ∷ h.went;
+  split = h.split ∙ (ap (λ (l : List Entry). l ++ h.went) is ∙ append_assoc batch' (e ∷ []) h.went);
+  added = λ f. omega (arith, more f, h.added f);
+}
+
+-- or comes back
+pub goes_none : (before batch batch' heap₀ heap heap' : List Entry) → GoesIn before batch heap₀ heap → batch' ≡ batch → heap' ≡ heap → GoesIn before batch' heap₀ heap'
+goes_none before batch batch' heap₀ heap heap' h same still = record {
+  went = h.went;
+  split = h.split ∙ ap (λ (l : List Entry). l ++ h.went) (sym same);
+  added = λ f. ap (total f) still ∙ h.added f;
+}
+
+all_behind : (x : Entry) (out rest : List Entry) → 0 < times x rest → AllByRecursion (λ e. IsLeastOf e rest) out → AllByRecursion (λ e. ComesFirst e x) out
+all_behind x [] rest there h = tt
+all_behind x (e ∷ out) rest there h = (comes_before e x rest h.0 there, all_behind x out rest there h.1)
+
+least_snoc : (y x : Entry) (xs : List Entry) → IsLeastOf y xs → ComesFirst y x → IsLeastOf y (xs ++ x ∷ [])
+least_snoc y x [] h first = (first, tt)
+least_snoc y x (z ∷ xs) h first = (h.0, least_snoc y x xs h.1 first)
+
+ascending_snoc : (x : Entry) (out : List Entry) → IsAscending out → AllByRecursion (λ e. ComesFirst e x) out → IsAscending (out ++ x ∷ [])
+ascending_snoc x [] h first = (tt, tt)
+ascending_snoc x (e ∷ out) h first = (least_snoc e x out h.0 first.0, ascending_snoc x out h.1 first.1)
+
+least_still : (x : Entry) (out rest rest' : List Entry) → ((d : Entry) → times d rest' ≤ times d rest) → IsLeastOf x rest' → AllByRecursion (λ e. IsLeastOf e rest) out → AllByRecursion (λ e. IsLeastOf e rest') (out ++ x ∷ [])
+least_still x [] rest rest' few here h = (here, tt)
+least_still x (e ∷ out) rest rest' few here h = (least_of_part e rest rest' few h.0, least_still x out rest rest' few here h.1)
+
+-- the least one of a heap comes out behind others
+pub one_more_out : (out heap rest rest' : List Entry) (x : Entry) → AreTakenOut out heap rest → IsLeastOf x rest → SameEntries rest (x ∷ rest') → AreTakenOut (out ++ x ∷ []) heap rest'
+one_more_out out heap rest rest' x h least same =
+    let few : (d : Entry) → times d rest' ≤ times d rest = λ d. omega (arith, same (only d)) in
+    record {
+      parts = λ f. omega (arith, h.parts f, same f, total-append f out rest, total-append f (out ++ x ∷ []) rest', total-append f out (x ∷ []));
+      ascending = ascending_snoc x out h.ascending (all_behind x out rest (omega (arith, same (only x), only-same x)) h.least);
+      least = least_still x out rest rest' few (least_of_part x rest rest' few least) h.least;
+    }
+
+-- what is in a heap after a batch went in was in the heap or in the batch
+pub in_time_after : (before after heap heap' : List Entry) → GoesIn before after heap heap' → AreInTime (before ++ heap) → AreInTime heap'
+in_time_after before after heap heap' h low e there =
+    low e (omega (arith, h.added (only e), total-append (only e) h.went heap, total-append (only e) before heap, ap (times e) h.split, total-append (only e) after h.went))
+
+-- and what is left after some came out was there
+pub in_time_left : (out heap heap' : List Entry) → AreTakenOut out heap heap' → AreInTime heap → AreInTime heap'
+in_time_left out heap heap' h low e there = low e (omega (arith, h.parts (only e), total-append (only e) out heap'))
+
+-- of a heap with entries some come out where some are asked for
+pub comes_some : (most : ℕ) (out heap rest : List Entry) → AreFirst most out heap rest → 0 < most → face heap < EMPTY → 0 < length out
+comes_some most (e ∷ out) heap rest h asked low = omega arith
+comes_some most [] heap rest h asked low = ⊎_elim
+    (λ (all : 0 ≡ most). absurd (omega arith))
+    (λ (none : rest ≡ []). let empty : heap ≡ [] = no_weight heap (λ f. h.taken.parts f ∙ ap (total f) none) in absurd (omega (arith, ap face empty)))
+    h.enough
+
+pub comes_enough : (most : ℕ) (out heap rest : List Entry) (last : Option LastTake) (k : ℕ) (seen : List (ℕ × ℕ)) → last ≡ Some (take_at k heap seen) → AreFirst most out heap rest → (length out ≡ most) ⊎ TookAll out last
+comes_enough most out heap rest last k seen is h = ⊎_elim
+    (λ (all : length out ≡ most). inl all)
+    (λ (none : rest ≡ []). inr (subst (TookAll out) (sym is) (λ f. omega (arith, h.taken.parts f, total-append f out rest, ap (total f) none))))
+    h.enough
+
+head_first : (e d : Entry) (out content rest : List Entry) → AreTakenOut (e ∷ out) content rest → 0 < times d content → e.key ≤ d.key
+head_first e d out content rest h there =
+    dite (dec_lt 0 (times d rest)) (λ later. (comes_before e d rest h.least.0 later).0)
+    (λ none. dite (dec_lt 0 (times d out)) (λ next. (comes_before e d out h.ascending.0 next).0)
+    (λ no. let one = only-one d e (omega (arith, h.parts (only d), total-append (only d) out rest)) in omega (arith, ap (λ (x : Entry). x.key) one)))
+
+face_at_least : (k : ℕ) (es : List Entry) → ((d : Entry) → 0 < times d es → k ≤ d.key) → k ≤ EMPTY → k ≤ face es
+face_at_least k [] h low = low
+face_at_least k (e ∷ es) h low = let a = h e (omega (arith, only-same e)) in let b = face_at_least k es (λ d there. h d (omega arith)) low in omega arith
+
+-- the least of what came out is the least of all
+pub face_out : (out content rest : List Entry) → AreTakenOut out content rest → 0 < length out → ((d : Entry) → 0 < times d out → d.key ≤ HORIZON) → face out ≤ face content
+face_out [] content rest h some low = absurd (omega arith)
+face_out (e ∷ out) content rest h some low =
+    let there = low e (omega (arith, only-same e)) in
+    let least = face_at_least e.key content (λ d there. head_first e d out content rest h there) (omega arith) in
+    omega arith

@@ -1,0 +1,63 @@
+-- Several entries at once, and what calls with a batch of them do.
+use Rattle.std.specs.Prelude.{◌≡◌, ◌⊎◌, ℕ, ◌<◌, ◌≤◌, List, [], ◌++◌, length, Option, Result, Ok, Err}
+use Rattle.ea_pool.specs.declared.entry.Entry.{Entry}
+use Rattle.ea_pool.specs.declared.account.Account.{Account}
+use Rattle.ea_pool.specs.declared.account.LastTake.{LastTake}
+use Rattle.ea_pool.specs.declared.reply.PushAllRefused.{PushAllRefused}
+use Rattle.ea_pool.specs.declared.reply.PushAllRefused.TheVariants as refused
+use Rattle.ea_pool.specs.declared.reply.PoppedSome.{PoppedSome}
+use Rattle.ea_pool.specs.declared.reply.PoppedSome.TheVariants as reply
+use Rattle.ea_limits.specs.declared.TheConstants.{SHARES}
+use Rattle.ea_pool.specs.Entries.{SameEntries, AreKnown, AreTakenOut, face}
+use Rattle.ea_pool.specs.Pools.{PushesAll, PopsAll, IsLeft, AreLeft}
+use Rattle.ea_pool.specs.Tries.{TookAll}
+
+-- some entries of a batch, from its end, are in the heap now
+pub record GoesIn (before after heap heap' : List Entry) : Type 0 where
+  pub went : List Entry
+  pub split : before ≡ after ++ went
+  pub added : SameEntries heap' (went ++ heap)
+
+-- the least entries came out of a heap, as many as were asked for, or all
+pub record AreFirst (most : ℕ) (out heap heap' : List Entry) : Type 0 where
+  pub taken : AreTakenOut out heap heap'
+  pub few : length out ≤ most
+  pub enough : (length out ≡ most) ⊎ (heap' ≡ [])
+
+-- and they stand at the batch's end
+abbrev pub ComesOut : ℕ → List Entry → List Entry → List Entry → List Entry → Type 0
+ComesOut most before after heap heap' = (out : List Entry) × (after ≡ before ++ out) × AreFirst most out heap heap'
+
+-- What is left in a batch after a push, and the account: those that are no longer there were pushed
+abbrev pub PushesFrom : List Entry → List Entry → Account → Account → Type 0
+PushesFrom before after a b = (went : List Entry) × (before ≡ after ++ went) × PushesAll a went b
+
+-- What a pop of at most so many brought into a batch, and the account: known entries, at least one, taken from a heap of which
+-- P holds, as many as were asked for or all that it had
+pub record PopsSome (known : ℕ → ℕ → Type 0) (most : ℕ) (before after : List Entry) (a b : Account) (P : List Entry → Type 0) (last : Option LastTake) : Type 0 where
+  pub out : List Entry
+  pub brought : after ≡ before ++ out
+  pub some : 0 < length out
+  pub popped : PopsAll a out b
+  pub known_all : AreKnown known out
+  pub took : P out
+  pub few : length out ≤ most
+  pub enough : (length out ≡ most) ⊎ TookAll out last
+  -- a seat with all shares pops what was left
+  pub left : a.shares ≡ SHARES → AreLeft out a
+
+-- of two heaps, what a seat with all shares pops first has the least key of all that is left
+abbrev pub IsLowest : ℕ → List Entry → Account → Type 0
+IsLowest heaps out a = a.shares ≡ SHARES → heaps ≡ 2 → (d : Entry) → IsLeft d a → face out ≤ d.key
+
+-- P where all went in, Q where the pool was busy, and R where memory was refused
+abbrev pub MatchPushed : Result (Unit {0}) PushAllRefused → Type 0 → Type 0 → Type 0 → Type 0
+MatchPushed (Ok done) P Q R = P
+MatchPushed (Err refused.Busy) P Q R = Q
+MatchPushed (Err refused.OutOfMemory) P Q R = R
+
+-- P where entries came out, Q where there were none, and R where the pool was busy
+abbrev pub MatchSome : PoppedSome → Type 0 → Type 0 → Type 0 → Type 0
+MatchSome reply.Entries P Q R = P
+MatchSome reply.Empty P Q R = Q
+MatchSome reply.Busy P Q R = R
