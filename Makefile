@@ -1,8 +1,11 @@
 # `make` builds the program, `make run` runs its main job, `make test` runs the whole gate (`rt ci`, the edits that must be
 # refused, then the table of tests/ with the program that `rt ci` has built), and `make cases` runs the table alone.
+# `make install PREFIX=..` installs the program, its man page and the completions of bash, zsh and fish.
 # `make try` runs the program with no proof, within about a minute. `make part CRATES="ea_input"` runs the gate of some crates
 # and of those that they stand on, with ABOVE=1 also of those that stand on them.
-.PHONY: all run try test part cases clean
+.PHONY: all run try test part cases install clean
+
+PREFIX ?= /usr/local
 
 all:
 	@python3 tools/build.py
@@ -22,6 +25,10 @@ part:
 
 cases: all
 	python3 tests/run.py bin/earliest
+
+install: all
+	install -D bin/earliest $(DESTDIR)$(PREFIX)/bin/earliest
+	python3 tools/pages.py bin/earliest $(DESTDIR)$(PREFIX)
 
 clean:
 	rm -rf bin crates/*/out

@@ -12,6 +12,7 @@ import tempfile
 sys.dont_write_bytecode = True
 import large
 import opening
+import people
 import road_network
 
 HERE = os.path.dirname(os.path.abspath(__file__))
@@ -46,14 +47,15 @@ def ran(program, words, out=subprocess.PIPE):
 
 
 def into_devices(program):
-    """What the program does where its output can't be written: a full device, and a pipe that nobody reads."""
+    """What the program does where its output can't be written: a full device, where a line says so, and a pipe that nobody reads,
+    where none does."""
     for words in ("run four-nodes.gr four-nodes.ss", "pairs four-nodes.gr four-nodes.p2p", "rank four-nodes.gr four-nodes.ss"):
         with open("/dev/full", "wb") as full:
-            yield f"into a full device: {words}", ran(program, words.split(), full)
+            yield f"into a full device: {words}", ran(program, words.split(), full), b"earliest: 12 WriteFailed after 0 bytes\n"
         reader, writer = os.pipe()
         os.close(reader)
         try:
-            yield f"into a closed pipe: {words}", ran(program, words.split(), writer)
+            yield f"into a closed pipe: {words}", ran(program, words.split(), writer), b""
         finally:
             os.close(writer)
 
@@ -107,14 +109,14 @@ def run_all(program):
     """Runs all cases, tells which fail, and answers how many passed and failed."""
     program = os.path.abspath(program)
     results = [(shlex.join(words), ran(program, words), (status, out, err)) for words, status, out, err in cases()]
-    unwritten = (4, None, b"earliest: 12 WriteFailed after 0 bytes\n")
-    results += [(name, result, unwritten) for name, result in into_devices(program)]
+    results += [(name, result, (4, None, line)) for name, result, line in into_devices(program)]
     refused = b"error: invalid UTF-8 was detected in one or more arguments\n\nFor more information, try '--help'.\n"
     results += [(name, result, (2, b"", refused)) for name, result in no_text(program)]
     results.append(("words beyond memory", scarce(program), (3, b"", b"earliest: 13 OutOfMemory\n")))
     results.append(("memory for what a file announces", held(program), (1, b"", b"earliest: gr 0: 8 TooFewLines\n")))
     results += [(shlex.join(words), ran(program, words), wanted) for words, wanted in opening.cases()]
     results += alike(program)
+    results += people.results(program)
     results += road_network.results(program)
     results += large.results(program, EXAMPLES)
     failed = [(name, was) for name, was, want in results if was != want]

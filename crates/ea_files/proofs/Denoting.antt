@@ -6,7 +6,7 @@ use Rattle.std.proofs.lemmas.Option.{none-some}
 use Rattle.ea_road.proofs.Assigning.{length-arcs_from}
 use Rattle.ea_input.specs.declared.graph.RawArc.{RawArc}
 use Rattle.ea_input.specs.declared.table.RawKind.{RawKind}
-use Rattle.ea_input.specs.declared.table.RawKind.TheVariants.{Plain, Every, Closed, Rush}
+use Rattle.ea_input.specs.declared.table.RawKind.TheVariants.{Plain, Every, Closed, Rush, Speeds, Trips}
 use Rattle.ea_input.specs.Graph.{Graph, DenotesGraph, IsArcLine, AreArcLines, IsProblemLine}
 use Rattle.ea_input.specs.Listing.{IsCountLine, IsItemLine, AreItemLines}
 use Rattle.ea_input.specs.Sources.{IsSource, DenotesSources}
@@ -108,6 +108,18 @@ kind_fits (a ∷ []) (Rush lo hi extra) h = absurd h
 kind_fits (a ∷ b ∷ []) (Rush lo hi extra) h = absurd h
 kind_fits (a ∷ b ∷ c ∷ []) (Rush lo hi extra) h = absurd h
 kind_fits (a ∷ b ∷ c ∷ d ∷ e ∷ rest) (Rush lo hi extra) h = absurd h
+kind_fits [] (Speeds period first count) h = absurd h
+kind_fits (a ∷ []) (Speeds period first count) h = absurd h
+kind_fits (a ∷ b ∷ []) (Speeds period first count) h = absurd h
+kind_fits (a ∷ b ∷ c ∷ []) (Speeds period first count) h = absurd h
+kind_fits (a ∷ b ∷ c ∷ d ∷ []) (Speeds period first count) h = absurd h
+kind_fits (a ∷ b ∷ c ∷ d ∷ e ∷ rest) (Speeds period first count) h = absurd h
+kind_fits [] (Trips period first count) h = absurd h
+kind_fits (a ∷ []) (Trips period first count) h = absurd h
+kind_fits (a ∷ b ∷ []) (Trips period first count) h = absurd h
+kind_fits (a ∷ b ∷ c ∷ []) (Trips period first count) h = absurd h
+kind_fits (a ∷ b ∷ c ∷ d ∷ []) (Trips period first count) h = absurd h
+kind_fits (a ∷ b ∷ c ∷ d ∷ e ∷ rest) (Trips period first count) h = absurd h
 
 kind_line_fits : (number : ℕ) (line : List (List ℕ)) (kind : RawKind) → IsKindLine number line kind → IsTrue (is_kind kind)
 kind_line_fits number [] kind h = absurd h

@@ -1,7 +1,7 @@
 -- The words by which messages call files.
 use Rattle.std.specs.Prelude.{ℕ, List, codes}
 use Rattle.ea_files.specs.declared.fault.FileWord.{FileWord}
-use Rattle.ea_files.specs.declared.fault.FileWord.TheVariants.{Gr, Ss, Tp, P2p, Report}
+use Rattle.ea_files.specs.declared.fault.FileWord.TheVariants.{Gr, Ss, Tp, P2p, Report, Out}
 
 abbrev pub file_word : FileWord → List ℕ
 file_word Gr = codes "gr"
@@ -9,3 +9,4 @@ file_word Ss = codes "ss"
 file_word Tp = codes "tp"
 file_word P2p = codes "p2p"
 file_word Report = codes "report"
+file_word Out = codes "out"

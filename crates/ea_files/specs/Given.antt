@@ -1,5 +1,5 @@
 -- What the files give: a network, and when its arcs arrive.
-use Rattle.std.specs.Prelude.{◌≡◌, ℕ, ◌≤◌, ◌^◌, List, [], ◌∷◌, length, slice_index_or, map, Option, Some, None, IfSome}
+use Rattle.std.specs.Prelude.{◌≡◌, ℕ, ◌≤◌, List, [], ◌∷◌, length, slice_index_or, Option, Some, None, IfSome}
 use Rattle.ea_limits.specs.declared.TheConstants.{MOST_BYTES}
 use Rattle.ea_text.specs.Text.{field_lines}
 use Rattle.ea_input.specs.Graph.{Graph, DenotesGraph}
@@ -12,7 +12,8 @@ use Rattle.ea_input.specs.declared.graph.RawGraph.{RawGraph}
 use Rattle.ea_input.specs.declared.table.RawTable.{RawTable}
 use Rattle.ea_road.specs.Roads.{Roads}
 use Rattle.ea_road.specs.Assigned.{arcs_with}
-use Rattle.ea_road.specs.Timetables.{KindAnswers}
+use Rattle.ea_road.specs.StepLists.{steps_in}
+use Rattle.ea_road.specs.Timetables.{ClassAnswers}
 use Rattle.ea_files.specs.declared.road.Road.{Road}
 use Rattle.ea_files.specs.Files.{IsAll, IsAllIfThere}
 
@@ -31,7 +32,7 @@ roads_of given = record { nodes = given.graph.nodes; arcs = arcs_with given.tabl
 
 -- When an arc of a class and a weight arrives that is left at a departure: class 0 is plain, class J is the J-th kind.
 abbrev pub times_of : List RawKind → ℕ → ℕ → ℕ → ℕ → Type 0
-times_of kinds class weight departure arrival = KindAnswers (slice_index_or (Plain ∷ kinds) class Plain) weight departure arrival
+times_of kinds class weight departure arrival = ClassAnswers [] (slice_index_or (Plain ∷ kinds) class Plain) weight departure arrival
 
 -- With no file of timetables there are no kinds and no assignments.
 abbrev pub no_table : Table
@@ -50,7 +51,8 @@ pub record Denotes (gr : List ℕ) (tp : Option (List ℕ)) (given : Given) : Ty
 -- A network and timetables are those that were given.
 pub record IsRoadOf (given : Given) (road : Road) : Type 0 where
   pub network : road.network ≡ roads_of given
-  pub kinds : map (λ table. table.kind) road.times.list.items ≡ given.table.kinds
+  pub kinds : road.times.list.items ≡ given.table.kinds
+  pub steps : steps_in road.times.steps ≡ []
 
 -- What readers gave, each at most MOST_BYTES, denotes this: a graph with timetables, where there is a file of them, and where
 -- searches start.

@@ -18,8 +18,10 @@ pub enum FileWord {
     Tp,
     /// The pairs of source and target.
     P2p,
-    /// A report.
+    /// A report that is checked.
     Report,
+    /// The file that a report goes to.
+    Out,
 }
 
 impl FileWord {
@@ -33,6 +35,7 @@ impl FileWord {
             FileWord::Tp => "tp",
             FileWord::P2p => "p2p",
             FileWord::Report => "report",
+            FileWord::Out => "out",
         }
     }
 }

@@ -6,6 +6,7 @@ use Rattle.ea_input.specs.Formats.{table_format}
 use Rattle.ea_input.specs.declared.table.RawKind.{RawKind}
 use Rattle.ea_road.specs.Roads.{Roads}
 use Rattle.ea_road.specs.Queries.{Asking}
+use Rattle.ea_road.specs.TimetableLists.{TimetablesAnswer}
 use Rattle.ea_text.specs.Device.{Seen}
 use Rattle.ea_text.specs.Text.{field_lines}
 use Rattle.ea_files.specs.declared.road.Road.{Road}
@@ -90,7 +91,8 @@ module _ {X Y : Type 0} (asks : Asks X Y) (files : Files) where
       so =
           subst (λ (r : Roads). IsSo r (times_of given.table.kinds) (asks.problems found)) is_road.network (
           subst (λ (kinds : List RawKind). IsSo road.network (times_of kinds) (asks.problems found)) is_road.kinds (
-          subst (λ (qs : List Asking). IsSo road.network (times_on road) qs) are holds));
+          subst (λ (steps : List (ℕ × ℕ)). IsSo road.network (TimetablesAnswer road.times.list.items steps) (asks.problems found)) is_road.steps (
+          subst (λ (qs : List Asking). IsSo road.network (times_on road) qs) are holds)));
     }
 
     -- What went out is whole.

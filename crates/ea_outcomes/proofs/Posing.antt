@@ -41,7 +41,7 @@ module _ (given : Given) (road : Road) (is_road : IsRoadOf given road) (sound : 
   classes = length road.times.list.items
 
   classed : top_class road.network.arcs ≤ classes
-  classed = subst (λ (r : Roads). top_class r.arcs ≤ classes) (sym is_road.network) (subst (λ (n : ℕ). top_class (roads_of given).arcs ≤ n) (ap length (sym is_road.kinds) ∙ length-map road.times.list.items (λ table. table.kind)) sound.classed)
+  classed = subst (λ (r : Roads). top_class r.arcs ≤ classes) (sym is_road.network) (subst (λ (n : ℕ). top_class (roads_of given).arcs ≤ n) (ap length (sym is_road.kinds)) sound.classed)
 
   nodes_are : road.network.nodes ≡ given.graph.nodes
   nodes_are = ap (λ (r : Roads). r.nodes) is_road.network

@@ -2,6 +2,7 @@
 use Rattle.std.specs.Prelude.{ℕ, ◌≤◌, List, length, All}
 use Rattle.ea_limits.specs.declared.TheConstants.{MOST_STARTS}
 use Rattle.ea_road.specs.Queries.{Asking, IsProblem}
+use Rattle.ea_road.specs.StepLists.{steps_in}
 use Rattle.ea_road.specs.TimetableLists.{TimetablesAnswer}
 use Rattle.ea_files.specs.declared.road.Road.{Road}
 
@@ -15,4 +16,4 @@ AreProblems road queries = All (IsPosed road) queries
 
 -- When the arcs of a road arrive.
 abbrev pub times_on : Road → ℕ → ℕ → ℕ → ℕ → Type 0
-times_on road class weight departure arrival = TimetablesAnswer road.times.list.items class weight departure arrival
+times_on road class weight departure arrival = TimetablesAnswer road.times.list.items (steps_in road.times.steps) class weight departure arrival

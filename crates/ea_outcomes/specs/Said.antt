@@ -1,5 +1,5 @@
 -- The lines by which the program tells outcomes, and its statuses.
-use Rattle.std.specs.Prelude.{ℕ, ◌+◌, ◌-◌, ◌^◌, ◌≤◌, List, [], ◌∷◌, codes, decimal, if◌then◌else◌}
+use Rattle.std.specs.Prelude.{ℕ, ◌+◌, ◌-◌, ◌^◌, ◌≤◌, true, List, [], ◌∷◌, Option, Some, None, codes, decimal, if◌then◌else◌}
 use Rattle.std.specs.List.{flat_map}
 use Rattle.std.specs.Io.KnownBytes.{Appends}
 use Rattle.ea_limits.specs.declared.TheConstants.{MOST_INTERRUPTIONS}
@@ -11,7 +11,7 @@ use Rattle.ea_files.specs.declared.fault.FileWord.{FileWord}
 use Rattle.ea_input.specs.declared.fault.FaultKind.{FaultKind}
 use Rattle.ea_input.specs.declared.fault.FaultKind.TheVariants as kind
 use Rattle.ea_files.specs.FileNames.{file_word}
-use Rattle.ea_text.specs.Device.{Seen}
+use Rattle.ea_text.specs.Device.{Seen, BearsOn, GivesUp}
 use Rattle.ea_report.specs.Sent.{IsCutAt}
 use Rattle.ea_words.specs.declared.fault.CommandFault.{CommandFault}
 use Rattle.ea_words.specs.declared.fault.CommandFault.TheVariants as command
@@ -90,6 +90,12 @@ line_of (Answer fault) = answer_line fault
 line_of Accepted = codes "ok\n"
 line_of (Check fault) = refused_line fault
 
+-- The text that was asked for, where there is no fault to tell.
+abbrev pub asked_text : Outcome → Option (List ℕ)
+asked_text (Command (command.Words true text)) = Some text.bytes.items
+asked_text Accepted = Some (codes "ok\n")
+asked_text _ = None
+
 -- ---- statuses
 
 abbrev pub command_status : CommandFault → ℕ
@@ -134,3 +140,12 @@ pub record IsSaid (line : List ℕ) (first now : Seen) : Type 0 where
   pub one_failure : now.failed ≤ first.failed + 1
   pub few_interruptions : now.interrupted ≤ first.interrupted + (MOST_INTERRUPTIONS + 1)
   pub whole : now.failed ≤ first.failed → now.failed + 1 ≤ 2 ^ 64 - 1 → now.interrupted ≤ first.interrupted + MOST_INTERRUPTIONS → now.interrupted + 1 ≤ 2 ^ 64 - 1 → Appends first.bytes now.bytes line
+
+-- A text went out whole: no call failed, and the interruptions were borne.
+abbrev pub IsShown : List ℕ → Seen → Seen → Type 0
+IsShown text first now = Appends first.bytes now.bytes text × BearsOn first now
+
+-- Just a front of it went out, as long as the fault tells, and the device gave up.
+abbrev pub IsUnshown : List ℕ → Seen → Seen → AnswerFault → Type 0
+IsUnshown text first now (Write written) = IsCutAt first.bytes now.bytes text written × GivesUp first now
+IsUnshown text first now _ = ⊥

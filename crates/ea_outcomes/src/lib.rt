@@ -5,4 +5,4 @@ mod fault;
 mod saying;
 
 pub use fault::AnswerFault;
-pub use saying::{Outcome, say};
+pub use saying::{Outcome, say, show};

@@ -1,8 +1,8 @@
 //! Outcomes, told in one line and a status.
-ghost use Rattle.std.specs.Prelude.{◌≡◌, ◌≤◌, length};
+ghost use Rattle.std.specs.Prelude.{◌≡◌, ◌≤◌, IfOk, IfErr, length, option_map};
 ghost use Rattle.std.specs.List.{flat_map};
 ghost use Rattle.ea_outcomes.specs.Said;
-ghost use Rattle.ea_outcomes.specs.Said.{IsSaid, line_of, status_of, plain_line, file_line, text_line, written_line, check_line, command_line, command_status, answer_line, answer_status, input_line, input_status, read_line, read_status, refused_line, refused_status};
+ghost use Rattle.ea_outcomes.specs.Said.{IsSaid, IsShown, IsUnshown, asked_text, line_of, status_of, plain_line, file_line, text_line, written_line, check_line, command_line, command_status, answer_line, answer_status, input_line, input_status, read_line, read_status, refused_line, refused_status};
 
 use crate::fault::AnswerFault;
 use ea_check::CheckFault;
@@ -220,6 +220,36 @@ fn say_check<W: ByteOut>(fault: CheckFault, out: &mut W) -> u8
         }
     }
     5
+}
+
+impl Outcome {
+    /// The text that was asked for: `ok`, or what clap shows for `--help` and its like. None where there is a fault to tell.
+    pub fn asked_text(&self) -> Option<&str>
+        ensures { option_map (λ text. text.now) result ≡ asked_text self.now }
+    {
+        match self {
+            Outcome::Accepted => Some("ok\n"),
+            Outcome::Command(CommandFault::Words { help: true, text }) => Some(text.as_str()),
+            _ => None,
+        }
+    }
+}
+
+/// Writes a text that was asked for, with no memory.
+///
+/// Errors: `Write` where a write failed, took nothing of bytes that were left, or was interrupted for the 1,001st time; so
+/// many bytes of the text went out, its front.
+pub fn show<W: ByteOut>(text: &str, out: &mut W) -> Result<(), AnswerFault>
+    ensures ok { IfOk result (λ done. IsShown text.now (W.seen out.old) (W.seen out.new)) }
+    ensures err { IfErr result (IsUnshown text.now (W.seen out.old) (W.seen out.new)) }
+{
+    let pieces = [text.as_bytes()];
+    match write_pieces(pieces.as_slice(), out) {
+        Ok(_) => Ok(()),
+        Err(fault) => Err(AnswerFault::Write {
+            written: fault.written,
+        }),
+    }
 }
 
 /// Tells an outcome in its line, as far as the device takes it, and answers the status of the program: 0 where all is well

@@ -6,27 +6,27 @@ use Rattle.clap.specs.Words.{Row, Text, first_of}
 use Rattle.ea_words.specs.Meaning.{Files, files_of, wanted, ◌>>=◌}
 
 -- The files of names.
-chain : Option Text → Option Text → Option (Option Text) → Option Text → Option Files
-chain gr starts report tp = gr >>= λ a. starts >>= λ b. report >>= λ c. Some (record { gr = a; starts = b; tp = tp; report = c })
+chain : Option Text → Option Text → Option (Option Text) → Option Text → Option Text → Option Files
+chain gr starts report tp output = gr >>= λ a. starts >>= λ b. report >>= λ c. Some (record { gr = a; starts = b; tp = tp; report = c; output = output })
 
-no_name : (gr starts : Option Text) (report tp : Option Text) (files : Files) → chain gr starts (wanted true report) tp ≡ Some files → files.report ≡ None → ⊥
+no_name : (gr starts : Option Text) (report tp output : Option Text) (files : Files) → chain gr starts (wanted true report) tp output ≡ Some files → files.report ≡ None → ⊥
 unfolding chain
-no_name None starts report tp files made none = none-some files made
-no_name (Some a) None report tp files made none = none-some files made
-no_name (Some a) (Some b) None tp files made none = none-some files made
-no_name (Some a) (Some b) (Some c) tp files made none =
+no_name None starts report tp output files made none = none-some files made
+no_name (Some a) None report tp output files made none = none-some files made
+no_name (Some a) (Some b) None tp output files made none = none-some files made
+no_name (Some a) (Some b) (Some c) tp output files made none =
     none-some c (sym none ∙ sym (ap (λ (o : Option Files). (unwrap_or o files).report) made))
 
 pub has_report : (second : Text) (rows : List Row) (files : Files) → files_of second true rows ≡ Some files → files.report ≡ None → ⊥
 unfolding files_of chain
-has_report second rows files made none = no_name (first_of (codes "gr") rows) (first_of second rows) (first_of (codes "report") rows) (first_of (codes "tp") rows) files made none
+has_report second rows files made none = no_name (first_of (codes "gr") rows) (first_of second rows) (first_of (codes "report") rows) (first_of (codes "tp") rows) (first_of (codes "output") rows) files made none
 
-all_named : (gr starts : Option Text) (report : Option (Option Text)) (tp : Option Text) → is_some gr ≡ true → is_some starts ≡ true → is_some report ≡ true → is_some (chain gr starts report tp) ≡ true
+all_named : (gr starts : Option Text) (report : Option (Option Text)) (tp output : Option Text) → is_some gr ≡ true → is_some starts ≡ true → is_some report ≡ true → is_some (chain gr starts report tp output) ≡ true
 unfolding chain
-all_named None starts report tp a b c = absurd (true≢false (sym a))
-all_named (Some gr) None report tp a b c = absurd (true≢false (sym b))
-all_named (Some gr) (Some starts) None tp a b c = absurd (true≢false (sym c))
-all_named (Some gr) (Some starts) (Some report) tp a b c = refl
+all_named None starts report tp output a b c = absurd (true≢false (sym a))
+all_named (Some gr) None report tp output a b c = absurd (true≢false (sym b))
+all_named (Some gr) (Some starts) None tp output a b c = absurd (true≢false (sym c))
+all_named (Some gr) (Some starts) (Some report) tp output a b c = refl
 
 pub unwanted : (name : Option Text) → is_some (wanted false name) ≡ true
 unwanted name = refl
@@ -38,7 +38,7 @@ there (Some name) some = refl
 pub has_files : (second : Text) (reported : Bool) (rows : List Row) → is_some (first_of (codes "gr") rows) ≡ true → is_some (first_of second rows) ≡ true
     → is_some (wanted reported (first_of (codes "report") rows)) ≡ true → is_some (files_of second reported rows) ≡ true
 unfolding files_of chain
-has_files second reported rows = all_named (first_of (codes "gr") rows) (first_of second rows) (wanted reported (first_of (codes "report") rows)) (first_of (codes "tp") rows)
+has_files second reported rows = all_named (first_of (codes "gr") rows) (first_of second rows) (wanted reported (first_of (codes "report") rows)) (first_of (codes "tp") rows) (first_of (codes "output") rows)
 
 pub report_there : (second : Text) (rows : List Row) (files : Files) → files_of second true rows ≡ Some files → is_some files.report ≡ true
 report_there second rows files made = go files.report refl

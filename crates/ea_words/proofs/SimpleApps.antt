@@ -2,7 +2,7 @@
 use Rattle.std.proofs.Common.{◌≡◌, true, refl}
 use Rattle.clap.specs.Words.{is_simple, is_simple_and_free}
 use Rattle.clap.proofs.OnLiterals.{clap_on_literals}
-use Rattle.ea_words.specs.Grammar.{run_app, pairs_app, rank_app, check_app, program}
+use Rattle.ea_words.specs.Grammar.{run_app, pairs_app, rank_app, check_app, explain_app, formats_app, program}
 
 pub simple_run : is_simple run_app ≡ true
 unfolding clap_on_literals run_app
@@ -36,10 +36,26 @@ pub free_check : is_simple_and_free check_app ≡ true
 unfolding clap_on_literals check_app
 free_check = refl
 
+pub simple_explain : is_simple explain_app ≡ true
+unfolding clap_on_literals explain_app
+simple_explain = refl
+
+pub free_explain : is_simple_and_free explain_app ≡ true
+unfolding clap_on_literals explain_app
+free_explain = refl
+
+pub simple_formats : is_simple formats_app ≡ true
+unfolding clap_on_literals formats_app
+simple_formats = refl
+
+pub free_formats : is_simple_and_free formats_app ≡ true
+unfolding clap_on_literals formats_app
+free_formats = refl
+
 pub simple_program : is_simple program ≡ true
-unfolding clap_on_literals program run_app pairs_app rank_app check_app
+unfolding clap_on_literals program run_app pairs_app rank_app check_app explain_app formats_app
 simple_program = refl
 
 pub free_program : is_simple_and_free program ≡ true
-unfolding clap_on_literals program run_app pairs_app rank_app check_app
+unfolding clap_on_literals program run_app pairs_app rank_app check_app explain_app formats_app
 free_program = refl

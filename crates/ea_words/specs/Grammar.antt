@@ -13,6 +13,21 @@ flag name = record (new_rule name) { long = Some name; action = Some SetTrue }
 abbrev pub file : Text → Rule
 file name = record (new_rule name) { action = Some Set; required = true; value_names = 1 }
 
+-- A word that may be left out.
+abbrev pub optional : Text → Rule
+optional name = record (new_rule name) { action = Some Set; value_names = 1 }
+
+-- The file that a report goes to: `--output` or `-o`.
+abbrev pub output : Rule
+output = record (valued (codes "output")) { short = Some 111 }
+
+abbrev pub with_output : App → App
+with_output app = with_rule app output
+
+-- Whether a fault is explained.
+abbrev pub with_explain : App → App
+with_explain app = with_rule app (flag (codes "explain"))
+
 -- The file of timetables and the departures, which each command has.
 abbrev pub with_departures : App → App
 with_departures app = with_rule (with_rule (with_rule app
@@ -29,20 +44,27 @@ with_report app = with_rule (with_rule (with_rule app
     (valued (codes "turns"))) (flag (codes "walks"))) (flag (codes "stats"))
 
 unfoldable pub run_app : App
-run_app = with_rule (with_report (with_workers (with_departures (with_rule (with_rule (new_app (codes "run"))
-    (file (codes "gr"))) (file (codes "ss")))))) (flag (codes "joint"))
+run_app = with_explain (with_output (with_rule (with_report (with_workers (with_departures (with_rule (with_rule (new_app (codes "run"))
+    (file (codes "gr"))) (file (codes "ss")))))) (flag (codes "joint"))))
 
 unfoldable pub pairs_app : App
-pairs_app = with_report (with_workers (with_departures (with_rule (with_rule (new_app (codes "pairs"))
-    (file (codes "gr"))) (file (codes "p2p")))))
+pairs_app = with_explain (with_output (with_report (with_workers (with_departures (with_rule (with_rule (new_app (codes "pairs"))
+    (file (codes "gr"))) (file (codes "p2p")))))))
 
 unfoldable pub rank_app : App
-rank_app = with_workers (with_departures (with_rule (with_rule (new_app (codes "rank"))
-    (file (codes "gr"))) (file (codes "ss"))))
+rank_app = with_explain (with_output (with_workers (with_departures (with_rule (with_rule (new_app (codes "rank"))
+    (file (codes "gr"))) (file (codes "ss"))))))
 
 unfoldable pub check_app : App
-check_app = with_rule (with_departures (with_rule (with_rule (with_rule (new_app (codes "check"))
-    (file (codes "gr"))) (file (codes "ss"))) (file (codes "report")))) (flag (codes "joint"))
+check_app = with_explain (with_rule (with_departures (with_rule (with_rule (with_rule (new_app (codes "check"))
+    (file (codes "gr"))) (file (codes "ss"))) (file (codes "report")))) (flag (codes "joint")))
+
+-- The commands that need no files.
+unfoldable pub explain_app : App
+explain_app = with_rule (new_app (codes "explain")) (optional (codes "fault"))
+
+unfoldable pub formats_app : App
+formats_app = new_app (codes "formats")
 
 -- The program, for words that begin with no command's name: they are refused, or ask for help or the version.
 abbrev pub bare_program : App
@@ -50,4 +72,5 @@ bare_program = let app = new_app (codes "earliest") in
     record app { top = record app.top { no_binary_name = true; has_version = true; subcommand_required = true } }
 
 unfoldable pub program : App
-program = with_subcommand (with_subcommand (with_subcommand (with_subcommand bare_program run_app.top) pairs_app.top) rank_app.top) check_app.top
+program = with_subcommand (with_subcommand (with_subcommand (with_subcommand (with_subcommand (with_subcommand bare_program
+    run_app.top) pairs_app.top) rank_app.top) check_app.top) explain_app.top) formats_app.top

@@ -1,3 +1,4 @@
+pub mod Bad
 pub mod Grammar
 pub mod Limits
 pub mod Meaning

@@ -1,6 +1,6 @@
 -- Why words ask for nothing.
-use Rattle.std.specs.Prelude.{◌≡◌, Bool, true, false, List, [], ◌∷◌, Option, Some, None}
-use Rattle.clap.specs.Words.{Kinds, IsAmong, Row, Text, fault_of, matches_of}
+use Rattle.std.specs.Prelude.{◌≡◌, ◌⊎◌, Bool, true, false, List, [], ◌∷◌, codes, Some, None}
+use Rattle.clap.specs.Words.{Kinds, IsAmong, Row, Text, fault_of, first_of, matches_of}
 use Rattle.clap.specs.Words.{kind_of}
 use Rattle.clap.specs.declared.error.Error.{Error}
 use Rattle.clap.specs.declared.error.kind.ErrorKind.{ErrorKind}
@@ -9,8 +9,8 @@ use Rattle.clap.specs.declared.error.kind.ErrorKind.TheVariants.{DisplayHelp, Di
 use Rattle.ea_words.specs.declared.fault.CommandFault.{CommandFault}
 use Rattle.ea_words.specs.declared.fault.CommandFault.TheVariants.{Words, BadOption, OutOfMemory}
 use Rattle.ea_words.specs.declared.options.Command.{Command}
-use Rattle.ea_words.specs.Grammar.{program}
-use Rattle.ea_words.specs.Meaning.{Files, Verb, stored, verb_of, app_by, second_by, reported_by, meaning_by, asked, files_of, options_of}
+use Rattle.ea_words.specs.Grammar.{explain_app, formats_app, program}
+use Rattle.ea_words.specs.Meaning.{Files, Head, Verb, of_files, of_explain, of_formats, of_none, stored, explain, formats, head_of, app_by, second_by, reported_by, meaning_by, asked, files_of, has_input_twice, options_of}
 
 -- Whether a text of this kind was asked for.
 abbrev pub is_shown : ErrorKind → Bool
@@ -24,17 +24,20 @@ abbrev pub some_kind : Kinds → Kinds
 some_kind [] = InvalidSubcommand ∷ []
 some_kind (kind ∷ kinds) = kind ∷ kinds
 
-abbrev pub kinds_by : Option Verb → List Text → Kinds
-kinds_by (Some verb) words = fault_of (app_by verb) words
-kinds_by None words = some_kind (fault_of program words)
+abbrev pub kinds_by : Head → List Text → Kinds
+kinds_by (of_files verb) words = fault_of (app_by verb) words
+kinds_by of_explain words = fault_of explain_app words
+kinds_by of_formats words = fault_of formats_app words
+kinds_by of_none words = some_kind (fault_of program words)
 
--- The names are there, and some option's value is no number or out of its limits.
+-- The names are there, and some option's value is no number or out of its limits, or two files are standard input.
 abbrev pub HasBadOption : Text → Bool → List Row → Type 0
-HasBadOption second reported rows = (files : Files) × (files_of second reported rows ≡ Some files) × (options_of rows ≡ None)
+HasBadOption second reported rows =
+    (files : Files) × (files_of second reported rows ≡ Some files) × ((options_of rows ≡ None) ⊎ (has_input_twice files ≡ true))
 
-abbrev pub IsBadBy : Option Verb → List Text → Type 0
-IsBadBy (Some verb) words = HasBadOption (second_by verb) (reported_by verb) (matches_of (app_by verb) words)
-IsBadBy None words = ⊥
+abbrev pub IsBadBy : Head → List Text → Type 0
+IsBadBy (of_files verb) words = HasBadOption (second_by verb) (reported_by verb) (matches_of (app_by verb) words)
+IsBadBy _ words = ⊥
 
 -- A text has one of the kinds, and tells whether it was asked for.
 abbrev pub IsTextOf : Kinds → Bool → Type 0
@@ -58,33 +61,37 @@ IsComplaint (Words help text) = help ≡ false
 IsComplaint BadOption = ⊥
 IsComplaint OutOfMemory = Unit {0}
 
--- Why rows that name all files ask for nothing: an option's value is bad, or memory is refused.
+-- Why rows that name all files ask for nothing: an option's value is bad, and nothing else.
 abbrev pub IsUnasked : Text → Bool → List Row → CommandFault → Type 0
 IsUnasked second reported rows (Words help text) = ⊥
 IsUnasked second reported rows BadOption = HasBadOption second reported rows
-IsUnasked second reported rows OutOfMemory = Unit {0}
+IsUnasked second reported rows OutOfMemory = ⊥
 
 -- Words that begin with a command's name, or with none, are refused for this. A text comes only where clap refuses the
 -- words, and tells whether it was asked for; BadOption comes only where clap takes them; memory may always be refused.
-abbrev pub IsRefusedBy : Option Verb → List Text → CommandFault → Type 0
-IsRefusedBy verb words (Words help text) = IsTextOf (kinds_by verb words) help
-IsRefusedBy verb words BadOption = (kinds_by verb words ≡ []) × IsBadBy verb words
-IsRefusedBy verb words OutOfMemory = Unit {0}
+abbrev pub IsRefusedBy : Head → List Text → CommandFault → Type 0
+IsRefusedBy head words (Words help text) = IsTextOf (kinds_by head words) help
+IsRefusedBy head words BadOption = (kinds_by head words ≡ []) × IsBadBy head words
+IsRefusedBy head words OutOfMemory = Unit {0}
 
 -- Clap takes the words of a command, and they ask for this.
 pub record AsksBy (verb : Verb) (words : List Text) (command : Command) : Type 0 where
-  pub taken : kinds_by (Some verb) words ≡ []
+  pub taken : kinds_by (of_files verb) words ≡ []
   pub means : meaning_by verb words ≡ Some (asked command)
 
 abbrev pub IsRefusal : List Text → CommandFault → Type 0
 IsRefusal [] fault = ⊥
-IsRefusal (word ∷ words) fault = IsRefusedBy (verb_of word) (word ∷ words) fault
+IsRefusal (word ∷ words) fault = IsRefusedBy (head_of word) (word ∷ words) fault
 
-abbrev pub AsksAs : Option Verb → List Text → Command → Type 0
-AsksAs (Some verb) words command = AsksBy verb words command
-AsksAs None words command = ⊥
+-- Clap takes words that ask what a fault means, and they name this one or none; or words that ask for the formats.
+abbrev pub AsksAs : Head → List Text → Command → Type 0
+AsksAs (of_files verb) words command = AsksBy verb words command
+AsksAs of_explain words command =
+    (kinds_by of_explain words ≡ []) × (asked command ≡ explain (first_of (codes "fault") (matches_of explain_app words)))
+AsksAs of_formats words command = (kinds_by of_formats words ≡ []) × (asked command ≡ formats)
+AsksAs of_none words command = ⊥
 
 -- No words ask for the stored run, others for what their command makes of them.
 abbrev pub Asks : List Text → Command → Type 0
 Asks [] command = asked command ≡ stored
-Asks (word ∷ words) command = AsksAs (verb_of word) (word ∷ words) command
+Asks (word ∷ words) command = AsksAs (head_of word) (word ∷ words) command

@@ -2,7 +2,7 @@
 ghost use Rattle.std.specs.Prelude.{◌≡◌, IfOk, false};
 ghost use Rattle.clap.specs.Words.{app_of, rule_of, with_rule};
 ghost use Rattle.clap.specs.declared.builder.command.Command.TheViews.{out-Command as fields_of};
-ghost use Rattle.ea_words.specs.Grammar.{with_departures, with_report, with_workers};
+ghost use Rattle.ea_words.specs.Grammar.{output, with_departures, with_explain, with_output, with_report, with_workers};
 
 use clap::{Arg, ArgAction, Command};
 use std::alloc::{AllocError, Global};
@@ -42,6 +42,31 @@ pub(crate) fn file<'a>(alloc: Global, name: &'a str, value: &'a str, help: &'a s
         .help(help)
 }
 
+/// A word that may be left out.
+pub(crate) fn optional<'a>(alloc: Global, name: &'a str, value: &'a str, help: &'a str) -> Arg<'a>
+    ensures rule { rule_of result ≡ Rattle.ea_words.specs.Grammar.optional name.entry.now }
+    ensures local { result.global ≡ false }
+{
+    Arg::new(alloc, name)
+        .action(ArgAction::Set)
+        .value_name(value)
+        .help(help)
+}
+
+/// The option that names the file of a report.
+fn output_file<'a>(alloc: Global) -> Arg<'a>
+    ensures rule { rule_of result ≡ output }
+    ensures local { result.global ≡ false }
+{
+    valued(
+        alloc,
+        "output",
+        "FILE",
+        "Writes into FILE, which is put in its place when it is whole [default: standard output]",
+    )
+    .short('o')
+}
+
 /// A command with one more argument.
 pub(crate) fn with_arg<'a>(command: Command<'a>, arg: Arg<'a>) -> Result<Command<'a>, AllocError>
     requires { arg.global ≡ false }
@@ -68,7 +93,7 @@ pub(crate) fn with_departures<'a>(
             alloc,
             "tp",
             "FILE",
-            "Timetables of the arcs (.tp); without it each arc takes its weight",
+            "Timetables of the arcs (.tp), or - for standard input; without it each arc takes its weight",
         ),
     )?;
     let command = with_arg(
@@ -77,7 +102,7 @@ pub(crate) fn with_departures<'a>(
             alloc,
             "depart",
             "T",
-            "Departure of the first source, in units of the weights: 0 to 281474976710655 [default: 0]",
+            "Departure of the first source or pair, in units of the weights: 0 to 281474976710655 [default: 0]",
         ),
     )?;
     let command = with_arg(
@@ -86,7 +111,7 @@ pub(crate) fn with_departures<'a>(
             alloc,
             "gap",
             "G",
-            "How much later each next source departs: 0 to 281474976710655 [default: 0]",
+            "How much later each next source or pair departs: 0 to 281474976710655 [default: 0]",
         ),
     )?;
     Ok(command)
@@ -166,4 +191,35 @@ pub(crate) fn with_report<'a>(
         ),
     )?;
     Ok(command)
+}
+
+/// The option that says where a report goes.
+pub(crate) fn with_output<'a>(
+    alloc: Global,
+    command: Command<'a>,
+) -> Result<Command<'a>, AllocError>
+    ensures app { IfOk result (λ c. app_of c ≡ with_output (app_of command.entry)) }
+    ensures local { IfOk result
+        (λ c. (fields_of command.entry).has_globals ≡ false → (fields_of c).has_globals ≡ false) }
+{
+    with_arg(command, output_file(alloc))
+}
+
+/// The option that asks for explanations.
+pub(crate) fn with_explain<'a>(
+    alloc: Global,
+    command: Command<'a>,
+) -> Result<Command<'a>, AllocError>
+    ensures app { IfOk result (λ c. app_of c ≡ with_explain (app_of command.entry)) }
+    ensures local { IfOk result
+        (λ c. (fields_of command.entry).has_globals ≡ false → (fields_of c).has_globals ≡ false) }
+{
+    with_arg(
+        command,
+        flag(
+            alloc,
+            "explain",
+            "Says after a fault what it means and what to do, as on a terminal",
+        ),
+    )
 }

@@ -2,21 +2,31 @@
 ghost use Rattle.std.specs.Prelude.{◌≡◌, IfOk, false};
 ghost use Rattle.clap.specs.Words.{app_of, with_subcommand};
 ghost use Rattle.clap.specs.declared.builder.command.Command.TheViews.{out-Command as fields_of};
-ghost use Rattle.ea_words.specs.Grammar.{run_app, pairs_app, rank_app, check_app, bare_program, program};
+ghost use Rattle.ea_words.specs.Grammar.{run_app, pairs_app, rank_app, check_app, explain_app, formats_app, bare_program, program};
 
-use crate::arguments::{file, flag, with_arg, with_departures, with_report, with_workers};
+use crate::arguments::{
+    file, flag, optional, with_arg, with_departures, with_explain, with_output, with_report,
+    with_workers,
+};
 use clap::Command;
 use std::alloc::{AllocError, Global};
 
 const ABOUT: &str =
     "Computes earliest arrivals in a road network whose travel times depend on the departure";
 
-const MORE: &str = "Without any words the program answers a small network that is built in.";
+const MORE: &str =
+    "Without any words the program answers a small network that is built in. Try then:\n  earliest run --help\n\nThe formats of the files are told by `earliest formats`, faults by `earliest explain`.";
+
+const NETWORK: &str = "The network (.gr), or - for standard input";
+
+const SOURCES: &str = "The sources (.ss), or - for standard input";
+
+const PAIRS_FILE: &str = "The pairs of source and target (.p2p), or - for standard input";
 
 const RUN: &str = "Writes the earliest arrival at every node from each source";
 
 const RUN_MORE: &str =
-    "Example:\n  earliest run roads.gr starts.ss --tp times.tp --depart 28800 --walks\n\nA problem is a line `s S D` (source, departure), then for each node V a line `d V A`\nwith its earliest arrival A, or `d V inf`. With --walks a line `w V k e1 .. ek` follows,\nthe arcs of a walk that attains it.";
+    "Example:\n  earliest run roads.gr starts.ss --tp times.tp --depart 28800 --walks\n  zcat roads.gr.gz | earliest run - starts.ss -o report\n\nA problem is a line `s S D` (source, departure), then for each node V a line `d V A`\nwith its earliest arrival A, or `d V inf`. With --walks a line `w V k e1 .. ek` follows,\nthe arcs of a walk that attains it.";
 
 const PAIRS: &str = "Writes the earliest arrival at the target of each pair";
 
@@ -52,8 +62,8 @@ pub(crate) fn run_command<'a>(alloc: Global) -> Result<Command<'a>, AllocError>
         Command::new(alloc, "run").about(RUN).after_help(RUN_MORE),
         "earliest run",
     )?;
-    let command = with_arg(command, file(alloc, "gr", "GR", "The network (.gr)"))?;
-    let command = with_arg(command, file(alloc, "ss", "SS", "The sources (.ss)"))?;
+    let command = with_arg(command, file(alloc, "gr", "GR", NETWORK))?;
+    let command = with_arg(command, file(alloc, "ss", "SS", SOURCES))?;
     let command = with_departures(alloc, command)?;
     let command = with_workers(alloc, command)?;
     let command = with_report(alloc, command)?;
@@ -61,6 +71,8 @@ pub(crate) fn run_command<'a>(alloc: Global) -> Result<Command<'a>, AllocError>
         command,
         flag(alloc, "joint", "Takes all sources as one problem"),
     )?;
+    let command = with_output(alloc, command)?;
+    let command = with_explain(alloc, command)?;
     Ok(command)
 }
 
@@ -76,14 +88,13 @@ pub(crate) fn pairs_command<'a>(alloc: Global) -> Result<Command<'a>, AllocError
             .after_help(PAIRS_MORE),
         "earliest pairs",
     )?;
-    let command = with_arg(command, file(alloc, "gr", "GR", "The network (.gr)"))?;
-    let command = with_arg(
-        command,
-        file(alloc, "p2p", "P2P", "The pairs of source and target (.p2p)"),
-    )?;
+    let command = with_arg(command, file(alloc, "gr", "GR", NETWORK))?;
+    let command = with_arg(command, file(alloc, "p2p", "P2P", PAIRS_FILE))?;
     let command = with_departures(alloc, command)?;
     let command = with_workers(alloc, command)?;
     let command = with_report(alloc, command)?;
+    let command = with_output(alloc, command)?;
+    let command = with_explain(alloc, command)?;
     Ok(command)
 }
 
@@ -99,10 +110,12 @@ pub(crate) fn rank_command<'a>(alloc: Global) -> Result<Command<'a>, AllocError>
             .after_help(RANK_MORE),
         "earliest rank",
     )?;
-    let command = with_arg(command, file(alloc, "gr", "GR", "The network (.gr)"))?;
-    let command = with_arg(command, file(alloc, "ss", "SS", "The sources (.ss)"))?;
+    let command = with_arg(command, file(alloc, "gr", "GR", NETWORK))?;
+    let command = with_arg(command, file(alloc, "ss", "SS", SOURCES))?;
     let command = with_departures(alloc, command)?;
     let command = with_workers(alloc, command)?;
+    let command = with_output(alloc, command)?;
+    let command = with_explain(alloc, command)?;
     Ok(command)
 }
 
@@ -118,21 +131,61 @@ pub(crate) fn check_command<'a>(alloc: Global) -> Result<Command<'a>, AllocError
             .after_help(CHECK_MORE),
         "earliest check",
     )?;
-    let command = with_arg(command, file(alloc, "gr", "GR", "The network (.gr)"))?;
-    let command = with_arg(command, file(alloc, "ss", "SS", "The sources (.ss)"))?;
+    let command = with_arg(command, file(alloc, "gr", "GR", NETWORK))?;
+    let command = with_arg(command, file(alloc, "ss", "SS", SOURCES))?;
     let command = with_arg(
         command,
         file(
             alloc,
             "report",
             "REPORT",
-            "The report of a run on these files",
+            "The report of a run on these files, or - for standard input",
         ),
     )?;
     let command = with_departures(alloc, command)?;
     let command = with_arg(
         command,
         flag(alloc, "joint", "Takes all sources as one problem"),
+    )?;
+    let command = with_explain(alloc, command)?;
+    Ok(command)
+}
+
+const EXPLAIN: &str = "Says what a fault means, its usual causes, and an example";
+
+const EXPLAIN_MORE: &str =
+    "Example:\n  earliest explain 6\n  earliest explain NotLeast\n\nWithout a fault it lists them all.";
+
+const FORMATS: &str = "Says how the files are written, on one page";
+
+/// The command `explain FAULT`.
+#[tactic(auto, unfolding(crate::specs::Grammar::explain_app))]
+pub(crate) fn explain_command<'a>(alloc: Global) -> Result<Command<'a>, AllocError>
+    ensures app { IfOk result (λ c. app_of c ≡ explain_app) }
+    ensures local { IfOk result (λ c. (fields_of c).has_globals ≡ false) }
+{
+    let command = named(
+        Command::new(alloc, "explain")
+            .about(EXPLAIN)
+            .after_help(EXPLAIN_MORE),
+        "earliest explain",
+    )?;
+    let command = with_arg(
+        command,
+        optional(alloc, "fault", "FAULT", "The number or the name of a fault"),
+    )?;
+    Ok(command)
+}
+
+/// The command `formats`.
+#[tactic(auto, unfolding(crate::specs::Grammar::formats_app))]
+pub(crate) fn formats_command<'a>(alloc: Global) -> Result<Command<'a>, AllocError>
+    ensures app { IfOk result (λ c. app_of c ≡ formats_app) }
+    ensures local { IfOk result (λ c. (fields_of c).has_globals ≡ false) }
+{
+    let command = named(
+        Command::new(alloc, "formats").about(FORMATS),
+        "earliest formats",
     )?;
     Ok(command)
 }
@@ -158,14 +211,25 @@ fn with_command<'a>(command: Command<'a>, below: Command<'a>) -> Result<Command<
     command.subcommand(below)
 }
 
+/// The program with the commands that need no files.
+fn with_words<'a>(alloc: Global, command: Command<'a>) -> Result<Command<'a>, AllocError>
+    ensures { IfOk result (λ c. app_of c
+        ≡ with_subcommand (with_subcommand (app_of command.entry) explain_app.top) formats_app.top) }
+{
+    let command = with_command(command, explain_command(alloc)?)?;
+    let command = with_command(command, formats_command(alloc)?)?;
+    Ok(command)
+}
+
 /// The program with its last commands.
 fn with_last<'a>(alloc: Global, command: Command<'a>) -> Result<Command<'a>, AllocError>
-    ensures { IfOk result (λ c. app_of c
-        ≡ with_subcommand (with_subcommand (app_of command.entry) rank_app.top) check_app.top) }
+    ensures { IfOk result (λ c. app_of c ≡ with_subcommand (with_subcommand (with_subcommand
+        (with_subcommand (app_of command.entry) rank_app.top) check_app.top) explain_app.top)
+        formats_app.top) }
 {
     let command = with_command(command, rank_command(alloc)?)?;
     let command = with_command(command, check_command(alloc)?)?;
-    Ok(command)
+    with_words(alloc, command)
 }
 
 /// The program, for words that begin with no command's name.

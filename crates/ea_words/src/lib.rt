@@ -2,12 +2,14 @@
 #![tactic(auto)]
 
 mod arguments;
+mod bad;
 mod commands;
 mod fault;
 mod meaning;
 mod options;
 mod values;
 
+pub use bad::{BadValue, asks_to_explain, bad_value_of};
 pub use fault::CommandFault;
 pub use options::{Command, RunOptions};
 

@@ -1,14 +1,17 @@
 //! What words ask for.
-ghost use Rattle.std.specs.Prelude.{◌≡◌, IfOk, IfErr, IfSome, true, map, codes, option_map, is_some, Some, None, [], ◌∷◌};
+ghost use Rattle.std.specs.Prelude.{◌≡◌, IfOk, IfErr, IfSome, true, map, codes, option_map, is_some, Some, false, [], ◌∷◌, ◌≤◌};
 ghost use Rattle.clap.specs.Built.{IsParsedFrom};
 ghost use Rattle.clap.specs.Words.{app_of, fault_of, found_of, kind_of, matches_of, rows_of, is_simple, is_simple_and_free, IsAmong};
-ghost use Rattle.ea_words.specs.Meaning.{run_verb, pairs_verb, rank_verb, check_verb};
+ghost use Rattle.ea_words.specs.Meaning.{run_verb, pairs_verb, rank_verb, check_verb, of_files, of_explain, of_formats, of_none};
 ghost use Rattle.ea_words.specs.Limits.{AreOptions, HasLimits};
 ghost use Rattle.ea_words.specs.Meaning;
-ghost use Rattle.ea_words.specs.Meaning.{files, files_of, options_of};
-ghost use Rattle.ea_words.specs.Refusals.{Asks, AsksBy, IsRefusal, IsRefusedBy, IsRefusalBy, IsFaultOf, IsComplaint, IsUnasked, is_shown};
+ghost use Rattle.ea_words.specs.Meaning.{files, files_of, has_input_twice, options_of};
+ghost use Rattle.ea_words.specs.Refusals.{Asks, AsksAs, AsksBy, IsRefusal, IsRefusedBy, IsRefusalBy, IsFaultOf, IsComplaint, IsUnasked, is_shown};
 
-use crate::commands::{check_command, pairs_command, program, rank_command, run_command};
+use crate::commands::{
+    check_command, explain_command, formats_command, pairs_command, program, rank_command,
+    run_command,
+};
 use crate::fault::CommandFault;
 use crate::options::{Command, RunOptions};
 use crate::values::{has_flag, option_number, text_of};
@@ -98,6 +101,36 @@ struct Names<'a> {
     starts: &'a str,
     tp: Option<&'a str>,
     report: Option<&'a str>,
+    output: Option<&'a str>,
+}
+
+/// 1 where a name stands for standard input, else 0.
+fn input_by(name: &str) -> u8
+    ensures input { result ≡ Meaning.input_by name.now }
+    ensures bound { result ≤ 1 }
+{
+    if name == "-" { 1 } else { 0 }
+}
+
+/// The same of a name that may be left out.
+fn input_if_named(name: Option<&str>) -> u8
+    ensures input { result ≡ Meaning.input_if_named (option_map (λ t. t.now) name.entry) }
+    ensures bound { result ≤ 1 }
+{
+    match name {
+        None => 0,
+        Some(name) => input_by(name),
+    }
+}
+
+impl Names<'_> {
+    /// Whether two of the files that are read are standard input.
+    fn has_input_twice(&self) -> bool
+        ensures { result ≡ has_input_twice (files self.now) }
+    {
+        let first = input_by(self.gr) + input_by(self.starts);
+        2 <= first + input_if_named(self.tp) + input_if_named(self.report)
+    }
 }
 
 /// A name, which may be left out where it isn't wanted.
@@ -120,12 +153,12 @@ fn names_in<'a>(matches: &ArgMatches<'a>, second: &str, reported: bool) -> Optio
     let gr = text_of(matches, "gr")?;
     let starts = text_of(matches, second)?;
     let report = wanted(reported, text_of(matches, "report"))?;
-    let tp = text_of(matches, "tp");
     Some(Names {
         gr,
         starts,
-        tp,
+        tp: text_of(matches, "tp"),
         report,
+        output: text_of(matches, "output"),
     })
 }
 
@@ -139,13 +172,20 @@ fn asked_in<'a>(
         ≡ true }
     ensures ok { IfOk result (λ asked.
         (files_of second.now reported (rows_of (found_of matches.now)) ≡ Some (files asked.0))
-        × (options_of (rows_of (found_of matches.now)) ≡ Some asked.1)) }
+        × (options_of (rows_of (found_of matches.now)) ≡ Some asked.1)
+        × (has_input_twice (files asked.0) ≡ false)) }
     ensures limits { IfOk result (λ asked. AreOptions asked.1) }
     ensures err { IfErr result (IsUnasked second.now reported (rows_of (found_of matches.now))) }
 {
     let names = names_in(matches, second, reported).unwrap();
     match options_in(matches) {
-        Some(options) => Ok((names, options)),
+        Some(options) => {
+            if names.has_input_twice() {
+                Err(CommandFault::BadOption)
+            } else {
+                Ok((names, options))
+            }
+        }
         None => Err(CommandFault::BadOption),
     }
 }
@@ -164,7 +204,7 @@ fn no_command(alloc: Global) -> CommandFault
 fn run_of_words<'a, S: AsStr>(alloc: Global, words: &'a [S]) -> Result<Command<'a>, CommandFault>
     ensures ok { IfOk result (AsksBy run_verb (map S.text words.entry.now)) }
     ensures limits { IfOk result HasLimits }
-    ensures err { IfErr result (IsRefusedBy (Some run_verb) (map S.text words.entry.now)) }
+    ensures err { IfErr result (IsRefusedBy (of_files run_verb) (map S.text words.entry.now)) }
 {
     let matches = matches_in(alloc, run_command(alloc)?, words)?;
     let (names, options) = asked_in(&matches, "ss", false)?;
@@ -172,6 +212,7 @@ fn run_of_words<'a, S: AsStr>(alloc: Global, words: &'a [S]) -> Result<Command<'
         gr: names.gr,
         ss: names.starts,
         tp: names.tp,
+        output: names.output,
         options,
     })
 }
@@ -180,7 +221,7 @@ fn run_of_words<'a, S: AsStr>(alloc: Global, words: &'a [S]) -> Result<Command<'
 fn pairs_of_words<'a, S: AsStr>(alloc: Global, words: &'a [S]) -> Result<Command<'a>, CommandFault>
     ensures ok { IfOk result (AsksBy pairs_verb (map S.text words.entry.now)) }
     ensures limits { IfOk result HasLimits }
-    ensures err { IfErr result (IsRefusedBy (Some pairs_verb) (map S.text words.entry.now)) }
+    ensures err { IfErr result (IsRefusedBy (of_files pairs_verb) (map S.text words.entry.now)) }
 {
     let matches = matches_in(alloc, pairs_command(alloc)?, words)?;
     let (names, options) = asked_in(&matches, "p2p", false)?;
@@ -188,6 +229,7 @@ fn pairs_of_words<'a, S: AsStr>(alloc: Global, words: &'a [S]) -> Result<Command
         gr: names.gr,
         p2p: names.starts,
         tp: names.tp,
+        output: names.output,
         options,
     })
 }
@@ -196,7 +238,7 @@ fn pairs_of_words<'a, S: AsStr>(alloc: Global, words: &'a [S]) -> Result<Command
 fn rank_of_words<'a, S: AsStr>(alloc: Global, words: &'a [S]) -> Result<Command<'a>, CommandFault>
     ensures ok { IfOk result (AsksBy rank_verb (map S.text words.entry.now)) }
     ensures limits { IfOk result HasLimits }
-    ensures err { IfErr result (IsRefusedBy (Some rank_verb) (map S.text words.entry.now)) }
+    ensures err { IfErr result (IsRefusedBy (of_files rank_verb) (map S.text words.entry.now)) }
 {
     let matches = matches_in(alloc, rank_command(alloc)?, words)?;
     let (names, options) = asked_in(&matches, "ss", false)?;
@@ -204,6 +246,7 @@ fn rank_of_words<'a, S: AsStr>(alloc: Global, words: &'a [S]) -> Result<Command<
         gr: names.gr,
         ss: names.starts,
         tp: names.tp,
+        output: names.output,
         options,
     })
 }
@@ -212,7 +255,7 @@ fn rank_of_words<'a, S: AsStr>(alloc: Global, words: &'a [S]) -> Result<Command<
 fn check_of_words<'a, S: AsStr>(alloc: Global, words: &'a [S]) -> Result<Command<'a>, CommandFault>
     ensures ok { IfOk result (AsksBy check_verb (map S.text words.entry.now)) }
     ensures limits { IfOk result HasLimits }
-    ensures err { IfErr result (IsRefusedBy (Some check_verb) (map S.text words.entry.now)) }
+    ensures err { IfErr result (IsRefusedBy (of_files check_verb) (map S.text words.entry.now)) }
 {
     let matches = matches_in(alloc, check_command(alloc)?, words)?;
     let (names, options) = asked_in(&matches, "ss", true)?;
@@ -225,9 +268,37 @@ fn check_of_words<'a, S: AsStr>(alloc: Global, words: &'a [S]) -> Result<Command
     })
 }
 
+/// What words that begin with `explain` ask for.
+fn explain_of_words<'a, S: AsStr>(
+    alloc: Global,
+    words: &'a [S],
+) -> Result<Command<'a>, CommandFault>
+    ensures ok { IfOk result (AsksAs of_explain (map S.text words.entry.now)) }
+    ensures limits { IfOk result HasLimits }
+    ensures err { IfErr result (IsRefusedBy of_explain (map S.text words.entry.now)) }
+{
+    let matches = matches_in(alloc, explain_command(alloc)?, words)?;
+    Ok(Command::Explain {
+        fault: text_of(&matches, "fault"),
+    })
+}
+
+/// What words that begin with `formats` ask for.
+fn formats_of_words<'a, S: AsStr>(
+    alloc: Global,
+    words: &'a [S],
+) -> Result<Command<'a>, CommandFault>
+    ensures ok { IfOk result (AsksAs of_formats (map S.text words.entry.now)) }
+    ensures limits { IfOk result HasLimits }
+    ensures err { IfErr result (IsRefusedBy of_formats (map S.text words.entry.now)) }
+{
+    matches_in(alloc, formats_command(alloc)?, words)?;
+    Ok(Command::Formats)
+}
+
 /// Why words that begin with no command's name ask for nothing.
 fn refusal_of_words<'a, S: AsStr>(alloc: Global, words: &'a [S]) -> CommandFault
-    ensures { IsRefusedBy None (map S.text words.entry.now) result }
+    ensures { IsRefusedBy of_none (map S.text words.entry.now) result }
 {
     let command = match program(alloc) {
         Ok(command) => command,
@@ -246,7 +317,8 @@ impl RunOptions {
     /// numbers of the input files are.
     ///
     /// Errors: `Words` where clap refuses the words or is asked for a text, `BadOption` where it takes them and an
-    /// option's value is no number or out of its limits, `OutOfMemory` where memory is refused.
+    /// option's value is no number or out of its limits or two files are standard input, `OutOfMemory` where memory is
+    /// refused.
     pub fn of_words<'a, S: AsStr>(
         alloc: Global,
         words: &'a [S],
@@ -268,6 +340,10 @@ impl RunOptions {
             rank_of_words(alloc, words)
         } else if verb == "check" {
             check_of_words(alloc, words)
+        } else if verb == "explain" {
+            explain_of_words(alloc, words)
+        } else if verb == "formats" {
+            formats_of_words(alloc, words)
         } else {
             Err(refusal_of_words(alloc, words))
         }

@@ -28,11 +28,12 @@ pub struct RunOptions {
 pub enum Command<'a> {
     /// The run that is built in.
     Stored,
-    /// Arrivals from the sources of the file `ss`.
+    /// Arrivals from the sources of the file `ss`. The report goes into the file `output`, where one is named.
     Run {
         gr: &'a str,
         ss: &'a str,
         tp: Option<&'a str>,
+        output: Option<&'a str>,
         options: RunOptions,
     },
     /// Arrivals at the targets of the file `p2p`.
@@ -40,6 +41,7 @@ pub enum Command<'a> {
         gr: &'a str,
         p2p: &'a str,
         tp: Option<&'a str>,
+        output: Option<&'a str>,
         options: RunOptions,
     },
     /// Rank errors of one thread's runs from the sources of the file `ss`.
@@ -47,6 +49,7 @@ pub enum Command<'a> {
         gr: &'a str,
         ss: &'a str,
         tp: Option<&'a str>,
+        output: Option<&'a str>,
         options: RunOptions,
     },
     /// Whether a report of a run is right.
@@ -57,4 +60,10 @@ pub enum Command<'a> {
         report: &'a str,
         options: RunOptions,
     },
+    /// What a fault means, by its number or name; which faults there are, where none is named.
+    Explain {
+        fault: Option<&'a str>,
+    },
+    /// The formats of the files.
+    Formats,
 }

@@ -35,6 +35,7 @@ fn a_run(rt: HostRuntime) {
             gr,
             ss,
             tp,
+            output,
             options,
         },
     ) = asked(&rt, words.as_slice())
@@ -42,7 +43,7 @@ fn a_run(rt: HostRuntime) {
         assert!(rt; false);
         return;
     };
-    assert!(rt; gr == "g" && ss == "s" && tp.is_none());
+    assert!(rt; gr == "g" && ss == "s" && tp.is_none() && output.is_none());
     assert!(rt;
         options
             == RunOptions {
@@ -76,6 +77,7 @@ fn pairs_with_timetables(rt: HostRuntime) {
             gr,
             p2p,
             tp,
+            output,
             options,
         },
     ) = asked(&rt, words.as_slice())
@@ -83,7 +85,7 @@ fn pairs_with_timetables(rt: HostRuntime) {
         assert!(rt; false);
         return;
     };
-    assert!(rt; gr == "g" && p2p == "q" && tp == Some("t"));
+    assert!(rt; gr == "g" && p2p == "q" && tp == Some("t") && output.is_none());
     assert!(rt; options.walks && options.seed == u64::MAX && options.workers == 4);
 }
 
@@ -107,6 +109,7 @@ fn a_rank(rt: HostRuntime) {
             gr,
             ss,
             tp,
+            output,
             options,
         },
     ) = asked(&rt, words.as_slice())
@@ -114,7 +117,7 @@ fn a_rank(rt: HostRuntime) {
         assert!(rt; false);
         return;
     };
-    assert!(rt; gr == "g" && ss == "s" && tp.is_none());
+    assert!(rt; gr == "g" && ss == "s" && tp.is_none() && output.is_none());
     assert!(rt;
         options
             == RunOptions {
@@ -297,6 +300,48 @@ fn words_that_are_not_understood(rt: HostRuntime) {
     assert!(rt; says(&rt, ["--"].as_slice(), false, "subcommand"));
 }
 
+/// The kinds of refusal that clap has for these commands, each by the front of its text.
+#[test]
+fn each_kind_of_refusal(rt: HostRuntime) {
+    for (words, part) in [
+        (
+            ["run", "g", "s", "--fast"].as_slice(),
+            "error: unexpected argument '--fast' found\n",
+        ),
+        (
+            ["walk"].as_slice(),
+            "error: unrecognized subcommand 'walk'\n",
+        ),
+        (
+            ["run", "g", "s", "--gap"].as_slice(),
+            "error: a value is required for '--gap <G>' but none was supplied\n",
+        ),
+        (
+            ["run", "g", "s", "--joint=1"].as_slice(),
+            "error: unexpected value '1' for '--joint' found; no more were expected\n",
+        ),
+        (
+            ["run", "g", "s", "--gap", "1", "--gap", "1"].as_slice(),
+            "error: the argument '--gap <G>' cannot be used multiple times\n",
+        ),
+        (
+            ["run", "g"].as_slice(),
+            "error: the following required arguments were not provided:\n  <SS>\n",
+        ),
+        (
+            ["--"].as_slice(),
+            "error: 'earliest' requires a subcommand but one was not provided\n",
+        ),
+    ] {
+        match RunOptions::of_words(rt.alloc(), words) {
+            Err(CommandFault::Words { help, text }) => {
+                assert!(rt; !help && text.as_str().starts_with(part), "{text}");
+            }
+            _ => assert!(rt; false, "{part}"),
+        }
+    }
+}
+
 #[test]
 fn texts_that_are_asked_for(rt: HostRuntime) {
     assert!(rt; says(&rt, ["--help"].as_slice(), true, "Usage: earliest"));
@@ -337,4 +382,142 @@ fn texts_that_are_asked_for(rt: HostRuntime) {
         )
     );
     assert!(rt; says(&rt, ["run", "g"].as_slice(), false, "Usage: earliest run"));
+}
+
+#[test]
+fn a_file_for_the_report(rt: HostRuntime) {
+    for words in [
+        ["run", "g", "s", "-o", "f"].as_slice(),
+        ["run", "g", "-of", "s"].as_slice(),
+        ["run", "--output", "f", "g", "s"].as_slice(),
+        ["run", "g", "s", "--output=f"].as_slice(),
+    ] {
+        let Some(Command::Run { gr, ss, output, .. }) = asked(&rt, words) else {
+            assert!(rt; false);
+            return;
+        };
+        assert!(rt; gr == "g" && ss == "s" && output == Some("f"));
+    }
+    let words = ["pairs", "g", "q", "-o", "f"];
+    let Some(Command::Pairs { output, .. }) = asked(&rt, words.as_slice()) else {
+        assert!(rt; false);
+        return;
+    };
+    assert!(rt; output == Some("f"));
+    let words = ["rank", "g", "s", "-o", "f"];
+    let Some(Command::Rank { output, .. }) = asked(&rt, words.as_slice()) else {
+        assert!(rt; false);
+        return;
+    };
+    assert!(rt; output == Some("f"));
+    let words = ["check", "g", "s", "r", "-o", "f"];
+    assert!(rt; says(&rt, words.as_slice(), false, "'-o'"));
+}
+
+#[test]
+fn standard_input_for_one_file(rt: HostRuntime) {
+    for words in [
+        ["run", "-", "s"].as_slice(),
+        ["run", "g", "-"].as_slice(),
+        ["run", "g", "s", "--tp", "-"].as_slice(),
+        ["run", "g", "s", "--tp=-"].as_slice(),
+        ["run", "--", "-", "s"].as_slice(),
+        ["run", "-", "s", "-o", "-"].as_slice(),
+        ["pairs", "-", "q"].as_slice(),
+        ["rank", "-", "s"].as_slice(),
+        ["check", "g", "s", "-"].as_slice(),
+    ] {
+        assert!(rt; asked(&rt, words).is_some());
+    }
+    for words in [
+        ["run", "-", "-"].as_slice(),
+        ["run", "-", "s", "--tp", "-"].as_slice(),
+        ["run", "-", "s", "--tp=-"].as_slice(),
+        ["run", "--", "-", "-"].as_slice(),
+        ["pairs", "g", "-", "--tp", "-"].as_slice(),
+        ["rank", "-", "-"].as_slice(),
+        ["check", "-", "s", "-"].as_slice(),
+        ["check", "g", "-", "-"].as_slice(),
+        ["check", "g", "s", "-", "--tp=-"].as_slice(),
+    ] {
+        assert!(rt; is_bad(&rt, words));
+        assert!(rt; bad_value_of(rt.alloc(), words).is_none());
+    }
+}
+
+#[test]
+fn words_without_files(rt: HostRuntime) {
+    let words = ["explain", "6"];
+    assert!(rt;
+        matches!(
+            asked(&rt, words.as_slice()),
+            Some(Command::Explain { fault: Some("6") })
+        )
+    );
+    assert!(rt;
+        matches!(
+            asked(&rt, ["explain"].as_slice()),
+            Some(Command::Explain { fault: None })
+        )
+    );
+    assert!(rt; matches!(asked(&rt, ["formats"].as_slice()), Some(Command::Formats)));
+    assert!(rt; says(&rt, ["formats", "gr"].as_slice(), false, "'gr'"));
+    assert!(rt; says(&rt, ["explain", "6", "7"].as_slice(), false, "'7'"));
+}
+
+#[test]
+fn the_first_bad_value(rt: HostRuntime) {
+    for (words, option, value, least, most) in [
+        (["run", "g", "s", "--workers", "17"], "workers", "17", 1, 16),
+        (["pairs", "g", "q", "--heaps", "1"], "heaps", "1", 2, 8),
+        (
+            ["run", "g", "s", "--turns", "1e3"],
+            "turns",
+            "1e3",
+            0,
+            1_000_000_000,
+        ),
+        (["rank", "g", "s", "--seed", "-"], "seed", "-", 0, u64::MAX),
+        (
+            ["run", "g", "s", "--depart", "8:00"],
+            "depart",
+            "8:00",
+            0,
+            281_474_976_710_655,
+        ),
+        (
+            ["pairs", "g", "q", "--gap", ""],
+            "gap",
+            "",
+            0,
+            281_474_976_710_655,
+        ),
+    ] {
+        let wanted = BadValue {
+            option,
+            value,
+            least,
+            most,
+        };
+        assert!(rt;
+            bad_value_of(rt.alloc(), words.as_slice()) == Some(wanted),
+            "{option}"
+        );
+    }
+    let good = ["run", "g", "s", "--workers", "16"];
+    assert!(rt; bad_value_of(rt.alloc(), good.as_slice()).is_none());
+    let none: [&str; 0] = [];
+    assert!(rt; bad_value_of(rt.alloc(), none.as_slice()).is_none());
+    let missing = ["run", "g", "--workers", "17"];
+    assert!(rt; bad_value_of(rt.alloc(), missing.as_slice()).is_none());
+}
+
+#[test]
+fn words_that_ask_for_explanations(rt: HostRuntime) {
+    assert!(rt; asks_to_explain(["run", "g", "--explain"].as_slice()));
+    assert!(rt; asks_to_explain(["--explain"].as_slice()));
+    assert!(rt; !asks_to_explain(["run", "--", "--explain"].as_slice()));
+    assert!(rt; !asks_to_explain(["run", "--explain=1", "explain"].as_slice()));
+    let words = ["run", "g", "s", "--explain"];
+    assert!(rt; asked(&rt, words.as_slice()).is_some());
 }

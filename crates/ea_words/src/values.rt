@@ -20,7 +20,7 @@ fn within_limits(low: u64, high: u64, value: u128) -> Option<u64>
 }
 
 /// The number that a text is, where it is within its limits.
-fn number_of_text(low: u64, high: u64, text: &str) -> Option<u64>
+pub(crate) fn number_of_text(low: u64, high: u64, text: &str) -> Option<u64>
     ensures value { result ≡ option_and_then (Rattle.ea_words.specs.Values.within_limits low high)
         (number_of text.now) }
     ensures limits { IfSome result (λ n. (low ≤ n) × (n ≤ high)) }

@@ -1,99 +1,176 @@
-//! Files, opened by their names.
+//! The files that a command names, opened in their order.
 ghost use Rattle.std.specs.Prelude.{◌≡◌, IfOk, MatchOption, is_some};
 ghost use Rattle.earliest.specs.Performed.{HasFiles};
 
+use crate::source::Source;
 use ea_input::StdIn;
 use earliest::{Command, FileWord, Opened};
-use std::fs::File;
+use std::io::ErrorKind;
 
-/// Opens a file; where that can't be done, the file's word is the error.
-fn open(rt: &HostRuntime, word: FileWord, name: &str) -> Result<StdIn<File>, FileWord> {
-    match File::open(rt, name) {
-        Ok(file) => Ok(StdIn::new(file)),
-        Err(_) => Err(word),
-    }
-}
-
-/// Opens a file that may be left out.
-fn open_if_named(
-    rt: &HostRuntime,
-    word: FileWord,
-    name: Option<&str>,
-) -> Result<Option<StdIn<File>>, FileWord>
-    ensures { IfOk result (λ file. is_some file ≡ is_some name.entry) }
-{
-    match name {
-        None => Ok(None),
-        Some(name) => match open(rt, word, name) {
-            Ok(file) => Ok(Some(file)),
-            Err(word) => Err(word),
-        },
-    }
+/// A file that can't be opened: its word and name, and the system's reason.
+#[derive(Clone, Copy)]
+pub struct Unopened<'a> {
+    pub word: FileWord,
+    pub name: &'a str,
+    pub reason: ErrorKind,
 }
 
 /// The names of a command's files.
-#[derive(Drop)]
-struct Names<'a> {
+#[derive(Clone, Copy)]
+pub struct Names<'a> {
     gr: &'a str,
-    word: FileWord,
+    /// Which file says where searches start.
+    pub word: FileWord,
     starts: &'a str,
     tp: Option<&'a str>,
-    report: Option<&'a str>,
+    pub report: Option<&'a str>,
+    /// The file that the report goes to.
+    pub output: Option<&'a str>,
 }
 
-/// Opens the files of a command, in this order.
-fn open_all(rt: &HostRuntime, names: Names<'_>) -> Result<Opened<StdIn<File>>, FileWord>
-    ensures { IfOk result (λ files. is_some files.report ≡ is_some names.entry.report) }
-{
-    let gr = open(rt, FileWord::Gr, names.gr)?;
-    let starts = open(rt, names.word, names.starts)?;
-    let tp = open_if_named(rt, FileWord::Tp, names.tp)?;
-    let report = open_if_named(rt, FileWord::Report, names.report)?;
-    Ok(Opened {
-        gr,
-        starts,
-        tp,
-        report,
-    })
-}
-
-/// Opens the files that a command names; none where it names no files.
-pub fn open_named(
-    rt: &HostRuntime,
-    command: &Command<'_>,
-) -> Option<Result<Opened<StdIn<File>>, FileWord>>
+/// The names of a command's files; none where it names no files.
+pub fn names_of<'a>(command: &Command<'a>) -> Option<Names<'a>>
     ensures { MatchOption result (Rattle.std.specs.Prelude.⊤)
-        (λ opened. IfOk opened (λ files. HasFiles command.now files.report)) }
+        (λ names. HasFiles command.now names.report) }
 {
-    let names = match *command {
-        Command::Stored => return None,
-        Command::Run { gr, ss, tp, .. } | Command::Rank { gr, ss, tp, .. } => Names {
+    match *command {
+        Command::Stored | Command::Explain { .. } | Command::Formats => None,
+        Command::Run {
+            gr,
+            ss,
+            tp,
+            output,
+            ..
+        }
+        | Command::Rank {
+            gr,
+            ss,
+            tp,
+            output,
+            ..
+        } => Some(Names {
             gr,
             word: FileWord::Ss,
             starts: ss,
             tp,
             report: None,
-        },
-        Command::Pairs { gr, p2p, tp, .. } => Names {
+            output,
+        }),
+        Command::Pairs {
+            gr,
+            p2p,
+            tp,
+            output,
+            ..
+        } => Some(Names {
             gr,
             word: FileWord::P2p,
             starts: p2p,
             tp,
             report: None,
-        },
+            output,
+        }),
         Command::Check {
             gr,
             ss,
             tp,
             report,
             ..
-        } => Names {
+        } => Some(Names {
             gr,
             word: FileWord::Ss,
             starts: ss,
             tp,
             report: Some(report),
+            output: None,
+        }),
+    }
+}
+
+/// The files of a command.
+#[derive(Drop)]
+pub struct Sources<'a> {
+    gr: Source<'a>,
+    word: FileWord,
+    starts: Source<'a>,
+    tp: Option<Source<'a>>,
+    report: Option<Source<'a>>,
+}
+
+/// Opens a file; where that can't be done, the error tells which it is and why.
+fn open<'a>(rt: &HostRuntime, word: FileWord, name: &'a str) -> Result<Source<'a>, Unopened<'a>> {
+    match Source::open(rt, name) {
+        Ok(source) => Ok(source),
+        Err(reason) => Err(Unopened { word, name, reason }),
+    }
+}
+
+/// Opens a file that may be left out.
+fn open_if_named<'a>(
+    rt: &HostRuntime,
+    word: FileWord,
+    name: Option<&'a str>,
+) -> Result<Option<Source<'a>>, Unopened<'a>>
+    ensures { IfOk result (λ file. is_some file ≡ is_some name.entry) }
+{
+    match name {
+        None => Ok(None),
+        Some(name) => match open(rt, word, name) {
+            Ok(file) => Ok(Some(file)),
+            Err(unopened) => Err(unopened),
         },
-    };
-    Some(open_all(rt, names))
+    }
+}
+
+/// Opens the files of a command, in their order.
+pub fn open_all<'a>(rt: &HostRuntime, names: &Names<'a>) -> Result<Sources<'a>, Unopened<'a>>
+    ensures { IfOk result (λ files. is_some files.report ≡ is_some names.now.report) }
+{
+    let gr = open(rt, FileWord::Gr, names.gr)?;
+    let starts = open(rt, names.word, names.starts)?;
+    let tp = open_if_named(rt, FileWord::Tp, names.tp)?;
+    let report = open_if_named(rt, FileWord::Report, names.report)?;
+    Ok(Sources {
+        gr,
+        word: names.word,
+        starts,
+        tp,
+        report,
+    })
+}
+
+/// A reader of a file that may be left out.
+fn reader<'a, 'b>(source: &'b mut Option<Source<'a>>) -> Option<StdIn<&'b mut Source<'a>>>
+    ensures { is_some result ≡ is_some source.old }
+{
+    match source {
+        None => None,
+        Some(source) => Some(StdIn::new(source)),
+    }
+}
+
+impl<'a> Sources<'a> {
+    /// The readers of the files.
+    pub fn readers(&mut self) -> Opened<StdIn<&mut Source<'a>>>
+        ensures { is_some result.report ≡ is_some self.old.report }
+    {
+        Opened {
+            gr: StdIn::new(&mut self.gr),
+            starts: StdIn::new(&mut self.starts),
+            tp: reader(&mut self.tp),
+            report: reader(&mut self.report),
+        }
+    }
+
+    /// The file of a word, where the command has it.
+    pub fn named(&mut self, word: FileWord) -> Option<&mut Source<'a>> {
+        match word {
+            FileWord::Gr => Some(&mut self.gr),
+            FileWord::Tp => self.tp.as_mut(),
+            FileWord::Report => self.report.as_mut(),
+            FileWord::Out => None,
+            FileWord::Ss | FileWord::P2p if word == self.word => Some(&mut self.starts),
+            FileWord::Ss | FileWord::P2p => None,
+        }
+    }
 }

@@ -1,0 +1,53 @@
+//! What a file looks like by its first bytes.
+
+/// What a file may be in place of plain text with line feeds.
+#[derive(Clone, Copy, Debug, PartialEq, Eq)]
+pub enum Look {
+    /// Compressed by gzip.
+    Gzip,
+    /// Compressed by zstd.
+    Zstd,
+    /// UTF-8 with a byte-order mark.
+    Marked,
+    /// UTF-16.
+    Wide,
+    /// Lines that end in a carriage return alone, as on old Macs.
+    OldMac,
+}
+
+impl Look {
+    /// What it is, and what to do.
+    pub fn advice(self) -> &'static str {
+        match self {
+            Look::Gzip =>
+                "this looks like a gzip file: zcat it into -, as in `zcat FILE | earliest run - starts.ss`",
+            Look::Zstd =>
+                "this looks like a zstd file: zstdcat it into -, as in `zstdcat FILE | earliest run - starts.ss`",
+            Look::Marked =>
+                "the file begins with a byte-order mark: save it as UTF-8 without one, or as ASCII",
+            Look::Wide =>
+                "this looks like UTF-16: save it as UTF-8 without a byte-order mark, or as ASCII",
+            Look::OldMac =>
+                "its lines end in carriage returns alone, as on old Macs: save it with line feeds",
+        }
+    }
+}
+
+/// What a text looks like by the bytes at its front; none where it may be plain text.
+pub fn look_of(front: &[u8]) -> Option<Look> {
+    if front.starts_with(&[0x1f, 0x8b]) {
+        Some(Look::Gzip)
+    } else if front.starts_with(&[0x28, 0xb5, 0x2f, 0xfd]) {
+        Some(Look::Zstd)
+    } else if front.starts_with(&[0xef, 0xbb, 0xbf]) {
+        Some(Look::Marked)
+    } else if front.starts_with(&[0xff, 0xfe]) || front.starts_with(&[0xfe, 0xff]) {
+        Some(Look::Wide)
+    } else if front.contains(&0) {
+        Some(Look::Wide)
+    } else if front.contains(&b'\r') && !front.contains(&b'\n') {
+        Some(Look::OldMac)
+    } else {
+        None
+    }
+}
