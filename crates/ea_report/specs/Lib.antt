@@ -1,3 +1,4 @@
+pub mod FaultNumbers
 pub mod Report
 pub mod Asked
 pub mod Sent

@@ -6,6 +6,8 @@ ghost use Rattle.ea_report.specs.Delivery.{all_sent};
 ghost use Rattle.ea_report.specs.Deliverers.{delivery_of};
 ghost use Rattle.ea_report.specs.Sent.{Adds, Cuts, GoesOn, IsCutBy, IsWhole, Stops};
 ghost use Rattle.ea_report.specs.Asked.{IsOf};
+ghost use Rattle.ea_report.specs.FaultNumbers.{kind_number};
+ghost use Rattle.ea_report.specs.declared.report.TheConstants.{PIECE};
 ghost use Rattle.ea_text.specs.Device.{HasGivenUp};
 ghost use Rattle.ea_road.specs.Queries.{IsAskedBy};
 ghost use Rattle.ea_road.specs.Roads.{IsNode};
@@ -29,6 +31,15 @@ pub enum WriteFaultKind {
     /// Memory was refused.
     #[error("there is not enough memory (13 OutOfMemory)")]
     OutOfMemory = 13,
+}
+
+impl WriteFaultKind {
+    /// The number by which messages name this kind.
+    pub fn number(self) -> u8
+        ensures { result ≡ kind_number self }
+    {
+        self as u8
+    }
 }
 
 /// A text that was not written whole, and how many bytes of it were: they are its front.
@@ -93,6 +104,8 @@ impl Pending {
         ensures err { IfErr result (Cuts (W.seen out.old) (delivery_of self.old) (W.seen out.new)) }
         ensures bound { self.new.written ≤ self.old.written + 2 ^ 63 }
         ensures small { IfErr result (λ fault. fault.written ≤ self.old.written + 2 ^ 63) }
+        // Less than a piece is kept back.
+        ensures held { OnOk result (length self.new.text.items < PIECE) }
     {
         if self.text.len() >= PIECE {
             self.flush(out)
@@ -110,6 +123,8 @@ impl Pending {
             (W.seen out.new) fault (source_line source)) }
         ensures bound { self.new.written ≤ self.old.written + 2 ^ 63 }
         ensures small { IfErr result (λ fault. fault.written ≤ self.old.written + 2 ^ 63) }
+        // Less than a piece is kept back.
+        ensures held { OnOk result (length self.new.text.items < PIECE) }
     {
         match push_source(&mut self.text, source) {
             Ok(()) => self.flush_large(out),
@@ -131,6 +146,8 @@ impl Pending {
             (W.seen out.new) fault (pair_line target source)) }
         ensures bound { self.new.written ≤ self.old.written + 2 ^ 63 }
         ensures small { IfErr result (λ fault. fault.written ≤ self.old.written + 2 ^ 63) }
+        // Less than a piece is kept back.
+        ensures held { OnOk result (length self.new.text.items < PIECE) }
     {
         match push_pair(&mut self.text, source, target) {
             Ok(()) => self.flush_large(out),
@@ -159,6 +176,8 @@ impl Pending {
             (W.seen out.new) fault (node_text walks answer.now node)) }
         ensures bound { self.new.written ≤ self.old.written + 2 ^ 63 }
         ensures small { IfErr result (λ fault. fault.written ≤ self.old.written + 2 ^ 63) }
+        // Less than a piece is kept back.
+        ensures held { OnOk result (length self.new.text.items < PIECE) }
     {
         match push_node(&mut self.text, arcs, answer, node, walks) {
             Ok(()) => self.flush_large(out),
@@ -185,6 +204,8 @@ impl Pending {
             (W.seen out.new) fault (node_text walks answer.now node)) }
         ensures bound { self.new.written ≤ self.old.written + 2 ^ 63 }
         ensures small { IfErr result (λ fault. fault.written ≤ self.old.written + 2 ^ 63) }
+        // Less than a piece is kept back.
+        ensures held { OnOk result (length self.new.text.items < PIECE) }
     {
         let mut arcs = ArcTexts::new(alloc, answer.links());
         self.put_node(&mut arcs, answer, node, walks, out)
@@ -192,7 +213,8 @@ impl Pending {
 
     /// Adds the lines of sources.
     fn put_sources<W: ByteOut>(&mut self, sources: &[Source], out: &mut W) -> Result<(), WriteFault>
-        requires { self.old.written + length sources.now * 2 ^ 63 + 2 ^ 63 < 2 ^ 128 }
+        requires room { self.old.written + length sources.now * 2 ^ 63 + 2 ^ 63 < 2 ^ 128 }
+        requires held { length self.old.text.items < PIECE }
         ensures ok { OnOk result (Adds (W.seen out.old) (delivery_of self.old)
             (W.seen out.new) (delivery_of self.new) (flat_map source_line sources.now)) }
         ensures err { IfErr result (λ fault. Stops (W.seen out.old) (delivery_of self.old)
@@ -200,6 +222,8 @@ impl Pending {
         ensures bound { self.new.written ≤ self.old.written + length sources.now * 2 ^ 63 }
         ensures small { IfErr result
             (λ fault. fault.written ≤ self.old.written + length sources.now * 2 ^ 63) }
+        // Less than a piece is kept back.
+        ensures held { OnOk result (length self.new.text.items < PIECE) }
     {
         for source in sources {
             self.put_source(*source, out)?;
@@ -214,7 +238,8 @@ impl Pending {
         target: u32,
         out: &mut W,
     ) -> Result<(), WriteFault>
-        requires { self.old.written + length sources.now * 2 ^ 63 + 2 ^ 63 < 2 ^ 128 }
+        requires room { self.old.written + length sources.now * 2 ^ 63 + 2 ^ 63 < 2 ^ 128 }
+        requires held { length self.old.text.items < PIECE }
         ensures ok { OnOk result (Adds (W.seen out.old) (delivery_of self.old)
             (W.seen out.new) (delivery_of self.new) (flat_map (pair_line target) sources.now)) }
         ensures err { IfErr result (λ fault. Stops (W.seen out.old) (delivery_of self.old)
@@ -222,6 +247,8 @@ impl Pending {
         ensures bound { self.new.written ≤ self.old.written + length sources.now * 2 ^ 63 }
         ensures small { IfErr result
             (λ fault. fault.written ≤ self.old.written + length sources.now * 2 ^ 63) }
+        // Less than a piece is kept back.
+        ensures held { OnOk result (length self.new.text.items < PIECE) }
     {
         for source in sources {
             self.put_pair(*source, target, out)?;
@@ -242,6 +269,7 @@ impl Pending {
         requires nodes { answer.now.nodes ≡ nodes }
         requires all { answer.now.target ≡ None }
         requires walks { walks ≡ true → answer.now.walks ≡ true }
+        requires held { length self.old.text.items < PIECE }
         ensures ok { OnOk result (Adds (W.seen out.old) (delivery_of self.old)
             (W.seen out.new) (delivery_of self.new)
             (each_node (node_text walks answer.now) nodes)) }
@@ -249,6 +277,8 @@ impl Pending {
             (W.seen out.new) fault (each_node (node_text walks answer.now) nodes)) }
         ensures bound { self.new.written ≤ self.old.written + nodes * 2 ^ 63 }
         ensures small { IfErr result (λ fault. fault.written ≤ self.old.written + nodes * 2 ^ 63) }
+        // Less than a piece is kept back.
+        ensures held { OnOk result (length self.new.text.items < PIECE) }
     {
         let mut arcs = ArcTexts::new(alloc, answer.links());
         for i in 0..nodes {
@@ -280,6 +310,7 @@ impl Pending {
         requires nodes { answer.now.nodes ≡ nodes }
         requires all { answer.now.target ≡ None }
         requires walks { walks ≡ true → answer.now.walks ≡ true }
+        requires held { length self.old.text.items < PIECE }
         ensures ok { OnOk result (Adds (W.seen out.old) (delivery_of self.old)
             (W.seen out.new) (delivery_of self.new)
             (text_of_all walks nodes sources.now answer.now)) }
@@ -289,6 +320,8 @@ impl Pending {
         ensures room { self.new.written < 2 ^ 127 + 2 ^ 96 }
         ensures small { IfErr result
             (λ fault. fault.written ≤ (length sources.now + nodes) * 2 ^ 63) }
+        // Less than a piece is kept back.
+        ensures held { OnOk result (length self.new.text.items < PIECE) }
     {
         match self.put_sources(sources, out) {
             Ok(()) => self.put_nodes(alloc, answer, nodes, walks, out),
@@ -310,6 +343,7 @@ impl Pending {
         requires node { IsNode answer.now.nodes target }
         requires asked { IsAskedBy answer.now.target target }
         requires walks { walks ≡ true → answer.now.walks ≡ true }
+        requires held { length self.old.text.items < PIECE }
         ensures ok { OnOk result (Adds (W.seen out.old) (delivery_of self.old)
             (W.seen out.new) (delivery_of self.new)
             (text_of_target walks target sources.now answer.now)) }
@@ -318,6 +352,8 @@ impl Pending {
         ensures bound { self.new.written ≤ (length sources.now + 1) * 2 ^ 63 }
         ensures room { self.new.written < 2 ^ 127 + 2 ^ 96 }
         ensures small { IfErr result (λ fault. fault.written ≤ (length sources.now + 1) * 2 ^ 63) }
+        // Less than a piece is kept back.
+        ensures held { OnOk result (length self.new.text.items < PIECE) }
     {
         match self.put_pairs(sources, target, out) {
             Ok(()) => self.put_alone(alloc, answer, target, walks, out),
@@ -338,6 +374,7 @@ impl Pending {
         requires start { self.old.written ≡ 0 }
         requires of { IsOf network.now query.now answer.now }
         requires walks { walks ≡ true → answer.now.walks ≡ true }
+        requires held { length self.old.text.items < PIECE }
         ensures ok { OnOk result (Adds (W.seen out.old) (delivery_of self.old)
             (W.seen out.new) (delivery_of self.new)
             (problem_text walks network.now.nodes query.now answer.now)) }
@@ -348,6 +385,8 @@ impl Pending {
         ensures room { self.new.written < 2 ^ 127 + 2 ^ 96 }
         ensures small { IfErr result
             (λ fault. fault.written ≤ (network.now.nodes + length query.now.sources + 1) * 2 ^ 63) }
+        // Less than a piece is kept back.
+        ensures held { OnOk result (length self.new.text.items < PIECE) }
     {
         let sources = query.sources();
         match query.target() {

@@ -6,6 +6,7 @@ mod checks;
 mod counts;
 mod devices;
 mod given;
+mod held;
 mod ranks;
 mod scarce;
 mod words;

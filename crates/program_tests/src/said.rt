@@ -1,7 +1,9 @@
 //! The lines and statuses of outcomes.
 use crate::asked::holds;
 use ea_input::{FaultKind, InputFault, ReadFault, StdOut};
-use earliest::{AnswerFault, CheckFault, CommandFault, FileWord, Outcome, say};
+use earliest::{AnswerFault, CheckFault, CommandFault, FileFault, FileWord, Outcome, say};
+use std::alloc::Global;
+use std::test::Fail;
 
 /// Whether an outcome is told by this line and this status.
 fn says(outcome: Outcome, line: &[u8], status: u8) -> bool {
@@ -90,4 +92,108 @@ fn a_device_that_is_full(rt: HostRuntime) {
     let mut out = StdOut::new(room.as_mut_slice());
     assert_eq!(rt; say(&Outcome::Unopened(FileWord::P2p), &mut out), 4);
     assert!(rt; room.as_slice() == b"earl".as_slice());
+}
+
+/// Whether a fault of a file is shown by this text.
+fn shows(alloc: Global, fault: FileFault, text: &str) -> Result<bool, Fail> {
+    let shown = format!(in alloc; "{fault}")?;
+    Ok(shown.as_str() == text)
+}
+
+#[test]
+fn faults_of_files_read(rt: HostRuntime) -> Result<(), Fail> {
+    for (file, fault, text) in [
+        (
+            FileWord::Gr,
+            ReadFault::TooLarge,
+            "gr: there are more bytes than are allowed (10 TooLarge)",
+        ),
+        (
+            FileWord::Ss,
+            ReadFault::ReadFailed,
+            "ss: the input could not be read (11 ReadFailed)",
+        ),
+        (
+            FileWord::Report,
+            ReadFault::OutOfMemory,
+            "report: there is not enough memory (13 OutOfMemory)",
+        ),
+    ] {
+        let shown = shows(rt.alloc(), FileFault::Read { file, fault }, text)?;
+        assert!(rt; shown, "{text}");
+    }
+    let memory = "there is not enough memory (13 OutOfMemory)";
+    assert!(rt; shows(rt.alloc(), FileFault::OutOfMemory, memory)?);
+    Ok(())
+}
+
+#[test]
+fn faults_of_files_understood(rt: HostRuntime) -> Result<(), Fail> {
+    for (file, line, kind, text) in [
+        (
+            FileWord::Gr,
+            0,
+            FaultKind::NoProblemLine,
+            "gr: the problem line `p ..` is missing (1 NoProblemLine)",
+        ),
+        (
+            FileWord::Ss,
+            2,
+            FaultKind::SecondProblemLine,
+            "ss: line 2: there is a second problem line (2 SecondProblemLine)",
+        ),
+        (
+            FileWord::P2p,
+            3,
+            FaultKind::UnknownLine,
+            "p2p: line 3: lines of this file don't begin with this word (3 UnknownLine)",
+        ),
+        (
+            FileWord::Tp,
+            4,
+            FaultKind::FieldCount,
+            "tp: line 4: the line has too few or too many fields (4 FieldCount)",
+        ),
+        (
+            FileWord::Gr,
+            5,
+            FaultKind::BadNumber,
+            "gr: line 5: a field is not a number (5 BadNumber)",
+        ),
+        (
+            FileWord::Gr,
+            6,
+            FaultKind::OutOfRange,
+            "gr: line 6: a number is out of its range (6 OutOfRange)",
+        ),
+        (
+            FileWord::Ss,
+            7,
+            FaultKind::TooManyLines,
+            "ss: line 7: there are more lines of this sort than were announced (7 TooManyLines)",
+        ),
+        (
+            FileWord::Tp,
+            0,
+            FaultKind::TooFewLines,
+            "tp: there are fewer lines than were announced (8 TooFewLines)",
+        ),
+        (
+            FileWord::P2p,
+            1,
+            FaultKind::BadKind,
+            "p2p: line 1: a kind word is not the one expected here (9 BadKind)",
+        ),
+        (
+            FileWord::Gr,
+            0,
+            FaultKind::OutOfMemory,
+            "gr: there is not enough memory (13 OutOfMemory)",
+        ),
+    ] {
+        let fault = InputFault { line, kind };
+        let shown = shows(rt.alloc(), FileFault::Input { file, fault }, text)?;
+        assert!(rt; shown, "{text}");
+    }
+    Ok(())
 }

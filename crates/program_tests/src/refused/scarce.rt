@@ -87,6 +87,14 @@ impl Held {
         self.take(FRONT);
     }
 
+    /// Takes all, and then gives pieces back that were made one after the other: what is left is one piece as large as they
+    /// were together, but for its front.
+    pub fn leave_together(&mut self, pieces: Vec<Vec<u8>>) {
+        self.take_all();
+        drop(pieces);
+        self.take(FRONT);
+    }
+
     /// Gives back what is held.
     pub fn release(&mut self) {
         self.blocks.clear();

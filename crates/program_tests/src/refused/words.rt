@@ -17,6 +17,7 @@ fn run_with(alloc: Global, small: &mut Held, piece: Vec<u8>) -> Came {
                 gr,
                 ss,
                 tp: None,
+                output: None,
                 options,
             },
         ) if gr == "g" && ss == "s" && options.joint && options.gap == 5 && options.workers == 3 =>

@@ -14,4 +14,4 @@ returns-in_err-put_node-clause-err g c =
 pub loop-i-preserved : goal.loop-i-preserved
 loop-i-preserved g c =
     let text = node_text c.args.walks c.args.answer.now in
-    record { links = c.in_ok-put_node.ensures.links ∙ c.loop-i.invariant.links; added = rw (each_node-next text c.loop-i.i) (adds_more _ _ _ _ _ _ (each_node text c.loop-i.i) (text (c.loop-i.i + 1)) c.loop-i.invariant.added c.in_ok-put_node.ensures.ok); bound = omega (arith, c.in_ok-put_node.ensures.bound) }
+    record { links = c.in_ok-put_node.ensures.links ∙ c.loop-i.invariant.links; added = rw (each_node-next text c.loop-i.i) (adds_more _ _ _ _ _ _ (each_node text c.loop-i.i) (text (c.loop-i.i + 1)) c.loop-i.invariant.added c.in_ok-put_node.ensures.ok); bound = omega (arith, c.in_ok-put_node.ensures.bound); held = c.in_ok-put_node.ensures.held }
