@@ -1,6 +1,7 @@
 -- A line of numbers at the front of a text.
 use Rattle.std.proofs.Common.{◌≡◌, ℕ, suc, zero, ◌-◌, ◌<◌, true, false, cond, List, [], ◌∷◌, ◌++◌, length, get_or, take, drop, refl, ap, sym, ◌∙◌, arith, tests, subst, append_assoc, length-append}
-use Rattle.std.specs.Prelude.{Some, codes, filter, ◌==◌, nat_lt}
+use Rattle.std.specs.Prelude.{Option, Some, None, IfSome, codes, filter, ◌==◌, nat_lt}
+use Rattle.std.specs.Borrow.{Bor}
 use Rattle.std.specs.Char.{is_ascii_digit}
 use Rattle.std.specs.List.{slice_split, onto_first}
 use Rattle.std.specs.Str.{all_ascii_digits, bytes_eq}
@@ -9,7 +10,7 @@ use Rattle.std.specs.Str.Lines.{strip_carriage_return}
 use Rattle.std.proofs.lemmas.List.Splits.{slice_split-cons_yes, slice_split-cons_no}
 use Rattle.std.proofs.lemmas.Bool.{lt-ltb}
 use Rattle.ea_text.specs.Text.{lines_of, fields_of, is_blank, number_of}
-use Rattle.ea_input.specs.Ahead.{ArcThen, EntryThen, NumberThen}
+use Rattle.ea_input.specs.Ahead.{ArcThen, NumberThen, PairThen, TwoThen}
 use Rattle.ea_text.proofs.Numbers.{and_left, and_right}
 
 digit_no_blank : (b : ℕ) → is_ascii_digit b ≡ true → is_blank b ≡ false
@@ -100,32 +101,42 @@ arc_then text rest0 rest1 rest2 rest tail head weight start first second third =
       weight_is = (third.3, third.4);
     }
 
-entry_fields : (u v : List ℕ) (arc class : ℕ) → all_ascii_digits u ≡ true → all_ascii_digits v ≡ true → number_of u ≡ Some arc → number_of v ≡ Some class → fields_of (116 ∷ 32 ∷ (u ++ 32 ∷ v)) ≡ codes "t" ∷ u ∷ v ∷ []
-entry_fields u v arc class p q x y =
+pair_fields : (byte : ℕ) (u v : List ℕ) (first second : ℕ) → is_blank byte ≡ false → all_ascii_digits u ≡ true → all_ascii_digits v ≡ true → number_of u ≡ Some first → number_of v ≡ Some second → fields_of (byte ∷ 32 ∷ (u ++ 32 ∷ v)) ≡ (byte ∷ []) ∷ u ∷ v ∷ []
+pair_fields byte u v first second letter p q x y =
     let cut : slice_split is_blank (u ++ 32 ∷ v) ≡ u ∷ v ∷ [] = field_cut u v p ∙ ap (λ ls. u ∷ ls) (last_field v q) in
-    let all : slice_split is_blank (116 ∷ 32 ∷ (u ++ 32 ∷ v)) ≡ (116 ∷ []) ∷ u ∷ v ∷ [] = ap (λ ls. (116 ∷ []) ∷ ls) cut in
-    ap (filter (λ part. nat_lt 0 (length part))) all ∙ ap (λ ls. (116 ∷ []) ∷ ls) (kept u (v ∷ []) arc x ∙ ap (λ ls. u ∷ ls) (kept v [] class y))
+    let behind : slice_split is_blank (32 ∷ (u ++ 32 ∷ v)) ≡ [] ∷ slice_split is_blank (u ++ 32 ∷ v) = slice_split-cons_yes is_blank 32 (u ++ 32 ∷ v) refl in
+    let all : slice_split is_blank (byte ∷ 32 ∷ (u ++ 32 ∷ v)) ≡ (byte ∷ []) ∷ u ∷ v ∷ [] =
+    slice_split-cons_no is_blank byte (32 ∷ (u ++ 32 ∷ v)) letter ∙ ap (onto_first byte) (behind ∙ ap (λ ls. [] ∷ ls) cut) in
+    ap (filter (λ part. nat_lt 0 (length part))) all ∙ ap (λ ls. (byte ∷ []) ∷ ls) (kept u (v ∷ []) first x ∙ ap (λ ls. u ∷ ls) (kept v [] second y))
 
--- A `t`, a blank, and two numbers to a line feed are a line of an assignment.
-pub entry_then : (text rest0 rest1 rest : List ℕ) (arc class : ℕ) → text ≡ 116 ∷ 32 ∷ rest0 → NumberThen rest0 32 arc rest1 → NumberThen rest1 10 class rest → EntryThen text arc class rest
-entry_then text rest0 rest1 rest arc class start first second =
+-- A byte, a blank, and two numbers to a line feed are a line of a word and two numbers.
+pub pair_then : (byte : ℕ) (text behind rest : List ℕ) (one two : ℕ) → is_blank byte ≡ false → (byte == 10) ≡ false → (byte == 13) ≡ false → text ≡ byte ∷ 32 ∷ behind → TwoThen behind one two rest → PairThen (byte ∷ []) text one two rest
+pair_then byte text behind rest one two letter no_feed no_return start both =
+    let first = both.1 in
+    let second = both.2 in
     let u = first.0 in
     let v = second.0 in
-    let line : List ℕ = 116 ∷ 32 ∷ (u ++ 32 ∷ v) in
-    let all : rest0 ≡ (u ++ 32 ∷ v) ++ 10 ∷ rest = first.1 ∙ ap (λ r. u ++ 32 ∷ r) second.1 ∙ sym (append_assoc u (32 ∷ v) (10 ∷ rest)) in
-    let whole : text ≡ line ++ 10 ∷ rest = start ∙ ap (λ r. 116 ∷ 32 ∷ r) all in
+    let line : List ℕ = byte ∷ 32 ∷ (u ++ 32 ∷ v) in
+    let all : behind ≡ (u ++ 32 ∷ v) ++ 10 ∷ rest = first.1 ∙ ap (λ r. u ++ 32 ∷ r) second.1 ∙ sym (append_assoc u (32 ∷ v) (10 ∷ rest)) in
+    let whole : text ≡ line ++ 10 ∷ rest = start ∙ ap (λ r. byte ∷ 32 ∷ r) all in
     let others : Plain (u ++ 32 ∷ v) = plain_append u (32 ∷ v) (plain_digits u first.2) (refl, refl, plain_digits v second.2) in
-    let plain : Plain line = (refl, refl, (refl, refl, others)) in
+    let plain : Plain line = (no_feed, no_return, (refl, refl, others)) in
     record {
       line = line;
-      arc_field = u;
-      class_field = v;
+      first_field = u;
+      second_field = v;
       cut = ap lines_of whole ∙ line_cut line rest plain;
       shorter = omega (arith, ap length whole, length-append line (10 ∷ rest));
-      fields = ap fields_of (nothing_stripped line plain (omega arith)) ∙ entry_fields u v arc class first.2 second.2 first.3 second.3;
-      arc_is = (first.3, first.4);
-      class_is = (second.3, second.4);
+      fields = ap fields_of (nothing_stripped line plain (omega arith)) ∙ pair_fields byte u v one two letter first.2 second.2 first.3 second.3;
+      first_is = (first.3, first.4);
+      second_is = (second.3, second.4);
     }
+
+-- The same of what may have been found.
+pub pairs_then : (byte : ℕ) (text behind : List ℕ) (found : Option ((ℕ × ℕ) × Bor (List ℕ))) → is_blank byte ≡ false → (byte == 10) ≡ false → (byte == 13) ≡ false → text ≡ byte ∷ 32 ∷ behind
+    → IfSome found (λ x. TwoThen behind x.0.0 x.0.1 x.1.now) → IfSome found (λ x. PairThen (byte ∷ []) text x.0.0 x.0.1 x.1.now)
+pairs_then byte text behind None letter no_feed no_return start both = tt
+pairs_then byte text behind (Some x) letter no_feed no_return start both = pair_then byte text behind x.1.now x.0.0 x.0.1 letter no_feed no_return start both
 
 starts : (byte : ℕ) (text rest : List ℕ) → bytes_eq (take 2 text) (byte ∷ 32 ∷ []) ≡ true → rest ≡ drop 2 text → text ≡ byte ∷ 32 ∷ rest
 starts byte [] rest e r = let front = same_word [] (byte ∷ 32 ∷ []) e in cc

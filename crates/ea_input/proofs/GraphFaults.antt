@@ -5,7 +5,8 @@ use Rattle.std.specs.Option.{option_map}
 use Rattle.std.specs.Str.{bytes_eq}
 use Rattle.ea_input.specs.Fault.{◌>>=◌}
 use Rattle.ea_input.specs.Graph.{Graph, IsProblemLine, IsArcLine, GraphRead, no_graph, with_line, size_of, size_read, problem_of, problem_line, arc_of, arc_read, arc_line, graph_line, graph_step, after_said, graph_end}
-use Rattle.ea_input.specs.Checks.{Line, Before, before_of, begins_with, value_of, line_fault, end_fault}
+use Rattle.ea_input.specs.Checks.{Line, Before, before_of, begins_with, run_of_lines, value_of, line_fault, end_fault}
+use Rattle.ea_input.specs.StepLines.{Run, no_run}
 use Rattle.ea_input.specs.Formats.{graph_format, graph_nodes, graph_arcs}
 use Rattle.ea_input.proofs.Numbered.{bind_ok}
 use Rattle.ea_input.proofs.Said.{Says, graph_line_says, same_word, is_word}
@@ -27,36 +28,36 @@ abbrev arc_said : Line → RawArc
 arc_said (u ∷ v ∷ w ∷ []) = record { tail = value_of u; head = value_of v; weight = value_of w }
 arc_said _ = record { tail = 0; head = 0; weight = 0 }
 
-abbrev came : Option Line → (List ℕ → ℕ) → Before
-came problem count = record { problem = problem; count = count }
+abbrev came : Option Line → (List ℕ → ℕ) → Run → Before
+came problem count run = record { problem = problem; count = count; run = run }
 
-problem_matches : (count : List ℕ → ℕ) (n : ℕ) (problem : Option Line) (size : Option GraphSize) (fields : Line) → size ≡ option_map size_said problem → Matches (line_fault graph_format (came problem count) (codes "p" ∷ fields)) (graph_line size n (codes "p" ∷ fields)) (Problem (size_said (codes "p" ∷ fields)))
+problem_matches : (count : List ℕ → ℕ) (run : Run) (n : ℕ) (problem : Option Line) (size : Option GraphSize) (fields : Line) → size ≡ option_map size_said problem → Matches (line_fault graph_format (came problem count run) (codes "p" ∷ fields)) (graph_line size n (codes "p" ∷ fields)) (Problem (size_said (codes "p" ∷ fields)))
 unfolding line_fault graph_line problem_line problem_of size_of
-problem_matches count n (Some old) (Some size) fields e = refl
-problem_matches count n (Some old) None fields e = cc
-problem_matches count n None (Some size) fields e = cc
-problem_matches count n None None [] e = refl
-problem_matches count n None None (kind ∷ []) e = kind_matches (bytes_eq kind (codes "sp")) _ _ _ _ refl
-problem_matches count n None None (kind ∷ x ∷ []) e = kind_matches (bytes_eq kind (codes "sp")) _ _ _ _ refl
-problem_matches count n None None (kind ∷ x ∷ y ∷ []) e = kind_matches (bytes_eq kind (codes "sp")) _ _ _ _ (numbers_match _ _ (size_read x y) _ Problem (size_form x y))
-problem_matches count n None None (kind ∷ x ∷ y ∷ z ∷ rest) e =
+problem_matches count run n (Some old) (Some size) fields e = refl
+problem_matches count run n (Some old) None fields e = cc
+problem_matches count run n None (Some size) fields e = cc
+problem_matches count run n None None [] e = refl
+problem_matches count run n None None (kind ∷ []) e = kind_matches (bytes_eq kind (codes "sp")) _ _ _ _ refl
+problem_matches count run n None None (kind ∷ x ∷ []) e = kind_matches (bytes_eq kind (codes "sp")) _ _ _ _ refl
+problem_matches count run n None None (kind ∷ x ∷ y ∷ []) e = kind_matches (bytes_eq kind (codes "sp")) _ _ _ _ (numbers_match _ _ (size_read x y) _ Problem (size_form x y))
+problem_matches count run n None None (kind ∷ x ∷ y ∷ z ∷ rest) e =
     let long : (length (codes "p" ∷ kind ∷ x ∷ y ∷ z ∷ rest) == 4) ≡ false = grind (arith, tests) in
     kind_matches (bytes_eq kind (codes "sp")) _ _ _ _ (count_matches _ _ _ long)
 
-arc_matches : (count : List ℕ → ℕ) (problem : Option Line) (size : Option GraphSize) (fields : Line) → size ≡ option_map size_said problem → ((line : Line) → problem ≡ Some line → graph_nodes line < 2 ^ 64)
-    → Matches (line_fault graph_format (came problem count) (codes "a" ∷ fields)) (graph_line size (count (codes "a")) (codes "a" ∷ fields)) (Arc (arc_said fields))
+arc_matches : (count : List ℕ → ℕ) (run : Run) (problem : Option Line) (size : Option GraphSize) (fields : Line) → size ≡ option_map size_said problem → ((line : Line) → problem ≡ Some line → graph_nodes line < 2 ^ 64)
+    → Matches (line_fault graph_format (came problem count run) (codes "a" ∷ fields)) (graph_line size (count (codes "a")) (codes "a" ∷ fields)) (Arc (arc_said fields))
 unfolding line_fault graph_line arc_line arc_of
-arc_matches count None None fields e small = refl
-arc_matches count None (Some size) fields e small = cc
-arc_matches count (Some line) None fields e small = cc
-arc_matches count (Some line) (Some size) [] e small = refl
-arc_matches count (Some line) (Some size) (u ∷ []) e small = refl
-arc_matches count (Some line) (Some size) (u ∷ v ∷ []) e small = refl
-arc_matches count (Some line) (Some size) (u ∷ v ∷ w ∷ []) e small =
+arc_matches count run None None fields e small = refl
+arc_matches count run None (Some size) fields e small = cc
+arc_matches count run (Some line) None fields e small = cc
+arc_matches count run (Some line) (Some size) [] e small = refl
+arc_matches count run (Some line) (Some size) (u ∷ []) e small = refl
+arc_matches count run (Some line) (Some size) (u ∷ v ∷ []) e small = refl
+arc_matches count run (Some line) (Some size) (u ∷ v ∷ w ∷ []) e small =
     let same : size_said line ≡ size = cc in
-    subst (λ (s : GraphSize). Matches (line_fault graph_format (came (Some line) count) (codes "a" ∷ u ∷ v ∷ w ∷ [])) (arc_of s.nodes (u ∷ v ∷ w ∷ []) >>= λ arc. cond (ltb (count (codes "a")) s.arcs) (Ok (Arc arc)) (Err TooManyLines)) (Arc (arc_said (u ∷ v ∷ w ∷ [])))) same
+    subst (λ (s : GraphSize). Matches (line_fault graph_format (came (Some line) count run) (codes "a" ∷ u ∷ v ∷ w ∷ [])) (arc_of s.nodes (u ∷ v ∷ w ∷ []) >>= λ arc. cond (ltb (count (codes "a")) s.arcs) (Ok (Arc arc)) (Err TooManyLines)) (Arc (arc_said (u ∷ v ∷ w ∷ [])))) same
     (item_matches _ _ (graph_arcs line) (count (codes "a")) (arc_read (graph_nodes line) u v w) _ Arc (arc_form (graph_nodes line) u v w (small line refl)))
-arc_matches count (Some line) (Some size) (u ∷ v ∷ w ∷ x ∷ rest) e small =
+arc_matches count run (Some line) (Some size) (u ∷ v ∷ w ∷ x ∷ rest) e small =
     let long : (length (codes "a" ∷ u ∷ v ∷ w ∷ x ∷ rest) == 4) ≡ false = grind (arith, tests) in
     count_matches _ _ _ long
 
@@ -143,11 +144,11 @@ said_reads read lines line said h = (with_line read said, bind_matches _ (graph_
 
 problem_reads : (read : GraphRead) (lines : List Line) (word : List ℕ) (fields : Line) → Stands read lines → word ≡ codes "p" → Reads read lines (word ∷ fields)
 problem_reads read lines word fields stands e =
-    subst (λ (w : List ℕ). Reads read lines (w ∷ fields)) (sym e) (said_reads read lines (codes "p" ∷ fields) (Problem (size_said (codes "p" ∷ fields))) (problem_matches (λ w. count_by (begins_with w) lines) (length read.arcs) (find (begins_with (codes "p")) lines) read.size fields stands.size))
+    subst (λ (w : List ℕ). Reads read lines (w ∷ fields)) (sym e) (said_reads read lines (codes "p" ∷ fields) (Problem (size_said (codes "p" ∷ fields))) (problem_matches (λ w. count_by (begins_with w) lines) (run_of_lines no_run lines) (length read.arcs) (find (begins_with (codes "p")) lines) read.size fields stands.size))
 
 arc_reads : (read : GraphRead) (lines : List Line) (word : List ℕ) (fields : Line) → Stands read lines → word ≡ codes "a" → Reads read lines (word ∷ fields)
 arc_reads read lines word fields stands e =
-    let matched = arc_matches (λ w. count_by (begins_with w) lines) (find (begins_with (codes "p")) lines) read.size fields stands.size stands.small in
+    let matched = arc_matches (λ w. count_by (begins_with w) lines) (run_of_lines no_run lines) (find (begins_with (codes "p")) lines) read.size fields stands.size stands.small in
     subst (λ (w : List ℕ). Reads read lines (w ∷ fields)) (sym e) (said_reads read lines (codes "a" ∷ fields) (Arc (arc_said fields))
     (subst (λ (n : ℕ). Matches (line_fault graph_format (before_of lines) (codes "a" ∷ fields)) (graph_line read.size n (codes "a" ∷ fields)) (Arc (arc_said fields))) (sym stands.count) matched))
 
@@ -166,12 +167,12 @@ reads read lines (word ∷ fields) stands = elim (two_ways (is_comment word)) [
 
 -- ---- the end
 
-end_matches : (problem : Option Line) (count : List ℕ → ℕ) (size : Option GraphSize) (arcs : List RawArc) → size ≡ option_map size_said problem → length arcs ≡ count (codes "a") → (g : Graph) × Matches (end_fault graph_format (came problem count)) (graph_end (record { size = size; arcs = arcs })) g
+end_matches : (problem : Option Line) (count : List ℕ → ℕ) (run : Run) (size : Option GraphSize) (arcs : List RawArc) → size ≡ option_map size_said problem → length arcs ≡ count (codes "a") → (g : Graph) × Matches (end_fault graph_format (came problem count run)) (graph_end (record { size = size; arcs = arcs })) g
 unfolding graph_end end_fault
-end_matches None count None arcs e h = (record { nodes = 0; arcs = [] }, refl)
-end_matches None count (Some size) arcs e h = cc
-end_matches (Some line) count None arcs e h = cc
-end_matches (Some line) count (Some size) arcs e h =
+end_matches None count run None arcs e h = (record { nodes = 0; arcs = [] }, refl)
+end_matches None count run (Some size) arcs e h = cc
+end_matches (Some line) count run None arcs e h = cc
+end_matches (Some line) count run (Some size) arcs e h =
     let same : size ≡ size_said line = cc in
     let g : Graph = record { nodes = size.nodes; arcs = arcs } in (
       g,
@@ -189,5 +190,5 @@ graph_follows = record {
   starts = nothing_stands;
   reads = reads;
   goes_on = goes_on;
-  ends = λ read lines stands. end_matches (find (begins_with (codes "p")) lines) (λ w. count_by (begins_with w) lines) read.size read.arcs stands.size stands.count;
+  ends = λ read lines stands. end_matches (find (begins_with (codes "p")) lines) (λ w. count_by (begins_with w) lines) (run_of_lines no_run lines) read.size read.arcs stands.size stands.count;
 }

@@ -8,7 +8,8 @@ use Rattle.std.proofs.lemmas.Bool.{false≢true}
 use Rattle.ea_text.specs.Text.{is_comment, is_silent}
 use Rattle.ea_input.specs.Fault.{◌>>=◌}
 use Rattle.ea_input.specs.Listing.{IsCountLine, IsItemLine, after_kinds, only_number, announced, problem_line, item_line, list_line, list_step, list_end, Listed, nothing_listed, with_line}
-use Rattle.ea_input.specs.Checks.{Line, Format, Before, before_of, begins_with, is_number, lies_in, line_fault, end_fault, first_failing}
+use Rattle.ea_input.specs.Checks.{Line, Format, Before, before_of, begins_with, run_of_lines, is_number, lies_in, line_fault, end_fault, first_failing}
+use Rattle.ea_input.specs.StepLines.{Run, no_run}
 use Rattle.ea_input.specs.Formats.{list_format, list_count}
 use Rattle.ea_input.proofs.Numbered.{bind_ok}
 use Rattle.ea_input.proofs.Said.{same_word, is_word}
@@ -31,8 +32,8 @@ item_checks fields nodes others size count =
 pub record Checked {A : Type 0} (f : Sort A) (fields : ℕ) : Type 0 where
   pub item : (others : Line) (size count : ℕ) → (a : A) × Matches (first_failing (item_checks fields f.nodes others size count)) (f.item_of f.nodes others >>= λ a. cond (ltb count size) (Ok (Item a)) (Err TooManyLines)) (Item a)
 
-abbrev came : Option Line → (List ℕ → ℕ) → Before
-came problem count = record { problem = problem; count = count }
+abbrev came : Option Line → (List ℕ → ℕ) → Run → Before
+came problem count run = record { problem = problem; count = count; run = run }
 
 abbrev format_of : {A : Type 0} → Sort A → ℕ → Format
 format_of f fields = list_format f.kind f.word fields f.nodes
@@ -60,28 +61,28 @@ one_kind_matches false F strict rest r y h = strict
 abbrev size_read : {A : Type 0} → Result (List (List ℕ)) FaultKind → Result (ListLine A) FaultKind
 size_read r = (r >>= λ numbers. only_number 0 1000000 numbers) >>= λ size. Ok (Problem size)
 
-problem_matches : {A : Type 0} (f : Sort A) (k : ℕ) (count : List ℕ → ℕ) (n : ℕ) (problem : Option Line) (size : Option ℕ) (fields : Line) → size ≡ option_map list_count problem
-    → Matches (line_fault (format_of f k) (came problem count) (codes "p" ∷ fields)) (list_line f.kind f.word (f.item_of f.nodes) size n (codes "p" ∷ fields)) (Problem (list_count (codes "p" ∷ fields)))
+problem_matches : {A : Type 0} (f : Sort A) (k : ℕ) (count : List ℕ → ℕ) (run : Run) (n : ℕ) (problem : Option Line) (size : Option ℕ) (fields : Line) → size ≡ option_map list_count problem
+    → Matches (line_fault (format_of f k) (came problem count run) (codes "p" ∷ fields)) (list_line f.kind f.word (f.item_of f.nodes) size n (codes "p" ∷ fields)) (Problem (list_count (codes "p" ∷ fields)))
 unfolding line_fault list_line problem_line announced after_kinds only_number
-problem_matches f k count n (Some old) (Some size) fields e = refl
-problem_matches f k count n (Some old) None fields e = cc
-problem_matches f k count n None (Some size) fields e = cc
-problem_matches f k count n None None [] e = refl
-problem_matches f k count n None None (a ∷ []) e = one_kind_matches (bytes_eq a (codes "aux")) size_read refl _ (Err FieldCount) _ refl
-problem_matches f k count n None None (a ∷ b ∷ []) e = two_kinds_match (bytes_eq a (codes "aux")) (bytes_eq b (codes "sp")) size_read refl _ (Err FieldCount) _ refl
-problem_matches f k count n None None (a ∷ b ∷ c ∷ []) e = kinds_match (bytes_eq a (codes "aux")) (bytes_eq b (codes "sp")) (bytes_eq c f.kind) size_read refl _ (Ok []) _ refl
-problem_matches f k count n None None (a ∷ b ∷ c ∷ x ∷ []) e = kinds_match (bytes_eq a (codes "aux")) (bytes_eq b (codes "sp")) (bytes_eq c f.kind) size_read refl _ (Ok (x ∷ [])) _ (numbers_match _ _ (only_number 0 1000000 (x ∷ [])) _ Problem (one_form 0 1000000 x (lit< tt)))
-problem_matches f k count n None None (a ∷ b ∷ c ∷ x ∷ y ∷ rest) e =
+problem_matches f k count run n (Some old) (Some size) fields e = refl
+problem_matches f k count run n (Some old) None fields e = cc
+problem_matches f k count run n None (Some size) fields e = cc
+problem_matches f k count run n None None [] e = refl
+problem_matches f k count run n None None (a ∷ []) e = one_kind_matches (bytes_eq a (codes "aux")) size_read refl _ (Err FieldCount) _ refl
+problem_matches f k count run n None None (a ∷ b ∷ []) e = two_kinds_match (bytes_eq a (codes "aux")) (bytes_eq b (codes "sp")) size_read refl _ (Err FieldCount) _ refl
+problem_matches f k count run n None None (a ∷ b ∷ c ∷ []) e = kinds_match (bytes_eq a (codes "aux")) (bytes_eq b (codes "sp")) (bytes_eq c f.kind) size_read refl _ (Ok []) _ refl
+problem_matches f k count run n None None (a ∷ b ∷ c ∷ x ∷ []) e = kinds_match (bytes_eq a (codes "aux")) (bytes_eq b (codes "sp")) (bytes_eq c f.kind) size_read refl _ (Ok (x ∷ [])) _ (numbers_match _ _ (only_number 0 1000000 (x ∷ [])) _ Problem (one_form 0 1000000 x (lit< tt)))
+problem_matches f k count run n None None (a ∷ b ∷ c ∷ x ∷ y ∷ rest) e =
     let long : (length (codes "p" ∷ a ∷ b ∷ c ∷ x ∷ y ∷ rest) == 5) ≡ false = grind (arith, tests) in
     kinds_match (bytes_eq a (codes "aux")) (bytes_eq b (codes "sp")) (bytes_eq c f.kind) size_read refl _ (Ok (x ∷ y ∷ rest)) _ (count_matches _ _ _ long)
 
-item_line_matches : {A : Type 0} (f : Sort A) (k : ℕ) (checked : Checked f k) (count : List ℕ → ℕ) (problem : Option Line) (size : Option ℕ) (fields : Line) → size ≡ option_map list_count problem
-    → (a : A) × Matches (line_fault (format_of f k) (came problem count) (f.word ∷ fields)) (list_line f.kind f.word (f.item_of f.nodes) size (count f.word) (f.word ∷ fields)) (Item a)
+item_line_matches : {A : Type 0} (f : Sort A) (k : ℕ) (checked : Checked f k) (count : List ℕ → ℕ) (run : Run) (problem : Option Line) (size : Option ℕ) (fields : Line) → size ≡ option_map list_count problem
+    → (a : A) × Matches (line_fault (format_of f k) (came problem count run) (f.word ∷ fields)) (list_line f.kind f.word (f.item_of f.nodes) size (count f.word) (f.word ∷ fields)) (Item a)
 unfolding line_fault list_line item_line
-item_line_matches f k checked count None None fields e = ((checked.item fields 0 0).0, rw (f.plain, f.other, is_word f.word f.word refl) refl)
-item_line_matches f k checked count None (Some size) fields e = cc
-item_line_matches f k checked count (Some line) None fields e = cc
-item_line_matches f k checked count (Some line) (Some size) fields e =
+item_line_matches f k checked count run None None fields e = ((checked.item fields 0 0).0, rw (f.plain, f.other, is_word f.word f.word refl) refl)
+item_line_matches f k checked count run None (Some size) fields e = cc
+item_line_matches f k checked count run (Some line) None fields e = cc
+item_line_matches f k checked count run (Some line) (Some size) fields e =
     let same : list_count line ≡ size = cc in
     let one = checked.item fields (list_count line) (count f.word) in
     (one.0, rw (f.plain, f.other, is_word f.word f.word refl) (subst (λ (n : ℕ). Matches (first_failing (item_checks k f.nodes fields (list_count line) (count f.word))) (f.item_of f.nodes fields >>= λ a. cond (ltb (count f.word) n) (Ok (Item a)) (Err TooManyLines)) (Item one.0)) same one.1))
@@ -168,11 +169,11 @@ said_reads {A = A} f k read lines line said e h = (
 
 problem_reads : {A : Type 0} (f : Sort A) (k : ℕ) (read : Listed A) (lines : List Line) (word : List ℕ) (fields : Line) → Stands f read lines → word ≡ codes "p" → Reads f k read lines (word ∷ fields)
 problem_reads f k read lines word fields stands e =
-    subst (λ (w : List ℕ). Reads f k read lines (w ∷ fields)) (sym e) (said_reads f k read lines (codes "p" ∷ fields) (Problem (list_count (codes "p" ∷ fields))) stands.nodes (problem_matches f k (λ w. count_by (begins_with w) lines) (length read.items) (find (begins_with (codes "p")) lines) read.size fields stands.size))
+    subst (λ (w : List ℕ). Reads f k read lines (w ∷ fields)) (sym e) (said_reads f k read lines (codes "p" ∷ fields) (Problem (list_count (codes "p" ∷ fields))) stands.nodes (problem_matches f k (λ w. count_by (begins_with w) lines) (run_of_lines no_run lines) (length read.items) (find (begins_with (codes "p")) lines) read.size fields stands.size))
 
 item_reads : {A : Type 0} (f : Sort A) (k : ℕ) (checked : Checked f k) (read : Listed A) (lines : List Line) (word : List ℕ) (fields : Line) → Stands f read lines → word ≡ f.word → Reads f k read lines (word ∷ fields)
 item_reads f k checked read lines word fields stands e =
-    let matched = item_line_matches f k checked (λ w. count_by (begins_with w) lines) (find (begins_with (codes "p")) lines) read.size fields stands.size in
+    let matched = item_line_matches f k checked (λ w. count_by (begins_with w) lines) (run_of_lines no_run lines) (find (begins_with (codes "p")) lines) read.size fields stands.size in
     subst (λ (w : List ℕ). Reads f k read lines (w ∷ fields)) (sym e) (said_reads f k read lines (f.word ∷ fields) (Item matched.0) stands.nodes
     (subst (λ (n : ℕ). Matches (line_fault (format_of f k) (before_of lines) (f.word ∷ fields)) (list_line f.kind f.word (f.item_of f.nodes) read.size n (f.word ∷ fields)) (Item matched.0)) (sym stands.count) matched.1))
 
@@ -191,13 +192,13 @@ reads f k checked read lines (word ∷ fields) stands = elim (two_ways (is_comme
 
 -- ---- the end
 
-end_matches : {A : Type 0} (f : Sort A) (k : ℕ) (problem : Option Line) (count : List ℕ → ℕ) (nodes : ℕ) (size : Option ℕ) (items : List A) → size ≡ option_map list_count problem → length items ≡ count f.word
-    → (all : List A) × Matches (end_fault (format_of f k) (came problem count)) (list_end (record { nodes = nodes; size = size; items = items })) all
+end_matches : {A : Type 0} (f : Sort A) (k : ℕ) (problem : Option Line) (count : List ℕ → ℕ) (run : Run) (nodes : ℕ) (size : Option ℕ) (items : List A) → size ≡ option_map list_count problem → length items ≡ count f.word
+    → (all : List A) × Matches (end_fault (format_of f k) (came problem count run)) (list_end (record { nodes = nodes; size = size; items = items })) all
 unfolding list_end end_fault
-end_matches f k None count nodes None items e h = ([], refl)
-end_matches f k None count nodes (Some size) items e h = cc
-end_matches f k (Some line) count nodes None items e h = cc
-end_matches f k (Some line) count nodes (Some size) items e h =
+end_matches f k None count run nodes None items e h = ([], refl)
+end_matches f k None count run nodes (Some size) items e h = cc
+end_matches f k (Some line) count run nodes None items e h = cc
+end_matches f k (Some line) count run nodes (Some size) items e h =
     let same : size ≡ list_count line = cc in (
       items,
       subst (λ (s : ℕ). Matches (cond (ltb (count f.word) s || false) (Some TooFewLines) None) (cond (ltb (length items) size) (Err TooFewLines) (Ok items)) items) same
@@ -211,5 +212,5 @@ list_follows f k checked = record {
   starts = record { nodes = refl; size = refl; count = refl };
   reads = reads f k checked;
   goes_on = goes_on f;
-  ends = λ read lines stands. end_matches f k (find (begins_with (codes "p")) lines) (λ w. count_by (begins_with w) lines) read.nodes read.size read.items stands.size stands.count;
+  ends = λ read lines stands. end_matches f k (find (begins_with (codes "p")) lines) (λ w. count_by (begins_with w) lines) (run_of_lines no_run lines) read.nodes read.size read.items stands.size stands.count;
 }

@@ -37,7 +37,8 @@ numbers_match true true r x g e = ap (λ q. q >>= λ y. Ok (g y)) e
 numbers_match true false r x g e = ap (λ q. q >>= λ y. Ok (g y)) e
 numbers_match false ranges r x g e = ap (λ q. q >>= λ y. Ok (g y)) e
 
-full : (count size : ℕ) → leb size count ≡ not (ltb count size)
+-- No room is left exactly where so many aren't fewer than that.
+pub full : (count size : ℕ) → leb size count ≡ not (ltb count size)
 full count size = grind (arith, tests)
 
 room_matches : {X : Type 0} (full room : Bool) (x : X) → full ≡ not room → Matches (first_failing ((full, TooManyLines) ∷ [])) (cond room (Ok x) (Err TooManyLines)) x
@@ -61,12 +62,6 @@ item_matches numbers ranges size count r x g e =
 pub few_matches : {X : Type 0} (few : Bool) (x : X) → Matches (cond (few || false) (Some TooFewLines) None) (cond few (Err TooFewLines) (Ok x)) x
 few_matches true x = refl
 few_matches false x = refl
-
--- Enough lines of both sorts.
-pub few_of_two_match : {X : Type 0} (few less : Bool) (x : X) → Matches (cond (few || (less || false)) (Some TooFewLines) None) (cond few (Err TooFewLines) (cond less (Err TooFewLines) (Ok x))) x
-few_of_two_match true less x = refl
-few_of_two_match false true x = refl
-few_of_two_match false false x = refl
 
 -- ---- what came before
 

@@ -1,15 +1,17 @@
 -- Reading the numbers of a timetable's lines is testing them one by one.
 use Rattle.std.proofs.Common.{◌≡◌, ℕ, ◌+◌, ◌-◌, ◌<◌, ◌^◌, ◌&&◌, min, Bool, true, cond, refl, ◌∙◌, arith, List, [], ◌∷◌, leb, lit<}
 use Rattle.std.specs.List.{list_all}
-use Rattle.std.specs.Prelude.{Result, Ok, Err}
+use Rattle.std.specs.Prelude.{Result, Ok, Err, codes}
 use Rattle.ea_input.specs.Fault.{◌>>=◌, numeral, within}
 use Rattle.ea_input.specs.Checks.{is_number, value_of, lies_in}
-use Rattle.ea_input.specs.Formats.{interval_ranges}
-use Rattle.ea_input.specs.Table.{size_read, two_read, interval_within, numbered, plain_of, every_within, every_read, closed_within, closed_read, rush_within, rush_read, assigned_within, assigned_of}
+use Rattle.ea_input.specs.Formats.{interval_ranges, step_ranges}
+use Rattle.ea_input.specs.Table.{size_read, two_read, interval_within, numbered, plain_of, every_within, every_read, closed_within, closed_read, rush_within, rush_read, speeds_within, speeds_read, trips_within, trips_read, assigned_within, assigned_of}
+use Rattle.ea_input.specs.StepLines.{Run, least_time, most_time, least_value, most_value, step_within, step_read}
+use Rattle.ea_input.proofs.TableSaid.{time_small, value_small}
 use Rattle.ea_input.proofs.Forms.{tested, number_then, within_then, within_last}
 use Rattle.ea_input.specs.declared.fault.FaultKind.{FaultKind}
 use Rattle.ea_input.specs.declared.fault.FaultKind.TheVariants.{BadNumber, OutOfRange}
-use Rattle.ea_input.specs.declared.table.RawKind.TheVariants.{Plain, Every, Closed, Rush}
+use Rattle.ea_input.specs.declared.table.RawKind.TheVariants.{Plain, Every, Closed, Rush, Speeds, Trips}
 
 bind_assoc : {A B C : Type 0} (r : Result A FaultKind) (f : A → Result B FaultKind) (g : B → Result C FaultKind) → ((r >>= f) >>= g) ≡ (r >>= λ x. f x >>= g)
 bind_assoc (Ok x) f g = refl
@@ -57,6 +59,23 @@ pub rush_form : (number : ℕ) (j b e x : List ℕ) → number < 2 ^ 64
 unfolding rush_read rush_within
 rush_form number j b e x small =
     number_then j _ _ _ (two_then b e _ _ _ (number_then x _ _ _ (within_then number number (value_of j) _ _ _ small (λ p q. interval_then (value_of b) (value_of e) _ _ _ (within_last 0 4294967296 (value_of x) _ (lit< tt))))))
+
+pub speeds_form : (number before : ℕ) (j p c : List ℕ) → number < 2 ^ 64
+    → speeds_read number before j p c ≡ tested (list_all is_number (j ∷ p ∷ c ∷ [])) (list_all (λ fits. fits) (lies_in number number j ∷ lies_in 1 4294967296 p ∷ lies_in 1 65536 c ∷ [])) (Speeds (value_of p) before (value_of c))
+unfolding speeds_read speeds_within
+speeds_form number before j p c small =
+    number_then j _ _ _ (two_then p c _ true _ (within_then number number (value_of j) _ _ _ small (λ a b. within_then 1 4294967296 (value_of p) _ _ _ (lit< tt) (λ low high. within_last 1 65536 (value_of c) _ (lit< tt)))))
+
+pub trips_form : (number before : ℕ) (j p c : List ℕ) → number < 2 ^ 64
+    → trips_read number before j p c ≡ tested (list_all is_number (j ∷ p ∷ c ∷ [])) (list_all (λ fits. fits) (lies_in number number j ∷ lies_in 0 4294967296 p ∷ lies_in 1 65536 c ∷ [])) (Trips (value_of p) before (value_of c))
+unfolding trips_read trips_within
+trips_form number before j p c small =
+    number_then j _ _ _ (two_then p c _ true _ (within_then number number (value_of j) _ _ _ small (λ a b. within_then 0 4294967296 (value_of p) _ _ _ (lit< tt) (λ low high. within_last 1 65536 (value_of c) _ (lit< tt)))))
+
+pub step_form : (run : Run) (t x : List ℕ) → step_read run t x ≡ tested (list_all is_number (t ∷ x ∷ [])) (list_all (λ fits. fits) (step_ranges run (codes "v" ∷ t ∷ x ∷ []))) (value_of t, value_of x)
+unfolding step_read step_within
+step_form run t x =
+    number_then t _ _ _ (number_then x _ _ _ (within_then (least_time run) (most_time run) (value_of t) _ _ _ (time_small run) (λ p q. within_last (least_value run (value_of t)) (most_value run (value_of t)) (value_of x) _ (value_small run (value_of t)))))
 
 pub assigned_form : (arcs classes : ℕ) (e j : List ℕ) → arcs < 2 ^ 64 → classes < 2 ^ 64
     → assigned_of arcs classes (e ∷ j ∷ []) ≡ tested (list_all is_number (e ∷ j ∷ [])) (list_all (λ fits. fits) (lies_in 1 arcs e ∷ lies_in 0 classes j ∷ [])) (value_of e, value_of j)

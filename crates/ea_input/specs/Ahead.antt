@@ -21,13 +21,17 @@ pub record ArcThen (text : List ℕ) (tail head weight : ℕ) (rest : List ℕ) 
   pub head_is : (number_of head_field ≡ Some head) × (head < 2 ^ 64)
   pub weight_is : (number_of weight_field ≡ Some weight) × (weight < 2 ^ 64)
 
--- A text begins with a line `t E J` of these numbers, and goes on with the rest.
-pub record EntryThen (text : List ℕ) (arc class : ℕ) (rest : List ℕ) : Type 0 where
+-- A text begins with these two numbers, a blank between them and a line feed behind them, and goes on with the rest.
+abbrev pub TwoThen : List ℕ → ℕ → ℕ → List ℕ → Type 0
+TwoThen text first second rest = (between : List ℕ) × NumberThen text 32 first between × NumberThen between 10 second rest
+
+-- A text begins with a line of a word and these two numbers, and goes on with the rest.
+pub record PairThen (word text : List ℕ) (first second : ℕ) (rest : List ℕ) : Type 0 where
   pub line : List ℕ
-  pub arc_field : List ℕ
-  pub class_field : List ℕ
+  pub first_field : List ℕ
+  pub second_field : List ℕ
   pub cut : lines_of text ≡ line ∷ lines_of rest
   pub shorter : length rest < length text
-  pub fields : fields_of (strip_carriage_return line) ≡ codes "t" ∷ arc_field ∷ class_field ∷ []
-  pub arc_is : (number_of arc_field ≡ Some arc) × (arc < 2 ^ 64)
-  pub class_is : (number_of class_field ≡ Some class) × (class < 2 ^ 64)
+  pub fields : fields_of (strip_carriage_return line) ≡ word ∷ first_field ∷ second_field ∷ []
+  pub first_is : (number_of first_field ≡ Some first) × (first < 2 ^ 64)
+  pub second_is : (number_of second_field ≡ Some second) × (second < 2 ^ 64)

@@ -5,6 +5,7 @@ use Rattle.std.specs.List.{list_all, list_any}
 use Rattle.std.specs.Str.{bytes_eq}
 use Rattle.ea_text.specs.Text.{number_of, is_silent}
 use Rattle.ea_input.specs.Fault.{out_of_memory}
+use Rattle.ea_input.specs.StepLines.{Run, no_run, with_step}
 use Rattle.ea_input.specs.declared.fault.FaultKind.{FaultKind}
 use Rattle.ea_input.specs.declared.fault.FaultKind.TheVariants.{NoProblemLine, SecondProblemLine, UnknownLine, FieldCount, BadNumber, OutOfRange, TooManyLines, TooFewLines, BadKind}
 use Rattle.ea_input.specs.declared.fault.InputFault.{InputFault}
@@ -45,22 +46,49 @@ words_fit (word ∷ words) (field ∷ fields) = bytes_eq field word && words_fit
 
 -- ---- what came before a line
 
--- The problem line, and how many lines begin with a word.
+-- The class whose steps a line `k J NAME P N` announces.
+abbrev pub run_begun : Line → Run
+run_begun (k ∷ j ∷ name ∷ p ∷ n ∷ []) =
+    if bytes_eq name (codes "speeds") then record { class = record { trips = false; period = value_of p; count = value_of n }; steps = [] } else
+    (if bytes_eq name (codes "trips") then record { class = record { trips = true; period = value_of p; count = value_of n }; steps = [] } else no_run)
+run_begun _ = no_run
+
+-- The same after the step of a line `v T X`.
+abbrev pub run_told : Run → Line → Run
+run_told run (v ∷ t ∷ x ∷ []) = with_step run (value_of t, value_of x)
+run_told run _ = run
+
+-- The class whose steps are told last, after one more line, and after some lines.
+abbrev pub run_after : Run → Line → Run
+run_after run line = if begins_with (codes "k") line then run_begun line else (if begins_with (codes "v") line then run_told run line else run)
+
+abbrev pub run_of_lines : Run → List Line → Run
+run_of_lines run [] = run
+run_of_lines run (line ∷ lines) = run_of_lines (run_after run line) lines
+
+-- The problem line, how many lines begin with a word, and the class whose steps were told last.
 pub record Before : Type 0 where
   pub problem : Option Line
   pub count : List ℕ → ℕ
+  pub run : Run
 
 abbrev pub before_of : List Line → Before
-before_of lines = record { problem = find (begins_with (codes "p")) lines; count = λ word. count_by (begins_with word) lines }
+before_of lines = record {
+  problem = find (begins_with (codes "p")) lines;
+  count = λ word. count_by (begins_with word) lines;
+  run = run_of_lines no_run lines;
+}
 
 -- ---- the checks
 
--- What a file asks of its lines: the words that lines other than the problem line begin with; that
--- the kind words that are there are those asked; how many fields there are; which of them are
--- numbers; whether each of these is in its range; and how many lines of a word the problem line
--- announces.
+-- What a file asks of its lines: the words that lines other than the problem line begin with; which
+-- of them are lines of steps, and how many of these are due before any other line; that the kind
+-- words that are there are those asked; how many fields there are; which of them are numbers;
+-- whether each of these is in its range; and how many lines of a word the problem line announces.
 pub record Format : Type 0 where
   pub words : List (List ℕ)
+  pub is_step : Line → Bool
+  pub due : Before → ℕ
   pub kind_fits : Line → Bool
   pub field_count : Line → ℕ
   pub numbers : Line → List (List ℕ)
@@ -78,11 +106,13 @@ line_checks format before line =
     (not (is_problem || list_any (λ word. begins_with word line) format.words), UnknownLine)
     ∷ (not is_problem && is_none before.problem, NoProblemLine)
     ∷ (is_problem && is_some before.problem, SecondProblemLine)
+    ∷ (not (format.is_step line) && nat_lt 0 (format.due before), TooFewLines)
+    ∷ (format.is_step line && nat_le (format.due before) 0, TooManyLines)
     ∷ (not (format.kind_fits line), BadKind)
     ∷ (not (length line == format.field_count line), FieldCount)
     ∷ (not (list_all is_number (format.numbers line)), BadNumber)
     ∷ (not (list_all (λ fits. fits) (format.in_range before line)), OutOfRange)
-    ∷ (not is_problem && nat_le (announced_before format before (first_word line)) (before.count (first_word line)), TooManyLines)
+    ∷ (not (format.is_step line || is_problem) && nat_le (announced_before format before (first_word line)) (before.count (first_word line)), TooManyLines)
     ∷ []
 
 -- The checks at the end of a text.
@@ -90,6 +120,7 @@ abbrev pub end_checks : Format → Before → List (Bool × FaultKind)
 end_checks format before =
     (is_none before.problem, NoProblemLine)
     ∷ (list_any (λ word. nat_lt (before.count word) (announced_before format before word)) format.words, TooFewLines)
+    ∷ (nat_lt 0 (format.due before), TooFewLines)
     ∷ []
 
 -- The first check that fails.

@@ -1,10 +1,12 @@
 -- What each of the four files asks of its lines.
-use Rattle.std.specs.Prelude.{ℕ, ◌+◌, ◌-◌, ◌||◌, not, Bool, true, List, [], ◌∷◌, map, drop, codes, if◌then◌else◌}
+use Rattle.std.specs.Prelude.{ℕ, ◌+◌, ◌-◌, ◌||◌, not, Bool, true, false, List, [], ◌∷◌, map, drop, codes, if◌then◌else◌}
 use Rattle.std.specs.Option.{option_map_or}
 use Rattle.std.specs.List.{list_any}
 use Rattle.std.specs.Str.{bytes_eq}
 use Rattle.ea_limits.specs.declared.TheConstants.{HORIZON, MOST_ARCS, MOST_CLASSES, MOST_NODES, MOST_PERIOD, MOST_STARTS}
 use Rattle.ea_input.specs.Checks.{Line, Format, begins_with, value_of, lies_in, words_fit}
+use Rattle.ea_input.specs.StepLines.{Run, due, least_time, most_time, least_value, most_value}
+use Rattle.ea_input.specs.declared.step_lines.TheConstants.{MOST_STEPS}
 
 abbrev pub is_problem : Line → Bool
 is_problem line = begins_with (codes "p") line
@@ -29,6 +31,8 @@ graph_ranges problem nodes _ = []
 abbrev pub graph_format : Format
 graph_format = record {
   words = codes "a" ∷ [];
+  is_step = λ line. false;
+  due = λ before. 0;
   kind_fits = λ line. not (is_problem line) || words_fit (codes "sp" ∷ []) (drop 1 line);
   field_count = λ line. 4;
   numbers = λ line. drop (if is_problem line then 2 else 1) line;
@@ -45,6 +49,8 @@ list_count _ = 0
 abbrev pub list_format : List ℕ → List ℕ → ℕ → ℕ → Format
 list_format kind word fields nodes = record {
   words = word ∷ [];
+  is_step = λ line. false;
+  due = λ before. 0;
   kind_fits = λ line. not (is_problem line) || words_fit (codes "aux" ∷ codes "sp" ∷ kind ∷ []) (drop 1 line);
   field_count = λ line. if is_problem line then 5 else (1 + fields);
   numbers = λ line. drop (if is_problem line then 4 else 1) line;
@@ -60,10 +66,13 @@ source_format nodes = list_format (codes "ss") (codes "s") 1 nodes
 abbrev pub pair_format : ℕ → Format
 pair_format nodes = list_format (codes "p2p") (codes "q") 2 nodes
 
--- ---- a timetable: `p tp K T`, and K lines `k J ..` and T lines `t E J`
+-- ---- a timetable: `p tp K T`, and K lines `k J ..`, some with lines `v T X` behind them, and T lines `t E J`
 
 abbrev pub is_kind : Line → Bool
 is_kind line = begins_with (codes "k") line
+
+abbrev pub is_step : Line → Bool
+is_step line = begins_with (codes "v") line
 
 abbrev pub table_kinds : Line → ℕ
 table_kinds (p ∷ tp ∷ k ∷ t ∷ []) = value_of k
@@ -75,15 +84,16 @@ table_assigned _ = 0
 
 -- The third field of a line `k J ..` is a kind's name, where there is one.
 abbrev pub kind_name_fits : Line → Bool
-kind_name_fits (k ∷ j ∷ name ∷ fields) = list_any (bytes_eq name) (codes "plain" ∷ codes "every" ∷ codes "closed" ∷ codes "rush" ∷ [])
+kind_name_fits (k ∷ j ∷ name ∷ fields) = list_any (bytes_eq name) (codes "plain" ∷ codes "every" ∷ codes "closed" ∷ codes "rush" ∷ codes "speeds" ∷ codes "trips" ∷ [])
 kind_name_fits _ = true
 
--- `k J plain`, `k J every P O`, `k J closed B E`, `k J rush B E X`
+-- `k J plain`, `k J every P O`, `k J closed B E`, `k J rush B E X`, `k J speeds P N`, `k J trips P N`
 abbrev pub kind_fields : Line → ℕ
 kind_fields (k ∷ j ∷ name ∷ fields) =
     if bytes_eq name (codes "plain") then 3 else
     (if bytes_eq name (codes "every") then 5 else
-    (if bytes_eq name (codes "closed") then 5 else 6))
+    (if bytes_eq name (codes "closed") then 5 else
+    (if bytes_eq name (codes "rush") then 6 else 5)))
 kind_fields _ = 3
 
 -- The fields of a line `k J NAME ..` that are numbers.
@@ -99,7 +109,10 @@ interval_ranges b e others = lies_in 0 (HORIZON - 1) b ∷ lies_in (value_of b +
 abbrev pub kind_ranges : ℕ → Line → List Bool
 kind_ranges number (k ∷ j ∷ name ∷ []) = lies_in number number j ∷ []
 kind_ranges number (k ∷ j ∷ name ∷ x ∷ y ∷ []) =
-    lies_in number number j ∷ (if bytes_eq name (codes "every") then lies_in 1 MOST_PERIOD x ∷ lies_in 0 (value_of x - 1) y ∷ [] else interval_ranges x y [])
+    lies_in number number j ∷
+    (if bytes_eq name (codes "every") then lies_in 1 MOST_PERIOD x ∷ lies_in 0 (value_of x - 1) y ∷ [] else
+    (if bytes_eq name (codes "closed") then interval_ranges x y [] else
+    (if bytes_eq name (codes "speeds") then lies_in 1 MOST_PERIOD x ∷ lies_in 1 MOST_STEPS y ∷ [] else (lies_in 0 MOST_PERIOD x ∷ lies_in 1 MOST_STEPS y ∷ []))))
 kind_ranges number (k ∷ j ∷ name ∷ b ∷ e ∷ x ∷ []) = lies_in number number j ∷ interval_ranges b e (lies_in 0 MOST_PERIOD x ∷ [])
 kind_ranges number _ = []
 
@@ -112,13 +125,22 @@ abbrev pub assigned_ranges : ℕ → ℕ → Line → List Bool
 assigned_ranges arcs kinds (t ∷ e ∷ j ∷ []) = lies_in 1 arcs e ∷ lies_in 0 kinds j ∷ []
 assigned_ranges arcs kinds _ = []
 
+-- The numbers of a line `v T X`, after some steps of its class.
+abbrev pub step_ranges : Run → Line → List Bool
+step_ranges run (v ∷ t ∷ x ∷ []) =
+    lies_in (least_time run) (most_time run) t ∷ lies_in (least_value run (value_of t)) (most_value run (value_of t)) x ∷ []
+step_ranges run _ = []
+
 abbrev pub table_format : ℕ → Format
 table_format arcs = record {
-  words = codes "k" ∷ codes "t" ∷ [];
+  words = codes "k" ∷ codes "t" ∷ codes "v" ∷ [];
+  is_step = is_step;
+  due = λ before. due before.run;
   kind_fits = λ line. if is_problem line then words_fit (codes "tp" ∷ []) (drop 1 line) else (not (is_kind line) || kind_name_fits line);
   field_count = λ line. if is_problem line then 4 else (if is_kind line then kind_fields line else 3);
   numbers = λ line. if is_problem line then drop 2 line else (if is_kind line then kind_numbers line else drop 1 line);
   in_range = λ before line. if is_problem line then size_ranges line else
-      (if is_kind line then kind_ranges (before.count (codes "k") + 1) line else assigned_ranges arcs (option_map_or table_kinds before.problem 0) line);
-  announced = λ problem word. if bytes_eq word (codes "k") then table_kinds problem else table_assigned problem;
+      (if is_kind line then kind_ranges (before.count (codes "k") + 1) line else
+      (if is_step line then step_ranges before.run line else assigned_ranges arcs (option_map_or table_kinds before.problem 0) line));
+  announced = λ problem word. if bytes_eq word (codes "k") then table_kinds problem else (if bytes_eq word (codes "t") then table_assigned problem else 0);
 }

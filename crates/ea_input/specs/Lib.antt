@@ -9,6 +9,7 @@ pub mod Listing
 pub mod Sources
 pub mod Pairs
 pub mod Fronts
+pub mod StepLines
 pub mod Table
 pub mod TableViews
 pub mod TableFronts

@@ -4,7 +4,8 @@ use Rattle.std.proofs.Common.{Bool, true, false, cond}
 use Rattle.std.specs.Str.{bytes_eq}
 use Rattle.ea_input.specs.Fault.{◌>>=◌}
 use Rattle.ea_input.specs.Listing.{after_kinds}
-use Rattle.ea_input.specs.Table.{TableRead, size_of, problem_line, plain_of, every_of, closed_of, rush_of, kind_of, kind_line, assigned_of, assigned_line, table_line, table_step, after_said}
+use Rattle.ea_input.specs.Table.{TableRead, size_of, problem_line, plain_of, every_of, closed_of, rush_of, speeds_of, trips_of, kind_of, kind_line, assigned_of, assigned_line, step_line, due_in, run_in, table_line, table_step, after_said}
+use Rattle.ea_input.specs.StepLines.{Run, step_of}
 use Rattle.ea_input.specs.declared.fault.FaultKind.TheVariants.{BadKind}
 use Rattle.ea_input.specs.declared.table.TableSize.{TableSize}
 use Rattle.ea_input.specs.declared.table.TableLine.TheVariants.{Problem}
@@ -53,16 +54,31 @@ rush_of-front number j (b ∷ e ∷ []) = refl
 rush_of-front number j (b ∷ e ∷ x ∷ []) = refl
 rush_of-front number j (b ∷ e ∷ x ∷ y ∷ rest) = refl
 
-kind_of-front : (number : ℕ) (fields : List (List ℕ)) → kind_of number (take 6 fields) ≡ kind_of number fields
-unfolding kind_of
-kind_of-front number [] = refl
-kind_of-front number (j ∷ []) = refl
-kind_of-front number (j ∷ name ∷ fields) = rw (plain_of-front number j fields, every_of-front number j fields, closed_of-front number j fields, rush_of-front number j fields) refl
+speeds_of-front : (number before : ℕ) (j : List ℕ) (fields : List (List ℕ)) → speeds_of number before j (take 4 fields) ≡ speeds_of number before j fields
+unfolding speeds_of
+speeds_of-front number before j [] = refl
+speeds_of-front number before j (p ∷ []) = refl
+speeds_of-front number before j (p ∷ n ∷ []) = refl
+speeds_of-front number before j (p ∷ n ∷ x ∷ rest) = refl
 
-kind_line-front : (size : Option TableSize) (count : ℕ) (fields : List (List ℕ)) → kind_line size count (take 6 fields) ≡ kind_line size count fields
+trips_of-front : (number before : ℕ) (j : List ℕ) (fields : List (List ℕ)) → trips_of number before j (take 4 fields) ≡ trips_of number before j fields
+unfolding trips_of
+trips_of-front number before j [] = refl
+trips_of-front number before j (p ∷ []) = refl
+trips_of-front number before j (p ∷ n ∷ []) = refl
+trips_of-front number before j (p ∷ n ∷ x ∷ rest) = refl
+
+kind_of-front : (number before : ℕ) (fields : List (List ℕ)) → kind_of number before (take 6 fields) ≡ kind_of number before fields
+unfolding kind_of
+kind_of-front number before [] = refl
+kind_of-front number before (j ∷ []) = refl
+kind_of-front number before (j ∷ name ∷ fields) =
+    rw (plain_of-front number j fields, every_of-front number j fields, closed_of-front number j fields, rush_of-front number j fields, speeds_of-front number before j fields, trips_of-front number before j fields) refl
+
+kind_line-front : (size : Option TableSize) (due count before : ℕ) (fields : List (List ℕ)) → kind_line size due count before (take 6 fields) ≡ kind_line size due count before fields
 unfolding kind_line
-kind_line-front None count fields = refl
-kind_line-front (Some size) count fields = rw (kind_of-front (count + 1) fields) refl
+kind_line-front None due count before fields = refl
+kind_line-front (Some size) due count before fields = rw (kind_of-front (count + 1) before fields) refl
 
 assigned_of-front : (arcs classes : ℕ) (fields : List (List ℕ)) → assigned_of arcs classes (take 6 fields) ≡ assigned_of arcs classes fields
 unfolding assigned_of
@@ -71,16 +87,28 @@ assigned_of-front arcs classes (e ∷ []) = refl
 assigned_of-front arcs classes (e ∷ j ∷ []) = refl
 assigned_of-front arcs classes (e ∷ j ∷ x ∷ rest) = refl
 
-assigned_line-front : (arcs : ℕ) (size : Option TableSize) (count : ℕ) (fields : List (List ℕ)) → assigned_line arcs size count (take 6 fields) ≡ assigned_line arcs size count fields
+assigned_line-front : (arcs : ℕ) (size : Option TableSize) (due count : ℕ) (fields : List (List ℕ)) → assigned_line arcs size due count (take 6 fields) ≡ assigned_line arcs size due count fields
 unfolding assigned_line
-assigned_line-front arcs None count fields = refl
-assigned_line-front arcs (Some size) count fields = rw (assigned_of-front arcs size.kinds fields) refl
+assigned_line-front arcs None due count fields = refl
+assigned_line-front arcs (Some size) due count fields = rw (assigned_of-front arcs size.kinds fields) refl
+
+step_of-front : (run : Run) (fields : List (List ℕ)) → step_of run (take 6 fields) ≡ step_of run fields
+unfolding step_of
+step_of-front run [] = refl
+step_of-front run (t ∷ []) = refl
+step_of-front run (t ∷ x ∷ []) = refl
+step_of-front run (t ∷ x ∷ y ∷ rest) = refl
+
+step_line-front : (size : Option TableSize) (run : Run) (fields : List (List ℕ)) → step_line size run (take 6 fields) ≡ step_line size run fields
+unfolding step_line
+step_line-front None run fields = refl
+step_line-front (Some size) run fields = rw (step_of-front run fields) refl
 
 table_line-front : (read : TableRead) (fields : List (List ℕ)) → table_line read (take 7 fields) ≡ table_line read fields
 unfolding table_line
 table_line-front read [] = refl
 table_line-front read (first ∷ fields) =
-    rw (problem_line-front read.size fields, kind_line-front read.size (length read.kinds) fields, assigned_line-front read.arcs read.size (length read.assigned) fields) refl
+    rw (problem_line-front read.size fields, kind_line-front read.size (due_in read) (length read.table.kinds) (length read.table.steps) fields, assigned_line-front read.arcs read.size (due_in read) (length read.table.assigned) fields, step_line-front read.size (run_in read.table) fields) refl
 
 pub table_step-front : (read : TableRead) (fields : List (List ℕ)) → table_step read (take 7 fields) ≡ table_step read fields
 unfolding table_step after_said

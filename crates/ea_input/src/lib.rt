@@ -3,12 +3,14 @@
 
 mod fault;
 mod graph;
+mod kinds;
 mod listing;
 mod pairs;
 mod plain;
 mod range;
 mod reading;
 mod sources;
+mod step_lines;
 mod table;
 
 pub use ea_text::{
@@ -18,6 +20,7 @@ pub use fault::{FaultKind, InputFault};
 pub use graph::{RawArc, RawGraph, graph_law, read_gr};
 pub use pairs::{pair_law, read_p2p};
 pub use sources::{read_ss, source_law};
+pub use step_lines::{MOST_SPEED, MOST_STEPS, step_limits_are_these};
 pub use table::{RawKind, RawTable, read_tp, table_law};
 
 #[cfg(test)]

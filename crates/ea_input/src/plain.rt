@@ -1,8 +1,8 @@
-//! Lines of arcs and of assignments in their plain form: single blanks between the fields and
+//! Lines of arcs, of assignments and of steps in their plain form: single blanks between the fields and
 //! nothing else.
-ghost use Rattle.std.specs.Prelude.{◌≡◌, IfSome, false};
+ghost use Rattle.std.specs.Prelude.{◌≡◌, IfSome, codes, false};
 ghost use Rattle.std.specs.Char.{is_ascii_digit};
-ghost use Rattle.ea_input.specs.Ahead.{ArcThen, EntryThen, NumberThen};
+ghost use Rattle.ea_input.specs.Ahead.{ArcThen, NumberThen, PairThen, TwoThen};
 
 /// The number at the front of a text, where it ends in `stop` and is not very large, and the
 /// bytes after that.
@@ -54,26 +54,37 @@ pub(crate) fn leading_arc(text: &[u8]) -> Option<(ArcNumbers, &[u8])>
     Some((ArcNumbers { tail, head, weight }, rest))
 }
 
-/// The numbers of an assignment's line.
-#[derive(Clone, Copy)]
-pub(crate) struct EntryNumbers {
-    pub arc: u64,
-    pub class: u64,
+/// The two numbers at the front of a text, the first of which ends in a blank and the second in a line feed, and the bytes after
+/// it.
+fn leading_two(text: &[u8]) -> Option<((u64, u64), &[u8])>
+    ensures { IfSome result (λ x. TwoThen text.now x.0.0 x.0.1 x.1.now) }
+{
+    let Some((first, rest)) = leading_number(text, b' ') else {
+        return None;
+    };
+    let Some((second, rest)) = leading_number(rest, b'\n') else {
+        return None;
+    };
+    Some(((first, second), rest))
 }
 
 /// The numbers of the line `t E J` at the front of a text, where it is written with single blanks
 /// and nothing else, and the bytes after it.
-pub(crate) fn leading_entry(text: &[u8]) -> Option<(EntryNumbers, &[u8])>
-    ensures { IfSome result (λ x. EntryThen text.now x.0.arc x.0.class x.1.now) }
+pub(crate) fn leading_entry(text: &[u8]) -> Option<((u64, u64), &[u8])>
+    ensures { IfSome result (λ x. PairThen (codes "t") text.now x.0.0 x.0.1 x.1.now) }
 {
     let Some(rest) = text.strip_prefix(b"t ".as_slice()) else {
         return None;
     };
-    let Some((arc, rest)) = leading_number(rest, b' ') else {
+    leading_two(rest)
+}
+
+/// The same of the line `v T X`.
+pub(crate) fn leading_step(text: &[u8]) -> Option<((u64, u64), &[u8])>
+    ensures { IfSome result (λ x. PairThen (codes "v") text.now x.0.0 x.0.1 x.1.now) }
+{
+    let Some(rest) = text.strip_prefix(b"v ".as_slice()) else {
         return None;
     };
-    let Some((class, rest)) = leading_number(rest, b'\n') else {
-        return None;
-    };
-    Some((EntryNumbers { arc, class }, rest))
+    leading_two(rest)
 }

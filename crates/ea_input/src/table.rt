@@ -1,5 +1,5 @@
 //! The text of a timetable.
-ghost use Rattle.std.specs.Prelude.{◌≡◌, ◌<◌, ◌≤◌, ◌+◌, ◌^◌, ℕ, List, IfErr, IfOk, MatchResult, ◌⊎◌, map, length, codes};
+ghost use Rattle.std.specs.Prelude.{◌≡◌, ◌<◌, ◌≤◌, ◌+◌, ◌^◌, ℕ, List, IfErr, IfOk, MatchResult, ◌⊎◌, drop, map, length, codes};
 ghost use Rattle.ea_input.specs.Checks.{IsFaultOf, IsFaultTold};
 ghost use Rattle.ea_input.specs.Fault.{Gives, out_of_memory};
 ghost use Rattle.ea_input.specs.Formats.{table_format};
@@ -7,18 +7,21 @@ ghost use Rattle.ea_input.specs.Grammar.{IsGrammar};
 ghost use Rattle.ea_input.specs.declared.fault.InputFault.{InputFault as FaultType};
 ghost use Rattle.ea_input.specs.TableFronts.{table_step-front};
 ghost use Rattle.ea_input.specs.Table as spec;
-ghost use Rattle.ea_input.specs.Table.{Table, DenotesTable, table_of};
+ghost use Rattle.ea_input.specs.StepLines.{due};
+ghost use Rattle.ea_input.specs.Table.{Table, DenotesTable, run_in, table_of};
 ghost use Rattle.ea_input.specs.Reading.{GivesLine};
 ghost use Rattle.ea_input.specs.TableViews.{read_of, table};
 ghost use Rattle.ea_text.specs.Text.{field_lines};
 ghost use Rattle.ea_input.specs.Borrowed.{texts_now};
 
 use crate::fault::{FaultKind, InputFault};
+use crate::kinds::{kind_of, two_read};
 use crate::listing::after_kind;
-use crate::plain::{EntryNumbers, leading_entry};
-use crate::range::{numeral, within, within_wide};
+use crate::plain::{leading_entry, leading_step};
+use crate::range::{numeral, within};
 use crate::reading::{LineReader, read_text};
-use ea_limits::{HORIZON, MOST_ARCS, MOST_CLASSES, MOST_PERIOD};
+use crate::step_lines::{StepClass, step_of, step_within};
+use ea_limits::{MOST_ARCS, MOST_CLASSES};
 use ea_text as text;
 use std::alloc::Global;
 
@@ -74,6 +77,7 @@ pub enum TableLine {
     Problem(TableSize),
     Kind(RawKind),
     Assigned((u32, u32)),
+    Step((u64, u64)),
 }
 
 #[tactic(auto, unfolding(crate::specs::Table::size_read))]
@@ -108,175 +112,22 @@ fn problem_line(size: Option<TableSize>, fields: &[&[u8]]) -> Result<TableLine, 
     Ok(TableLine::Problem(size_of(numbers)?))
 }
 
-#[tactic(auto, unfolding(crate::specs::Table::two_read))]
-fn two_read(first: &[u8], second: &[u8]) -> Result<(u128, u128), FaultKind>
-    ensures { result ≡ spec.two_read first.now second.now }
-{
-    let first = numeral(first)?;
-    let second = numeral(second)?;
-    Ok((first, second))
-}
-
-#[tactic(auto, unfolding(crate::specs::Table::interval_within))]
-fn interval_within(lo: u128, hi: u128) -> Result<(u64, u64), FaultKind>
-    ensures { result ≡ spec.interval_within lo hi }
-{
-    let lo = within_wide(0, HORIZON - 1, lo)?;
-    let hi = within_wide(lo + 1, HORIZON, hi)?;
-    Ok((lo, hi))
-}
-
-#[tactic(auto, unfolding(crate::specs::Table::numbered))]
-fn numbered(number: u64, field: &[u8]) -> Result<u64, FaultKind>
-    ensures { result ≡ spec.numbered number field.now }
-{
-    let found = numeral(field)?;
-    within_wide(number, number, found)
-}
-
-#[tactic(auto, unfolding(crate::specs::Table::plain_of))]
-fn plain_of(number: u64, field: &[u8], others: &[&[u8]]) -> Result<RawKind, FaultKind>
-    ensures { result ≡ spec.plain_of number field.now (map (λ field. field.now) others.now) }
-{
-    if !others.is_empty() {
-        return Err(FaultKind::FieldCount);
-    }
-    match numbered(number, field) {
-        Ok(_) => Ok(RawKind::Plain),
-        Err(kind) => Err(kind),
-    }
-}
-
-#[tactic(auto, unfolding(crate::specs::Table::every_within))]
-fn every_within(number: u64, found: u128, period: u128, offset: u128) -> Result<RawKind, FaultKind>
-    ensures { result ≡ spec.every_within number found period offset }
-{
-    within_wide(number, number, found)?;
-    let period = within_wide(1, MOST_PERIOD, period)?;
-    let offset = within_wide(0, period - 1, offset)?;
-    Ok(RawKind::Every { period, offset })
-}
-
-#[tactic(auto, unfolding(crate::specs::Table::every_read))]
-fn every_read(number: u64, field: &[u8], period: &[u8], offset: &[u8]) -> Result<RawKind, FaultKind>
-    ensures { result ≡ spec.every_read number field.now period.now offset.now }
-{
-    let found = numeral(field)?;
-    let (period, offset) = two_read(period, offset)?;
-    every_within(number, found, period, offset)
-}
-
-#[tactic(auto, unfolding(crate::specs::Table::every_of))]
-fn every_of(number: u64, field: &[u8], others: &[&[u8]]) -> Result<RawKind, FaultKind>
-    ensures { result ≡ spec.every_of number field.now (map (λ field. field.now) others.now) }
-{
-    match others {
-        [period, offset] => every_read(number, field, period, offset),
-        _ => Err(FaultKind::FieldCount),
-    }
-}
-
-#[tactic(auto, unfolding(crate::specs::Table::closed_within))]
-fn closed_within(number: u64, found: u128, lo: u128, hi: u128) -> Result<RawKind, FaultKind>
-    ensures { result ≡ spec.closed_within number found lo hi }
-{
-    within_wide(number, number, found)?;
-    let (lo, hi) = interval_within(lo, hi)?;
-    Ok(RawKind::Closed { lo, hi })
-}
-
-#[tactic(auto, unfolding(crate::specs::Table::closed_read))]
-fn closed_read(number: u64, field: &[u8], lo: &[u8], hi: &[u8]) -> Result<RawKind, FaultKind>
-    ensures { result ≡ spec.closed_read number field.now lo.now hi.now }
-{
-    let found = numeral(field)?;
-    let (lo, hi) = two_read(lo, hi)?;
-    closed_within(number, found, lo, hi)
-}
-
-#[tactic(auto, unfolding(crate::specs::Table::closed_of))]
-fn closed_of(number: u64, field: &[u8], others: &[&[u8]]) -> Result<RawKind, FaultKind>
-    ensures { result ≡ spec.closed_of number field.now (map (λ field. field.now) others.now) }
-{
-    match others {
-        [lo, hi] => closed_read(number, field, lo, hi),
-        _ => Err(FaultKind::FieldCount),
-    }
-}
-
-#[tactic(auto, unfolding(crate::specs::Table::rush_within))]
-fn rush_within(
-    number: u64,
-    found: u128,
-    lo: u128,
-    hi: u128,
-    extra: u128,
-) -> Result<RawKind, FaultKind>
-    ensures { result ≡ spec.rush_within number found lo hi extra }
-{
-    within_wide(number, number, found)?;
-    let (lo, hi) = interval_within(lo, hi)?;
-    let extra = within_wide(0, MOST_PERIOD, extra)?;
-    Ok(RawKind::Rush { lo, hi, extra })
-}
-
-#[tactic(auto, unfolding(crate::specs::Table::rush_read))]
-fn rush_read(
-    number: u64,
-    field: &[u8],
-    lo: &[u8],
-    hi: &[u8],
-    extra: &[u8],
-) -> Result<RawKind, FaultKind>
-    ensures { result ≡ spec.rush_read number field.now lo.now hi.now extra.now }
-{
-    let found = numeral(field)?;
-    let (lo, hi) = two_read(lo, hi)?;
-    let extra = numeral(extra)?;
-    rush_within(number, found, lo, hi, extra)
-}
-
-#[tactic(auto, unfolding(crate::specs::Table::rush_of))]
-fn rush_of(number: u64, field: &[u8], others: &[&[u8]]) -> Result<RawKind, FaultKind>
-    ensures { result ≡ spec.rush_of number field.now (map (λ field. field.now) others.now) }
-{
-    match others {
-        [lo, hi, extra] => rush_read(number, field, lo, hi, extra),
-        _ => Err(FaultKind::FieldCount),
-    }
-}
-
-#[tactic(auto, unfolding(crate::specs::Table::kind_of))]
-fn kind_of(number: u64, fields: &[&[u8]]) -> Result<RawKind, FaultKind>
-    ensures { result ≡ spec.kind_of number (texts_now fields.now) }
-{
-    let [field, name, others @ ..] = fields else {
-        return Err(FaultKind::FieldCount);
-    };
-    if *name == b"plain".as_slice() {
-        plain_of(number, field, others)
-    } else if *name == b"every".as_slice() {
-        every_of(number, field, others)
-    } else if *name == b"closed".as_slice() {
-        closed_of(number, field, others)
-    } else if *name == b"rush".as_slice() {
-        rush_of(number, field, others)
-    } else {
-        Err(FaultKind::BadKind)
-    }
-}
-
 #[tactic(auto, unfolding(crate::specs::Table::kind_line))]
 fn kind_line(
     size: Option<TableSize>,
+    due: usize,
     count: usize,
+    before: usize,
     fields: &[&[u8]],
 ) -> Result<TableLine, FaultKind>
     requires { count + 1 < 2 ^ 64 }
-    ensures { result ≡ spec.kind_line size count (texts_now fields.now) }
+    ensures { result ≡ spec.kind_line size due count before (texts_now fields.now) }
 {
     let size = size.ok_or(FaultKind::NoProblemLine)?;
-    let kind = kind_of(count as u64 + 1, fields)?;
+    if due > 0 {
+        return Err(FaultKind::TooFewLines);
+    }
+    let kind = kind_of(count as u64 + 1, before, fields)?;
     if count < size.kinds as usize {
         Ok(TableLine::Kind(kind))
     } else {
@@ -308,12 +159,16 @@ fn assigned_of(arcs: u32, classes: u32, fields: &[&[u8]]) -> Result<(u32, u32), 
 fn assigned_line(
     arcs: u32,
     size: Option<TableSize>,
+    due: usize,
     count: usize,
     fields: &[&[u8]],
 ) -> Result<TableLine, FaultKind>
-    ensures { result ≡ spec.assigned_line arcs size count (texts_now fields.now) }
+    ensures { result ≡ spec.assigned_line arcs size due count (texts_now fields.now) }
 {
     let size = size.ok_or(FaultKind::NoProblemLine)?;
+    if due > 0 {
+        return Err(FaultKind::TooFewLines);
+    }
     let entry = assigned_of(arcs, size.kinds, fields)?;
     if count < size.assigned as usize {
         Ok(TableLine::Assigned(entry))
@@ -326,17 +181,21 @@ fn assigned_line(
 fn numbers_line(
     arcs: u32,
     size: Option<TableSize>,
+    due: usize,
     count: usize,
-    numbers: EntryNumbers,
+    numbers: (u64, u64),
 ) -> Result<TableLine, FaultKind>
-    ensures { result ≡ spec.numbers_line arcs size count numbers.arc numbers.class }
+    ensures { result ≡ spec.numbers_line arcs size due count numbers }
 {
     let size = size.ok_or(FaultKind::NoProblemLine)?;
+    if due > 0 {
+        return Err(FaultKind::TooFewLines);
+    }
     let entry = assigned_within(
         arcs,
         size.kinds,
-        u128::from(numbers.arc),
-        u128::from(numbers.class),
+        u128::from(numbers.0),
+        u128::from(numbers.1),
     )?;
     if count < size.assigned as usize {
         Ok(TableLine::Assigned(entry))
@@ -345,13 +204,113 @@ fn numbers_line(
     }
 }
 
-/// The kinds of a timetable, numbered from 1 on, and the arcs that are given a class, each with
-/// its class, in the order of the lines. The last class that an arc is given holds; class 0 is
-/// plain.
+/// How many steps of a class weren't told yet.
+fn due(class: StepClass, steps: &[(u64, u64)]) -> usize
+    ensures { result ≡ due (record { class = class; steps = steps.now }) }
+{
+    class.count.saturating_sub(steps.len())
+}
+
+#[tactic(auto, unfolding(crate::specs::Table::step_line))]
+fn step_line(
+    size: Option<TableSize>,
+    class: StepClass,
+    steps: &[(u64, u64)],
+    fields: &[&[u8]],
+) -> Result<TableLine, FaultKind>
+    ensures { result
+        ≡ spec.step_line size (record { class = class; steps = steps.now }) (texts_now fields.now) }
+{
+    if size.is_none() {
+        return Err(FaultKind::NoProblemLine);
+    }
+    if due(class, steps) == 0 {
+        return Err(FaultKind::TooManyLines);
+    }
+    Ok(TableLine::Step(step_of(class, steps, fields)?))
+}
+
+#[tactic(auto, unfolding(crate::specs::Table::step_numbers_line))]
+fn step_numbers_line(
+    size: Option<TableSize>,
+    class: StepClass,
+    steps: &[(u64, u64)],
+    numbers: (u64, u64),
+) -> Result<TableLine, FaultKind>
+    ensures { result
+        ≡ spec.step_numbers_line size (record { class = class; steps = steps.now }) numbers }
+{
+    if size.is_none() {
+        return Err(FaultKind::NoProblemLine);
+    }
+    if due(class, steps) == 0 {
+        return Err(FaultKind::TooManyLines);
+    }
+    let (time, value) = (u128::from(numbers.0), u128::from(numbers.1));
+    Ok(TableLine::Step(step_within(class, steps, time, value)?))
+}
+
+/// The class whose steps are told behind a kind's line.
+fn class_of(kind: RawKind) -> StepClass
+    ensures { result ≡ spec.class_of kind }
+{
+    match kind {
+        RawKind::Speeds { period, count, .. } => StepClass {
+            trips: false,
+            period,
+            count,
+        },
+        RawKind::Trips { period, count, .. } => StepClass {
+            trips: true,
+            period,
+            count,
+        },
+        _ => StepClass {
+            trips: false,
+            period: 0,
+            count: 0,
+        },
+    }
+}
+
+/// The steps behind so many.
+fn steps_behind(steps: &[(u64, u64)], first: usize) -> &[(u64, u64)]
+    ensures { result.now ≡ drop first steps.now }
+{
+    &steps[first.min(steps.len())..]
+}
+
+/// The steps from a kind's first one on.
+fn steps_from(kind: RawKind, steps: &[(u64, u64)]) -> &[(u64, u64)]
+    ensures { result.now ≡ spec.steps_from kind steps.now }
+{
+    match kind {
+        RawKind::Speeds { first, .. } => steps_behind(steps, first),
+        RawKind::Trips { first, .. } => steps_behind(steps, first),
+        _ => &[],
+    }
+}
+
+/// The last kind, which is plain where there is none.
+#[tactic(auto, using(crate::proofs::LastKind::last_read))]
+fn last_kind(kinds: &[RawKind]) -> RawKind
+    ensures { result ≡ spec.last_kind kinds.now }
+{
+    if kinds.is_empty() {
+        RawKind::Plain
+    } else {
+        kinds[kinds.len() - 1]
+    }
+}
+
+/// The kinds of a timetable, numbered from 1 on; the arcs that are given a class, each with
+/// its class, in the order of the lines; and the steps of all kinds that have some, in one list.
+/// The last class that an arc is given holds; class 0 is plain.
 #[derive(Debug, Drop)]
 pub struct RawTable {
     pub kinds: Vec<RawKind>,
     pub assigned: Vec<(u32, u32)>,
+    pub steps: Vec<(u64, u64)>,
 }
 
 /// What the lines of a text said so far.
@@ -359,11 +318,31 @@ pub struct RawTable {
 struct TableReader {
     arcs: u32,
     size: Option<TableSize>,
-    kinds: Vec<RawKind>,
-    assigned: Vec<(u32, u32)>,
+    table: RawTable,
 }
 
 impl TableReader {
+    /// The class whose steps were told last.
+    fn class(&self) -> StepClass
+        ensures { result ≡ (run_in (table (self.now).table)).class }
+    {
+        class_of(last_kind(&self.table.kinds))
+    }
+
+    /// Those of its steps that were told so far.
+    fn steps(&self) -> &[(u64, u64)]
+        ensures { result.now ≡ (run_in (table (self.now).table)).steps }
+    {
+        steps_from(last_kind(&self.table.kinds), &self.table.steps)
+    }
+
+    /// How many of its steps weren't.
+    fn due(&self) -> usize
+        ensures { result ≡ spec.due_in (read_of self.now) }
+    {
+        due(self.class(), self.steps())
+    }
+
     #[tactic(auto, unfolding(crate::specs::Table::table_line))]
     fn line_says(&self, fields: &[&[u8]]) -> Result<TableLine, FaultKind>
         ensures { result ≡ spec.table_line (read_of self.now) (texts_now fields.now) }
@@ -371,14 +350,24 @@ impl TableReader {
         let [word, others @ ..] = fields else {
             return Ok(TableLine::Silent);
         };
+        let table = &self.table;
         if text::is_comment(word) {
             Ok(TableLine::Silent)
         } else if *word == b"p".as_slice() {
             problem_line(self.size, others)
         } else if *word == b"k".as_slice() {
-            kind_line(self.size, self.kinds.len(), others)
+            let (count, before) = (table.kinds.len(), table.steps.len());
+            kind_line(self.size, self.due(), count, before, others)
         } else if *word == b"t".as_slice() {
-            assigned_line(self.arcs, self.size, self.assigned.len(), others)
+            assigned_line(
+                self.arcs,
+                self.size,
+                self.due(),
+                table.assigned.len(),
+                others,
+            )
+        } else if *word == b"v".as_slice() {
+            step_line(self.size, self.class(), self.steps(), others)
         } else {
             Err(FaultKind::UnknownLine)
         }
@@ -386,11 +375,21 @@ impl TableReader {
 }
 
 impl TableReader {
-    /// How many assignments the lines so far have.
-    fn count(&self) -> usize
-        ensures { result ≡ length (self.now).assigned.items }
+    /// What a line of an assignment says, by its numbers.
+    fn entry_says(&self, numbers: (u64, u64)) -> Result<TableLine, FaultKind>
+        ensures { result ≡ spec.numbers_line (self.now).arcs (self.now).size
+            (spec.due_in (read_of self.now)) (length (self.now).table.assigned.items) numbers }
     {
-        self.assigned.len()
+        let count = self.table.assigned.len();
+        numbers_line(self.arcs, self.size, self.due(), count, numbers)
+    }
+
+    /// What a line of a step says, by its numbers.
+    fn step_says(&self, numbers: (u64, u64)) -> Result<TableLine, FaultKind>
+        ensures { result
+            ≡ spec.step_numbers_line (self.now).size (run_in (table (self.now).table)) numbers }
+    {
+        step_numbers_line(self.size, self.class(), self.steps(), numbers)
     }
 
     /// Takes up what a line says.
@@ -402,10 +401,27 @@ impl TableReader {
         match said? {
             TableLine::Silent => {}
             TableLine::Problem(size) => self.size = Some(size),
-            TableLine::Kind(kind) => self.kinds.push(kind)?,
-            TableLine::Assigned(entry) => self.assigned.push(entry)?,
+            TableLine::Kind(kind) => self.table.kinds.push(kind)?,
+            TableLine::Assigned(entry) => self.table.assigned.push(entry)?,
+            TableLine::Step(step) => self.table.steps.push(step)?,
         }
         Ok(())
+    }
+
+    /// The same of a line at the front of a text, and the bytes after it.
+    fn add_front<'a>(
+        &mut self,
+        said: Result<TableLine, FaultKind>,
+        rest: &'a [u8],
+    ) -> Result<&'a [u8], FaultKind>
+        ensures said { GivesLine (λ _. read_of self.new) result
+            (spec.after_said (read_of self.old) said) }
+        ensures rest { IfOk result (λ after. after.now ≡ rest.entry.now) }
+    {
+        match self.add(said) {
+            Ok(()) => Ok(rest),
+            Err(kind) => Err(kind),
+        }
     }
 }
 
@@ -429,14 +445,15 @@ impl LineReader for TableReader {
     }
 
     fn read_plain<'a>(&mut self, text: &'a [u8]) -> Option<Result<&'a [u8], FaultKind>> {
-        let Some((numbers, rest)) = leading_entry(text) else {
-            return None;
-        };
-        let said = numbers_line(self.arcs, self.size, self.count(), numbers);
-        match self.add(said) {
-            Ok(()) => Some(Ok(rest)),
-            Err(kind) => Some(Err(kind)),
+        if let Some((numbers, rest)) = leading_entry(text) {
+            let said = self.entry_says(numbers);
+            return Some(self.add_front(said, rest));
         }
+        if let Some((numbers, rest)) = leading_step(text) {
+            let said = self.step_says(numbers);
+            return Some(self.add_front(said, rest));
+        }
+        None
     }
 
     ghost end = { spec.table_end };
@@ -444,16 +461,16 @@ impl LineReader for TableReader {
     #[tactic(auto, unfolding(crate::specs::Table::table_end))]
     fn finish(self) -> Result<RawTable, FaultKind> {
         let size = self.size.ok_or(FaultKind::NoProblemLine)?;
-        if self.kinds.len() < size.kinds as usize {
+        if self.table.kinds.len() < size.kinds as usize {
             return Err(FaultKind::TooFewLines);
         }
-        if self.assigned.len() < size.assigned as usize {
+        if self.table.assigned.len() < size.assigned as usize {
             return Err(FaultKind::TooFewLines);
         }
-        Ok(RawTable {
-            kinds: self.kinds,
-            assigned: self.assigned,
-        })
+        if self.due() > 0 {
+            return Err(FaultKind::TooFewLines);
+        }
+        Ok(self.table)
     }
 
     ghost front = { table_step-front };
@@ -465,8 +482,11 @@ fn read_table(alloc: Global, text: &[u8], arcs: u32) -> Result<RawTable, InputFa
     let start = TableReader {
         arcs,
         size: None,
-        kinds: Vec::new(alloc),
-        assigned: Vec::new(alloc),
+        table: RawTable {
+            kinds: Vec::new(alloc),
+            assigned: Vec::new(alloc),
+            steps: Vec::new(alloc),
+        },
     };
     read_text(alloc, start, text)
 }

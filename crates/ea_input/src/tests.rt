@@ -231,6 +231,146 @@ fn profile_faults(rt: HostRuntime) {
 }
 
 #[test]
+fn steps(rt: HostRuntime) -> Result<(), Fail> {
+    let text =
+        b"p tp 3 1\nk 1 speeds 10 3\nv 0 0\n\nc x\n v  1 07 \nv 2 0\nk 2 plain\nt 1 3\nk 3 trips 0 2\nv 2 9\nv 7 4";
+    let table = read_tp(rt.alloc(), text, 1)?;
+    let kinds = table.kinds.as_slice();
+    assert_eq!(rt; kinds.len(), 3);
+    assert_eq!(rt;
+        kinds[0],
+        RawKind::Speeds {
+            period: 10,
+            first: 0,
+            count: 3
+        }
+    );
+    assert_eq!(rt; kinds[1], RawKind::Plain);
+    assert_eq!(rt;
+        kinds[2],
+        RawKind::Trips {
+            period: 0,
+            first: 3,
+            count: 2
+        }
+    );
+    assert!(rt; table.assigned.as_slice() == [(1, 3)].as_slice());
+    assert!(rt; table.steps.as_slice() == [(0, 0), (1, 7), (2, 0), (2, 9), (7, 4)].as_slice());
+    Ok(())
+}
+
+#[test]
+fn steps_that_are_read(rt: HostRuntime) -> Result<(), Fail> {
+    let texts: [&[u8]; 11] = [
+        b"p tp 1 0\nk 1 speeds 10 3\nv 0 0\nv 1 7\nv 2 0",
+        b"p tp 1 0\nk 1 trips 20 2\nv 2 9\nv 7 4",
+        b"p tp 1 0\nk 1 trips 10 2\nv 2 0\nv 7 5",
+        b"p tp 1 0\nk 1 trips 0 2\nv 2 0\nv 7 6",
+        b"p tp 1 0\nk 1 trips 10 1\nv 9 4294967296",
+        b"p tp 1 0\nk 1 speeds 10 2\n\nc x\nv 0 1\n\nv 1 0",
+        b"p tp 1 0\nk 1 speeds 10 2\nv 0 1\nv 9 0",
+        b"p tp 1 0\nk 1 speeds 10 1\nv 0 1000000",
+        b"p tp 1 0\nk 1 trips 0 1\nv 281474976710655 0",
+        b"p tp 1 0\nk 1 speeds 4294967296 2\nv 0 1\nv 4294967295 0",
+        b"p tp 1 1\nk 1 trips 4294967296 1\nv 4294967295 0\nt 1 1",
+    ];
+    for text in texts {
+        assert_eq!(rt; read_tp(rt.alloc(), text, 1)?.kinds.len(), 1);
+    }
+    Ok(())
+}
+
+#[test]
+fn step_faults(rt: HostRuntime) {
+    let cases: [(&[u8], u64, FaultKind); 37] = [
+        // all-but-the-last-zero
+        (b"p tp 1 0\nk 1 speeds 10 2\nv 0 0\nv 5 0", 4, OutOfRange),
+        (b"p tp 1 0\nk 1 speeds 10 1\nv 0 0", 3, OutOfRange),
+        // no-overtaking
+        (b"p tp 1 0\nk 1 trips 20 2\nv 2 9\nv 7 3", 4, OutOfRange),
+        (b"p tp 1 0\nk 1 trips 10 2\nv 2 0\nv 7 6", 4, OutOfRange),
+        (
+            b"p tp 1 0\nk 1 trips 10 3\nv 0 0\nv 1 20\nv 2 19",
+            5,
+            OutOfRange,
+        ),
+        (
+            b"p tp 1 0\nk 1 trips 10 3\nv 0 0\nv 1 20\nv 2 8",
+            5,
+            OutOfRange,
+        ),
+        // too-few-steps
+        (
+            b"p tp 2 0\nk 1 speeds 10 2\nv 0 1000\nk 2 plain",
+            4,
+            TooFewLines,
+        ),
+        (b"p tp 1 1\nk 1 speeds 10 2\nv 0 1000\nt x", 4, TooFewLines),
+        (
+            b"p tp 1 1\nk 1 speeds 10 2\nv 0 1000\nt 1 1\n",
+            4,
+            TooFewLines,
+        ),
+        (b"p tp 1 0\nk 1 speeds 10 2\nv 0 1000\nx", 4, UnknownLine),
+        (
+            b"p tp 1 0\nk 1 speeds 10 2\nv 0 1000\np tp 1 0",
+            4,
+            SecondProblemLine,
+        ),
+        (b"p tp 1 0\nk 1 speeds 10 2\nv 0 1000", 0, TooFewLines),
+        (b"p tp 1 0\nk 1 trips 0 1", 0, TooFewLines),
+        // too-many-steps
+        (
+            b"p tp 1 0\nk 1 speeds 10 1\nv 0 1000\nv 5 x",
+            4,
+            TooManyLines,
+        ),
+        (
+            b"p tp 1 0\nk 1 speeds 10 1\nv 0 1000\nv 5 7\n",
+            4,
+            TooManyLines,
+        ),
+        (b"p tp 0 0\nv 0 0", 2, TooManyLines),
+        (b"p tp 0 0\nv 0 0\n", 2, TooManyLines),
+        (b"v 0 0", 1, NoProblemLine),
+        (b"v 0 0\n", 1, NoProblemLine),
+        // step-ranges
+        (b"p tp 1 0\nk 1 speeds 10 1\nv 0", 3, FieldCount),
+        (b"p tp 1 0\nk 1 speeds 10 1\nv 1 x", 3, BadNumber),
+        (b"p tp 1 0\nk 1 speeds 10 1\nv 1 1", 3, OutOfRange),
+        (b"p tp 1 0\nk 1 speeds 10 2\nv 0 1\nv 0 1", 4, OutOfRange),
+        (b"p tp 1 0\nk 1 speeds 10 2\nv 0 1\nv 10 1", 4, OutOfRange),
+        (b"p tp 1 0\nk 1 speeds 10 1\nv 0 1000001", 3, OutOfRange),
+        (b"p tp 1 0\nk 1 trips 10 1\nv 10 0", 3, OutOfRange),
+        (b"p tp 1 0\nk 1 trips 10 1\nv 9 4294967297", 3, OutOfRange),
+        (
+            b"p tp 1 0\nk 1 trips 0 1\nv 281474976710656 0",
+            3,
+            OutOfRange,
+        ),
+        (b"p tp 1 0\nk 1 speeds 0 1", 2, OutOfRange),
+        (b"p tp 1 0\nk 1 speeds 10 0", 2, OutOfRange),
+        (b"p tp 1 0\nk 1 speeds 10 65537", 2, OutOfRange),
+        (b"p tp 1 0\nk 1 trips 4294967297 1", 2, OutOfRange),
+        (b"p tp 1 0\nk 1 speeds 10", 2, FieldCount),
+        (b"p tp 0 0\nk 1 speeds 10 1", 2, TooManyLines),
+        (b"p tp 1 0\nk 1 trips 10 1\nv 0 1 2", 3, FieldCount),
+        (b"p tp 1 0\nk 1 trips 10 x", 2, BadNumber),
+        (
+            b"p tp 1 0\nk 1 trips 10 1\nv 0 99999999999999999999999999999999999999999",
+            3,
+            OutOfRange,
+        ),
+    ];
+    for (text, line, kind) in cases {
+        assert!(rt;
+            is_fault(read_tp(rt.alloc(), text, 1), line, kind),
+            "{line} {kind:?}"
+        );
+    }
+}
+
+#[test]
 fn the_sort_of_a_line_is_known_before_its_fields(rt: HostRuntime) {
     // One faulty line after the other, each with all faults that come later in the order.
     let cases: [(&[u8], u64, FaultKind); 6] = [
@@ -281,6 +421,11 @@ fn memory_refused_for_lists(rt: HostRuntime) {
 fn memory_refused_for_a_timetable(rt: HostRuntime) {
     match read_tp(rt.alloc(), b"p tp 1 1\nk 1 plain\nt 1 1\n", 1) {
         Ok(table) => assert!(rt; table.kinds.len() == 1 && table.assigned.len() == 1),
+        Err(fault) => assert_eq!(rt; fault, REFUSED),
+    }
+    let text = b"p tp 1 1\nk 1 trips 0 2\nv 2 9\n v 7 4\nt 1 1\n";
+    match read_tp(rt.alloc(), text, 1) {
+        Ok(table) => assert!(rt; table.steps.as_slice() == [(2, 9), (7, 4)].as_slice()),
         Err(fault) => assert_eq!(rt; fault, REFUSED),
     }
 }
