@@ -1,21 +1,19 @@
 -- What texts denote is within the limits of networks and timetables.
-use Rattle.std.proofs.Common.{◌≡◌, ℕ, zero, suc, ◌+◌, ◌-◌, ◌^◌, ◌<◌, ◌≤◌, ◌==◌, List, [], ◌∷◌, length, get_or, cond, Bool, true, false, refl, ap, sym, arith, subst, inl, inr}
-use Rattle.std.specs.Prelude.{All, codes, Option, Some, None, IsTrue, slice_get, unwrap_or}
-use Rattle.std.proofs.lemmas.Bool.Decides.{nat_tests}
+use Rattle.std.proofs.Common.{◌≡◌, ℕ, zero, suc, ◌+◌, ◌-◌, ◌^◌, ◌<◌, ◌≤◌, ◌==◌, List, [], ◌∷◌, ◌++◌, length, get_or, cond, Bool, true, false, ap, sym, arith, subst, inl, inr}
+use Rattle.std.specs.Prelude.{All, codes, Option, Some, None, slice_get, unwrap_or}
 use Rattle.std.proofs.lemmas.Option.{none-some}
 use Rattle.ea_road.proofs.Assigning.{length-arcs_from}
 use Rattle.ea_input.specs.declared.graph.RawArc.{RawArc}
-use Rattle.ea_input.specs.declared.table.RawKind.{RawKind}
-use Rattle.ea_input.specs.declared.table.RawKind.TheVariants.{Plain, Every, Closed, Rush, Speeds, Trips}
 use Rattle.ea_input.specs.Graph.{Graph, DenotesGraph, IsArcLine, AreArcLines, IsProblemLine}
 use Rattle.ea_input.specs.Listing.{IsCountLine, IsItemLine, AreItemLines}
 use Rattle.ea_input.specs.Sources.{IsSource, DenotesSources}
 use Rattle.ea_input.specs.Pairs.{IsPair, DenotesPairs}
-use Rattle.ea_input.specs.Table.{Table, IsKind, IsKindLine, IsAssignedLine, AreTableLines}
+use Rattle.ea_input.specs.Table.{Table, nothing, IsAssignedLine, IsTableAfter, AreTableLines}
 use Rattle.ea_road.specs.declared.arc.Arc.{Arc}
 use Rattle.ea_road.specs.Roads.{IsNode, IsArc, FitsNodes, IsNetwork, top_class}
 use Rattle.ea_road.specs.Assigned.{class_after, arcs_from, arcs_with}
-use Rattle.ea_road.specs.Timetables.{is_kind}
+use Rattle.ea_road.specs.Timetables.{AreFit}
+use Rattle.ea_files.proofs.Stepping.{kinds_fit, nothing_fits}
 use Rattle.ea_files.specs.Given.{Given, IsTableOf}
 use Rattle.ea_files.specs.Sound.{IsSound}
 
@@ -77,54 +75,7 @@ is_network lines graph assigned denoted =
       each_fits = arcs_within graph.nodes assigned graph.arcs (arcs_fit graph.nodes denoted.others graph.arcs denoted.lists);
     }
 
--- ---- kinds
-
-every_fits : (period offset : ℕ) → period ≤ 4294967296 → 1 ≤ period → offset ≤ period - 1 → IsTrue (is_kind (Every period offset))
-every_fits period offset few some below = grind (arith, nat_tests)
-
-closed_fits : (lo hi : ℕ) → lo + 1 ≤ hi → hi ≤ 281474976710655 → IsTrue (is_kind (Closed lo hi))
-closed_fits lo hi before within = grind (arith, nat_tests)
-
-rush_fits : (lo hi extra : ℕ) → lo + 1 ≤ hi → hi ≤ 281474976710655 → extra ≤ 4294967296 → IsTrue (is_kind (Rush lo hi extra))
-rush_fits lo hi extra before within few = grind (arith, nat_tests)
-
-kind_fits : (fields : List (List ℕ)) (kind : RawKind) → IsKind fields kind → IsTrue (is_kind kind)
-kind_fits fields Plain h = refl
-kind_fits (name ∷ p ∷ o ∷ []) (Every period offset) h = every_fits period offset h.1.2 h.1.1 h.2.2
-kind_fits (name ∷ b ∷ e ∷ []) (Closed lo hi) h = closed_fits lo hi h.2.1 h.2.2
-kind_fits (name ∷ b ∷ e ∷ x ∷ []) (Rush lo hi extra) h = rush_fits lo hi extra h.2.1 h.2.2 h.3.2
-kind_fits [] (Every period offset) h = absurd h
-kind_fits (a ∷ []) (Every period offset) h = absurd h
-kind_fits (a ∷ b ∷ []) (Every period offset) h = absurd h
-kind_fits (a ∷ b ∷ c ∷ d ∷ []) (Every period offset) h = absurd h
-kind_fits (a ∷ b ∷ c ∷ d ∷ e ∷ rest) (Every period offset) h = absurd h
-kind_fits [] (Closed lo hi) h = absurd h
-kind_fits (a ∷ []) (Closed lo hi) h = absurd h
-kind_fits (a ∷ b ∷ []) (Closed lo hi) h = absurd h
-kind_fits (a ∷ b ∷ c ∷ d ∷ []) (Closed lo hi) h = absurd h
-kind_fits (a ∷ b ∷ c ∷ d ∷ e ∷ rest) (Closed lo hi) h = absurd h
-kind_fits [] (Rush lo hi extra) h = absurd h
-kind_fits (a ∷ []) (Rush lo hi extra) h = absurd h
-kind_fits (a ∷ b ∷ []) (Rush lo hi extra) h = absurd h
-kind_fits (a ∷ b ∷ c ∷ []) (Rush lo hi extra) h = absurd h
-kind_fits (a ∷ b ∷ c ∷ d ∷ e ∷ rest) (Rush lo hi extra) h = absurd h
-kind_fits [] (Speeds period first count) h = absurd h
-kind_fits (a ∷ []) (Speeds period first count) h = absurd h
-kind_fits (a ∷ b ∷ []) (Speeds period first count) h = absurd h
-kind_fits (a ∷ b ∷ c ∷ []) (Speeds period first count) h = absurd h
-kind_fits (a ∷ b ∷ c ∷ d ∷ []) (Speeds period first count) h = absurd h
-kind_fits (a ∷ b ∷ c ∷ d ∷ e ∷ rest) (Speeds period first count) h = absurd h
-kind_fits [] (Trips period first count) h = absurd h
-kind_fits (a ∷ []) (Trips period first count) h = absurd h
-kind_fits (a ∷ b ∷ []) (Trips period first count) h = absurd h
-kind_fits (a ∷ b ∷ c ∷ []) (Trips period first count) h = absurd h
-kind_fits (a ∷ b ∷ c ∷ d ∷ []) (Trips period first count) h = absurd h
-kind_fits (a ∷ b ∷ c ∷ d ∷ e ∷ rest) (Trips period first count) h = absurd h
-
-kind_line_fits : (number : ℕ) (line : List (List ℕ)) (kind : RawKind) → IsKindLine number line kind → IsTrue (is_kind kind)
-kind_line_fits number [] kind h = absurd h
-kind_line_fits number (word ∷ []) kind h = absurd h
-kind_line_fits number (word ∷ j ∷ fields) kind h = kind_fits fields kind h.2
+-- ---- entries
 
 entry_fits : (arcs classes : ℕ) (line : List (List ℕ)) (entry : ℕ × ℕ) → IsAssignedLine arcs classes line entry → (0 < entry.0) × (entry.0 ≤ arcs) × (entry.1 ≤ classes)
 entry_fits arcs classes [] entry h = absurd h
@@ -133,36 +84,39 @@ entry_fits arcs classes (a ∷ b ∷ []) entry h = absurd h
 entry_fits arcs classes (a ∷ b ∷ c ∷ d ∷ rest) entry h = absurd h
 entry_fits arcs classes (a ∷ b ∷ c ∷ []) entry h = (omega (arith, h.1.1), h.1.2, h.2.2)
 
--- Each kind, and each entry of a table.
-record AreFit (arcs classes : ℕ) (kinds : List RawKind) (assigned : List (ℕ × ℕ)) : Type 0 where
-  each_kind : (k : ℕ) (d : RawKind) → k < length kinds → IsTrue (is_kind (get_or kinds k d))
-  each_entry : (k : ℕ) (d : ℕ × ℕ) → k < length assigned → (0 < (get_or assigned k d).0) × ((get_or assigned k d).0 ≤ arcs) × ((get_or assigned k d).1 ≤ classes)
+-- Each entry of a table.
+abbrev EntriesFit : ℕ → ℕ → List (ℕ × ℕ) → Type 0
+EntriesFit arcs classes assigned = (k : ℕ) (d : ℕ × ℕ) → k < length assigned → (0 < (get_or assigned k d).0) × ((get_or assigned k d).0 ≤ arcs) × ((get_or assigned k d).1 ≤ classes)
 
-one_kind : (arcs classes : ℕ) (kind : RawKind) (kinds : List RawKind) (assigned : List (ℕ × ℕ)) → IsTrue (is_kind kind) → AreFit arcs classes kinds assigned → AreFit arcs classes (kind ∷ kinds) assigned
-one_kind arcs classes kind kinds assigned fits rest = record { each_kind = each; each_entry = rest.each_entry } where
-  each : (k : ℕ) (d : RawKind) → k < length (kind ∷ kinds) → IsTrue (is_kind (get_or (kind ∷ kinds) k d))
-  each zero d lt = fits
-  each (suc k) d lt = rest.each_kind k d (omega arith)
+one_entry : (arcs classes : ℕ) (assigned : List (ℕ × ℕ)) (entry : ℕ × ℕ) → EntriesFit arcs classes assigned → (0 < entry.0) × (entry.0 ≤ arcs) × (entry.1 ≤ classes) → EntriesFit arcs classes (assigned ++ entry ∷ [])
+one_entry arcs classes [] entry each fits zero d lt = fits
+one_entry arcs classes [] entry each fits (suc k) d lt = absurd (omega (arith, lt))
+one_entry arcs classes (first ∷ assigned) entry each fits zero d lt = each 0 d (omega arith)
+one_entry arcs classes (first ∷ assigned) entry each fits (suc k) d lt = one_entry arcs classes assigned entry (λ j e inside. each (suc j) e (omega (arith, inside))) fits k d (omega (arith, lt))
 
-one_entry : (arcs classes : ℕ) (entry : ℕ × ℕ) (kinds : List RawKind) (assigned : List (ℕ × ℕ)) → (0 < entry.0) × (entry.0 ≤ arcs) × (entry.1 ≤ classes) → AreFit arcs classes kinds assigned → AreFit arcs classes kinds (entry ∷ assigned)
-one_entry arcs classes entry kinds assigned fits rest = record { each_kind = rest.each_kind; each_entry = each } where
-  each : (k : ℕ) (d : ℕ × ℕ) → k < length (entry ∷ assigned) → (0 < (get_or (entry ∷ assigned) k d).0) × ((get_or (entry ∷ assigned) k d).0 ≤ arcs) × ((get_or (entry ∷ assigned) k d).1 ≤ classes)
-  each zero d lt = fits
-  each (suc k) d lt = rest.each_entry k d (omega arith)
+entries_more : (arcs classes : ℕ) (table next : Table) (line : List (List ℕ)) → EntriesFit arcs classes table.assigned → IsTableAfter arcs classes table line next → EntriesFit arcs classes next.assigned
+entries_more arcs classes table next line each (inl h) = subst (λ (t : Table). EntriesFit arcs classes t.assigned) (sym h.1.2) each
+entries_more arcs classes table next line each (inr (inl h)) = subst (λ (t : Table). EntriesFit arcs classes t.assigned) (sym h.1.2) (one_entry arcs classes table.assigned h.1.0 each (entry_fits arcs classes line h.1.0 h.1.1))
+entries_more arcs classes table next line each (inr (inr h)) = subst (λ (t : Table). EntriesFit arcs classes t.assigned) (sym h.1.2) each
 
-none_fit : (arcs classes : ℕ) → AreFit arcs classes [] []
-none_fit arcs classes = record { each_kind = λ k d lt. absurd (omega arith); each_entry = λ k d lt. absurd (omega arith) }
+entries_fit : (arcs classes : ℕ) (lines : List (List (List ℕ))) (table end : Table) → EntriesFit arcs classes table.assigned → AreTableLines arcs classes table lines end → EntriesFit arcs classes end.assigned
+entries_fit arcs classes [] table end each are = subst (λ (t : Table). EntriesFit arcs classes t.assigned) are.0 each
+entries_fit arcs classes (line ∷ lines) table end each are = entries_fit arcs classes lines are.0 end (entries_more arcs classes table are.0 line each are.1) are.2
 
-lines_fit : (arcs classes before : ℕ) (lines : List (List (List ℕ))) (kinds : List RawKind) (assigned : List (ℕ × ℕ)) → AreTableLines arcs classes before lines kinds assigned → AreFit arcs classes kinds assigned
-lines_fit arcs classes before [] kinds assigned h = subst (λ ks. AreFit arcs classes ks assigned) (sym h.0) (subst (λ es. AreFit arcs classes [] es) (sym h.1) (none_fit arcs classes))
-lines_fit arcs classes before (line ∷ lines) kinds assigned (inl h) =
-    subst (λ ks. AreFit arcs classes ks assigned) (sym h.2) (one_kind arcs classes h.0 h.1 assigned (kind_line_fits (before + 1) line h.0 h.3) (lines_fit arcs classes (before + 1) lines h.1 assigned h.4))
-lines_fit arcs classes before (line ∷ lines) kinds assigned (inr h) =
-    subst (λ es. AreFit arcs classes kinds es) (sym h.2) (one_entry arcs classes h.0 kinds h.1 (entry_fits arcs classes line h.0 h.3) (lines_fit arcs classes before lines kinds h.1 h.4))
+-- The kinds with their steps, and the entries.
+record TableFits (arcs : ℕ) (table : Table) : Type 0 where
+  kinds : AreFit table.kinds table.steps
+  entries : EntriesFit arcs (length table.kinds) table.assigned
 
-table_fits : (arcs : ℕ) (text : Option (List ℕ)) (table : Table) → IsTableOf arcs text table → AreFit arcs (length table.kinds) table.kinds table.assigned
-table_fits arcs None table h = subst (λ (t : Table). AreFit arcs (length t.kinds) t.kinds t.assigned) (sym h) (none_fit arcs 0)
-table_fits arcs (Some text) table h = lines_fit arcs (length table.kinds) 0 h.others table.kinds table.assigned h.lists
+no_entries : (arcs classes : ℕ) → EntriesFit arcs classes []
+no_entries arcs classes k d lt = absurd (omega arith)
+
+table_fits : (arcs : ℕ) (text : Option (List ℕ)) (table : Table) → IsTableOf arcs text table → TableFits arcs table
+table_fits arcs None table h = subst (λ (t : Table). TableFits arcs t) (sym h) (record { kinds = nothing_fits; entries = no_entries arcs 0 })
+table_fits arcs (Some text) table h = record {
+  kinds = kinds_fit arcs (length table.kinds) h.others table h.lists;
+  entries = entries_fit arcs (length table.kinds) h.others nothing table (no_entries arcs (length table.kinds)) h.lists;
+}
 
 -- ---- classes
 
@@ -186,9 +140,9 @@ denoting_is_sound lines tp given graph table =
     let fits = table_fits (length given.graph.arcs) tp given.table table in
     record {
       network = is_network lines given.graph given.table.assigned graph;
-      assigned = λ entry among. subst (λ (e : ℕ × ℕ). (0 < e.0) × (e.0 ≤ length given.graph.arcs)) (sym among.1.1) (let e = fits.each_entry among.0 entry among.1.0 in (e.0, e.1));
-      kinds = λ kind among. subst (λ k. IsTrue (is_kind k)) (sym among.1.1) (fits.each_kind among.0 kind among.1.0);
-      classed = top_below (length given.table.kinds) 1 given.table.assigned given.graph.arcs (λ k d lt. (fits.each_entry k d lt).2);
+      assigned = λ entry among. subst (λ (e : ℕ × ℕ). (0 < e.0) × (e.0 ≤ length given.graph.arcs)) (sym among.1.1) (let e = fits.entries among.0 entry among.1.0 in (e.0, e.1));
+      kinds = fits.kinds;
+      classed = top_below (length given.table.kinds) 1 given.table.assigned given.graph.arcs (λ k d lt. (fits.entries k d lt).2);
     }
 
 -- ---- sources and pairs

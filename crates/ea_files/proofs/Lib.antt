@@ -1,3 +1,4 @@
 pub mod Departing
 pub mod There
+pub mod Stepping
 pub mod Denoting

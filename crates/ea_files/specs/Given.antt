@@ -1,11 +1,9 @@
 -- What the files give: a network, and when its arcs arrive.
-use Rattle.std.specs.Prelude.{◌≡◌, ℕ, ◌≤◌, List, [], ◌∷◌, length, slice_index_or, Option, Some, None, IfSome}
+use Rattle.std.specs.Prelude.{◌≡◌, ℕ, ◌≤◌, List, length, Option, Some, None, IfSome}
 use Rattle.ea_limits.specs.declared.TheConstants.{MOST_BYTES}
 use Rattle.ea_text.specs.Text.{field_lines}
 use Rattle.ea_input.specs.Graph.{Graph, DenotesGraph}
-use Rattle.ea_input.specs.Table.{Table, DenotesTable}
-use Rattle.ea_input.specs.declared.table.RawKind.{RawKind}
-use Rattle.ea_input.specs.declared.table.RawKind.TheVariants.{Plain}
+use Rattle.ea_input.specs.Table.{Table, DenotesTable, nothing}
 use Rattle.ea_input.specs.Views.{graph as graph_of}
 use Rattle.ea_input.specs.TableViews.{table as table_of}
 use Rattle.ea_input.specs.declared.graph.RawGraph.{RawGraph}
@@ -13,7 +11,7 @@ use Rattle.ea_input.specs.declared.table.RawTable.{RawTable}
 use Rattle.ea_road.specs.Roads.{Roads}
 use Rattle.ea_road.specs.Assigned.{arcs_with}
 use Rattle.ea_road.specs.StepLists.{steps_in}
-use Rattle.ea_road.specs.Timetables.{ClassAnswers}
+use Rattle.ea_road.specs.TimetableLists.{TimetablesAnswer}
 use Rattle.ea_files.specs.declared.road.Road.{Road}
 use Rattle.ea_files.specs.Files.{IsAll, IsAllIfThere}
 
@@ -30,13 +28,14 @@ given_by graph table = record { graph = graph_of graph; table = table_of table }
 abbrev pub roads_of : Given → Roads
 roads_of given = record { nodes = given.graph.nodes; arcs = arcs_with given.table.assigned given.graph.arcs }
 
--- When an arc of a class and a weight arrives that is left at a departure: class 0 is plain, class J is the J-th kind.
-abbrev pub times_of : List RawKind → ℕ → ℕ → ℕ → ℕ → Type 0
-times_of kinds class weight departure arrival = ClassAnswers [] (slice_index_or (Plain ∷ kinds) class Plain) weight departure arrival
+-- When an arc of a class and a weight arrives that is left at a departure: class 0 is plain, class J is the J-th kind,
+-- whose steps are among those of all kinds.
+abbrev pub times_of : Table → ℕ → ℕ → ℕ → ℕ → Type 0
+times_of table class weight departure arrival = TimetablesAnswer table.kinds table.steps class weight departure arrival
 
 -- With no file of timetables there are no kinds and no assignments.
 abbrev pub no_table : Table
-no_table = record { kinds = []; assigned = [] }
+no_table = nothing
 
 -- What the text of timetables denotes for so many arcs, where there is one.
 abbrev pub IsTableOf : ℕ → Option (List ℕ) → Table → Type 0
@@ -52,7 +51,7 @@ pub record Denotes (gr : List ℕ) (tp : Option (List ℕ)) (given : Given) : Ty
 pub record IsRoadOf (given : Given) (road : Road) : Type 0 where
   pub network : road.network ≡ roads_of given
   pub kinds : road.times.list.items ≡ given.table.kinds
-  pub steps : steps_in road.times.steps ≡ []
+  pub steps : steps_in road.times.steps ≡ given.table.steps
 
 -- What readers gave, each at most MOST_BYTES, denotes this: a graph with timetables, where there is a file of them, and where
 -- searches start.

@@ -10,5 +10,5 @@ mod starts;
 pub use fault::{FileFault, FileWord};
 pub use files::{PairFiles, RunFiles, read_run, read_trips};
 pub use reading::read_report;
-pub use road::Road;
+pub use road::{Road, timetables_law};
 pub use starts::{departures_fit, pair_queries, run_queries};

@@ -137,6 +137,7 @@ pub(crate) fn read_table<R: ByteIn>(
         None => Ok(RawTable {
             kinds: Vec::new(alloc),
             assigned: Vec::new(alloc),
+            steps: Vec::new(alloc),
         }),
         Some(tp) => read_timetables(alloc, tp, arcs),
     }

@@ -1,11 +1,12 @@
 //! A network and its timetables, of what files denote.
 ghost use Rattle.std.specs.Prelude.{◌≡◌, ℕ, List, Option, IfOk, IfErr, length};
 ghost use Rattle.ea_input.specs.Graph.{DenotesGraph};
-ghost use Rattle.ea_input.specs.Table.{Table};
+ghost use Rattle.ea_input.specs.Table.{DenotesTable, Table};
 ghost use Rattle.ea_input.specs.Views.{graph as graph_of};
 ghost use Rattle.ea_files.specs.Files.{IsTextIfThere, tables};
 ghost use Rattle.ea_files.specs.Given.{IsRoadOf, IsTableOf, given_by, roads_of};
 ghost use Rattle.ea_files.specs.Sound.{IsSound};
+ghost use Rattle.ea_road.specs.Timetables.{AreFit};
 
 use crate::fault::FileFault;
 use crate::reading::read_table;
@@ -34,8 +35,8 @@ fn road_of(alloc: Global, graph: RawGraph, table: RawTable) -> Result<Road, Allo
     ensures { IfOk result (IsRoadOf (given_by graph table)) }
 {
     let nodes = graph.nodes;
-    let times = Timetables::of(alloc, &table.kinds)?;
     let arcs = classed_arcs(alloc, graph, &table)?;
+    let times = Timetables::with_steps(alloc, table.kinds, table.steps)?;
     let network = Network::new(alloc, nodes, arcs)?;
     Ok(Road { network, times })
 }
@@ -56,3 +57,10 @@ pub(crate) fn read_road<T: ByteIn>(
     let road = road_of(alloc, graph, table)?;
     Ok(road)
 }
+
+/// The law of the texts of timetables: the kinds and steps that they denote are those that travel
+/// times ask for. It computes nothing.
+pub fn timetables_law(_arcs: u32)
+    ensures { (lines : List (List (List ℕ))) (table : Table) → DenotesTable _arcs lines table
+        → AreFit table.kinds table.steps }
+{}

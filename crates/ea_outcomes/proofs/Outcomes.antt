@@ -89,8 +89,8 @@ module _ {X Y : Type 0} (asks : Asks X Y) (files : Files) where
       sound = sound;
       within = within;
       so =
-          subst (λ (r : Roads). IsSo r (times_of given.table.kinds) (asks.problems found)) is_road.network (
-          subst (λ (kinds : List RawKind). IsSo road.network (times_of kinds) (asks.problems found)) is_road.kinds (
+          subst (λ (r : Roads). IsSo r (times_of given.table) (asks.problems found)) is_road.network (
+          subst (λ (kinds : List RawKind). IsSo road.network (TimetablesAnswer kinds given.table.steps) (asks.problems found)) is_road.kinds (
           subst (λ (steps : List (ℕ × ℕ)). IsSo road.network (TimetablesAnswer road.times.list.items steps) (asks.problems found)) is_road.steps (
           subst (λ (qs : List Asking). IsSo road.network (times_on road) qs) are holds)));
     }

@@ -69,7 +69,7 @@ module _ {X Y : Type 0} (asks : Asks X Y) (files : Files) where
     pub found : X
     pub sound : AreSound given found
     pub within : asks.AreWithin found
-    pub so : IsSo (roads_of given) (times_of given.table.kinds) (asks.problems found)
+    pub so : IsSo (roads_of given) (times_of given.table) (asks.problems found)
 
   -- The files are sound, and some departure is beyond the horizon.
   pub record HasLateStart : Type 0 where

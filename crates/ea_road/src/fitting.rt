@@ -8,11 +8,8 @@ ghost use Rattle.ea_road.specs.Trips.{AreTrips};
 use crate::HORIZON;
 use crate::steps::steps_from;
 use crate::timetable::Timetable;
-use ea_input::RawKind;
+use ea_input::{MOST_SPEED, RawKind};
 use ea_limits::MOST_PERIOD;
-
-/// The full speed, in thousandths of it a thousand times: the most that a speed is.
-const MOST_SPEED: u64 = 1_000_000;
 
 /// Whether the times of steps ascend.
 fn ascend(steps: &[(u64, u64)]) -> bool

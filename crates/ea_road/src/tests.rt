@@ -220,6 +220,7 @@ fn classes_are_assigned(rt: HostRuntime) -> Result<(), Fail> {
     let table = RawTable {
         kinds: Vec::new(rt.alloc()),
         assigned: vec![in rt.alloc(); (3, 7), (1, 4), (3, 0), (3, 9), (1, 2)]?,
+        steps: Vec::new(rt.alloc()),
     };
     let plain = arcs_of(rt.alloc(), &graph, None)?;
     assert_eq!(rt;

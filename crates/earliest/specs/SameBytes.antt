@@ -20,7 +20,7 @@ pub record IsRunReport (gr ss : List ℕ) (tp : Option (List ℕ)) (joint : Bool
   pub sources : List ℕ
   pub denoted : Denotes gr tp given
   pub starts : DenotesSources given.graph.nodes (field_lines ss) sources
-  pub reported : AreReported walks (roads_of given) (times_of given.table.kinds) (run_problems joint depart gap sources) report
+  pub reported : AreReported walks (roads_of given) (times_of given.table) (run_problems joint depart gap sources) report
 
 -- The report of these texts' pairs.
 pub record IsPairReport (gr p2p : List ℕ) (tp : Option (List ℕ)) (depart gap : ℕ) (walks : Bool) (report : List ℕ) : Type 0 where
@@ -28,7 +28,7 @@ pub record IsPairReport (gr p2p : List ℕ) (tp : Option (List ℕ)) (depart gap
   pub pairs : List (ℕ × ℕ)
   pub denoted : Denotes gr tp given
   pub starts : DenotesPairs given.graph.nodes (field_lines p2p) pairs
-  pub reported : AreReported walks (roads_of given) (times_of given.table.kinds) (pair_problems depart gap 0 pairs) report
+  pub reported : AreReported walks (roads_of given) (times_of given.table) (pair_problems depart gap 0 pairs) report
 
 -- Two reports of the same texts and departures are equal, with walks or without.
 abbrev pub RunsHaveOneReport : Type 0

@@ -85,6 +85,7 @@ fn arcs_are_refused_or_whole(rt: HostRuntime) -> Result<(), Fail> {
     let table = RawTable {
         kinds: Vec::new(alloc),
         assigned: vec![in alloc; (3, 5), (1, 4), (3, 9), (1, 2)]?,
+        steps: Vec::new(alloc),
     };
     let of_class = |class: u32| -> Arc {
         Arc {
