@@ -10,10 +10,12 @@ import sys
 import tempfile
 
 sys.dont_write_bytecode = True
+import commuter_network
 import large
 import opening
 import people
 import road_network
+import travel_times
 
 HERE = os.path.dirname(os.path.abspath(__file__))
 EXAMPLES = os.path.join(HERE, "..", "examples")
@@ -118,6 +120,8 @@ def run_all(program):
     results += alike(program)
     results += people.results(program)
     results += road_network.results(program)
+    results += travel_times.results(program)
+    results += commuter_network.results(program)
     results += large.results(program, EXAMPLES)
     failed = [(name, was) for name, was, want in results if was != want]
     for name, was in failed:

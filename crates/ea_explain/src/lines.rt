@@ -41,7 +41,13 @@ const TP_ARC: &str =
     "`t E J` gives arc E timetable J; E is 1 to the network's number of arcs, and J is 0 to K of the problem line";
 
 const TP_VALUE: &str =
-    "`v T X` belongs to the timetable of kind speeds or trips before it, with times T that rise (see `earliest formats`)";
+    "`v T X` is the next step of the timetable of kind speeds or trips before it: times T rise, speeds X are at most 1000000, and no trip arrives before an earlier one (see `earliest formats`)";
+
+const TP_DUE: &str =
+    "a line `v T X` is due here: the timetable of kind speeds or trips before it announces N of them, which come before any other line";
+
+const TP_UNDUE: &str =
+    "no line `v T X` is due here: the timetable before it has all N that it announces, or its kind has none";
 
 const TP_LINES: &str =
     "a file of timetables (.tp) has a line `p tp K T`, then lines `k J KIND ..`, `t E J` and `v T X`; comments begin with c";
@@ -140,11 +146,14 @@ pub fn wanted_of_line(file: FileWord, kind: FaultKind, line: &[u8]) -> &'static 
             Some((b"p", _)) => problem_of(file),
             _ => shape_of_line(file, line),
         },
-        FaultKind::TooManyLines =>
-            "there are more lines of this sort than the problem line announces: count them and mend its number",
+        FaultKind::TooManyLines => match first_field(line) {
+            Some((b"v", _)) => TP_UNDUE,
+            _ =>
+                "there are more lines of this sort than the problem line announces: count them and mend its number",
+        },
         FaultKind::TooFewLines if line.is_empty() =>
             "there are fewer lines than the problem line announces: the file was cut short, or the number is wrong",
-        FaultKind::TooFewLines => TP_VALUE,
+        FaultKind::TooFewLines => TP_DUE,
         FaultKind::BadKind => kind_wanted(file, line),
         FaultKind::OutOfMemory => "there was not enough memory for the file",
     }

@@ -121,7 +121,19 @@ fn wanted_lines(rt: HostRuntime) {
             FileWord::Tp,
             FaultKind::TooFewLines,
             b"t 9 1".as_slice(),
-            "`v T X` belongs to",
+            "a line `v T X` is due here",
+        ),
+        (
+            FileWord::Tp,
+            FaultKind::TooManyLines,
+            b"v 0 1".as_slice(),
+            "no line `v T X` is due here",
+        ),
+        (
+            FileWord::Tp,
+            FaultKind::OutOfRange,
+            b"v 9 1000001".as_slice(),
+            "`v T X` is the next step of the timetable",
         ),
         (
             FileWord::Gr,
