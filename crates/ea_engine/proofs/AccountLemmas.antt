@@ -12,6 +12,7 @@ use Rattle.ea_pool.specs.declared.account.Account.{Account}
 use Rattle.ea_pool.specs.Pools.{SameBooks, Pushes}
 use Rattle.ea_lists.proofs.Totals.{total-append}
 use Rattle.ea_engine.specs.Problems.{Problem}
+use Rattle.ea_engine.specs.declared.settings.Pace.{Pace}
 use Rattle.ea_engine.specs.declared.turn.Turn.{Turn}
 use Rattle.ea_engine.specs.declared.turn.Hand.{Hand}
 use Rattle.ea_engine.specs.declared.turn.Flow.{Flow}
@@ -84,11 +85,11 @@ module _ (problem : Problem) where
   }
 
   -- a worker's turns
-  pub closed_worked : {T : Type 0} (shows : T → Turn → Flow → T → Type 0) (heaps : ℕ) (from to : Kit) (budget : ℕ) (tracer tracer' : T) (counters : Counters) (hand : Hand) (back refused : List Entry)
-      → IsWork problem shows heaps from to budget tracer tracer' counters hand
+  pub closed_worked : {T : Type 0} (shows : T → Turn → Flow → T → Type 0) (heaps : ℕ) (from to : Kit) (pace : Pace) (tracer tracer' : T) (counters : Counters) (hand : Hand) (back refused : List Entry)
+      → IsWork problem shows heaps from to pace tracer tracer' counters hand
       → IsClosedAccount problem from.labels from.account back refused
       → IsClosedAccount problem to.labels to.account (back ++ option_to_list hand.popped) (refused ++ option_to_list hand.refused)
-  closed_worked shows heaps from to budget tracer tracer' counters hand back refused w h =
+  closed_worked shows heaps from to pace tracer tracer' counters hand back refused w h =
       let p = w.progress in
       let none = option_to_list hand.refused in
       record {

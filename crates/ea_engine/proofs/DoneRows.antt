@@ -8,6 +8,7 @@ use Rattle.ea_engine.specs.declared.row.Place.TheVariants as place
 use Rattle.ea_engine.specs.declared.means.Seats.{Seats}
 use Rattle.ea_engine.specs.Seated.{Tables, AreSeatsOf}
 use Rattle.ea_engine.specs.declared.turn.Flow.{Flow}
+use Rattle.ea_engine.specs.declared.settings.Pace.{Pace}
 use Rattle.ea_engine.specs.declared.turn.Turn.{Turn}
 use Rattle.ea_engine.specs.declared.work_loop.WorkerEnd.{WorkerEnd}
 use Rattle.ea_engine.specs.Ends.{AreFresh, IsEndPlace}
@@ -46,9 +47,9 @@ some_of [] lt = absurd (omega (arith, lt))
 some_of (x ∷ xs) lt = x
 
 module _ {K R T : Type 0} (problem : Problem) (tables : Tables)
-    (stream : R → Stream) (shows : T → Turn → Flow → T → Type 0) (budget : ℕ) where
+    (stream : R → Stream) (shows : T → Turn → Flow → T → Type 0) (pace : Pace) where
   abbrev Runs : Place K R T → Place K R T → Type 0
-  Runs = IsRun problem tables stream shows budget
+  Runs = IsRun problem tables stream shows pace
 
   abbrev place_of : Seats K → R → T → Place K R T
   place_of seats rng tracer =
@@ -64,7 +65,7 @@ module _ {K R T : Type 0} (problem : Problem) (tables : Tables)
       let start : Kit = record { labels = seats.label_seat.history; account = seats.pool_seat.account; words = stream rng } in
       record {
         fit = run.0;
-        closed = closed_worked problem shows tables.pool.heaps start _ budget tracer end.tracer end.counters end.hand [] [] w
+        closed = closed_worked problem shows tables.pool.heaps start _ pace tracer end.tracer end.counters end.hand [] [] w
             (record { own = λ f. rw (fresh.lowerings, fresh.pushed) refl; closed = λ e inside. absurd (omega (arith, (rw fresh.popped at inside).1)) });
         inside = w.hand_inside;
         pushed_is = omega (arith, ap length w.progress.pushed_are, length-append w.progress.pushed seats.pool_seat.account.pushed, ap length fresh.pushed, w.pushed_is);
@@ -97,7 +98,7 @@ module _ {K R T : Type 0} (problem : Problem) (tables : Tables)
           handed = record {
             back = h.back;
             refused = h.refused;
-            closed = closed_worked problem shows tables.pool.heaps start _ budget tracer end.tracer end.counters end.hand h.back h.refused w h.closed;
+            closed = closed_worked problem shows tables.pool.heaps start _ pace tracer end.tracer end.counters end.hand h.back h.refused w h.closed;
             waits = h.waits;
           };
           inside = w.hand_inside;
@@ -113,7 +114,7 @@ module _ {K R T : Type 0} (problem : Problem) (tables : Tables)
 
   -- the whole row
   module _ (main : Seats K) (fresh : List (Seats K)) (rngs : List R) (tracers : List T) (row row' : List (Place K R T)) (rng : R) (tracer : T)
-      (seated : IsSeatedRow (main ∷ fresh) rngs tracers row) (ran : IsRunRow problem tables stream shows budget row row')
+      (seated : IsSeatedRow (main ∷ fresh) rngs tracers row) (ran : IsRunRow problem tables stream shows pace row row')
       (length_is : length row ≡ suc (length fresh)) (length'_is : length row' ≡ length row)
       (all_fresh : All (AreFresh tables) fresh) where
     runs_at : (k : ℕ) (d : Place K R T) → k < length row → Runs (place_of (get_or (main ∷ fresh) k main) (get_or rngs k rng) (get_or tracers k tracer)) (get_or row' k d)
@@ -148,7 +149,7 @@ module _ {K R T : Type 0} (problem : Problem) (tables : Tables)
 
   pub seated_done : (rngs : List R) (tracers : List T) (row row' : List (Place K R T)) (rng : R) (tracer : T) (seeded : ℕ) (waiting : List ℕ)
       → AreSeated problem tables seeded waiting rngs tracers row
-      → IsRunRow problem tables stream shows budget row row' → length row' ≡ length row
+      → IsRunRow problem tables stream shows pace row row' → length row' ≡ length row
       → IsDoneRow problem tables seeded waiting row'
   seated_done rngs tracers row row' rng tracer seeded waiting a ran same =
       done_row a.main a.fresh rngs tracers row row' rng tracer a.seated ran (omega (arith, a.length_is)) same a.all_fresh seeded waiting a.seeds a.label_shares a.pool_shares
@@ -170,16 +171,16 @@ module _ {K R T : Type 0} (problem : Problem) (tables : Tables)
 
   -- what each worker reports
   report_of : (p : Place K R T) (end : WorkerEnd K R T) (r : R) (t : T) (seats : Seats K) → p ≡ place.Done end → Runs (place_of seats r t) p
-      → IsReport shows budget (stream r) (stream end.rng) t end.tracer end.counters
+      → IsReport shows pace (stream r) (stream end.rng) t end.tracer end.counters
   report_of p end r t seats done run =
       let w = (subst (λ q. Runs (place_of seats r t) q) done run).1 in
       record { turns = w.turns; lawful = w.lawful; shown = w.shown; counted = w.counted; words_are = w.progress.words_are }
 
   pub reports_of_row : (rngs : List R) (tracers : List T) (row row' : List (Place K R T)) (ends : List (WorkerEnd K R T)) (seeded : ℕ) (waiting : List ℕ) (end : WorkerEnd K R T)
       → AreSeated problem tables seeded waiting rngs tracers row
-      → IsRunRow problem tables stream shows budget row row' → length row ≡ length rngs → length ends ≡ length rngs
+      → IsRunRow problem tables stream shows pace row row' → length row ≡ length rngs → length ends ≡ length rngs
       → row' ≡ all_done ends
-      → AreReports stream shows budget rngs (map (λ e. e.rng) ends) tracers (map (λ e. e.tracer) ends) (map (λ e. e.counters) ends)
+      → AreReports stream shows pace rngs (map (λ e. e.rng) ends) tracers (map (λ e. e.tracer) ends) (map (λ e. e.counters) ends)
   reports_of_row rngs tracers row row' ends seeded waiting end a ran len count done k c r t lt =
       let inside : k < length row = omega (arith, lt, len) in
       let among : k < length ends = omega (arith, lt, count) in
@@ -192,7 +193,7 @@ module _ {K R T : Type 0} (problem : Problem) (tables : Tables)
   -- what a worker tells that runs alone
   pub lone_of_row : (rngs : List R) (tracers : List T) (row row' : List (Place K R T)) (ends : List (WorkerEnd K R T)) (rng : R) (tracer : T) (seeded : ℕ) (waiting : List ℕ)
       → AreSeated problem tables seeded waiting rngs tracers row
-      → IsRunRow problem tables stream shows budget row row' → length row ≡ 1 → row' ≡ all_done ends → length ends ≡ 1
+      → IsRunRow problem tables stream shows pace row row' → length row ≡ 1 → row' ≡ all_done ends → length ends ≡ 1
       → (busy_by_all (map (λ end. end.counters) ends) ≡ 0) × (tables.pool.heaps ≡ 2 → 0 < empty_by_all (map (λ end. end.counters) ends) → seeded + sum_by (λ end. end.counters.pushed) ends ≡ sum_by (λ end. end.counters.popped) ends)
   lone_of_row rngs tracers row row' [] rng tracer seeded waiting a ran len done one = absurd (omega (arith, one))
   lone_of_row rngs tracers row row' (end ∷ other ∷ ends) rng tracer seeded waiting a ran len done one = absurd (omega (arith, one))

@@ -12,6 +12,7 @@ use Rattle.std.proofs.lemmas.Fn.{FoldsTo-push}
 use Rattle.std.specs.Prelude.{if◌then◌else◌}
 use Rattle.ea_pool.specs.declared.entry.Entry.{Entry}
 use Rattle.ea_engine.specs.Problems.{Problem}
+use Rattle.ea_engine.specs.declared.settings.Pace.{Pace}
 use Rattle.ea_engine.specs.declared.turn.Turn.{Turn}
 use Rattle.ea_engine.specs.declared.turn.Hand.{Hand}
 use Rattle.ea_engine.specs.declared.turn.Flow.{Flow}
@@ -129,11 +130,11 @@ module _ (problem : Problem) where
   IsFreshAs-less bs cs Cut e stays h = λ stale. h (IsStale-more bs cs stays e stale)
 
   module _ {T : Type 0} (shows : T → Turn → Flow → T → Type 0) (heaps : ℕ) where
-    pub record SoFar (from to : Kit) (budget : ℕ) (tracer tracer' : T) (counters : Counters) (hand : Hand) (number idle : ℕ) (ended : Bool) : Type 0 where
+    pub record SoFar (from to : Kit) (pace : Pace) (tracer tracer' : T) (counters : Counters) (hand : Hand) (number idle : ℕ) (ended : Bool) : Type 0 where
       pub turns : List Told
       pub numbered : (i : ℕ) (d : Told) → i < length turns → (get_or turns i d).0.number ≡ i
       pub shaped : (i : ℕ) (d : Told) → i < length turns → IsShaped (get_or turns i d).0
-      pub not_before : (n : ℕ) → n < length turns → IsWorkDone budget (take n turns) → ⊥
+      pub not_before : (n : ℕ) → n < length turns → IsWorkDone pace (take n turns) → ⊥
       pub number_is : length turns ≡ number
       pub idle_is : idle_run turns ≡ idle
       pub ended_is : is_ended turns ≡ ended
@@ -153,9 +154,9 @@ module _ (problem : Problem) where
       pub stays_empty : from.account.shares ≡ SHARES → heaps ≡ 2 → (i : ℕ) (d : Told) → i < length turns → 0 < count_kind is_empty (take i turns) → is_empty (get_or turns i d).0.kind ≡ true
       pub empty_so_far : from.account.shares ≡ SHARES → heaps ≡ 2 → 0 < count_kind is_empty turns → NothingLeft to.account
 
-    pub SoFar-start : (k : Kit) (budget : ℕ) (tracer : T) (counters : Counters) (hand : Hand) → counters ≡ counters_of [] → hand.popped ≡ None → hand.refused ≡ None
-        → SoFar k k budget tracer tracer counters hand 0 0 false
-    SoFar-start k budget tracer counters hand zeros popped refused = record {
+    pub SoFar-start : (k : Kit) (pace : Pace) (tracer : T) (counters : Counters) (hand : Hand) → counters ≡ counters_of [] → hand.popped ≡ None → hand.refused ≡ None
+        → SoFar k k pace tracer tracer counters hand 0 0 false
+    SoFar-start k pace tracer counters hand zeros popped refused = record {
       turns = [];
       numbered = λ i d lt. absurd (omega arith);
       shaped = λ i d lt. absurd (omega arith);
@@ -180,24 +181,24 @@ module _ (problem : Problem) where
       empty_so_far = λ whole two some. absurd (omega (arith, some));
     }
 
-    pub SoFar-roomy : (from to : Kit) (budget : ℕ) (tracer tracer' : T) (counters : Counters) (hand : Hand) (number idle : ℕ) (ended : Bool)
-        → SoFar from to budget tracer tracer' counters hand number idle ended → number ≤ 1000000000 → IsRoomy counters
-    SoFar-roomy from to budget tracer tracer' counters hand number idle ended h few =
+    pub SoFar-roomy : (from to : Kit) (pace : Pace) (tracer tracer' : T) (counters : Counters) (hand : Hand) (number idle : ℕ) (ended : Bool)
+        → SoFar from to pace tracer tracer' counters hand number idle ended → number ≤ 1000000000 → IsRoomy counters
+    SoFar-roomy from to pace tracer tracer' counters hand number idle ended h few =
         rw h.counted (IsRoomy-few h.turns (omega (arith, h.number_is)) (omega (arith, h.few)))
 
     -- no turn list that is a proper part is over, nor is the whole one while the loop goes on
-    not_over : (from to : Kit) (budget : ℕ) (tracer tracer' : T) (counters : Counters) (hand : Hand) (number idle : ℕ)
-        → (h : SoFar from to budget tracer tracer' counters hand number idle false) → idle < 32 → number < budget → IsWorkDone budget h.turns → ⊥
-    not_over from to budget tracer tracer' counters hand number idle h low more over = elim over [
+    not_over : (from to : Kit) (pace : Pace) (tracer tracer' : T) (counters : Counters) (hand : Hand) (number idle : ℕ)
+        → (h : SoFar from to pace tracer tracer' counters hand number idle false) → idle < pace.patience → number < pace.turns → IsWorkDone pace h.turns → ⊥
+    not_over from to pace tracer tracer' counters hand number idle h low more over = elim over [
       | inl spent ↦ omega (arith, spent, h.number_is)
       | inr (inl done) ↦ false≢true (sym h.ended_is ∙ done)
       | inr (inr waits) ↦ omega (arith, waits, h.idle_is)
     ]
 
     -- one more turn
-    module _ (from mid to : Kit) (budget : ℕ) (tracer tracer' tracer'' : T) (counters counters' : Counters) (hand hand' : Hand) (number idle idle' : ℕ) (ended' : Bool) (turn : Turn) (flow : Flow)
-        (h : SoFar from mid budget tracer tracer' counters hand number idle false)
-        (low : idle < 32) (more : number < budget)
+    module _ (from mid to : Kit) (pace : Pace) (tracer tracer' tracer'' : T) (counters counters' : Counters) (hand hand' : Hand) (number idle idle' : ℕ) (ended' : Bool) (turn : Turn) (flow : Flow)
+        (h : SoFar from mid pace tracer tracer' counters hand number idle false)
+        (low : idle < pace.patience) (more : number < pace.turns)
         (one : IsTurn problem heaps mid to number turn hand')
         (told : shows tracer' turn flow tracer'')
         (counts : counters' ≡ counted counters turn)
@@ -206,14 +207,14 @@ module _ (problem : Problem) where
       none_refused : count_kind is_refused h.turns ≡ 0
       none_refused = sym h.refused_back ∙ ap (λ o. length (option_to_list o)) (h.open_hand refl).1
 
-      pub SoFar-more : SoFar from to budget tracer tracer'' counters' hand' (number + 1) idle' ended'
+      pub SoFar-more : SoFar from to pace tracer tracer'' counters' hand' (number + 1) idle' ended'
       SoFar-more = record {
         turns = h.turns ++ (turn, flow) ∷ [];
         numbered = index_push (λ i t. t.0.number ≡ i) h.turns (turn, flow) h.numbered (one.number_is ∙ sym h.number_is);
         shaped = index_push (λ i t. IsShaped t.0) h.turns (turn, flow) h.shaped one.shaped;
-        not_before = λ n lt. below_more (λ m. IsWorkDone budget (take m (h.turns ++ (turn, flow) ∷ [])) → ⊥) (length h.turns)
+        not_before = λ n lt. below_more (λ m. IsWorkDone pace (take m (h.turns ++ (turn, flow) ∷ [])) → ⊥) (length h.turns)
             (λ m less over. h.not_before m less (rw (take-append-le m h.turns ((turn, flow) ∷ []) (omega arith)) at over))
-            (λ over. not_over from mid budget tracer tracer' counters hand number idle h low more (rw (take-append_seam h.turns ((turn, flow) ∷ [])) at over))
+            (λ over. not_over from mid pace tracer tracer' counters hand number idle h low more (rw (take-append_seam h.turns ((turn, flow) ∷ [])) at over))
             n (omega (arith, length-append h.turns ((turn, flow) ∷ [])));
         number_is = length-append h.turns ((turn, flow) ∷ []) ∙ ap (λ n. n + 1) h.number_is;
         idle_is = fold-append (λ (n : ℕ) (t : Told). if is_idle t.0.kind then n + 1 else 0) 0 h.turns ((turn, flow) ∷ [])
@@ -243,10 +244,10 @@ module _ (problem : Problem) where
             (omega (arith, some, count_push is_empty h.turns (turn, flow)));
       }
 
-    pub SoFar-end : (from to : Kit) (budget : ℕ) (tracer tracer' : T) (counters : Counters) (hand : Hand) (number idle : ℕ) (ended : Bool)
-        → SoFar from to budget tracer tracer' counters hand number idle ended → number ≤ 1000000000 → (ended ≡ true) ⊎ (32 ≤ idle) ⊎ (budget ≤ number)
-        → IsWork problem shows heaps from to budget tracer tracer' counters hand
-    SoFar-end from to budget tracer tracer' counters hand number idle ended h small why = record {
+    pub SoFar-end : (from to : Kit) (pace : Pace) (tracer tracer' : T) (counters : Counters) (hand : Hand) (number idle : ℕ) (ended : Bool)
+        → SoFar from to pace tracer tracer' counters hand number idle ended → number ≤ 1000000000 → (ended ≡ true) ⊎ (pace.patience ≤ idle) ⊎ (pace.turns ≤ number)
+        → IsWork problem shows heaps from to pace tracer tracer' counters hand
+    SoFar-end from to pace tracer tracer' counters hand number idle ended h small why = record {
       turns = h.turns;
       lawful = record {
         numbered = h.numbered;
@@ -265,7 +266,7 @@ module _ (problem : Problem) where
       fresh = λ k d lt. h.fresh k d lt;
       hand_popped = h.hand_popped;
       hand_inside = h.hand_inside;
-      pushed_few = (SoFar-roomy from to budget tracer tracer' counters hand number idle ended h small).pushed;
+      pushed_few = (SoFar-roomy from to pace tracer tracer' counters hand number idle ended h small).pushed;
       popped_is = ap (λ (x : Counters). x.popped) h.counted ∙ sym h.popped_is;
       returned_is = ap (λ (x : Counters). x.returned) h.counted ∙ omega (arith, h.popped_back, h.refused_back);
       pushed_is = ap (λ (x : Counters). x.pushed) h.counted ∙ omega (arith, h.refused_back, h.progress.lowered_is, ap length h.progress.own_entries, length-map h.progress.lowerings entry_of, length-append (option_to_list hand.refused) h.progress.pushed);

@@ -2,6 +2,7 @@
 use Rattle.std.specs.Prelude.{◌≡◌, ℕ, ◌+◌, ◌*◌, ◌<◌, List, length, slice_index_or}
 use Rattle.std.specs.List.{FoldsTo}
 use Rattle.rand_core.specs.Stream.{Stream}
+use Rattle.ea_engine.specs.declared.settings.Pace.{Pace}
 use Rattle.ea_engine.specs.declared.turn.Turn.{Turn}
 use Rattle.ea_engine.specs.declared.turn.Flow.{Flow}
 use Rattle.ea_engine.specs.declared.counters.Counters.{Counters}
@@ -10,14 +11,14 @@ use Rattle.ea_engine.specs.Turns.{Told, IsTurnList, lowered_in_all, counters_of}
 
 -- The counters are those of one lawful turn list, which led the tracer from one state to the other and
 -- took the generator on by its words.
-pub record IsReport {T : Type 0} (shows : T → Turn → Flow → T → Type 0) (budget : ℕ) (words words' : Stream) (tracer tracer' : T) (counters : Counters) : Type 0 where
+pub record IsReport {T : Type 0} (shows : T → Turn → Flow → T → Type 0) (pace : Pace) (words words' : Stream) (tracer tracer' : T) (counters : Counters) : Type 0 where
   pub turns : List Told
-  pub lawful : IsTurnList budget turns
+  pub lawful : IsTurnList pace turns
   pub shown : FoldsTo (λ p t q. shows p t.0 t.1 q) tracer turns tracer'
   pub counted : counters ≡ counters_of turns
   pub words_are : words' ≡ after_words (2 * length turns + lowered_in_all turns) words
 
 -- a report of each worker
-abbrev pub AreReports : {R T : Type 0} → (R → Stream) → (T → Turn → Flow → T → Type 0) → ℕ → List R → List R → List T → List T → List Counters → Type 0
-AreReports {R} {T} stream shows budget rngs rngs' tracers tracers' counters =
-    (k : ℕ) (c : Counters) (r : R) (t : T) → k < length rngs → IsReport shows budget (stream (slice_index_or rngs k r)) (stream (slice_index_or rngs' k r)) (slice_index_or tracers k t) (slice_index_or tracers' k t) (slice_index_or counters k c)
+abbrev pub AreReports : {R T : Type 0} → (R → Stream) → (T → Turn → Flow → T → Type 0) → Pace → List R → List R → List T → List T → List Counters → Type 0
+AreReports {R} {T} stream shows pace rngs rngs' tracers tracers' counters =
+    (k : ℕ) (c : Counters) (r : R) (t : T) → k < length rngs → IsReport shows pace (stream (slice_index_or rngs k r)) (stream (slice_index_or rngs' k r)) (slice_index_or tracers k t) (slice_index_or tracers' k t) (slice_index_or counters k c)

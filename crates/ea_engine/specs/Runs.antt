@@ -7,7 +7,7 @@ use Rattle.ea_engine.specs.declared.ran.Ran.{Ran}
 use Rattle.ea_engine.specs.declared.solved.Solved.{Solved}
 use Rattle.ea_engine.specs.declared.turn.Flow.{Flow}
 use Rattle.ea_engine.specs.declared.turn.Turn.{Turn}
-use Rattle.ea_engine.specs.Limits.{AreSettings}
+use Rattle.ea_engine.specs.Limits.{AreSettings, pace_of}
 use Rattle.ea_engine.specs.Reports.{AreReports}
 use Rattle.ea_engine.specs.Tallies.{IsTally, IsLoneTally}
 
@@ -24,7 +24,7 @@ module _ {R G T : Type 0} (stream : R → Stream) (shows : T → Turn → Flow �
   pub record IsRunOf (sources : List Source) (crew : Crew R G T) (ran : Ran R T) : Type 0 where
     pub tally : IsTally (length sources) ran.seeded ran.returned ran.drained ran.finish ran.results.counters.items
     pub lone : IsLoneTally (crew.settings.workers * crew.settings.heaps) ran.drained ran.results.counters.items
-    pub reports : AreReports stream shows crew.settings.turns crew.rngs.items ran.results.rngs.items crew.tracers.items ran.results.tracers.items ran.results.counters.items
+    pub reports : AreReports stream shows (pace_of crew.settings) crew.rngs.items ran.results.rngs.items crew.tracers.items ran.results.tracers.items ran.results.counters.items
     pub counters_len : vec_len ran.results.counters ≡ crew.settings.workers
     pub rngs_len : vec_len ran.results.rngs ≡ crew.settings.workers
     pub tracers_len : vec_len ran.results.tracers ≡ crew.settings.workers

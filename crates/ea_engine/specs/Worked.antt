@@ -2,6 +2,7 @@
 use Rattle.std.specs.Prelude.{◌≡◌, ℕ, ◌+◌, ◌*◌, ◌^◌, ◌<◌, ◌≤◌, List, ◌++◌, map, length, Contains, All, None, IsSome, IfSome}
 use Rattle.std.specs.Option.{option_to_list}
 use Rattle.ea_engine.specs.declared.turn.Hand.{Hand}
+use Rattle.ea_engine.specs.declared.settings.Pace.{Pace}
 use Rattle.ea_engine.specs.declared.turn.TurnKind.{TurnKind}
 use Rattle.ea_engine.specs.declared.turn.TurnKind.TheVariants.{Empty, Busy, Stale, Scanned, Refused, Cut}
 use Rattle.std.specs.List.{FoldsTo}
@@ -91,9 +92,9 @@ module _ (problem : Problem) where
 
   module _ {T : Type 0} (shows : T → Turn → Flow → T → Type 0) where
     -- The worker showed the turns of one lawful turn list to its tracer, each once and in order. The pool has so many heaps.
-    pub record IsWork (heaps : ℕ) (from to : Kit) (budget : ℕ) (tracer tracer' : T) (counters : Counters) (hand : Hand) : Type 0 where
+    pub record IsWork (heaps : ℕ) (from to : Kit) (pace : Pace) (tracer tracer' : T) (counters : Counters) (hand : Hand) : Type 0 where
       pub turns : List Told
-      pub lawful : IsTurnList budget turns
+      pub lawful : IsTurnList pace turns
       pub shown : FoldsTo (λ p t q. shows p t.0 t.1 q) tracer turns tracer'
       pub counted : counters ≡ counters_of turns
       pub progress : Progress from to (popped_in_all turns) (2 * length turns + lowered_in_all turns) (lowered_in_all turns) (option_to_list hand.refused)

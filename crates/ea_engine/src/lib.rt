@@ -39,7 +39,7 @@ pub use ground::Ground;
 pub use law::{finish_may_begin, ground_is_laid, nothing_open_is_lost, times_are_fifo};
 pub use means::Means;
 pub use problem::Posed;
-pub use settings::Settings;
+pub use settings::{Pace, Settings};
 pub use solved::Solved;
 pub use solving::{solve, solve_arrivals, solve_by};
 pub use turn::{Flow, Hand, Turn, TurnKind};

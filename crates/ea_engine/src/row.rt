@@ -1,6 +1,7 @@
 ghost use Rattle.std.specs.Prelude.{◌≡◌, ℕ, ◌+◌, ◌<◌, ◌≤◌, ◌^◌, length, slice_index_or};
-ghost use Rattle.ea_limits.specs.declared.TheConstants.{MOST_TURNS, MOST_WORKERS};
+ghost use Rattle.ea_limits.specs.declared.TheConstants.{MOST_WORKERS};
 ghost use Rattle.ea_engine.specs.Grounds.{IsGround, tables_of};
+ghost use Rattle.ea_engine.specs.Limits.{IsPace};
 ghost use Rattle.ea_engine.specs.Parts.{AllFrom, AllPairsFrom};
 ghost use Rattle.ea_engine.specs.Rows.{IsReady, IsRun, IsReadyRow, IsRunRow};
 
@@ -8,6 +9,7 @@ use crate::gate::Gate;
 use crate::ground::Ground;
 use crate::means::Means;
 use crate::problem::Posed;
+use crate::settings::Pace;
 use crate::turn::{Flow, Turn};
 use crate::work_loop::{WorkerEnd, work};
 use ea_road::{Known, TravelTimes};
@@ -38,15 +40,15 @@ pub fn run_place<
     R: Rng + Drop,
     G: Gate,
     F: FnMut(Turn) -> Flow + Drop,
->(ground: &Ground<'_, K, T>, worker: u32, budget: u64, gate: &G, place: &mut Place<K, R, F>)
+>(ground: &Ground<'_, K, T>, worker: u32, pace: Pace, gate: &G, place: &mut Place<K, R, F>)
     requires ground { IsGround K.is_known K.problem T.answers T.classes ground.now }
     requires ready { IsReady (tables_of ground.now) F.IsAlwaysCallable place.old }
-    requires budget { budget ≤ MOST_TURNS }
-    ensures run { IsRun K.problem (tables_of ground.now) R.stream F.step budget place.old place.new }
+    requires pace { IsPace pace }
+    ensures run { IsRun K.problem (tables_of ground.now) R.stream F.step pace place.old place.new }
 {
     if let Place::Ready(ready) = mem::replace(place, Place::Running) {
         let Ready { means, tracer } = ready;
-        *place = Place::Done(work(ground, means, worker, budget, gate, tracer));
+        *place = Place::Done(work(ground, means, worker, pace, gate, tracer));
     }
 }
 
@@ -58,20 +60,20 @@ pub fn run_workers<
     R: Rng + Send + Drop,
     G: Gate,
     F: FnMut(Turn) -> Flow + Send + Drop,
->(rt: &H, ground: &Ground<'_, K, T>, budget: u64, gate: &G, row: &mut [Place<K, R, F>])
+>(rt: &H, ground: &Ground<'_, K, T>, pace: Pace, gate: &G, row: &mut [Place<K, R, F>])
     requires ground { IsGround K.is_known K.problem T.answers T.classes ground.now }
     requires ready { IsReadyRow (tables_of ground.now) F.IsAlwaysCallable row.old }
     requires few { length row.old ≤ MOST_WORKERS }
-    requires budget { budget ≤ MOST_TURNS }
-    ensures run { IsRunRow K.problem (tables_of ground.now) R.stream F.step budget row.old row.new }
+    requires pace { IsPace pace }
+    ensures run { IsRunRow K.problem (tables_of ground.now) R.stream F.step pace row.old row.new }
 {
     let run_one = |start: usize, part: &mut [Place<K, R, F>]|
-        requires { (length part.now ≡ 1) × (start < 2 ^ 32) × (budget ≤ MOST_TURNS)
+        requires { (length part.now ≡ 1) × (start < 2 ^ 32) × IsPace pace
             × IsGround K.is_known K.problem T.answers T.classes ground.now
             × AllFrom (λ _ place. IsReady (tables_of ground.now) F.IsAlwaysCallable place) start part.now }
         ensures { AllPairsFrom (λ _ before after.
-            IsRun K.problem (tables_of ground.entry.now) R.stream F.step budget before after)
+            IsRun K.problem (tables_of ground.entry.now) R.stream F.step pace before after)
             start part.entry.now part.exit.now }
-    { run_place(ground, start as u32, budget, gate, &mut part[0]) };
+    { run_place(ground, start as u32, pace, gate, &mut part[0]) };
     thread::for_each_chunk_mut(rt, row, 1, &run_one);
 }

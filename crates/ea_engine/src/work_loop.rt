@@ -1,6 +1,7 @@
 ghost use Rattle.std.specs.Prelude.{◌≡◌, ℕ, ◌+◌, ◌<◌, ◌≤◌, ◌||◌, if◌then◌else◌};
-ghost use Rattle.ea_limits.specs.declared.TheConstants.{MOST_TURNS};
+ghost use Rattle.ea_limits.specs.declared.TheConstants.{MOST_PATIENCE};
 ghost use Rattle.ea_engine.specs.Grounds.{IsGround, tables_of};
+ghost use Rattle.ea_engine.specs.Limits.{IsPace};
 ghost use Rattle.ea_engine.specs.Seated.{AreSeatsOf, kit_of, kit_left};
 ghost use Rattle.ea_engine.specs.Turns.{is_idle, is_refused, is_leave};
 ghost use Rattle.ea_engine.specs.Worked.{IsWork};
@@ -10,6 +11,7 @@ use crate::gate::Gate;
 use crate::ground::Ground;
 use crate::means::Means;
 use crate::problem::Posed;
+use crate::settings::Pace;
 use crate::step::take_turn;
 use crate::turn::{Flow, Hand, Turn, TurnKind};
 use ea_labels::LabelSeat;
@@ -38,7 +40,7 @@ pub struct WorkerEnd<K: Known, R, F> {
 
 // How many turns in a row found nothing, after one more turn.
 fn idle_after(idle: u32, kind: TurnKind) -> u32
-    requires { idle < 32 }
+    requires { idle < MOST_PATIENCE }
     ensures { result ≡ (if is_idle kind then idle + 1 else 0) }
 {
     if kind.is_idle() { idle + 1 } else { 0 }
@@ -60,23 +62,23 @@ fn pause(idle: u32) {
     }
 }
 
-/// Runs a worker: its turns, until one ends it, its budget is spent or 32 in a row found nothing. Workers count from 0.
+/// Runs a worker: its turns, until one ends it, its pace has no more, or so many in a row found nothing as it has patience. Workers count from 0.
 pub fn work<K: Known + Posed, T: TravelTimes, R: Rng, G: Gate, F: FnMut(Turn) -> Flow>(
     ground: &Ground<'_, K, T>,
     mut means: Means<K, R>,
     worker: u32,
-    budget: u64,
+    pace: Pace,
     gate: &G,
     mut tracer: F,
 ) -> WorkerEnd<K, R, F>
     requires ground { IsGround K.is_known K.problem T.answers T.classes ground.now }
     requires seats { AreSeatsOf (tables_of ground.now) means.label_seat means.pool_seat }
     requires tracer { F.IsAlwaysCallable tracer }
-    requires budget { budget ≤ MOST_TURNS }
+    requires pace { IsPace pace }
     ensures seats { AreSeatsOf (tables_of ground.now) result.label_seat result.pool_seat }
     ensures work { IsWork K.problem F.step (tables_of ground.now).pool.heaps
         (kit_of R.stream means) (kit_left R.stream result)
-        budget tracer result.tracer result.counters result.hand }
+        pace tracer result.tracer result.counters result.hand }
 {
     let target = ground.query.target();
     let among_several = means.pool_seat.shares() < ea_pool::SHARES;
@@ -85,7 +87,7 @@ pub fn work<K: Known + Posed, T: TravelTimes, R: Rng, G: Gate, F: FnMut(Turn) ->
     let mut number = 0;
     let mut idle = 0u32;
     let mut ended = false;
-    'turns: while !ended && idle < 32 && number < budget {
+    'turns: while !ended && idle < pace.patience && number < pace.turns {
         gate.at(worker, number);
         let end = take_turn(ground, target, &mut means, number);
         counters.count(&end.turn);

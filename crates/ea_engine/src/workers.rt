@@ -130,7 +130,7 @@ pub fn run<
     ground_is_laid(&ground);
     let seeds = seed_all(&ground, &mut seats, &mut todo);
     seat_workers(&labels, &pool, seats, others, rngs, tracers, &mut row);
-    run_workers(rt, &ground, settings.turns, gate, &mut row);
+    run_workers(rt, &ground, settings.pace(), gate, &mut row);
     let Gathering {
         seats,
         todo,

@@ -42,6 +42,12 @@ pub const SHARES: u32 = 64;
 /// The most turns that a worker is given.
 pub const MOST_TURNS: u64 = 1_000_000_000;
 
+/// The most entries that a worker takes from a heap, or gives to one, at once.
+pub const MOST_BATCH: u32 = 64;
+
+/// The most idle turns in a row that a worker bears.
+pub const MOST_PATIENCE: u32 = 1_048_576;
+
 /// The horizon is the last time of 48 bits, and the limits are these.
 pub fn limits_are_these()
     ensures horizon { HORIZON ≡ 2 ^ 48 - 1 }
@@ -57,4 +63,6 @@ pub fn limits_are_these()
     ensures heaps { MOST_HEAPS ≡ 8 }
     ensures shares { SHARES ≡ 64 }
     ensures turns { MOST_TURNS ≡ 1000000000 }
+    ensures batch { MOST_BATCH ≡ 64 }
+    ensures patience { MOST_PATIENCE ≡ 1048576 }
 {}

@@ -2,7 +2,9 @@
 use Rattle.std.specs.Prelude.{◌≡◌, ℕ, ◌+◌, ◌*◌, ◌^◌, ◌≤◌, List, [], ◌∷◌, All, length, sum_by}
 use Rattle.ea_road.specs.Queries.{Asking}
 use Rattle.ea_engine.specs.declared.counters.Counters.{Counters}
+use Rattle.ea_engine.specs.declared.settings.Pace.{Pace}
 use Rattle.ea_engine.specs.declared.settings.Settings.{Settings}
+use Rattle.ea_engine.specs.Limits.{pace_of}
 use Rattle.ea_engine.specs.Tallies.{IsTally, IsLoneTally, pushed_by_all, popped_by_all}
 use Rattle.ea_engine.specs.Turns.{Told, IsTurnList, counters_of}
 use Rattle.ea_report.specs.declared.stats.Totals.{Totals}
@@ -17,13 +19,13 @@ pub record Counts : Type 0 where
   pub workers : List Counters
 
 -- A worker counted the turns of a lawful list of turns.
-abbrev pub CountsTurns : ℕ → Counters → Type 0
-CountsTurns budget counters = (turns : List Told) × IsTurnList budget turns × (counters ≡ counters_of turns)
+abbrev pub CountsTurns : Pace → Counters → Type 0
+CountsTurns pace counters = (turns : List Told) × IsTurnList pace turns × (counters ≡ counters_of turns)
 
 -- A run of a problem with these settings counts so.
 pub record AreCountsOf (settings : Settings) (query : Asking) (counts : Counts) : Type 0 where
   pub one_each : length counts.workers ≡ settings.workers
-  pub turns : All (CountsTurns settings.turns) counts.workers
+  pub turns : All (CountsTurns (pace_of settings)) counts.workers
   pub tally : IsTally (length query.sources) counts.seeded counts.returned counts.drained counts.finish counts.workers
   pub lone : IsLoneTally (settings.workers * settings.heaps) counts.drained counts.workers
 

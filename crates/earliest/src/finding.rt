@@ -39,6 +39,8 @@ fn settings_of(options: &RunOptions) -> Settings
         workers: options.workers as u32,
         heaps: options.heaps as u32,
         turns: options.turns,
+        batch: 1,
+        patience: 32,
     }
 }
 

@@ -60,6 +60,8 @@ fn gate_counts_the_turns(rt: HostRuntime) -> Result<(), Fail> {
         workers: 3,
         heaps: 2,
         turns: 100,
+        batch: 1,
+        patience: 32,
     };
     let crew = Crew {
         settings,

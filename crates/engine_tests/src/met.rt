@@ -196,6 +196,8 @@ fn each_of_four_workers_pops_some(rt: HostRuntime) -> Result<(), Fail> {
         workers: 4,
         heaps: 2,
         turns: 10_000,
+        batch: 1,
+        patience: 32,
     };
     let crew = Crew {
         settings,

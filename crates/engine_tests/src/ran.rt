@@ -36,6 +36,10 @@ pub fn run<H: Threads + Sync, R: Rng + Send + Drop, G: Gate, T: FnMut(Turn) -> F
         || settings.heaps < 2
         || settings.heaps > 8
         || settings.turns > 1_000_000
+        || settings.batch == 0
+        || settings.batch > 64
+        || settings.patience == 0
+        || settings.patience > 1_048_576
         || crew.rngs.len() != settings.workers as usize
         || crew.tracers.len() != settings.workers as usize
         || !is_problem(&given.network, given.times.classes(), &given.query)
@@ -71,6 +75,8 @@ pub fn run_crew<H: Threads + Sync, R: Rng + Send + Drop, G: Gate>(
         workers: rngs.len().min(17) as u32,
         heaps,
         turns: u64::from(turns),
+        batch: 1,
+        patience: 32,
     };
     run(
         alloc,
@@ -131,6 +137,8 @@ pub fn run_with<H: Threads + Sync, R: Rng + Send + Drop, T: FnMut(Turn) -> Flow 
         workers: 1,
         heaps,
         turns: u64::from(turns),
+        batch: 1,
+        patience: 32,
     };
     let mut rngs = Vec::new(alloc);
     rngs.push(rng)?;

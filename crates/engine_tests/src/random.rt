@@ -53,6 +53,8 @@ fn workers_answer_as_one_thread(rt: HostRuntime) -> Result<(), Fail> {
                 workers,
                 heaps: 2,
                 turns: 7 * (seed % 9),
+                batch: 1,
+                patience: 32,
             };
             let answer = run_all(alloc, &rt, &given, settings, 0)?.ok_or("problem")?;
             assert!(rt; are_same(&answer, &alone), "seed {seed}");

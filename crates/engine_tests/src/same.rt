@@ -52,6 +52,8 @@ fn all_told<H: Threads + Sync>(
                         workers,
                         heaps,
                         turns,
+                        batch: 1,
+                        patience: 32,
                     };
                     right &= match run_all(alloc, rt, given, settings, seed)? {
                         Some(answer) => is_told(alloc, &answer, lines)?,

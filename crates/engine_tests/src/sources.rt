@@ -54,6 +54,8 @@ fn sixteen_workers_with_eight_heaps_each(rt: HostRuntime) -> Result<(), Fail> {
         workers: 16,
         heaps: 8,
         turns: 1000,
+        batch: 1,
+        patience: 32,
     };
     let answer = run_all(alloc, &rt, &given, settings, 1)?.ok_or("problem")?;
     for (node, arrival) in [(1, 0), (2, 5), (3, 2), (4, 6)] {

@@ -50,6 +50,8 @@ fn refused_push(rt: HostRuntime) -> Result<(), Fail> {
         workers: 1,
         heaps: 2,
         turns: 100,
+        batch: 1,
+        patience: 32,
     };
     // A turn draws two words before it pops; the third word is that of the worker's first push.
     let rngs = greedy(alloc, 1, 2, 20_000)?;
@@ -141,6 +143,8 @@ fn run_with<H: Threads + Sync>(
         workers,
         heaps: 2,
         turns: 100,
+        batch: 1,
+        patience: 32,
     };
     let gate = Counted {
         calls: AtomicU64::new(0),

@@ -9,7 +9,7 @@ for_each_chunk_mut-requires-clause-accepts g c = λ κs outlives start p chunk.
       (
         one,
         omega (arith, chunk.in_bounds, c.requires.few, one),
-        c.requires.budget,
+        c.requires.pace,
         c.requires.ground,
         λ k d lt. rw (chunk.elements k d lt) (c.requires.ready (start + k) d (omega (arith, chunk.in_bounds, lt))),
       ),

@@ -1,7 +1,7 @@
 use Rattle.std.proofs.Common.{ap, ◌∙◌, inl, inr, arith, rules, of_calls}
 use Rattle.ea_engine.proofs.WorkLemmas.{SoFar-start, SoFar-more, SoFar-end}
 use Rattle.ea_engine.proofs.work_loop.work.Goals as goal
-use Rattle.ea_engine.proofs.work_loop.work.Goals.{then-turns-test+then-idle-lt32+else-number-budget, then-turns-test+else-idle-lt32, else-turns-test}
+use Rattle.ea_engine.proofs.work_loop.work.Goals.{then-turns-test+then-idle-pace+else-number-pace, then-turns-test+else-idle-pace, else-turns-test}
 
 pub turns-init : goal.turns-init
 turns-init g c = record {
@@ -15,15 +15,15 @@ pub turns-preserved : goal.turns-preserved
 turns-preserved g c = record {
   fit = c.take_turn-end.ensures.seats;
   tracer = search (rules, of_calls);
-  small = omega (arith, c.if-number-budget.true);
-  so_far = SoFar-more _ _ _ _ _ _ _ _ _ _ _ _ _ _ _ _ _ _ _ _ (rw c.turns-test.true at c.turns.invariant.so_far) c.if-idle-lt32.true c.if-number-budget.true
+  small = omega (arith, c.if-number-pace.true);
+  so_far = SoFar-more _ _ _ _ _ _ _ _ _ _ _ _ _ _ _ _ _ _ _ _ (rw c.turns-test.true at c.turns.invariant.so_far) c.if-idle-pace.true c.if-number-pace.true
       c.take_turn-end.ensures.turn c.tracer-flow.ensures c.count.ensures c.idle_after-idle.ensures c.is_last-ended.ensures;
 }
 
 pub returns-clause-work : goal.returns-clause-work
-returns-clause-work g c = SoFar-end _ _ _ _ _ _ _ _ _ _ _ _ _ c.turns.invariant.so_far (omega (arith, c.turns.invariant.small, c.requires.budget)) (elim c.turns-test.branch [
-  | then-turns-test+then-idle-lt32+else-number-budget w ↦ inr (inr w.if-number-budget.false)
-  | then-turns-test+else-idle-lt32 w ↦ inr (inl w.if-idle-lt32.false)
+returns-clause-work g c = SoFar-end _ _ _ _ _ _ _ _ _ _ _ _ _ c.turns.invariant.so_far (omega (arith, c.turns.invariant.small, c.requires.pace.turns)) (elim c.turns-test.branch [
+  | then-turns-test+then-idle-pace+else-number-pace w ↦ inr (inr w.if-number-pace.false)
+  | then-turns-test+else-idle-pace w ↦ inr (inl w.if-idle-pace.false)
   | else-turns-test w ↦ inl w.turns-test.false
 ])
 

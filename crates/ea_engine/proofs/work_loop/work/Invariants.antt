@@ -8,11 +8,11 @@ abbrev pub invariant-turns : goal.invariant-turns
 invariant-turns g l = record {
   fit : AreSeatsOf (tables_of l.ground) l.means.label_seat l.means.pool_seat;
   tracer : goal.F-IsAlwaysCallable g l.tracer;
-  small : l.number ≤ l.budget;
+  small : l.number ≤ l.pace.turns;
   so_far : SoFar g.K.Posed.problem (goal.F-step g) (tables_of l.ground).pool.heaps
       (kit_of g.R.Rng.stream l.fn.means) (kit_of g.R.Rng.stream l.means)
-      l.budget l.fn.tracer l.tracer l.counters l.hand l.number l.idle l.ended;
+      l.pace l.fn.tracer l.tracer l.counters l.hand l.number l.idle l.ended;
 }
 
 abbrev pub decreases-turns : goal.decreases-turns
-decreases-turns g l = l.budget - l.number
+decreases-turns g l = l.pace.turns - l.number
