@@ -10,6 +10,7 @@ use Rattle.ea_labels.specs.Core.{bound, seen, lowered, joined}
 use Rattle.ea_pool.specs.declared.entry.Entry.{Entry}
 use Rattle.ea_pool.specs.declared.account.Account.{Account}
 use Rattle.ea_pool.specs.Pools.{SameBooks, Pushes}
+use Rattle.ea_lists.specs.Totals.{total}
 use Rattle.ea_lists.proofs.Totals.{total-append}
 use Rattle.ea_engine.specs.Problems.{Problem}
 use Rattle.ea_engine.specs.declared.settings.Pace.{Pace}
@@ -19,11 +20,12 @@ use Rattle.ea_engine.specs.declared.turn.Flow.{Flow}
 use Rattle.ea_engine.specs.declared.turn.TurnKind.{TurnKind}
 use Rattle.ea_engine.specs.declared.turn.TurnKind.TheVariants.{Empty, Busy, Stale, Scanned, Refused, Cut}
 use Rattle.ea_engine.specs.declared.counters.Counters.{Counters}
-use Rattle.ea_engine.specs.Turns.{Told, popped_in_all, popped_as}
+use Rattle.ea_engine.specs.Turns.{Told, visited_in_all, visited_as}
 use Rattle.ea_engine.specs.Closed.{entry_at, entry_of, IsClosedAs, IsClosedTurn, IsClosedEntry, IsClosedAccount}
-use Rattle.ea_engine.specs.Worked.{Kit, IsWork}
+use Rattle.ea_engine.specs.Worked.{Kit, IsWork, back_of}
 use Rattle.ea_engine.proofs.BoundLemmas.{IsStale-more, IsScanned-more, IsCut-more}
 use Rattle.ea_engine.proofs.ProgressLemmas.{Contains-kept}
+use Rattle.ea_engine.proofs.Multisets.{Contains-same}
 
 contains_one : {X : Type 0} (x e : X) → Contains (x ∷ []) e → x ≡ e
 contains_one x e h = let z : h.0 ≡ 0 = omega (arith, h.1) in rw z at h.2
@@ -45,7 +47,7 @@ module _ (problem : Problem) where
     | inr (inr (inr cut)) ↦ inr (inr (inr (IsCut-more bs cs stays problem.query.target e cut)))
   ]
 
-  closed_by_kind : (bs : List Bound) (hand : List Entry) (k : TurnKind) (key node : ℕ) (e : Entry) → IsClosedAs problem bs hand k (entry_at key node) → Contains (popped_as k key node) e → IsClosedEntry problem bs hand e
+  closed_by_kind : (bs : List Bound) (hand : List Entry) (k : TurnKind) (key node : ℕ) (e : Entry) → IsClosedAs problem bs hand k (entry_at key node) → Contains (visited_as k key node) e → IsClosedEntry problem bs hand e
   closed_by_kind bs hand Empty key node e h inside = absurd (omega (arith, inside.1))
   closed_by_kind bs hand Busy key node e h inside = absurd (omega (arith, inside.1))
   closed_by_kind bs hand Stale key node e h inside = rw (sym (contains_one (entry_at key node) e inside)) (inr (inl h))
@@ -53,9 +55,9 @@ module _ (problem : Problem) where
   closed_by_kind bs hand Refused key node e h inside = rw (sym (contains_one (entry_at key node) e inside)) (inl h)
   closed_by_kind bs hand Cut key node e h inside = rw (sym (contains_one (entry_at key node) e inside)) (inr (inr (inr h)))
 
-  closed_in_all : (bs : List Bound) (hand : List Entry) (ts : List Told) → All (λ t. IsClosedTurn problem bs hand t.0) ts → (e : Entry) → Contains (popped_in_all ts) e → IsClosedEntry problem bs hand e
+  closed_in_all : (bs : List Bound) (hand : List Entry) (ts : List Told) → All (λ t. IsClosedTurn problem bs hand t.0) ts → (e : Entry) → Contains (visited_in_all ts) e → IsClosedEntry problem bs hand e
   closed_in_all bs hand [] all e inside = absurd (omega (arith, inside.1))
-  closed_in_all bs hand (t ∷ ts) all e inside = elim (Contains-append_cases (popped_in_all ts) (popped_as t.0.kind t.0.key t.0.node) e inside) [
+  closed_in_all bs hand (t ∷ ts) all e inside = elim (Contains-append_cases (visited_in_all ts) (visited_as t.0.kind t.0.key t.0.node) e inside) [
     | inl later ↦ closed_in_all bs hand ts (All-tail (λ (u : Told). IsClosedTurn problem bs hand u.0) t ts all) e later
     | inr here ↦ closed_by_kind bs hand t.0.kind t.0.key t.0.node e (All-head (λ (u : Told). IsClosedTurn problem bs hand u.0) t ts all) here
   ]
@@ -84,31 +86,44 @@ module _ (problem : Problem) where
     closed = λ x inside. IsClosedEntry-more r.bounds s.bounds back back x (λ y k. Contains-kept (bound node to) r.bounds s.bounds y (ap (λ (z : SeatRecord). z.bounds) e) k) (λ y k. k) (h.closed x (rw p.2 at inside));
   }
 
-  -- a worker's turns
+  -- a worker's turns, from empty lists on
   pub closed_worked : {T : Type 0} (shows : T → Turn → Flow → T → Type 0) (heaps : ℕ) (from to : Kit) (pace : Pace) (tracer tracer' : T) (counters : Counters) (hand : Hand) (back refused : List Entry)
       → IsWork problem shows heaps from to pace tracer tracer' counters hand
+      → from.taken ≡ [] → from.fresh ≡ [] → to.taken ≡ hand.taken.items → to.fresh ≡ hand.fresh.items
       → IsClosedAccount problem from.labels from.account back refused
-      → IsClosedAccount problem to.labels to.account (back ++ option_to_list hand.popped) (refused ++ option_to_list hand.refused)
-  closed_worked shows heaps from to pace tracer tracer' counters hand back refused w h =
+      → IsClosedAccount problem to.labels to.account (back ++ back_of hand) (refused ++ hand.fresh.items)
+  closed_worked shows heaps from to pace tracer tracer' counters hand back refused w none_taken none_fresh taken fresh h =
       let p = w.progress in
-      let none = option_to_list hand.refused in
+      let held = hand.taken.items in
+      let rest = hand.fresh.items in
       record {
-        own = λ f. rw (p.lowerings_are, p.pushed_are, map-append entry_of p.lowerings from.labels.lowerings, p.own_entries)
+        own = λ f. rw (p.lowerings_are, map-append entry_of p.lowerings from.labels.lowerings)
             (omega (
               arith,
               h.own f,
-              total-append f from.account.pushed refused,
-              total-append f (none ++ p.pushed) (map entry_of from.labels.lowerings),
-              total-append f none p.pushed,
-              total-append f (p.pushed ++ from.account.pushed) (refused ++ none),
+              p.pushed_are f,
+              p.own_entries f,
+              ap (total f) fresh,
+              ap (total f) none_fresh,
               total-append f p.pushed from.account.pushed,
-              total-append f refused none,
+              total-append f p.pushed to.fresh,
+              total-append f (map entry_of p.lowerings) from.fresh,
+              total-append f from.account.pushed refused,
+              total-append f (map entry_of p.lowerings) (map entry_of from.labels.lowerings),
+              total-append f to.account.pushed (refused ++ rest),
+              total-append f refused rest,
             ));
-        closed = λ e inside. elim (Contains-append_cases (popped_in_all w.turns) from.account.popped e (rw p.popped_are at inside)) [
-          | inl since ↦ IsClosedEntry-more to.labels.bounds to.labels.bounds (option_to_list hand.popped) _ e (λ b k. k) (Contains-append_right back (option_to_list hand.popped))
-              (closed_in_all to.labels.bounds (option_to_list hand.popped) w.turns w.closed e since)
-          | inr before ↦ IsClosedEntry-more from.labels.bounds to.labels.bounds back _ e p.bounds_stay (Contains-append_left back (option_to_list hand.popped)) (h.closed e before)
-        ];
+        closed = λ e inside.
+            let moved = Contains-same (to.account.popped ++ from.taken) (visited_in_all w.turns ++ (to.taken ++ from.account.popped)) e p.popped_are (Contains-append_left to.account.popped from.taken e inside) in
+            elim (Contains-append_cases (visited_in_all w.turns) (to.taken ++ from.account.popped) e moved) [
+              | inl since ↦ IsClosedEntry-more to.labels.bounds to.labels.bounds (option_to_list hand.popped) _ e (λ b k. k)
+                  (λ x k. Contains-append_right back (back_of hand) x (Contains-append_left (option_to_list hand.popped) held x k))
+                  (closed_in_all to.labels.bounds (option_to_list hand.popped) w.turns w.closed e since)
+              | inr other ↦ elim (Contains-append_cases to.taken from.account.popped e other) [
+                | inl stays ↦ inl (Contains-append_right back (back_of hand) e (Contains-append_right (option_to_list hand.popped) held e (rw taken at stays)))
+                | inr before ↦ IsClosedEntry-more from.labels.bounds to.labels.bounds back _ e p.bounds_stay (Contains-append_left back (back_of hand)) (h.closed e before)
+              ]
+            ];
       }
 
   -- two joined seats

@@ -17,7 +17,7 @@ use Rattle.ea_engine.specs.Rowed.{all_done, IsFirstEnd, IsSeeded, AreSeated, IsD
 use Rattle.ea_engine.specs.Rows.{IsReady, IsReadyRow, IsRun, IsRunRow, IsSeatedRow}
 use Rattle.ea_limits.specs.declared.TheConstants.{SHARES}
 use Rattle.ea_engine.specs.Tallies.{busy_by_all, empty_by_all}
-use Rattle.ea_engine.specs.Turns.{popped_in_all}
+use Rattle.ea_limits.specs.declared.TheConstants.{MOST_BATCH}
 use Rattle.ea_engine.specs.Worked.{Kit}
 use Rattle.ea_engine.proofs.AccountLemmas.{closed_worked}
 use Rattle.ea_engine.proofs.Multisets.{same_length}
@@ -47,7 +47,7 @@ some_of [] lt = absurd (omega (arith, lt))
 some_of (x ∷ xs) lt = x
 
 module _ {K R T : Type 0} (problem : Problem) (tables : Tables)
-    (stream : R → Stream) (shows : T → Turn → Flow → T → Type 0) (pace : Pace) where
+    (stream : R → Stream) (shows : T → Turn → Flow → T → Type 0) (pace : Pace) (batch_few : pace.batch ≤ MOST_BATCH) where
   abbrev Runs : Place K R T → Place K R T → Type 0
   Runs = IsRun problem tables stream shows pace
 
@@ -62,16 +62,17 @@ module _ {K R T : Type 0} (problem : Problem) (tables : Tables)
   end_of_fresh seats rng tracer place.Running fresh run = absurd run
   end_of_fresh seats rng tracer (place.Done end) fresh run =
       let w = run.1 in
-      let start : Kit = record { labels = seats.label_seat.history; account = seats.pool_seat.account; words = stream rng } in
+      let start : Kit = record { labels = seats.label_seat.history; account = seats.pool_seat.account; words = stream rng; taken = []; fresh = [] } in
       record {
         fit = run.0;
-        closed = closed_worked problem shows tables.pool.heaps start _ pace tracer end.tracer end.counters end.hand [] [] w
+        closed = closed_worked problem shows tables.pool.heaps start _ pace tracer end.tracer end.counters end.hand [] [] w refl refl refl refl
             (record { own = λ f. rw (fresh.lowerings, fresh.pushed) refl; closed = λ e inside. absurd (omega (arith, (rw fresh.popped at inside).1)) });
         inside = w.hand_inside;
-        pushed_is = omega (arith, ap length w.progress.pushed_are, length-append w.progress.pushed seats.pool_seat.account.pushed, ap length fresh.pushed, w.pushed_is);
+        pushed_is = omega (arith, ap length fresh.pushed, w.pushed_is);
         pushed_few = w.pushed_few;
-        popped_is = omega (arith, ap length w.progress.popped_are, length-append (popped_in_all w.turns) seats.pool_seat.account.popped, ap length fresh.popped, w.popped_is);
+        popped_is = omega (arith, ap length fresh.popped, w.popped_is);
         returned_is = w.returned_is;
+        returned_few = omega (arith, w.hand_few, batch_few);
         label_share = w.progress.label_shares ∙ fresh.label_share;
         pool_share = w.progress.pool_shares ∙ fresh.pool_share;
       }
@@ -89,7 +90,7 @@ module _ {K R T : Type 0} (problem : Problem) (tables : Tables)
   end_of_first seats rng tracer seeded waiting (place.Done end) began run =
       let w = run.1 in
       let h = began.gathered in
-      let start : Kit = record { labels = seats.label_seat.history; account = seats.pool_seat.account; words = stream rng } in
+      let start : Kit = record { labels = seats.label_seat.history; account = seats.pool_seat.account; words = stream rng; taken = []; fresh = [] } in
       record {
         end = end;
         is = refl;
@@ -98,15 +99,16 @@ module _ {K R T : Type 0} (problem : Problem) (tables : Tables)
           handed = record {
             back = h.back;
             refused = h.refused;
-            closed = closed_worked problem shows tables.pool.heaps start _ pace tracer end.tracer end.counters end.hand h.back h.refused w h.closed;
+            closed = closed_worked problem shows tables.pool.heaps start _ pace tracer end.tracer end.counters end.hand h.back h.refused w refl refl refl refl h.closed;
             waits = h.waits;
           };
           inside = w.hand_inside;
           offered = λ source among. IsReachedBy-more seats.label_seat.history.bounds end.label_seat.history.bounds w.progress.bounds_stay source.node source.departure (began.offered source among);
-          pushed_is = omega (arith, ap length w.progress.pushed_are, length-append w.progress.pushed seats.pool_seat.account.pushed, began.pushed, w.pushed_is);
+          pushed_is = omega (arith, began.pushed, w.pushed_is);
           pushed_few = omega (arith, w.pushed_few);
-          popped_is = omega (arith, ap length w.progress.popped_are, length-append (popped_in_all w.turns) seats.pool_seat.account.popped, ap length began.popped, w.popped_is);
+          popped_is = omega (arith, ap length began.popped, w.popped_is);
           returned_is = w.returned_is;
+          returned_few = omega (arith, w.hand_few, batch_few);
         };
         label_shares = w.progress.label_shares;
         pool_shares = w.progress.pool_shares;
@@ -194,7 +196,7 @@ module _ {K R T : Type 0} (problem : Problem) (tables : Tables)
   pub lone_of_row : (rngs : List R) (tracers : List T) (row row' : List (Place K R T)) (ends : List (WorkerEnd K R T)) (rng : R) (tracer : T) (seeded : ℕ) (waiting : List ℕ)
       → AreSeated problem tables seeded waiting rngs tracers row
       → IsRunRow problem tables stream shows pace row row' → length row ≡ 1 → row' ≡ all_done ends → length ends ≡ 1
-      → (busy_by_all (map (λ end. end.counters) ends) ≡ 0) × (tables.pool.heaps ≡ 2 → 0 < empty_by_all (map (λ end. end.counters) ends) → seeded + sum_by (λ end. end.counters.pushed) ends ≡ sum_by (λ end. end.counters.popped) ends)
+      → (busy_by_all (map (λ end. end.counters) ends) ≡ 0) × (pace.batch ≡ 1 → tables.pool.heaps ≡ 2 → 0 < empty_by_all (map (λ end. end.counters) ends) → seeded + sum_by (λ end. end.counters.pushed) ends ≡ sum_by (λ end. end.counters.popped) ends)
   lone_of_row rngs tracers row row' [] rng tracer seeded waiting a ran len done one = absurd (omega (arith, one))
   lone_of_row rngs tracers row row' (end ∷ other ∷ ends) rng tracer seeded waiting a ran len done one = absurd (omega (arith, one))
   lone_of_row rngs tracers row row' (end ∷ []) rng tracer seeded waiting a ran len done one =
@@ -206,15 +208,11 @@ module _ {K R T : Type 0} (problem : Problem) (tables : Tables)
       let account = a.main.pool_seat.account in
       let end_account = end.pool_seat.account in (
         omega (arith, w.never_busy whole),
-        λ two some. omega (
+        λ one_each two some. omega (
           arith,
-          same_length end_account.pushed end_account.popped (w.empty_at_end whole two (omega (arith, some))),
-          ap length w.progress.pushed_are,
-          length-append w.progress.pushed account.pushed,
+          same_length end_account.pushed end_account.popped (w.empty_at_end one_each whole two (omega (arith, some))),
           w.pushed_is,
           a.seeds.pushed,
-          ap length w.progress.popped_are,
-          length-append (popped_in_all w.turns) account.popped,
           ap length a.seeds.popped,
           w.popped_is,
         ),

@@ -7,6 +7,7 @@ pub mod DoneRows
 pub mod BoundLemmas
 pub mod CounterLemmas
 pub mod TurnLemmas
+pub mod HoldLemmas
 pub mod WorkLemmas
 pub mod AccountLemmas
 pub mod Settling

@@ -1,10 +1,11 @@
 -- What is gathered of a row, one worker at a time.
-use Rattle.std.proofs.Common.{◌≡◌, ℕ, zero, suc, ◌+◌, ◌<◌, ◌≤◌, ◌^◌, List, [], ◌∷◌, ◌++◌, map, length, All, refl, sym, ◌∙◌, ap, arith, length-append, subst}
+use Rattle.std.proofs.Common.{◌≡◌, ℕ, zero, suc, ◌+◌, ◌*◌, ◌<◌, ◌≤◌, ◌^◌, List, [], ◌∷◌, ◌++◌, map, length, All, refl, sym, ◌∙◌, ap, arith, length-append, subst}
 use Rattle.std.specs.Prelude.{sum_by}
 use Rattle.std.proofs.lemmas.List.{map-append, append-nil, append_assoc}
 use Rattle.std.proofs.lemmas.List.Folds.{fold-map}
 use Rattle.std.proofs.lemmas.List.Sums.{fold-append}
 use Rattle.std.proofs.lemmas.List.Elements.{All-head}
+use Rattle.ea_limits.specs.declared.TheConstants.{MOST_BATCH}
 use Rattle.ea_engine.specs.Problems.{Problem}
 use Rattle.ea_engine.specs.declared.counters.Counters.{Counters}
 use Rattle.ea_engine.specs.declared.gathering.Gathering.{Gathering}
@@ -46,16 +47,10 @@ pub waits_or : (waiting before more after : ℕ) → (0 < before → 0 < waiting
 waits_or waiting zero more after some is lt = omega (arith, is, lt)
 waits_or waiting (suc before) more after some is lt = omega (arith, some (omega arith))
 
--- somebody waits after two were kept where somebody waited or either is there
-pub waits_both : (waiting popped refused between : ℕ) → (0 < waiting + popped → 0 < between) → 0 < waiting + (popped + refused) → 0 < between + refused
-waits_both waiting popped zero between kept more = omega (arith, kept (omega (arith, more)))
-waits_both waiting popped (suc refused) between kept more = omega arith
-
--- so it is where the first worker's entries are kept, one after the other
-pub waits_first : (waiting between back popped refused after : ℕ) → (0 < back → 0 < waiting) → (0 < waiting + popped → 0 < between) → after ≡ back + (popped + refused) → 0 < after → 0 < between + refused
-waits_first waiting between zero zero refused after some kept is lt = omega (arith, is, lt)
-waits_first waiting between zero (suc popped) refused after some kept is lt = omega (arith, kept (omega arith))
-waits_first waiting between (suc back) popped refused after some kept is lt = omega (arith, kept (omega (arith, some (omega arith))))
+-- so it is where the first worker's entries are kept
+pub waits_first : (waiting back hand after : ℕ) → (0 < back → 0 < waiting) → after ≡ back + hand → 0 < after → 0 < waiting + hand
+waits_first waiting zero hand after some is lt = omega (arith, is, lt)
+waits_first waiting (suc back) hand after some is lt = omega (arith, some (omega arith))
 
 -- the first place of a row and those after it
 pub split_first : {K R T : Type 0} (row : List (Place K R T)) (first end : WorkerEnd K R T) (p : Place K R T) (others rest : List (Place K R T))
@@ -84,7 +79,7 @@ module _ {K R T : Type 0} (problem : Problem) (tables : Tables) where
       → AreSeatsOf tables h.seats.label_seat h.seats.pool_seat
       → IsGathered problem h.seats.label_seat.history h.seats.pool_seat.account h.todo.waiting
       → h.todo.nodes ≡ problem.network.nodes
-      → Joins end g h → end.counters.returned ≤ 2 → end.counters.pushed < 2 ^ 62
+      → Joins end g h → end.counters.returned ≤ 2 * MOST_BATCH → end.counters.pushed < 2 ^ 62
       → AddsEnd end g.results h.results
       → AreGathered problem tables seeded back (ends ++ end ∷ []) h
   gathered_more seeded back ends end g h a fit gathered nodes j small low more =

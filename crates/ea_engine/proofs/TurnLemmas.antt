@@ -1,64 +1,88 @@
--- Turns that found nothing, and turns after a pop.
-use Rattle.std.proofs.Common.{◌≡◌, ℕ, ◌≤◌, ◌^◌, zero-add, true, List, [], ◌∷◌, ◌++◌, length, refl, sym, ◌∙◌, ap, subst, arith, None}
-use Rattle.std.specs.Prelude.{Contains}
+-- Turns that found nothing, turns that visited an entry, and what is pushed at a turn's end.
+use Rattle.std.proofs.Common.{◌≡◌, ℕ, ◌+◌, ◌*◌, ◌<◌, ◌≤◌, true, false, List, [], ◌∷◌, ◌++◌, length, refl, sym, ◌∙◌, ap, subst, arith, None, Option, min, length-append}
+use Rattle.std.specs.Prelude.{Contains, reverse}
 use Rattle.std.specs.Option.{option_to_list}
 use Rattle.std.proofs.lemmas.Bool.{false≢true}
+use Rattle.std.proofs.lemmas.List.{reverse-reverse, reverse-append, length-reverse}
 use Rattle.rand_core.specs.Stream.{Stream, next_u64}
+use Rattle.ea_lists.proofs.Totals.{total-append}
 use Rattle.ea_pool.specs.declared.entry.Entry.{Entry}
+use Rattle.arrayvec.specs.ArrayVec.{ArrayVec}
+use Rattle.ea_pool.specs.Batches.{IsLowest, MatchSome, PopsSome}
+use Rattle.ea_pool.specs.declared.account.LastTake.{LastTake}
+use Rattle.ea_pool.specs.declared.reply.PoppedSome.TheVariants as reply
+use Rattle.ea_pool.specs.Entries.{only, times, AreKnown, IsAscending, IsLeastOf, face}
+use Rattle.ea_pool.proofs.Weights.{only-same}
 use Rattle.ea_engine.specs.Problems.{Problem}
-use Rattle.ea_engine.specs.declared.turn.Turn.{Turn}
-use Rattle.ea_engine.specs.declared.turn.Hand.{Hand}
+use Rattle.ea_engine.specs.declared.turn.TurnEnd.{TurnEnd}
 use Rattle.ea_engine.specs.declared.turn.TurnKind.{TurnKind}
 use Rattle.ea_engine.specs.declared.turn.TurnKind.TheVariants.{Empty, Busy, Stale, Scanned, Refused, Cut}
 use Rattle.ea_engine.specs.Looks.{word_after, first_heap, second_heap, SawAs}
-use Rattle.ea_pool.specs.declared.reply.Popped.{Popped}
+use Rattle.ea_pool.specs.declared.reply.PoppedSome.{PoppedSome}
 use Rattle.ea_pool.specs.declared.words.TheConstants.{EMPTY}
 use Rattle.ea_pool.specs.Draws.{first_draw, second_draw}
-use Rattle.ea_pool.specs.Replies.{MatchPopped}
-use Rattle.ea_pool.specs.Tries.{LookedAt, WasBusy}
+use Rattle.ea_pool.specs.Tries.{LookedAt, TookLesser, WasBusy}
 use Rattle.ea_engine.specs.Words.{after_words}
 use Rattle.ea_labels.specs.declared.record.Bound.{Bound}
 use Rattle.ea_labels.specs.declared.record.SeatRecord.{SeatRecord}
 use Rattle.ea_pool.specs.declared.account.Account.{Account}
 use Rattle.ea_limits.specs.declared.TheConstants.{SHARES}
-use Rattle.ea_pool.specs.Pools.{SameBooks, Pops, IsLeastLeft}
-use Rattle.ea_engine.specs.Turns.{is_idle, IsShaped, popped_as, popped_in}
-use Rattle.ea_engine.specs.Closed.{entry_at, IsClosedAs, IsClosedTurn, IsFreshAs, IsFreshTurn}
-use Rattle.ea_engine.specs.Worked.{kit, Progress, IsTurn, IsHandOf, IsInside, IsLoneAs}
-use Rattle.ea_engine.proofs.ProgressLemmas.{Progress-then}
+use Rattle.ea_pool.specs.Pools.{SameBooks, IsLeastLeft}
+use Rattle.ea_engine.specs.Turns.{is_busy, is_idle, is_refused, IsShaped, visited_as}
+use Rattle.ea_engine.specs.Closed.{entry_at, IsClosedAs, IsFreshAs}
+use Rattle.ea_engine.specs.Holds.{IsVisit, Took}
+use Rattle.ea_engine.specs.Worked.{Kit, kit, Progress, IsTurn, IsBrokenAs, IsLeftAs, IsLoneAs, IsPoppingAs}
+use Rattle.ea_engine.proofs.ProgressLemmas.{Progress-idle, Progress-took, Progress-then, Progress-beside}
 
-popped_as-idle : (k : TurnKind) (x y : ℕ) → is_idle k ≡ true → popped_as k x y ≡ []
-popped_as-idle Empty x y e = refl
-popped_as-idle Busy x y e = refl
-popped_as-idle Stale x y e = absurd (false≢true e)
-popped_as-idle Scanned x y e = absurd (false≢true e)
-popped_as-idle Refused x y e = absurd (false≢true e)
-popped_as-idle Cut x y e = absurd (false≢true e)
+visited_as-idle : (k : TurnKind) (x y : ℕ) → is_idle k ≡ true → visited_as k x y ≡ []
+visited_as-idle Empty x y e = refl
+visited_as-idle Busy x y e = refl
+visited_as-idle Stale x y e = absurd (false≢true e)
+visited_as-idle Scanned x y e = absurd (false≢true e)
+visited_as-idle Refused x y e = absurd (false≢true e)
+visited_as-idle Cut x y e = absurd (false≢true e)
 
-IsHandOf-idle : (k : TurnKind) (h : Hand) → is_idle k ≡ true → h.popped ≡ None → h.refused ≡ None → IsHandOf k h
-IsHandOf-idle Empty h e p r = (p, r)
-IsHandOf-idle Busy h e p r = (p, r)
-IsHandOf-idle Stale h e p r = (p, r)
-IsHandOf-idle Scanned h e p r = (p, r)
-IsHandOf-idle Refused h e p r = absurd (false≢true e)
-IsHandOf-idle Cut h e p r = absurd (false≢true e)
+IsBrokenAs-idle : (k : TurnKind) (end : TurnEnd) → is_idle k ≡ true → end.broken ≡ None → IsBrokenAs k end.broken
+IsBrokenAs-idle Empty end e b = b
+IsBrokenAs-idle Busy end e b = b
+IsBrokenAs-idle Stale end e b = b
+IsBrokenAs-idle Scanned end e b = b
+IsBrokenAs-idle Refused end e b = absurd (false≢true e)
+IsBrokenAs-idle Cut end e b = b
 
--- nothing but words was drawn
-pub Progress-drawn : (r : SeatRecord) (a b : Account) (w u : Stream) (popped : List Entry) (words : ℕ) → b.shares ≡ a.shares → b.pushed ≡ a.pushed → b.popped ≡ popped ++ a.popped → u ≡ after_words words w
-    → Progress (kit r a w) (kit r b u) popped words 0 []
-Progress-drawn r a b w u popped words shares pushed is_popped d = record {
-  lowerings = [];
-  pushed = [];
-  lowerings_are = refl;
-  pushed_are = pushed;
-  popped_are = is_popped;
-  bounds_stay = λ x h. h;
-  label_shares = refl;
-  pool_shares = shares;
-  own_entries = refl;
-  lowered_is = refl;
-  words_are = d;
-}
+IsPoppingAs-one : (k : TurnKind) (pops : ℕ) → pops ≡ 1 → IsPoppingAs k pops
+IsPoppingAs-one Empty pops e = e
+IsPoppingAs-one Busy pops e = e
+IsPoppingAs-one Stale pops e = omega (arith, e)
+IsPoppingAs-one Scanned pops e = omega (arith, e)
+IsPoppingAs-one Refused pops e = omega (arith, e)
+IsPoppingAs-one Cut pops e = omega (arith, e)
+
+IsLeftAs-idle : (k : TurnKind) (batch fresh : ℕ) → is_idle k ≡ true → fresh < batch → IsLeftAs k batch fresh
+IsLeftAs-idle Empty batch fresh e few = few
+IsLeftAs-idle Busy batch fresh e few = few
+IsLeftAs-idle Stale batch fresh e few = few
+IsLeftAs-idle Scanned batch fresh e few = few
+IsLeftAs-idle Refused batch fresh e few = absurd (false≢true e)
+IsLeftAs-idle Cut batch fresh e few = few
+
+-- fewer are left
+IsLeftAs-fewer : (k : TurnKind) (batch fresh fresh' : ℕ) → is_refused k ≡ false → fresh' ≤ fresh → IsLeftAs k batch fresh → IsLeftAs k batch fresh'
+IsLeftAs-fewer Empty batch fresh fresh' e few left = omega (arith, few, left)
+IsLeftAs-fewer Busy batch fresh fresh' e few left = omega (arith, few, left)
+IsLeftAs-fewer Stale batch fresh fresh' e few left = omega (arith, few, left)
+IsLeftAs-fewer Scanned batch fresh fresh' e few left = omega (arith, few, left)
+IsLeftAs-fewer Refused batch fresh fresh' e few left = absurd (false≢true (sym e))
+IsLeftAs-fewer Cut batch fresh fresh' e few left = omega (arith, few, left)
+
+-- of less than one nothing is left, unless a push was refused
+IsLeftAs-one : (k : TurnKind) (batch fresh : ℕ) → is_refused k ≡ false → IsLeftAs k batch fresh → fresh < batch
+IsLeftAs-one Empty batch fresh e left = left
+IsLeftAs-one Busy batch fresh e left = left
+IsLeftAs-one Stale batch fresh e left = left
+IsLeftAs-one Scanned batch fresh e left = left
+IsLeftAs-one Refused batch fresh e left = absurd (false≢true (sym e))
+IsLeftAs-one Cut batch fresh e left = left
 
 pub two_words : (w v u : Stream) (x y : ℕ) → (x, v) ≡ next_u64 w → (y, u) ≡ next_u64 v → u ≡ after_words 2 w
 two_words w v u x y e f = ap (λ (p : ℕ × Stream). p.1) f ∙ ap (λ s. (next_u64 s).1) (ap (λ (p : ℕ × Stream). p.1) e)
@@ -69,8 +93,17 @@ head_is x y e = cc
 nil≢cons : (e : Entry) (es : List Entry) → [] ≡ e ∷ es → ⊥
 nil≢cons e es h = absurd (omega (arith, ap length h))
 
+-- a turn that visited an entry pops at most once
+IsPoppingAs-visited : (k : TurnKind) (key node pops : ℕ) (e : Entry) → visited_as k key node ≡ e ∷ [] → pops ≤ 1 → IsPoppingAs k pops
+IsPoppingAs-visited Empty key node pops e is few = absurd (nil≢cons e [] is)
+IsPoppingAs-visited Busy key node pops e is few = absurd (nil≢cons e [] is)
+IsPoppingAs-visited Stale key node pops e is few = few
+IsPoppingAs-visited Scanned key node pops e is few = few
+IsPoppingAs-visited Refused key node pops e is few = few
+IsPoppingAs-visited Cut key node pops e is few = few
+
 -- a turn that popped an entry shows what the pop tells of this entry
-IsLoneAs-popped : (k : TurnKind) (heaps key node : ℕ) (a : Account) (e : Entry) → popped_as k key node ≡ e ∷ [] → (heaps ≡ 2 → IsLeastLeft e a) → IsLoneAs heaps a k (entry_at key node)
+IsLoneAs-popped : (k : TurnKind) (heaps key node : ℕ) (a : Account) (e : Entry) → visited_as k key node ≡ e ∷ [] → (heaps ≡ 2 → IsLeastLeft e a) → IsLoneAs heaps a k (entry_at key node)
 IsLoneAs-popped Empty heaps key node a e is left = absurd (nil≢cons e [] is)
 IsLoneAs-popped Busy heaps key node a e is left = nil≢cons e [] is
 IsLoneAs-popped Stale heaps key node a e is left = subst (λ x. heaps ≡ 2 → IsLeastLeft x a) (sym (head_is (entry_at key node) e is)) left
@@ -78,7 +111,68 @@ IsLoneAs-popped Scanned heaps key node a e is left = subst (λ x. heaps ≡ 2 �
 IsLoneAs-popped Refused heaps key node a e is left = subst (λ x. heaps ≡ 2 → IsLeastLeft x a) (sym (head_is (entry_at key node) e is)) left
 IsLoneAs-popped Cut heaps key node a e is left = subst (λ x. heaps ≡ 2 → IsLeastLeft x a) (sym (head_is (entry_at key node) e is)) left
 
-module _ (problem : Problem) (heaps : ℕ) where
+-- nor is it busy
+not_busy_visited : (k : TurnKind) (key node : ℕ) (e : Entry) → visited_as k key node ≡ e ∷ [] → is_busy k ≡ false
+not_busy_visited Empty key node e is = refl
+not_busy_visited Busy key node e is = absurd (nil≢cons e [] is)
+not_busy_visited Stale key node e is = refl
+not_busy_visited Scanned key node e is = refl
+not_busy_visited Refused key node e is = refl
+not_busy_visited Cut key node e is = refl
+
+-- a seat with all shares isn't busy
+not_busy_lone : (k : TurnKind) (heaps : ℕ) (a : Account) (e : Entry) → IsLoneAs heaps a k e → is_busy k ≡ false
+not_busy_lone Empty heaps a e lone = refl
+not_busy_lone Busy heaps a e lone = absurd lone
+not_busy_lone Stale heaps a e lone = refl
+not_busy_lone Scanned heaps a e lone = refl
+not_busy_lone Refused heaps a e lone = refl
+not_busy_lone Cut heaps a e lone = refl
+
+-- what a pop brought is turned round
+pub took_by : (known : ℕ → ℕ → Type 0) (reply : PoppedSome) (heaps most i j : ℕ) (old mid new : ArrayVec Entry) (a b : Account) (seen : List (ℕ × ℕ)) (last : Option LastTake)
+    → old.items ≡ []
+    → MatchSome reply ((pops : PopsSome known most old.items mid.items a b (λ out. TookLesser i j out seen last) last) × IsLowest heaps pops.out a) (SameBooks a b × (mid ≡ old)) (SameBooks a b × (mid ≡ old))
+    → new.items ≡ reverse mid.items
+    → MatchSome reply (Took known heaps most new.items a b) (SameBooks a b × (new.items ≡ [])) (SameBooks a b × (new.items ≡ []))
+took_by known reply.Entries heaps most i j old mid new a b seen last none h turned = record {
+  out = h.0.out;
+  turned = turned ∙ ap reverse (h.0.brought ∙ ap (λ xs. xs ++ h.0.out) none);
+  some = h.0.some;
+  few = h.0.few;
+  popped = h.0.popped;
+  known_all = h.0.known_all;
+  ascending = h.0.took.took.least.1.ascending;
+  left = h.0.left;
+  lowest = h.1;
+}
+took_by known reply.Empty heaps most i j old mid new a b seen last none h turned = (h.0, turned ∙ ap reverse (ap (λ (v : ArrayVec Entry). v.items) h.1 ∙ none))
+took_by known reply.Busy heaps most i j old mid new a b seen last none h turned = (h.0, turned ∙ ap reverse (ap (λ (v : ArrayVec Entry). v.items) h.1 ∙ none))
+
+-- there is one to be visited
+pub took_some : (known : ℕ → ℕ → Type 0) (heaps most : ℕ) (taken : List Entry) (a b : Account) → Took known heaps most taken a b → 0 < length taken
+took_some known heaps most taken a b t = omega (arith, t.some, ap length t.turned, length-reverse t.out)
+
+-- the first one of what a pop brought is visited first
+pub out_is : (taken out rest : List Entry) (e : Entry) → taken ≡ reverse out → taken ≡ rest ++ e ∷ [] → out ≡ e ∷ reverse rest
+out_is taken out rest e turned next = sym (reverse-reverse out) ∙ ap reverse (sym turned ∙ next) ∙ reverse-append rest (e ∷ [])
+
+-- no key of ascending entries is below that of the first
+face_above : (e : Entry) (es : List Entry) → IsLeastOf e es → e.key ≤ EMPTY → e.key ≤ face es
+face_above e [] least low = low
+face_above e (x ∷ es) least low = omega (arith, least.0.0, face_above e es least.1 low)
+
+-- so it is the least that a seat with all shares has left
+least_out : (known : ℕ → ℕ → Type 0) (heaps most : ℕ) (taken rest : List Entry) (a b : Account) (e : Entry) (t : Took known heaps most taken a b)
+    → taken ≡ rest ++ e ∷ [] → e.key ≤ EMPTY → a.shares ≡ SHARES → heaps ≡ 2 → IsLeastLeft e a
+least_out known heaps most taken rest a b e t next low whole two =
+    let is = out_is taken t.out rest e t.turned next in
+    let ascending : IsAscending (e ∷ reverse rest) = subst IsAscending is t.ascending in (
+      omega (arith, t.left whole e, ap (times e) is, only-same e),
+      λ d there. omega (arith, t.lowest whole two d there, ap face is, face_above e (reverse rest) ascending.0 low),
+    )
+
+module _ (problem : Problem) (batch heaps : ℕ) where
   IsClosedAs-idle : (bs : List Bound) (hand : List Entry) (k : TurnKind) (e : Entry) → is_idle k ≡ true → IsClosedAs problem bs hand k e
   IsClosedAs-idle bs hand Empty e i = tt
   IsClosedAs-idle bs hand Busy e i = tt
@@ -95,61 +189,128 @@ module _ (problem : Problem) (heaps : ℕ) where
   IsFreshAs-idle bs Refused e i = absurd (false≢true i)
   IsFreshAs-idle bs Cut e i = absurd (false≢true i)
 
-  pub IsTurn-idle : (r : SeatRecord) (a b : Account) (w u : Stream) (n : ℕ) (t : Turn) (h : Hand)
-      → SameBooks a b → u ≡ after_words 2 w
-      → t.number ≡ n → is_idle t.kind ≡ true → IsShaped t → t.lowered ≡ 0 → h.popped ≡ None → h.refused ≡ None
-      → (a.shares ≡ SHARES → IsLoneAs heaps a t.kind (entry_at t.key t.node))
-      → IsTurn problem heaps (kit r a w) (kit r b u) n t h
-  IsTurn-idle r a b w u n t h e d number idle shaped lowered hand refused lone = record {
+  pub IsTurn-idle : (r : SeatRecord) (a b : Account) (w u : Stream) (taken taken' fresh : List Entry) (n : ℕ) (end : TurnEnd)
+      → SameBooks a b → taken ≡ [] → taken' ≡ [] → length fresh < batch → u ≡ after_words 2 w
+      → end.turn.number ≡ n → is_idle end.turn.kind ≡ true → IsShaped end.turn → end.turn.lowered ≡ 0 → end.broken ≡ None → end.pops ≡ 1 → end.pushes ≡ 0
+      → (a.shares ≡ SHARES → IsLoneAs heaps a end.turn.kind (entry_at end.turn.key end.turn.node))
+      → IsTurn problem batch heaps (kit r a w taken fresh) (kit r b u taken' fresh) n end
+  IsTurn-idle r a b w u taken taken' fresh n end books none none' few d number idle shaped lowered broken pops pushes lone = record {
     number_is = number;
     shaped = shaped;
-    few = omega arith;
-    hand_is = IsHandOf-idle t.kind h idle hand refused;
-    hand_popped = λ e inside. absurd (omega (arith, (rw hand at inside).1));
-    hand_inside = rw (hand, refused) (tt, tt);
-    progress = rw (refused, lowered, popped_as-idle t.kind t.key t.node idle)
-        (Progress-drawn r a b w u [] 2 e.0 e.1 e.2 d);
-    closed = IsClosedAs-idle r.bounds (option_to_list h.popped) t.kind _ idle;
-    fresh = IsFreshAs-idle r.bounds t.kind _ idle;
-    lone = lone;
+    few = omega (arith, lowered);
+    broken_is = IsBrokenAs-idle end.turn.kind end idle broken;
+    broken_visited = λ e inside. absurd (omega (arith, (rw broken at inside).1));
+    broken_inside = rw broken tt;
+    pops = IsPoppingAs-one end.turn.kind end.pops pops;
+    one_push_each = λ is. (pops, omega (arith, pushes, lowered));
+    taken_few = omega (arith, few, ap length none');
+    fresh_few = IsLeftAs-idle end.turn.kind batch (length fresh) idle few;
+    progress = rw (lowered, pops, pushes, visited_as-idle end.turn.kind end.turn.key end.turn.node idle)
+        (Progress-idle r a b w u taken taken' fresh books none none' d);
+    closed = IsClosedAs-idle r.bounds (option_to_list end.broken) end.turn.kind _ idle;
+    fresh = IsFreshAs-idle r.bounds end.turn.kind _ idle;
+    never_busy = λ whole. not_busy_lone end.turn.kind heaps a _ (lone whole);
+    lone = λ nothing. lone;
   }
 
-  pub IsTurn-popped : (r s : SeatRecord) (a b c : Account) (w u z : Stream) (n : ℕ) (t : Turn) (h : Hand) (e : Entry)
-      → Pops a e b → u ≡ after_words 2 w
-      → t.number ≡ n → popped_in t ≡ e ∷ [] → IsShaped t → t.lowered ≤ 2 ^ 28 → IsHandOf t.kind h → IsInside problem.network h → ((x : Entry) → Contains (option_to_list h.popped) x → Contains (popped_in t) x)
-      → Progress (kit r b u) (kit s c z) [] t.lowered t.lowered (option_to_list h.refused)
-      → IsClosedTurn problem s.bounds (option_to_list h.popped) t → IsFreshTurn problem.query.target r.bounds t
-      → (a.shares ≡ SHARES → heaps ≡ 2 → IsLeastLeft e a)
-      → IsTurn problem heaps (kit r a w) (kit s c z) n t h
-  IsTurn-popped r s a b c w u z n t h e is_b d number popped shaped few hand inside from progress closed fresh left = record {
-    number_is = number;
-    shaped = shaped;
-    few = few;
-    hand_is = hand;
-    hand_popped = from;
-    hand_inside = inside;
-    progress = Progress-then _ (kit r b u) _ (e ∷ []) [] (popped_in t) 2 t.lowered _ 0 t.lowered _ _
-        (Progress-drawn r a b w u (e ∷ []) 2 is_b.0 is_b.1 is_b.2 d) progress popped refl (sym (zero-add t.lowered));
-    closed = closed;
-    fresh = fresh;
-    lone = λ whole. IsLoneAs-popped t.kind heaps t.key t.node a e popped (left whole);
+  -- a turn that visited one of the entries that were taken
+  pub IsTurn-visited : (from to : Kit) (n : ℕ) (end : TurnEnd) → IsVisit problem batch from to n end → length from.taken < batch → IsTurn problem batch heaps from to n end
+  IsTurn-visited from to n end v few =
+      let size : length from.taken ≡ length to.taken + 1 = omega (arith, ap length v.next, length-append to.taken (v.entry ∷ [])) in
+      record {
+        number_is = v.number_is;
+        shaped = v.shaped;
+        few = v.few;
+        broken_is = v.broken_is;
+        broken_visited = v.broken_visited;
+        broken_inside = v.broken_inside;
+        pops = IsPoppingAs-visited end.turn.kind end.turn.key end.turn.node end.pops v.entry v.visited (omega (arith, v.pops));
+        one_push_each = λ is. absurd (omega (arith, size, few, is));
+        taken_few = omega (arith, size, few);
+        fresh_few = v.fresh_few;
+        progress = subst (λ m. Progress from to (visited_as end.turn.kind end.turn.key end.turn.node) m end.turn.lowered) (omega (arith, v.pops)) v.progress;
+        closed = v.closed;
+        fresh = v.fresh;
+        never_busy = λ whole. not_busy_visited end.turn.kind end.turn.key end.turn.node v.entry v.visited;
+        lone = λ nothing. absurd (omega (arith, size, ap length nothing));
+      }
+
+  -- a turn that popped entries and visited one of them
+  pub IsTurn-popped : (known : ℕ → ℕ → Type 0) (r : SeatRecord) (a b : Account) (w u : Stream) (taken taken' fresh : List Entry) (to : Kit) (n : ℕ) (end : TurnEnd)
+      → taken ≡ [] → (t : Took known heaps batch taken' a b) → u ≡ after_words 2 w → ((node time : ℕ) → known node time → time ≤ EMPTY)
+      → (v : IsVisit problem batch (kit r b u taken' fresh) to n end)
+      → IsTurn problem batch heaps (kit r a w taken fresh) to n (record { turn = end.turn; broken = end.broken; pops = 1; pushes = end.pushes })
+  IsTurn-popped known r a b w u taken taken' fresh to n end none t d within v =
+      let is = out_is taken' t.out to.taken v.entry t.turned v.next in
+      let size : length taken' ≡ length to.taken + 1 = omega (arith, ap length v.next, length-append to.taken (v.entry ∷ [])) in
+      let low : v.entry.key ≤ EMPTY = within v.entry.node v.entry.key (t.known_all v.entry (omega (arith, ap (times v.entry) is, only-same v.entry))) in
+      record {
+        number_is = v.number_is;
+        shaped = v.shaped;
+        few = v.few;
+        broken_is = v.broken_is;
+        broken_visited = v.broken_visited;
+        broken_inside = v.broken_inside;
+        pops = IsPoppingAs-one end.turn.kind 1 refl;
+        one_push_each = λ one. (refl, v.one_push_each one);
+        taken_few = omega (arith, size, t.few, ap length is, ap length t.turned, same_size t.out);
+        fresh_few = v.fresh_few;
+        progress = subst (λ ts. Progress (kit r a w ts fresh) to (visited_as end.turn.kind end.turn.key end.turn.node) (2 * 1 + end.pushes) end.turn.lowered) (sym none)
+            (Progress-then (kit r a w [] fresh) (kit r b u taken' fresh) to [] (visited_as end.turn.kind end.turn.key end.turn.node) _ 2 end.pushes _ 0 end.turn.lowered _
+            (Progress-took r a b w u taken' t.out fresh t.popped t.turned d) v.progress (appended (visited_as end.turn.kind end.turn.key end.turn.node)) refl (omega arith));
+        closed = v.closed;
+        fresh = v.fresh;
+        never_busy = λ whole. not_busy_visited end.turn.kind end.turn.key end.turn.node v.entry v.visited;
+        lone = λ nothing whole. IsLoneAs-popped end.turn.kind heaps end.turn.key end.turn.node a v.entry v.visited (least_out known heaps batch taken' to.taken a b v.entry t v.next low whole);
+      }
+    where
+      appended : (xs : List Entry) → xs ≡ xs ++ []
+      appended [] = refl
+      appended (x ∷ xs) = ap (λ ys. x ∷ ys) (appended xs)
+
+      same_size : (xs : List Entry) → length (reverse xs) ≡ length xs
+      same_size xs = length-reverse xs
+
+  -- a turn at whose end fresh entries were pushed
+  pub IsTurn-pushed : (from : Kit) (s : SeatRecord) (b c : Account) (v z : Stream) (taken fresh fresh' : List Entry) (n : ℕ) (end : TurnEnd)
+      → IsTurn problem batch heaps from (kit s b v taken fresh) n end
+      → Progress (kit s b v [] fresh) (kit s c z [] fresh') [] 1 0
+      → is_refused end.turn.kind ≡ false → 0 < length fresh → length fresh' ≤ length fresh
+      → IsTurn problem batch heaps from (kit s c z taken fresh') n (record { turn = end.turn; broken = end.broken; pops = end.pops; pushes = end.pushes + 1 })
+  IsTurn-pushed from s b c v z taken fresh fresh' n end t p not some few = record {
+    number_is = t.number_is;
+    shaped = t.shaped;
+    few = t.few;
+    broken_is = t.broken_is;
+    broken_visited = t.broken_visited;
+    broken_inside = t.broken_inside;
+    pops = t.pops;
+    one_push_each = λ is. absurd (omega (arith, some, is, IsLeftAs-one end.turn.kind batch (length fresh) not t.fresh_few));
+    taken_few = t.taken_few;
+    fresh_few = IsLeftAs-fewer end.turn.kind batch (length fresh) (length fresh') not few t.fresh_few;
+    progress = Progress-then from (kit s b v taken fresh) (kit s c z taken fresh') (visited_as end.turn.kind end.turn.key end.turn.node) [] _ (2 * end.pops + end.pushes) 1 _ end.turn.lowered 0 _
+        t.progress (Progress-beside s s b c v z taken fresh fresh' 1 0 p) refl (omega arith) (omega arith);
+    closed = t.closed;
+    fresh = t.fresh;
+    never_busy = t.never_busy;
+    lone = t.lone;
   }
 
--- a turn that popped an entry tells nothing of the heaps that it looked at
-pub SawAs-popped : (k : TurnKind) (key node i j : ℕ) (before after : List (ℕ × ℕ)) (e : Entry) → popped_as k key node ≡ e ∷ [] → SawAs k i j before after
-SawAs-popped Empty key node i j before after e is = absurd (nil≢cons e [] is)
-SawAs-popped Busy key node i j before after e is = absurd (nil≢cons e [] is)
-SawAs-popped Stale key node i j before after e is = tt
-SawAs-popped Scanned key node i j before after e is = tt
-SawAs-popped Refused key node i j before after e is = tt
-SawAs-popped Cut key node i j before after e is = tt
+-- a turn that visited an entry tells nothing of the heaps that it looked at
+pub SawAs-visited : (k : TurnKind) (key node i j : ℕ) (before after : List (ℕ × ℕ)) (e : Entry) → visited_as k key node ≡ e ∷ [] → SawAs k i j before after
+SawAs-visited Empty key node i j before after e is = absurd (nil≢cons e [] is)
+SawAs-visited Busy key node i j before after e is = absurd (nil≢cons e [] is)
+SawAs-visited Stale key node i j before after e is = tt
+SawAs-visited Scanned key node i j before after e is = tt
+SawAs-visited Refused key node i j before after e is = tt
+SawAs-visited Cut key node i j before after e is = tt
 
 -- what a pop looked at by two words that were drawn one after the other
-pub looked_by : (reply : Popped) (w v u : Stream) (x y heaps : ℕ) (before after : List (ℕ × ℕ)) → (x, v) ≡ next_u64 w → (y, u) ≡ next_u64 v
-    → MatchPopped reply (λ _. Unit {0}) (LookedAt (first_draw heaps x) EMPTY (second_draw heaps x y) EMPTY before after) (WasBusy (first_draw heaps x) (second_draw heaps x y) before after)
-    → MatchPopped reply (λ _. Unit {0}) (LookedAt (first_heap heaps w) EMPTY (second_heap heaps w) EMPTY before after) (WasBusy (first_heap heaps w) (second_heap heaps w) before after)
+pub looked_by : (reply : PoppedSome) (w v u : Stream) (x y heaps : ℕ) (before after : List (ℕ × ℕ)) → (x, v) ≡ next_u64 w → (y, u) ≡ next_u64 v
+    → MatchSome reply (Unit {0}) (LookedAt (first_draw heaps x) EMPTY (second_draw heaps x y) EMPTY before after) (WasBusy (first_draw heaps x) (second_draw heaps x y) before after)
+    → MatchSome reply (Unit {0}) (LookedAt (first_heap heaps w) EMPTY (second_heap heaps w) EMPTY before after) (WasBusy (first_heap heaps w) (second_heap heaps w) before after)
 looked_by reply w v u x y heaps before after e f looked =
     let first : x ≡ word_after 0 w = ap (λ (p : ℕ × Stream). p.0) e in
     let second : y ≡ word_after 1 w = ap (λ (p : ℕ × Stream). p.0) f ∙ ap (λ (p : ℕ × Stream). (next_u64 p.1).0) e in
-    let P : ℕ → ℕ → Type 0 = λ a b. MatchPopped reply (λ _. Unit {0}) (LookedAt (first_draw heaps a) EMPTY (second_draw heaps a b) EMPTY before after) (WasBusy (first_draw heaps a) (second_draw heaps a b) before after) in
+    let P : ℕ → ℕ → Type 0 = λ a b. MatchSome reply (Unit {0}) (LookedAt (first_draw heaps a) EMPTY (second_draw heaps a b) EMPTY before after) (WasBusy (first_draw heaps a) (second_draw heaps a b) before after) in
     subst (λ a. P a (word_after 1 w)) first (subst (λ b. P x b) second looked)

@@ -1,6 +1,6 @@
 -- A worker's turns so far: what the loop of `work` keeps.
-use Rattle.std.proofs.Common.{◌≡◌, ℕ, ◌+◌, ◌*◌, ◌^◌, ◌<◌, ◌≤◌, Bool, true, false, ◌||◌, cond, List, [], ◌∷◌, ◌++◌, length, get_or, take, refl, sym, ◌∙◌, ap, arith, length-append, append_assoc, zero-add, below_more, subst, None, Some, Option, inl, inr, ◌⊎◌}
-use Rattle.std.specs.Prelude.{Contains, IsSome}
+use Rattle.std.proofs.Common.{◌≡◌, ℕ, ◌+◌, ◌*◌, ◌^◌, ◌<◌, ◌≤◌, Bool, true, false, ◌||◌, cond, List, [], ◌∷◌, ◌++◌, map, length, get_or, take, refl, sym, ◌∙◌, ap, arith, length-append, append_assoc, zero-add, below_more, subst, None, Some, Option, inl, inr, ◌⊎◌}
+use Rattle.std.specs.Prelude.{Contains, IsSome, IfSome}
 use Rattle.std.specs.Option.{option_to_list}
 use Rattle.std.specs.List.{FoldsTo}
 use Rattle.std.proofs.Math.Seq.{take-append_seam}
@@ -10,10 +10,13 @@ use Rattle.std.proofs.lemmas.Bool.{false≢true}
 use Rattle.std.proofs.lemmas.List.Elements.{Contains-append_left}
 use Rattle.std.proofs.lemmas.Fn.{FoldsTo-push}
 use Rattle.std.specs.Prelude.{if◌then◌else◌}
+use Rattle.arrayvec.specs.ArrayVec.{array_vec_len}
+use Rattle.ea_road.specs.Roads.{IsNode}
 use Rattle.ea_pool.specs.declared.entry.Entry.{Entry}
 use Rattle.ea_engine.specs.Problems.{Problem}
 use Rattle.ea_engine.specs.declared.settings.Pace.{Pace}
 use Rattle.ea_engine.specs.declared.turn.Turn.{Turn}
+use Rattle.ea_engine.specs.declared.turn.TurnEnd.{TurnEnd}
 use Rattle.ea_engine.specs.declared.turn.Hand.{Hand}
 use Rattle.ea_engine.specs.declared.turn.Flow.{Flow}
 use Rattle.ea_engine.specs.declared.turn.TurnKind.{TurnKind}
@@ -21,16 +24,18 @@ use Rattle.ea_engine.specs.declared.turn.TurnKind.TheVariants.{Empty, Busy, Stal
 use Rattle.ea_engine.specs.declared.counters.Counters.{Counters}
 use Rattle.ea_labels.specs.declared.record.Bound.{Bound}
 use Rattle.ea_lists.specs.Totals.{total}
+use Rattle.ea_lists.proofs.Totals.{total-append}
 use Rattle.ea_pool.specs.declared.account.Account.{Account}
 use Rattle.ea_limits.specs.declared.TheConstants.{SHARES}
 use Rattle.ea_pool.specs.Entries.{only}
 use Rattle.ea_pool.specs.Pools.{NothingLeft, IsLeft}
-use Rattle.ea_engine.specs.Turns.{Told, IsShaped, IsShapedAs, IsWorkDone, is_ended, idle_run, ends_worker, is_empty, is_busy, is_idle, is_leave, is_refused, counters_of, counted, count_kind, lowered_in_all, popped_as, popped_in, popped_in_all, IsRoomy}
+use Rattle.ea_engine.specs.Turns.{Told, IsShaped, IsShapedAs, IsWorkDone, is_ended, idle_run, ends_worker, is_empty, is_busy, is_idle, is_leave, is_refused, counted, closed_by, CountsTurns, count_kind, lowered_in_all, visited_as, visited_in, visited_in_all, visited_count, IsRoomy}
 use Rattle.ea_engine.specs.Closed.{entry_at, entry_of, IsClosedAs, IsClosedTurn, IsFreshAs, IsFreshTurn}
-use Rattle.ea_engine.specs.Worked.{Kit, Progress, IsTurn, IsWork, IsHandOf, IsInside, IsLoneAs}
+use Rattle.ea_engine.specs.Worked.{Kit, Progress, IsTurn, IsWork, IsBrokenAs, IsLeftAs, IsInside, IsLoneAs, IsPoppingAs, AreInside}
+use Rattle.ea_engine.proofs.Multisets.{same_length}
 use Rattle.ea_engine.proofs.ProgressLemmas.{Progress-none, Progress-then}
 use Rattle.ea_engine.proofs.BoundLemmas.{IsStale-more, IsScanned-more, IsCut-more}
-use Rattle.ea_engine.proofs.CounterLemmas.{index_push, count_push, popped_count, popped_count_push, lowered_push, refused_push, counters_push, IsRoomy-few}
+use Rattle.ea_engine.proofs.CounterLemmas.{index_push, count_push, visited_count_push, lowered_push, CountsTurns-push, pops_push, pushes_push, AreCounters-closed, IsRoomy-few}
 
 some_one : (o : Option Entry) → IsSome o → length (option_to_list o) ≡ 1
 some_one None h = absurd (false≢true h)
@@ -39,65 +44,119 @@ some_one (Some x) h = refl
 none_zero : (o : Option Entry) → o ≡ None → length (option_to_list o) ≡ 0
 none_zero o e = rw e refl
 
-hand_sizes : (k : TurnKind) (h : Hand) → IsHandOf k h → (length (option_to_list h.popped) ≡ cond (is_refused k) 1 0) × (length (option_to_list h.refused) ≡ cond (is_refused k) 1 0)
-hand_sizes Empty h e = (none_zero h.popped e.0, none_zero h.refused e.1)
-hand_sizes Busy h e = (none_zero h.popped e.0, none_zero h.refused e.1)
-hand_sizes Stale h e = (none_zero h.popped e.0, none_zero h.refused e.1)
-hand_sizes Scanned h e = (none_zero h.popped e.0, none_zero h.refused e.1)
-hand_sizes Cut h e = (none_zero h.popped e.0, none_zero h.refused e.1)
-hand_sizes Refused h e = (some_one h.popped e.0, some_one h.refused e.1)
+broken_size : (k : TurnKind) (broken : Option Entry) → IsBrokenAs k broken → length (option_to_list broken) ≡ cond (is_refused k) 1 0
+broken_size Empty o e = none_zero o e
+broken_size Busy o e = none_zero o e
+broken_size Stale o e = none_zero o e
+broken_size Scanned o e = none_zero o e
+broken_size Cut o e = none_zero o e
+broken_size Refused o e = some_one o e
 
-hand_open : (k : TurnKind) (h : Hand) (leaves : Bool) → IsHandOf k h → (is_refused k || leaves) ≡ false → (h.popped ≡ None) × (h.refused ≡ None)
-hand_open Empty h leaves e f = e
-hand_open Busy h leaves e f = e
-hand_open Stale h leaves e f = e
-hand_open Scanned h leaves e f = e
-hand_open Cut h leaves e f = e
-hand_open Refused h leaves e f = absurd (false≢true (sym f))
+whole_scan : (k : TurnKind) (broken : Option Entry) (leaves : Bool) → IsBrokenAs k broken → (is_refused k || leaves) ≡ false → broken ≡ None
+whole_scan Empty o leaves e f = e
+whole_scan Busy o leaves e f = e
+whole_scan Stale o leaves e f = e
+whole_scan Scanned o leaves e f = e
+whole_scan Cut o leaves e f = e
+whole_scan Refused o leaves e f = absurd (false≢true (sym f))
+
+few_left : (k : TurnKind) (batch fresh : ℕ) (leaves : Bool) → IsLeftAs k batch fresh → (is_refused k || leaves) ≡ false → fresh < batch
+few_left Empty batch fresh leaves e f = e
+few_left Busy batch fresh leaves e f = e
+few_left Stale batch fresh leaves e f = e
+few_left Scanned batch fresh leaves e f = e
+few_left Cut batch fresh leaves e f = e
+few_left Refused batch fresh leaves e f = absurd (false≢true (sym f))
+
+most_left : (k : TurnKind) (batch fresh : ℕ) → IsLeftAs k batch fresh → fresh ≤ batch
+most_left Empty batch fresh e = omega (arith, e)
+most_left Busy batch fresh e = omega (arith, e)
+most_left Stale batch fresh e = omega (arith, e)
+most_left Scanned batch fresh e = omega (arith, e)
+most_left Cut batch fresh e = omega (arith, e)
+most_left Refused batch fresh e = e.1
+
+-- with batches of one entry a fresh one is left only by a refused push
+one_left : (k : TurnKind) (batch fresh : ℕ) → batch ≡ 1 → IsLeftAs k batch fresh → fresh ≡ cond (is_refused k) 1 0
+one_left Empty batch fresh one e = omega (arith, one, e)
+one_left Busy batch fresh one e = omega (arith, one, e)
+one_left Stale batch fresh one e = omega (arith, one, e)
+one_left Scanned batch fresh one e = omega (arith, one, e)
+one_left Cut batch fresh one e = omega (arith, one, e)
+one_left Refused batch fresh one e = omega (arith, one, e.0, e.1)
+
+pub popping_most : (k : TurnKind) (pops : ℕ) → IsPoppingAs k pops → pops ≤ 1
+popping_most Empty pops e = omega (arith, e)
+popping_most Busy pops e = omega (arith, e)
+popping_most Stale pops e = e
+popping_most Scanned pops e = e
+popping_most Refused pops e = e
+popping_most Cut pops e = e
+
+-- an idle turn popped
+popping_idle : (k : TurnKind) (pops : ℕ) → IsPoppingAs k pops → cond {A = ℕ} (is_empty k) 1 0 + cond {A = ℕ} (is_busy k) 1 0 ≤ pops
+popping_idle Empty pops e = omega (arith, e)
+popping_idle Busy pops e = omega (arith, e)
+popping_idle Stale pops e = omega arith
+popping_idle Scanned pops e = omega arith
+popping_idle Refused pops e = omega arith
+popping_idle Cut pops e = omega arith
 
 append-nil : {X : Type 0} (xs : List X) → xs ++ [] ≡ xs
 append-nil [] = refl
 append-nil (x ∷ xs) = ap (λ ys. x ∷ ys) (append-nil xs)
 
-popped_push : (ts : List Told) (t : Told) → popped_in_all (ts ++ t ∷ []) ≡ popped_in t.0 ++ popped_in_all ts
-popped_push [] t = sym (append-nil (popped_in t.0))
-popped_push (u ∷ ts) t = ap (λ xs. xs ++ popped_in u.0) (popped_push ts t) ∙ append_assoc (popped_in t.0) (popped_in_all ts) (popped_in u.0)
+visited_push : (ts : List Told) (t : Told) → visited_in_all (ts ++ t ∷ []) ≡ visited_in t.0 ++ visited_in_all ts
+visited_push [] t = sym (append-nil (visited_in t.0))
+visited_push (u ∷ ts) t = ap (λ xs. xs ++ visited_in u.0) (visited_push ts t) ∙ append_assoc (visited_in t.0) (visited_in_all ts) (visited_in u.0)
 
--- a seat with all shares isn't busy
-not_busy : (k : TurnKind) (heaps : ℕ) (a : Account) (e : Entry) → IsLoneAs heaps a k e → cond {A = ℕ} (is_busy k) 1 0 ≡ 0
-not_busy Empty heaps a e lone = refl
-not_busy Busy heaps a e lone = absurd lone
-not_busy Stale heaps a e lone = refl
-not_busy Scanned heaps a e lone = refl
-not_busy Refused heaps a e lone = refl
-not_busy Cut heaps a e lone = refl
+-- of an empty list
+nothing_in : (f : Entry → ℕ) (xs : List Entry) → length xs ≡ 0 → total f xs ≡ 0
+nothing_in f [] e = refl
+nothing_in f (x ∷ xs) e = absurd (omega (arith, e))
 
--- a turn that lowered no label pushed nothing
-nothing_pushed : (a b : Kit) (popped : List Entry) (words : ℕ) (refused : List Entry) (p : Progress a b popped words 0 refused) → p.pushed ≡ []
-nothing_pushed a b popped words refused p = none p.pushed (omega (arith, p.lowered_is, ap length p.own_entries, length-map p.lowerings entry_of, length-append refused p.pushed))
-  where
-    none : (xs : List Entry) → length xs ≡ 0 → xs ≡ []
-    none [] e = refl
-    none (x ∷ xs) e = absurd (omega (arith, e))
+none : {X : Type 0} (xs : List X) → length xs ≡ 0 → xs ≡ []
+none [] e = refl
+none (x ∷ xs) e = absurd (omega (arith, e))
 
--- one that found both heaps empty leaves the account as it was
-still : (a b : Kit) (words : ℕ) (refused : List Entry) → Progress a b [] words 0 refused → NothingLeft a.account → NothingLeft b.account
-still a b words refused p nothing f =
-    omega (arith, nothing f, ap (total f) (p.pushed_are ∙ ap (λ xs. xs ++ a.account.pushed) (nothing_pushed a b [] words refused p)), ap (total f) p.popped_are)
+-- a worker holds nothing
+record IsBare (k : Kit) : Type 0 where
+  taken : length k.taken ≡ 0
+  fresh : length k.fresh ≡ 0
+
+-- a turn that found both heaps empty leaves the account as it was, where the worker holds nothing
+still : (a b : Kit) (words : ℕ) → IsBare a → IsBare b → Progress a b [] words 0 → NothingLeft a.account → NothingLeft b.account
+still a b words bare bare' p nothing f = omega (
+  arith,
+  nothing f,
+  p.pushed_are f,
+  p.own_entries f,
+  p.popped_are f,
+  total-append f p.pushed a.account.pushed,
+  total-append f p.pushed b.fresh,
+  nothing_in f b.fresh bare'.fresh,
+  nothing_in f (map entry_of p.lowerings) (length-map p.lowerings entry_of ∙ p.lowered_is),
+  total-append f (map entry_of p.lowerings) a.fresh,
+  nothing_in f a.fresh bare.fresh,
+  total-append f b.account.popped a.taken,
+  nothing_in f a.taken bare.taken,
+  total-append f b.taken a.account.popped,
+  nothing_in f b.taken bare'.taken,
+)
 
 -- where nothing is left, no entry is
 none_left : (a : Account) (e : Entry) → NothingLeft a → IsLeft e a → ⊥
 none_left a e nothing left = omega (arith, left, nothing (only e))
 
 -- where a turn found two heaps empty, this one or one before it, nothing is left
-nothing_left : (k : TurnKind) (heaps n key node before : ℕ) (a b : Kit) (words : ℕ) (refused : List Entry) → IsShapedAs k node key n → Progress a b (popped_as k key node) words n refused
+nothing_left : (k : TurnKind) (heaps n key node before : ℕ) (a b : Kit) (words : ℕ) → IsShapedAs k node key n → IsBare a → (is_refused k ≡ false → IsBare b) → Progress a b (visited_as k key node) words n
     → heaps ≡ 2 → IsLoneAs heaps a.account k (entry_at key node) → (0 < before → NothingLeft a.account) → 0 < before + cond (is_empty k) 1 0 → NothingLeft b.account
-nothing_left Empty heaps n key node before a b words refused shaped p two lone known some = still a b words refused (subst (λ m. Progress a b [] words m refused) shaped.2 p) (lone two)
-nothing_left Busy heaps n key node before a b words refused shaped p two lone known some = absurd lone
-nothing_left Stale heaps n key node before a b words refused shaped p two lone known some = absurd (none_left a.account _ (known (omega (arith, some))) (lone two).0)
-nothing_left Scanned heaps n key node before a b words refused shaped p two lone known some = absurd (none_left a.account _ (known (omega (arith, some))) (lone two).0)
-nothing_left Refused heaps n key node before a b words refused shaped p two lone known some = absurd (none_left a.account _ (known (omega (arith, some))) (lone two).0)
-nothing_left Cut heaps n key node before a b words refused shaped p two lone known some = absurd (none_left a.account _ (known (omega (arith, some))) (lone two).0)
+nothing_left Empty heaps n key node before a b words shaped bare bare' p two lone known some = still a b words bare (bare' refl) (subst (λ m. Progress a b [] words m) shaped.2 p) (lone two)
+nothing_left Busy heaps n key node before a b words shaped bare bare' p two lone known some = absurd lone
+nothing_left Stale heaps n key node before a b words shaped bare bare' p two lone known some = absurd (none_left a.account _ (known (omega (arith, some))) (lone two).0)
+nothing_left Scanned heaps n key node before a b words shaped bare bare' p two lone known some = absurd (none_left a.account _ (known (omega (arith, some))) (lone two).0)
+nothing_left Refused heaps n key node before a b words shaped bare bare' p two lone known some = absurd (none_left a.account _ (known (omega (arith, some))) (lone two).0)
+nothing_left Cut heaps n key node before a b words shaped bare bare' p two lone known some = absurd (none_left a.account _ (known (omega (arith, some))) (lone two).0)
 
 -- where nothing is left, a turn finds two heaps empty
 empty_again : (k : TurnKind) (heaps key node : ℕ) (a : Account) → heaps ≡ 2 → IsLoneAs heaps a k (entry_at key node) → NothingLeft a → is_empty k ≡ true
@@ -130,7 +189,7 @@ module _ (problem : Problem) where
   IsFreshAs-less bs cs Cut e stays h = λ stale. h (IsStale-more bs cs stays e stale)
 
   module _ {T : Type 0} (shows : T → Turn → Flow → T → Type 0) (heaps : ℕ) where
-    pub record SoFar (from to : Kit) (pace : Pace) (tracer tracer' : T) (counters : Counters) (hand : Hand) (number idle : ℕ) (ended : Bool) : Type 0 where
+    pub record SoFar (from to : Kit) (pace : Pace) (tracer tracer' : T) (counters : Counters) (broken : Option Entry) (number idle : ℕ) (ended : Bool) : Type 0 where
       pub turns : List Told
       pub numbered : (i : ℕ) (d : Told) → i < length turns → (get_or turns i d).0.number ≡ i
       pub shaped : (i : ℕ) (d : Told) → i < length turns → IsShaped (get_or turns i d).0
@@ -140,23 +199,31 @@ module _ (problem : Problem) where
       pub ended_is : is_ended turns ≡ ended
       pub few : lowered_in_all turns ≤ number * 2 ^ 28
       pub shown : FoldsTo (λ p t q. shows p t.0 t.1 q) tracer turns tracer'
-      pub counted : counters ≡ counters_of turns
-      pub progress : Progress from to (popped_in_all turns) (2 * length turns + lowered_in_all turns) (lowered_in_all turns) (option_to_list hand.refused)
-      pub closed : (i : ℕ) (d : Told) → i < length turns → IsClosedTurn problem to.labels.bounds (option_to_list hand.popped) (get_or turns i d).0
+      pub counted : CountsTurns turns counters
+      pub pops_few : counters.pops ≤ length turns
+      pub idle_pops : counters.empty + counters.busy ≤ counters.pops
+      pub pushes_few : counters.pushes ≤ lowered_in_all turns + length turns
+      pub one_each : pace.batch ≡ 1 → (counters.pops ≡ length turns) × (counters.pushes ≡ lowered_in_all turns)
+      pub progress : Progress from to (visited_in_all turns) (2 * counters.pops + counters.pushes) (lowered_in_all turns)
+      pub closed : (i : ℕ) (d : Told) → i < length turns → IsClosedTurn problem to.labels.bounds (option_to_list broken) (get_or turns i d).0
       pub fresh : (i : ℕ) (d : Told) → i < length turns → IsFreshTurn problem.query.target from.labels.bounds (get_or turns i d).0
-      pub hand_popped : (entry : Entry) → Contains (option_to_list hand.popped) entry → Contains (popped_in_all turns) entry
-      pub hand_inside : IsInside problem.network hand
-      pub open_hand : ended ≡ false → (hand.popped ≡ None) × (hand.refused ≡ None)
-      pub popped_is : length (popped_in_all turns) ≡ popped_count turns
-      pub popped_back : length (option_to_list hand.popped) ≡ count_kind is_refused turns
-      pub refused_back : length (option_to_list hand.refused) ≡ count_kind is_refused turns
+      pub broken_visited : (entry : Entry) → Contains (option_to_list broken) entry → Contains (visited_in_all turns) entry
+      pub broken_inside : IfSome broken (λ entry. IsNode problem.network.nodes entry.node)
+      pub whole : ended ≡ false → broken ≡ None
+      pub taken_few : length to.taken < pace.batch
+      pub fresh_few : length to.fresh ≤ pace.batch
+      pub fresh_left : ended ≡ false → length to.fresh < pace.batch
+      pub fresh_back : pace.batch ≡ 1 → length to.fresh ≡ count_kind is_refused turns
+      pub visited_is : length (visited_in_all turns) ≡ visited_count turns
+      pub broken_back : length (option_to_list broken) ≡ count_kind is_refused turns
       pub never_busy : from.account.shares ≡ SHARES → count_kind is_busy turns ≡ 0
-      pub stays_empty : from.account.shares ≡ SHARES → heaps ≡ 2 → (i : ℕ) (d : Told) → i < length turns → 0 < count_kind is_empty (take i turns) → is_empty (get_or turns i d).0.kind ≡ true
-      pub empty_so_far : from.account.shares ≡ SHARES → heaps ≡ 2 → 0 < count_kind is_empty turns → NothingLeft to.account
+      pub stays_empty : pace.batch ≡ 1 → from.account.shares ≡ SHARES → heaps ≡ 2 → (i : ℕ) (d : Told) → i < length turns → 0 < count_kind is_empty (take i turns) → is_empty (get_or turns i d).0.kind ≡ true
+      pub empty_so_far : pace.batch ≡ 1 → from.account.shares ≡ SHARES → heaps ≡ 2 → 0 < count_kind is_empty turns → NothingLeft to.account
 
-    pub SoFar-start : (k : Kit) (pace : Pace) (tracer : T) (counters : Counters) (hand : Hand) → counters ≡ counters_of [] → hand.popped ≡ None → hand.refused ≡ None
-        → SoFar k k pace tracer tracer counters hand 0 0 false
-    SoFar-start k pace tracer counters hand zeros popped refused = record {
+    pub SoFar-start : (k : Kit) (pace : Pace) (tracer : T) (counters : Counters) (broken : Option Entry) → CountsTurns [] counters → counters.pops ≡ 0 → counters.pushes ≡ 0 → broken ≡ None
+        → k.taken ≡ [] → k.fresh ≡ [] → 1 ≤ pace.batch
+        → SoFar k k pace tracer tracer counters broken 0 0 false
+    SoFar-start k pace tracer counters broken zeros pops pushes nothing taken fresh some = record {
       turns = [];
       numbered = λ i d lt. absurd (omega arith);
       shaped = λ i d lt. absurd (omega arith);
@@ -167,110 +234,231 @@ module _ (problem : Problem) where
       few = omega arith;
       shown = refl;
       counted = zeros;
-      progress = rw refused (Progress-none k);
+      pops_few = omega (arith, pops);
+      idle_pops = omega (arith, zeros.empty, zeros.busy);
+      pushes_few = omega (arith, pushes);
+      one_each = λ one. (pops, pushes);
+      progress = rw (pops, pushes) (Progress-none k);
       closed = λ i d lt. absurd (omega arith);
       fresh = λ i d lt. absurd (omega arith);
-      hand_popped = λ e inside. absurd (omega (arith, (rw popped at inside).1));
-      hand_inside = rw (popped, refused) (tt, tt);
-      open_hand = λ e. (popped, refused);
-      popped_is = refl;
-      popped_back = rw popped refl;
-      refused_back = rw refused refl;
+      broken_visited = λ e inside. absurd (omega (arith, (rw nothing at inside).1));
+      broken_inside = rw nothing tt;
+      whole = λ e. nothing;
+      taken_few = omega (arith, ap length taken, some);
+      fresh_few = omega (arith, ap length fresh);
+      fresh_left = λ e. omega (arith, ap length fresh, some);
+      fresh_back = λ one. ap length fresh;
+      visited_is = refl;
+      broken_back = rw nothing refl;
       never_busy = λ whole. refl;
-      stays_empty = λ whole two i d lt. absurd (omega arith);
-      empty_so_far = λ whole two some. absurd (omega (arith, some));
+      stays_empty = λ one whole two i d lt. absurd (omega arith);
+      empty_so_far = λ one whole two some. absurd (omega (arith, some));
     }
 
-    pub SoFar-roomy : (from to : Kit) (pace : Pace) (tracer tracer' : T) (counters : Counters) (hand : Hand) (number idle : ℕ) (ended : Bool)
-        → SoFar from to pace tracer tracer' counters hand number idle ended → number ≤ 1000000000 → IsRoomy counters
-    SoFar-roomy from to pace tracer tracer' counters hand number idle ended h few =
-        rw h.counted (IsRoomy-few h.turns (omega (arith, h.number_is)) (omega (arith, h.few)))
+    pub SoFar-roomy : (from to : Kit) (pace : Pace) (tracer tracer' : T) (counters : Counters) (broken : Option Entry) (number idle : ℕ) (ended : Bool)
+        → SoFar from to pace tracer tracer' counters broken number idle ended → number ≤ 1000000000 → IsRoomy counters
+    SoFar-roomy from to pace tracer tracer' counters broken number idle ended h few =
+        IsRoomy-few h.turns counters h.counted (omega (arith, h.number_is)) (omega (arith, h.few)) h.pops_few h.pushes_few
 
     -- no turn list that is a proper part is over, nor is the whole one while the loop goes on
-    not_over : (from to : Kit) (pace : Pace) (tracer tracer' : T) (counters : Counters) (hand : Hand) (number idle : ℕ)
-        → (h : SoFar from to pace tracer tracer' counters hand number idle false) → idle < pace.patience → number < pace.turns → IsWorkDone pace h.turns → ⊥
-    not_over from to pace tracer tracer' counters hand number idle h low more over = elim over [
+    not_over : (from to : Kit) (pace : Pace) (tracer tracer' : T) (counters : Counters) (broken : Option Entry) (number idle : ℕ)
+        → (h : SoFar from to pace tracer tracer' counters broken number idle false) → idle < pace.patience → number < pace.turns → IsWorkDone pace h.turns → ⊥
+    not_over from to pace tracer tracer' counters broken number idle h low more over = elim over [
       | inl spent ↦ omega (arith, spent, h.number_is)
       | inr (inl done) ↦ false≢true (sym h.ended_is ∙ done)
       | inr (inr waits) ↦ omega (arith, waits, h.idle_is)
     ]
 
     -- one more turn
-    module _ (from mid to : Kit) (pace : Pace) (tracer tracer' tracer'' : T) (counters counters' : Counters) (hand hand' : Hand) (number idle idle' : ℕ) (ended' : Bool) (turn : Turn) (flow : Flow)
-        (h : SoFar from mid pace tracer tracer' counters hand number idle false)
+    module _ (from mid to : Kit) (pace : Pace) (tracer tracer' tracer'' : T) (counters counters' : Counters) (broken : Option Entry) (number idle idle' : ℕ) (ended' : Bool) (end : TurnEnd) (flow : Flow)
+        (h : SoFar from mid pace tracer tracer' counters broken number idle false)
         (low : idle < pace.patience) (more : number < pace.turns)
-        (one : IsTurn problem heaps mid to number turn hand')
-        (told : shows tracer' turn flow tracer'')
-        (counts : counters' ≡ counted counters turn)
-        (idles : idle' ≡ (if is_idle turn.kind then idle + 1 else 0))
-        (ends : ended' ≡ (is_refused turn.kind || is_leave flow)) where
-      none_refused : count_kind is_refused h.turns ≡ 0
-      none_refused = sym h.refused_back ∙ ap (λ o. length (option_to_list o)) (h.open_hand refl).1
+        (one : IsTurn problem pace.batch heaps mid to number end)
+        (pushes : end.pushes ≤ end.turn.lowered + 1)
+        (told : shows tracer' end.turn flow tracer'')
+        (counts : counters' ≡ counted counters end)
+        (idles : idle' ≡ (if is_idle end.turn.kind then idle + 1 else 0))
+        (ends : ended' ≡ (is_refused end.turn.kind || is_leave flow)) where
+      told_turn : Told
+      told_turn = (end.turn, flow)
 
-      pub SoFar-more : SoFar from to pace tracer tracer'' counters' hand' (number + 1) idle' ended'
-      SoFar-more = record {
-        turns = h.turns ++ (turn, flow) ∷ [];
-        numbered = index_push (λ i t. t.0.number ≡ i) h.turns (turn, flow) h.numbered (one.number_is ∙ sym h.number_is);
-        shaped = index_push (λ i t. IsShaped t.0) h.turns (turn, flow) h.shaped one.shaped;
-        not_before = λ n lt. below_more (λ m. IsWorkDone pace (take m (h.turns ++ (turn, flow) ∷ [])) → ⊥) (length h.turns)
-            (λ m less over. h.not_before m less (rw (take-append-le m h.turns ((turn, flow) ∷ []) (omega arith)) at over))
-            (λ over. not_over from mid pace tracer tracer' counters hand number idle h low more (rw (take-append_seam h.turns ((turn, flow) ∷ [])) at over))
-            n (omega (arith, length-append h.turns ((turn, flow) ∷ [])));
-        number_is = length-append h.turns ((turn, flow) ∷ []) ∙ ap (λ n. n + 1) h.number_is;
-        idle_is = fold-append (λ (n : ℕ) (t : Told). if is_idle t.0.kind then n + 1 else 0) 0 h.turns ((turn, flow) ∷ [])
-            ∙ ap (λ n. if is_idle turn.kind then n + 1 else 0) h.idle_is ∙ sym idles;
-        ended_is = fold-append (λ (b : Bool) (t : Told). ends_worker t) false h.turns ((turn, flow) ∷ []) ∙ sym ends;
-        few = omega (arith, lowered_push h.turns (turn, flow), h.few, one.few);
-        shown = FoldsTo-push (λ p t q. shows p t.0 t.1 q) tracer h.turns tracer' (turn, flow) tracer'' h.shown told;
-        counted = counts ∙ ap (λ x. counted x turn) h.counted ∙ counters_push h.turns (turn, flow) none_refused one.shaped;
-        progress = Progress-then from mid to (popped_in_all h.turns) (popped_in turn) _ (2 * length h.turns + lowered_in_all h.turns) (2 + turn.lowered) _
-            (lowered_in_all h.turns) turn.lowered _ (option_to_list hand'.refused) (rw ((h.open_hand refl).1) at h.progress) one.progress
-            (popped_push h.turns (turn, flow))
-            (omega (arith, length-append h.turns ((turn, flow) ∷ []), lowered_push h.turns (turn, flow))) (lowered_push h.turns (turn, flow));
-        closed = index_push (λ i t. IsClosedTurn problem to.labels.bounds (option_to_list hand'.popped) t.0) h.turns (turn, flow)
-            (λ i d lt. IsClosedAs-more mid.labels.bounds to.labels.bounds (option_to_list hand.popped) (option_to_list hand'.popped) _ _ one.progress.bounds_stay (λ x inside. absurd (omega (arith, (rw ((h.open_hand refl).0) at inside).1))) (h.closed i d lt)) one.closed;
-        fresh = index_push (λ i t. IsFreshTurn problem.query.target from.labels.bounds t.0) h.turns (turn, flow) h.fresh (IsFreshAs-less from.labels.bounds mid.labels.bounds turn.kind _ h.progress.bounds_stay one.fresh);
-        hand_popped = λ e inside. rw (popped_push h.turns (turn, flow)) (Contains-append_left (popped_in turn) (popped_in_all h.turns) e (one.hand_popped e inside));
-        hand_inside = one.hand_inside;
-        open_hand = λ e. hand_open turn.kind hand' (is_leave flow) one.hand_is (sym ends ∙ e);
-        popped_is = omega (arith, h.popped_is, popped_count_push h.turns (turn, flow), ap length (popped_push h.turns (turn, flow)), length-append (popped_in turn) (popped_in_all h.turns));
-        popped_back = (hand_sizes turn.kind hand' one.hand_is).0 ∙ sym (refused_push h.turns (turn, flow) ∙ ap (λ n. n + cond (is_refused turn.kind) 1 0) none_refused ∙ zero-add _);
-        refused_back = (hand_sizes turn.kind hand' one.hand_is).1 ∙ sym (refused_push h.turns (turn, flow) ∙ ap (λ n. n + cond (is_refused turn.kind) 1 0) none_refused ∙ zero-add _);
-        never_busy = λ whole. omega (arith, count_push is_busy h.turns (turn, flow), h.never_busy whole, not_busy turn.kind heaps mid.account _ (one.lone (h.progress.pool_shares ∙ whole)));
-        stays_empty = λ whole two. index_push (λ i t. 0 < count_kind is_empty (take i (h.turns ++ (turn, flow) ∷ [])) → is_empty t.0.kind ≡ true) h.turns (turn, flow)
-            (λ i d lt some. h.stays_empty whole two i d lt (rw (take-append-le i h.turns ((turn, flow) ∷ []) (omega arith)) at some))
-            (λ some. empty_again turn.kind heaps turn.key turn.node mid.account two (one.lone (h.progress.pool_shares ∙ whole)) (h.empty_so_far whole two (rw (take-append_seam h.turns ((turn, flow) ∷ [])) at some)));
-        empty_so_far = λ whole two some. nothing_left turn.kind heaps turn.lowered turn.key turn.node (count_kind is_empty h.turns) mid to _ _ one.shaped one.progress two (one.lone (h.progress.pool_shares ∙ whole)) (h.empty_so_far whole two)
-            (omega (arith, some, count_push is_empty h.turns (turn, flow)));
+      none_refused : count_kind is_refused h.turns ≡ 0
+      none_refused = sym h.broken_back ∙ ap (λ o. length (option_to_list o)) (h.whole refl)
+
+      pops_now : counters'.pops ≡ counters.pops + end.pops
+      pops_now = ap (λ (c : Counters). c.pops) counts ∙ pops_push end counters
+
+      pushes_now : counters'.pushes ≡ counters.pushes + end.pushes
+      pushes_now = ap (λ (c : Counters). c.pushes) counts ∙ pushes_push end counters
+
+      counted_now : CountsTurns (h.turns ++ (end.turn, flow) ∷ []) counters'
+      counted_now = subst (λ (c : Counters). CountsTurns (h.turns ++ (end.turn, flow) ∷ []) c) (sym counts) (CountsTurns-push h.turns end flow counters h.counted)
+
+      refused_now : count_kind is_refused (h.turns ++ (end.turn, flow) ∷ []) ≡ cond (is_refused end.turn.kind) 1 0
+      refused_now = count_push is_refused h.turns (end.turn, flow) ∙ ap (λ n. n + cond (is_refused end.turn.kind) 1 0) none_refused ∙ zero-add _
+
+      bare : pace.batch ≡ 1 → IsBare mid
+      bare is = record { taken = omega (arith, is, h.taken_few); fresh = omega (arith, is, h.fresh_left refl) }
+
+      bare_after : pace.batch ≡ 1 → is_refused end.turn.kind ≡ false → IsBare to
+      bare_after is not = record {
+        taken = omega (arith, is, one.taken_few);
+        fresh = one_left end.turn.kind pace.batch (length to.fresh) is one.fresh_few ∙ ap (λ b. cond b 1 0) not;
       }
 
-    pub SoFar-end : (from to : Kit) (pace : Pace) (tracer tracer' : T) (counters : Counters) (hand : Hand) (number idle : ℕ) (ended : Bool)
-        → SoFar from to pace tracer tracer' counters hand number idle ended → number ≤ 1000000000 → (ended ≡ true) ⊎ (pace.patience ≤ idle) ⊎ (pace.turns ≤ number)
-        → IsWork problem shows heaps from to pace tracer tracer' counters hand
-    SoFar-end from to pace tracer tracer' counters hand number idle ended h small why = record {
-      turns = h.turns;
-      lawful = record {
-        numbered = h.numbered;
-        shaped = λ k d lt. h.shaped k d lt;
-        over = elim why [
-          | inl done ↦ inr (inl (h.ended_is ∙ done))
-          | inr (inl waits) ↦ inr (inr (omega (arith, waits, h.idle_is)))
-          | inr (inr spent) ↦ inl (omega (arith, spent, h.number_is))
-        ];
-        not_before = h.not_before;
-      };
-      shown = h.shown;
-      counted = h.counted;
-      progress = h.progress;
-      closed = λ k d lt. h.closed k d lt;
-      fresh = λ k d lt. h.fresh k d lt;
-      hand_popped = h.hand_popped;
-      hand_inside = h.hand_inside;
-      pushed_few = (SoFar-roomy from to pace tracer tracer' counters hand number idle ended h small).pushed;
-      popped_is = ap (λ (x : Counters). x.popped) h.counted ∙ sym h.popped_is;
-      returned_is = ap (λ (x : Counters). x.returned) h.counted ∙ omega (arith, h.popped_back, h.refused_back);
-      pushed_is = ap (λ (x : Counters). x.pushed) h.counted ∙ omega (arith, h.refused_back, h.progress.lowered_is, ap length h.progress.own_entries, length-map h.progress.lowerings entry_of, length-append (option_to_list hand.refused) h.progress.pushed);
-      never_busy = λ whole. ap (λ (x : Counters). x.busy) h.counted ∙ h.never_busy whole;
-      stays_empty = λ whole two k d lt some. h.stays_empty whole two k d lt some;
-      empty_at_end = λ whole two some. h.empty_so_far whole two (omega (arith, some, ap (λ (x : Counters). x.empty) h.counted));
-    }
+      lone : pace.batch ≡ 1 → from.account.shares ≡ SHARES → IsLoneAs heaps mid.account end.turn.kind (entry_at end.turn.key end.turn.node)
+      lone is whole = one.lone (none mid.taken (bare is).taken) (h.progress.pool_shares ∙ whole)
+
+      pub SoFar-more : SoFar from to pace tracer tracer'' counters' end.broken (number + 1) idle' ended'
+      SoFar-more = record {
+        turns = h.turns ++ (end.turn, flow) ∷ [];
+        numbered = index_push (λ i t. t.0.number ≡ i) h.turns (end.turn, flow) h.numbered (one.number_is ∙ sym h.number_is);
+        shaped = index_push (λ i t. IsShaped t.0) h.turns (end.turn, flow) h.shaped one.shaped;
+        not_before = λ n lt. below_more (λ m. IsWorkDone pace (take m (h.turns ++ (end.turn, flow) ∷ [])) → ⊥) (length h.turns)
+            (λ m less over. h.not_before m less (rw (take-append-le m h.turns ((end.turn, flow) ∷ []) (omega arith)) at over))
+            (λ over. not_over from mid pace tracer tracer' counters broken number idle h low more (rw (take-append_seam h.turns ((end.turn, flow) ∷ [])) at over))
+            n (omega (arith, length-append h.turns ((end.turn, flow) ∷ [])));
+        number_is = length-append h.turns ((end.turn, flow) ∷ []) ∙ ap (λ n. n + 1) h.number_is;
+        idle_is = fold-append (λ (n : ℕ) (t : Told). if is_idle t.0.kind then n + 1 else 0) 0 h.turns ((end.turn, flow) ∷ [])
+            ∙ ap (λ n. if is_idle end.turn.kind then n + 1 else 0) h.idle_is ∙ sym idles;
+        ended_is = fold-append (λ (b : Bool) (t : Told). ends_worker t) false h.turns ((end.turn, flow) ∷ []) ∙ sym ends;
+        few = omega (arith, lowered_push h.turns (end.turn, flow), h.few, one.few);
+        shown = FoldsTo-push (λ p t q. shows p t.0 t.1 q) tracer h.turns tracer' (end.turn, flow) tracer'' h.shown told;
+        counted = counted_now;
+        pops_few = omega (arith, pops_now, h.pops_few, popping_most end.turn.kind end.pops one.pops, length-append h.turns ((end.turn, flow) ∷ []));
+        idle_pops = omega (
+          arith,
+          pops_now,
+          h.idle_pops,
+          h.counted.empty,
+          h.counted.busy,
+          counted_now.empty,
+          counted_now.busy,
+          count_push is_empty h.turns (end.turn, flow),
+          count_push is_busy h.turns (end.turn, flow),
+          popping_idle end.turn.kind end.pops one.pops,
+        );
+        pushes_few = omega (arith, pushes_now, h.pushes_few, pushes, lowered_push h.turns (end.turn, flow), length-append h.turns ((end.turn, flow) ∷ []));
+        one_each = λ is.
+            let each = one.one_push_each is in
+            let before = h.one_each is in (
+              omega (arith, pops_now, each.0, before.0, length-append h.turns ((end.turn, flow) ∷ [])),
+              omega (arith, pushes_now, each.1, before.1, lowered_push h.turns (end.turn, flow)),
+            );
+        progress = Progress-then from mid to (visited_in_all h.turns) (visited_in end.turn) _ (2 * counters.pops + counters.pushes) (2 * end.pops + end.pushes) _
+            (lowered_in_all h.turns) end.turn.lowered _ h.progress one.progress
+            (visited_push h.turns (end.turn, flow))
+            (omega (arith, pops_now, pushes_now)) (lowered_push h.turns (end.turn, flow));
+        closed = index_push (λ i t. IsClosedTurn problem to.labels.bounds (option_to_list end.broken) t.0) h.turns (end.turn, flow)
+            (λ i d lt. IsClosedAs-more mid.labels.bounds to.labels.bounds (option_to_list broken) (option_to_list end.broken) _ _ one.progress.bounds_stay (λ x inside. absurd (omega (arith, (rw (h.whole refl) at inside).1))) (h.closed i d lt)) one.closed;
+        fresh = index_push (λ i t. IsFreshTurn problem.query.target from.labels.bounds t.0) h.turns (end.turn, flow) h.fresh (IsFreshAs-less from.labels.bounds mid.labels.bounds end.turn.kind _ h.progress.bounds_stay one.fresh);
+        broken_visited = λ e inside. rw (visited_push h.turns (end.turn, flow)) (Contains-append_left (visited_in end.turn) (visited_in_all h.turns) e (one.broken_visited e inside));
+        broken_inside = one.broken_inside;
+        whole = λ e. whole_scan end.turn.kind end.broken (is_leave flow) one.broken_is (sym ends ∙ e);
+        taken_few = one.taken_few;
+        fresh_few = most_left end.turn.kind pace.batch (length to.fresh) one.fresh_few;
+        fresh_left = λ e. few_left end.turn.kind pace.batch (length to.fresh) (is_leave flow) one.fresh_few (sym ends ∙ e);
+        fresh_back = λ is. one_left end.turn.kind pace.batch (length to.fresh) is one.fresh_few ∙ sym refused_now;
+        visited_is = omega (arith, h.visited_is, visited_count_push h.turns (end.turn, flow), ap length (visited_push h.turns (end.turn, flow)), length-append (visited_in end.turn) (visited_in_all h.turns));
+        broken_back = broken_size end.turn.kind end.broken one.broken_is ∙ sym refused_now;
+        never_busy = λ whole. omega (arith, count_push is_busy h.turns (end.turn, flow), h.never_busy whole, ap (λ b. cond {A = ℕ} b 1 0) (one.never_busy (h.progress.pool_shares ∙ whole)));
+        stays_empty = λ is whole two. index_push (λ i t. 0 < count_kind is_empty (take i (h.turns ++ (end.turn, flow) ∷ [])) → is_empty t.0.kind ≡ true) h.turns (end.turn, flow)
+            (λ i d lt some. h.stays_empty is whole two i d lt (rw (take-append-le i h.turns ((end.turn, flow) ∷ []) (omega arith)) at some))
+            (λ some. empty_again end.turn.kind heaps end.turn.key end.turn.node mid.account two (lone is whole) (h.empty_so_far is whole two (rw (take-append_seam h.turns ((end.turn, flow) ∷ [])) at some)));
+        empty_so_far = λ is whole two some. nothing_left end.turn.kind heaps end.turn.lowered end.turn.key end.turn.node (count_kind is_empty h.turns) mid to _ one.shaped (bare is) (bare_after is) one.progress two (lone is whole) (h.empty_so_far is whole two)
+            (omega (arith, some, count_push is_empty h.turns (end.turn, flow)));
+      }
+
+    -- so many of the entries that were lowered are pushed or fresh
+    pushed_or_fresh : (a b : Kit) (visited : List Entry) (words lowered : ℕ) (p : Progress a b visited words lowered) → length a.fresh ≡ 0 → length p.pushed + length b.fresh ≡ lowered
+    pushed_or_fresh a b visited words lowered p bare = omega (
+      arith,
+      same_length (p.pushed ++ b.fresh) (map entry_of p.lowerings ++ a.fresh) p.own_entries,
+      length-append p.pushed b.fresh,
+      length-append (map entry_of p.lowerings) a.fresh,
+      length-map p.lowerings entry_of,
+      p.lowered_is,
+    )
+
+    pushed_more : (a b : Kit) (visited : List Entry) (words lowered : ℕ) (p : Progress a b visited words lowered) → length b.account.pushed ≡ length p.pushed + length a.account.pushed
+    pushed_more a b visited words lowered p = omega (
+      arith,
+      same_length b.account.pushed (p.pushed ++ a.account.pushed) p.pushed_are,
+      length-append p.pushed a.account.pushed,
+    )
+
+    pub fresh_of_lowered : (from to : Kit) (pace : Pace) (tracer tracer' : T) (counters : Counters) (broken : Option Entry) (number idle : ℕ) (ended : Bool)
+        → (h : SoFar from to pace tracer tracer' counters broken number idle ended) → from.fresh ≡ [] → length to.fresh ≤ counters.lowered
+    fresh_of_lowered from to pace tracer tracer' counters broken number idle ended h bare =
+        omega (arith, pushed_or_fresh from to _ _ _ h.progress (ap length bare), h.counted.lowered)
+
+    pub SoFar-end : (from to : Kit) (pace : Pace) (tracer tracer' : T) (counters counters' : Counters) (hand : Hand) (number idle : ℕ) (ended : Bool)
+        → SoFar from to pace tracer tracer' counters hand.popped number idle ended → number ≤ 1000000000 → (ended ≡ true) ⊎ (pace.patience ≤ idle) ⊎ (pace.turns ≤ number)
+        → from.taken ≡ [] → from.fresh ≡ [] → to.taken ≡ hand.taken.items → to.fresh ≡ hand.fresh.items
+        → AreInside problem.network hand.taken.items → AreInside problem.network hand.fresh.items
+        → length hand.fresh.items ≤ counters.lowered
+        → counters' ≡ closed_by (array_vec_len hand.taken) (array_vec_len hand.fresh) counters
+        → IsWork problem shows heaps from to pace tracer tracer' counters' hand
+    SoFar-end from to pace tracer tracer' counters counters' hand number idle ended h small why bare_taken bare_fresh taken fresh inside inside' few closes =
+        let c = closed_by (array_vec_len hand.taken) (array_vec_len hand.fresh) counters in
+        let roomy = SoFar-roomy from to pace tracer tracer' counters hand.popped number idle ended h small in
+        let one_popped : length (option_to_list hand.popped) ≡ counters.refused = h.broken_back ∙ sym h.counted.refused in
+        subst (λ (d : Counters). IsWork problem shows heaps from to pace tracer tracer' d hand) (sym closes) (record {
+          turns = h.turns;
+          lawful = record {
+            numbered = h.numbered;
+            shaped = λ k d lt. h.shaped k d lt;
+            over = elim why [
+              | inl done ↦ inr (inl (h.ended_is ∙ done))
+              | inr (inl waits) ↦ inr (inr (omega (arith, waits, h.idle_is)))
+              | inr (inr spent) ↦ inl (omega (arith, spent, h.number_is))
+            ];
+            not_before = h.not_before;
+          };
+          shown = h.shown;
+          counted = AreCounters-closed pace.batch h.turns counters (array_vec_len hand.taken) (array_vec_len hand.fresh) h.counted few h.pops_few h.idle_pops h.pushes_few
+              (λ is. (
+                (h.one_each is).0,
+                (h.one_each is).1,
+                omega (arith, is, h.taken_few, ap length taken),
+                omega (arith, h.fresh_back is, ap length fresh, h.counted.refused),
+              ));
+          progress = h.progress;
+          closed = λ k d lt. h.closed k d lt;
+          fresh = λ k d lt. h.fresh k d lt;
+          hand_popped = h.broken_visited;
+          hand_inside = record { popped = h.broken_inside; taken = inside; fresh = inside' };
+          hand_few = omega (arith, h.taken_few, h.fresh_few, ap length taken, ap length fresh, one_or_none hand.popped);
+          unvisited_is = refl;
+          returned_is = omega (arith, one_popped);
+          pushed_is = omega (
+            arith,
+            pushed_or_fresh from to _ _ _ h.progress (ap length bare_fresh),
+            pushed_more from to _ _ _ h.progress,
+            ap length fresh,
+            h.counted.lowered,
+            few,
+          );
+          pushed_few = omega (arith, roomy.lowered);
+          popped_is = omega (
+            arith,
+            same_length (to.account.popped ++ from.taken) (visited_in_all h.turns ++ (to.taken ++ from.account.popped)) h.progress.popped_are,
+            length-append to.account.popped from.taken,
+            ap length bare_taken,
+            length-append (visited_in_all h.turns) (to.taken ++ from.account.popped),
+            length-append to.taken from.account.popped,
+            ap length taken,
+            h.visited_is,
+            h.counted.stale,
+            h.counted.scanned,
+            h.counted.refused,
+            h.counted.cut,
+          );
+          never_busy = λ whole. h.counted.busy ∙ h.never_busy whole;
+          stays_empty = λ is whole two k d lt some. h.stays_empty is whole two k d lt some;
+          empty_at_end = λ is whole two some. h.empty_so_far is whole two (omega (arith, some, h.counted.empty));
+        })
+      where
+        one_or_none : (o : Option Entry) → length (option_to_list o) ≤ 1
+        one_or_none None = omega arith
+        one_or_none (Some x) = omega arith

@@ -1,6 +1,6 @@
 -- Seats that were just split off, and what a worker leaves that began with such seats.
-use Rattle.std.specs.Prelude.{◌≡◌, ◌<◌, ◌^◌, [], length}
-use Rattle.std.specs.Option.{option_to_list}
+use Rattle.std.specs.Prelude.{◌≡◌, ◌*◌, ◌<◌, ◌≤◌, ◌^◌, [], length}
+use Rattle.ea_limits.specs.declared.TheConstants.{MOST_BATCH}
 use Rattle.ea_engine.specs.declared.row.Place.{Place}
 use Rattle.ea_engine.specs.declared.row.Place.TheVariants as place
 use Rattle.ea_engine.specs.declared.means.Seats.{Seats}
@@ -8,7 +8,7 @@ use Rattle.ea_engine.specs.declared.work_loop.WorkerEnd.{WorkerEnd}
 use Rattle.ea_engine.specs.Closed.{IsClosedAccount}
 use Rattle.ea_engine.specs.Problems.{Problem}
 use Rattle.ea_engine.specs.Seated.{Tables, AreSeatsOf}
-use Rattle.ea_engine.specs.Worked.{IsInside, hand_size}
+use Rattle.ea_engine.specs.Worked.{IsInside, back_of, hand_size}
 
 -- Seats that were just split off: one share each, and nothing done.
 pub record AreFresh {K : Type 0} (tables : Tables) (seats : Seats K) : Type 0 where
@@ -23,12 +23,13 @@ module _ {K R T : Type 0} (problem : Problem) (tables : Tables) where
   -- What a worker leaves that began with fresh seats.
   pub record IsEnd (end : WorkerEnd K R T) : Type 0 where
     pub fit : AreSeatsOf tables end.label_seat end.pool_seat
-    pub closed : IsClosedAccount problem end.label_seat.history end.pool_seat.account (option_to_list end.hand.popped) (option_to_list end.hand.refused)
+    pub closed : IsClosedAccount problem end.label_seat.history end.pool_seat.account (back_of end.hand) end.hand.fresh.items
     pub inside : IsInside problem.network end.hand
     pub pushed_is : length end.pool_seat.account.pushed ≡ end.counters.pushed
     pub pushed_few : end.counters.pushed < 2 ^ 62
     pub popped_is : length end.pool_seat.account.popped ≡ end.counters.popped
     pub returned_is : end.counters.returned ≡ hand_size end.hand
+    pub returned_few : hand_size end.hand ≤ 2 * MOST_BATCH
     pub label_share : end.label_seat.history.shares ≡ 1
     pub pool_share : end.pool_seat.account.shares ≡ 1
 

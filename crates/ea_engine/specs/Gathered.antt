@@ -3,10 +3,10 @@ use Rattle.std.specs.Prelude.{ℕ, List, ◌++◌, Contains}
 use Rattle.ea_labels.specs.declared.record.SeatRecord.{SeatRecord}
 use Rattle.ea_pool.specs.declared.entry.Entry.{Entry}
 use Rattle.ea_pool.specs.declared.account.Account.{Account}
-use Rattle.std.specs.Option.{option_to_list}
 use Rattle.ea_engine.specs.declared.turn.Hand.{Hand}
 use Rattle.ea_engine.specs.Problems.{Problem}
 use Rattle.ea_engine.specs.Closed.{IsClosedAccount}
+use Rattle.ea_engine.specs.Worked.{back_of}
 
 pub record IsGathered
     (problem : Problem)
@@ -29,5 +29,5 @@ pub record IsHanded
     : Type 0 where
   pub back : List Entry
   pub refused : List Entry
-  pub closed : IsClosedAccount problem history account (back ++ option_to_list hand.popped) (refused ++ option_to_list hand.refused)
+  pub closed : IsClosedAccount problem history account (back ++ back_of hand) (refused ++ hand.fresh.items)
   pub waits : (entry : Entry) → Contains (back ++ refused) entry → Contains waiting entry.node

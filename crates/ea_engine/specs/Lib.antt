@@ -7,6 +7,7 @@ pub mod Grounds
 pub mod Turns
 pub mod Looks
 pub mod Worked
+pub mod Holds
 pub mod Seated
 pub mod Scans
 pub mod Parts

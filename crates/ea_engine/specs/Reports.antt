@@ -7,7 +7,7 @@ use Rattle.ea_engine.specs.declared.turn.Turn.{Turn}
 use Rattle.ea_engine.specs.declared.turn.Flow.{Flow}
 use Rattle.ea_engine.specs.declared.counters.Counters.{Counters}
 use Rattle.ea_engine.specs.Words.{after_words}
-use Rattle.ea_engine.specs.Turns.{Told, IsTurnList, lowered_in_all, counters_of}
+use Rattle.ea_engine.specs.Turns.{Told, IsTurnList, AreCounters}
 
 -- The counters are those of one lawful turn list, which led the tracer from one state to the other and
 -- took the generator on by its words.
@@ -15,8 +15,8 @@ pub record IsReport {T : Type 0} (shows : T → Turn → Flow → T → Type 0) 
   pub turns : List Told
   pub lawful : IsTurnList pace turns
   pub shown : FoldsTo (λ p t q. shows p t.0 t.1 q) tracer turns tracer'
-  pub counted : counters ≡ counters_of turns
-  pub words_are : words' ≡ after_words (2 * length turns + lowered_in_all turns) words
+  pub counted : AreCounters pace.batch turns counters
+  pub words_are : words' ≡ after_words (2 * counters.pops + counters.pushes) words
 
 -- a report of each worker
 abbrev pub AreReports : {R T : Type 0} → (R → Stream) → (T → Turn → Flow → T → Type 0) → Pace → List R → List R → List T → List T → List Counters → Type 0

@@ -1,5 +1,6 @@
 -- What the places of a row leave, and what is gathered of the first of them.
 use Rattle.std.specs.Prelude.{◌≡◌, ℕ, ◌+◌, ◌*◌, ◌^◌, ◌<◌, ◌≤◌, List, [], ◌∷◌, map, length, All, sum_by}
+use Rattle.ea_limits.specs.declared.TheConstants.{MOST_BATCH}
 use Rattle.ea_engine.specs.declared.gathering.Gathering.{Gathering}
 use Rattle.ea_engine.specs.declared.means.Seats.{Seats}
 use Rattle.ea_engine.specs.declared.row.Place.{Place}
@@ -43,6 +44,7 @@ module _ {K R T : Type 0} (problem : Problem) (tables : Tables) where
     pub pushed_few : end.counters.pushed ≤ 2 ^ 62
     pub popped_is : length end.pool_seat.account.popped ≡ end.counters.popped
     pub returned_is : end.counters.returned ≡ hand_size end.hand
+    pub returned_few : hand_size end.hand ≤ 2 * MOST_BATCH
 
   -- The row before the workers start: the first one has the seats that the seeds used, the others fresh ones.
   pub record AreSeated (seeded : ℕ) (waiting : List ℕ) (rngs : List R) (tracers : List T) (row : List (Place K R T)) : Type 0 where
@@ -78,7 +80,7 @@ module _ {K R T : Type 0} (problem : Problem) (tables : Tables) where
     pub pushed_few : length gathering.seats.pool_seat.account.pushed ≤ seeded + length ends * 2 ^ 62
     pub popped_is : length gathering.seats.pool_seat.account.popped ≡ sum_by (λ end. end.counters.popped) ends
     pub returned_is : gathering.returned ≡ back + sum_by (λ end. end.counters.returned) ends
-    pub returned_few : gathering.returned ≤ back + 2 * length ends
+    pub returned_few : gathering.returned ≤ back + 2 * MOST_BATCH * length ends
     pub few : length gathering.todo.waiting ≤ gathering.returned
     pub some : 0 < gathering.returned → 0 < length gathering.todo.waiting
 

@@ -23,7 +23,7 @@ module _ {R G T : Type 0} (stream : R → Stream) (shows : T → Turn → Flow �
   -- reports its turns, and each has its place.
   pub record IsRunOf (sources : List Source) (crew : Crew R G T) (ran : Ran R T) : Type 0 where
     pub tally : IsTally (length sources) ran.seeded ran.returned ran.drained ran.finish ran.results.counters.items
-    pub lone : IsLoneTally (crew.settings.workers * crew.settings.heaps) ran.drained ran.results.counters.items
+    pub lone : IsLoneTally crew.settings.batch (crew.settings.workers * crew.settings.heaps) ran.drained ran.results.counters.items
     pub reports : AreReports stream shows (pace_of crew.settings) crew.rngs.items ran.results.rngs.items crew.tracers.items ran.results.tracers.items ran.results.counters.items
     pub counters_len : vec_len ran.results.counters ≡ crew.settings.workers
     pub rngs_len : vec_len ran.results.rngs ≡ crew.settings.workers

@@ -1,9 +1,11 @@
 -- The two tables that workers share, the seats that belong to them, and what a worker has of its seats and its generator.
-use Rattle.std.specs.Prelude.{◌≡◌}
+use Rattle.std.specs.Prelude.{◌≡◌, List}
 use Rattle.rand_core.specs.Stream.{Stream}
 use Rattle.ea_labels.specs.Core as labels
 use Rattle.ea_pool.specs.Seats as pools
+use Rattle.ea_pool.specs.declared.entry.Entry.{Entry}
 use Rattle.ea_engine.specs.declared.means.Means.{Means}
+use Rattle.ea_engine.specs.declared.turn.Lists.{Lists}
 use Rattle.ea_engine.specs.declared.work_loop.WorkerEnd.{WorkerEnd}
 use Rattle.ea_engine.specs.Worked.{Kit, kit}
 
@@ -21,8 +23,11 @@ pub record AreSeatsOf (tables : Tables) (label_seat : labels.SeatView) (pool_sea
   pub pool : pools.IsSeatOf tables.pool pool_seat
 
 -- what a worker has while it runs, and when it is done
-abbrev pub kit_of : {K R : Type 0} → (R → Stream) → Means K R → Kit
-kit_of stream means = kit means.label_seat.history means.pool_seat.account (stream means.rng)
+abbrev pub kit_of : {K R : Type 0} → (R → Stream) → Means K R → List Entry → List Entry → Kit
+kit_of stream means taken fresh = kit means.label_seat.history means.pool_seat.account (stream means.rng) taken fresh
+
+abbrev pub kit_with : {K R : Type 0} → (R → Stream) → Means K R → Lists → Kit
+kit_with stream means lists = kit_of stream means lists.taken.items lists.fresh.items
 
 abbrev pub kit_left : {K R T : Type 0} → (R → Stream) → WorkerEnd K R T → Kit
-kit_left stream end = kit end.label_seat.history end.pool_seat.account (stream end.rng)
+kit_left stream end = kit end.label_seat.history end.pool_seat.account (stream end.rng) end.hand.taken.items end.hand.fresh.items

@@ -27,9 +27,9 @@ pub record IsTally (sources seeded returned drained finish : ℕ) (counters : Li
   pub hands : returned_by_all counters ≤ returned
   pub seeds : seeded + (returned - returned_by_all counters) ≤ sources
 
--- What a run of one worker shows, on a pool of so many heaps.
-pub record IsLoneTally (heaps drained : ℕ) (counters : List Counters) : Type 0 where
+-- What a run of one worker shows, with batches of so many entries on a pool of so many heaps.
+pub record IsLoneTally (batch heaps drained : ℕ) (counters : List Counters) : Type 0 where
   -- one worker is never busy
   pub never_busy : length counters ≡ 1 → busy_by_all counters ≡ 0
-  -- and finds two heaps empty only where nothing is left to drain
-  pub empty_at_end : length counters ≡ 1 → heaps ≡ 2 → 0 < empty_by_all counters → drained ≡ 0
+  -- and with batches of one entry finds two heaps empty only where nothing is left to drain
+  pub empty_at_end : batch ≡ 1 → length counters ≡ 1 → heaps ≡ 2 → 0 < empty_by_all counters → drained ≡ 0

@@ -1,14 +1,17 @@
 -- What a worker did to its two seats and to its generator, and what it showed to its tracer.
-use Rattle.std.specs.Prelude.{◌≡◌, ℕ, ◌+◌, ◌*◌, ◌^◌, ◌<◌, ◌≤◌, List, ◌++◌, map, length, Contains, All, None, IsSome, IfSome}
+use Rattle.std.specs.Prelude.{◌≡◌, ℕ, ◌+◌, ◌*◌, ◌^◌, ◌<◌, ◌≤◌, false, List, [], ◌++◌, map, length, Contains, All, None, Option, IsSome, IfSome}
 use Rattle.std.specs.Option.{option_to_list}
+use Rattle.arrayvec.specs.ArrayVec.{array_vec_len}
 use Rattle.ea_engine.specs.declared.turn.Hand.{Hand}
-use Rattle.ea_engine.specs.declared.settings.Pace.{Pace}
+use Rattle.ea_engine.specs.declared.turn.TurnEnd.{TurnEnd}
 use Rattle.ea_engine.specs.declared.turn.TurnKind.{TurnKind}
 use Rattle.ea_engine.specs.declared.turn.TurnKind.TheVariants.{Empty, Busy, Stale, Scanned, Refused, Cut}
 use Rattle.std.specs.List.{FoldsTo}
 use Rattle.rand_core.specs.Stream.{Stream}
 use Rattle.ea_road.specs.Roads.{Roads, IsNode}
 use Rattle.ea_pool.specs.declared.entry.Entry.{Entry}
+use Rattle.ea_pool.specs.Entries.{SameEntries}
+use Rattle.ea_engine.specs.declared.settings.Pace.{Pace}
 use Rattle.ea_engine.specs.declared.turn.Turn.{Turn}
 use Rattle.ea_engine.specs.declared.turn.Flow.{Flow}
 use Rattle.ea_engine.specs.declared.counters.Counters.{Counters}
@@ -20,50 +23,71 @@ use Rattle.ea_pool.specs.declared.account.Account.{Account}
 use Rattle.ea_limits.specs.declared.TheConstants.{SHARES}
 use Rattle.ea_pool.specs.Pools.{NothingLeft, IsLeastLeft}
 use Rattle.ea_engine.specs.Problems.{Problem}
-use Rattle.ea_engine.specs.Turns.{Told, IsTurnList, IsShaped, StaysEmpty, popped_in, popped_in_all, lowered_in_all, counters_of}
+use Rattle.ea_engine.specs.Turns.{Told, IsTurnList, IsShaped, is_busy, StaysEmpty, AreCounters, visited_in, visited_in_all, lowered_in_all}
 use Rattle.ea_engine.specs.Closed.{entry_at, entry_of, IsClosedTurn, IsFreshTurn}
 
--- what a worker has: its two seats, and its generator
+-- What a worker has: its two seats, its generator, the entries that it took from the pool and hasn't visited, and the fresh
+-- ones of heads that it lowered, which the pool hasn't taken.
 pub record Kit : Type 0 where
   pub labels : SeatRecord
   pub account : Account
   pub words : Stream
+  pub taken : List Entry
+  pub fresh : List Entry
 
-abbrev pub kit : SeatRecord → Account → Stream → Kit
-kit r a s = record { labels = r; account = a; words = s }
+abbrev pub kit : SeatRecord → Account → Stream → List Entry → List Entry → Kit
+kit r a s taken fresh = record { labels = r; account = a; words = s; taken = taken; fresh = fresh }
 
--- From `from` to `to` the worker popped these entries, drew so many words and lowered so many labels.
--- It pushed the entry of each label that it lowered, in order, but for those that were refused. Each list has the last
--- step first.
-pub record Progress (from to : Kit) (popped : List Entry) (words lowered : ℕ) (refused : List Entry) : Type 0 where
+-- From `from` to `to` the worker visited these entries, drew so many words and lowered so many labels. Each entry that it
+-- popped it visited or has taken, and the entry of each label that it lowered it pushed or has fresh.
+pub record Progress (from to : Kit) (visited : List Entry) (words lowered : ℕ) : Type 0 where
   pub lowerings : List Lowering
   pub pushed : List Entry
   pub lowerings_are : to.labels.lowerings ≡ lowerings ++ from.labels.lowerings
-  pub pushed_are : to.account.pushed ≡ pushed ++ from.account.pushed
-  pub popped_are : to.account.popped ≡ popped ++ from.account.popped
+  pub lowered_is : length lowerings ≡ lowered
   pub bounds_stay : (b : Bound) → Contains from.labels.bounds b → Contains to.labels.bounds b
   pub label_shares : to.labels.shares ≡ from.labels.shares
   pub pool_shares : to.account.shares ≡ from.account.shares
-  pub own_entries : map entry_of lowerings ≡ refused ++ pushed
-  pub lowered_is : length lowerings ≡ lowered
+  pub popped_are : SameEntries (to.account.popped ++ from.taken) (visited ++ (to.taken ++ from.account.popped))
+  pub pushed_are : SameEntries to.account.pushed (pushed ++ from.account.pushed)
+  pub own_entries : SameEntries (pushed ++ to.fresh) (map entry_of lowerings ++ from.fresh)
   pub words_are : to.words ≡ after_words words from.words
+
+-- the popped entries that a worker hands back
+abbrev pub back_of : Hand → List Entry
+back_of h = option_to_list h.popped ++ h.taken.items
 
 -- the entries that a worker hands back
 abbrev pub hand_size : Hand → ℕ
-hand_size h = length (option_to_list h.popped) + length (option_to_list h.refused)
+hand_size h = length (option_to_list h.popped) + array_vec_len h.taken + array_vec_len h.fresh
+
+-- entries at nodes of the network
+abbrev pub AreInside : Roads → List Entry → Type 0
+AreInside roads entries = (entry : Entry) → Contains entries entry → IsNode roads.nodes entry.node
 
 -- the entries that a worker hands back are at nodes of the network
-abbrev pub IsInside : Roads → Hand → Type 0
-IsInside roads hand = (IfSome hand.popped (λ entry. IsNode roads.nodes entry.node)) × IfSome hand.refused (λ entry. IsNode roads.nodes entry.node)
+pub record IsInside (roads : Roads) (hand : Hand) : Type 0 where
+  pub popped : IfSome hand.popped (λ entry. IsNode roads.nodes entry.node)
+  pub taken : AreInside roads hand.taken.items
+  pub fresh : AreInside roads hand.fresh.items
 
--- a turn hands back two entries where an entry was refused, and otherwise none
-abbrev pub IsHandOf : TurnKind → Hand → Type 0
-IsHandOf Empty h = (h.popped ≡ None) × (h.refused ≡ None)
-IsHandOf Busy h = (h.popped ≡ None) × (h.refused ≡ None)
-IsHandOf Stale h = (h.popped ≡ None) × (h.refused ≡ None)
-IsHandOf Scanned h = (h.popped ≡ None) × (h.refused ≡ None)
-IsHandOf Refused h = IsSome h.popped × IsSome h.refused
-IsHandOf Cut h = (h.popped ≡ None) × (h.refused ≡ None)
+-- a scan breaks off where a push was refused, and otherwise doesn't
+abbrev pub IsBrokenAs : TurnKind → Option Entry → Type 0
+IsBrokenAs Empty broken = broken ≡ None
+IsBrokenAs Busy broken = broken ≡ None
+IsBrokenAs Stale broken = broken ≡ None
+IsBrokenAs Scanned broken = broken ≡ None
+IsBrokenAs Refused broken = IsSome broken
+IsBrokenAs Cut broken = broken ≡ None
+
+-- fewer fresh entries than a batch are left, but for a refused push, which leaves some
+abbrev pub IsLeftAs : TurnKind → ℕ → ℕ → Type 0
+IsLeftAs Empty batch fresh = fresh < batch
+IsLeftAs Busy batch fresh = fresh < batch
+IsLeftAs Stale batch fresh = fresh < batch
+IsLeftAs Scanned batch fresh = fresh < batch
+IsLeftAs Refused batch fresh = (0 < fresh) × (fresh ≤ batch)
+IsLeftAs Cut batch fresh = fresh < batch
 
 -- Of a seat with all shares, and its account before a turn: no turn is busy; of two heaps, one that found both empty shows
 -- that nothing is left, and one that popped an entry, that this was left, and with the least key.
@@ -75,20 +99,34 @@ IsLoneAs heaps account Scanned entry = heaps ≡ 2 → IsLeastLeft entry account
 IsLoneAs heaps account Refused entry = heaps ≡ 2 → IsLeastLeft entry account
 IsLoneAs heaps account Cut entry = heaps ≡ 2 → IsLeastLeft entry account
 
+-- only a turn that pops is idle
+abbrev pub IsPoppingAs : TurnKind → ℕ → Type 0
+IsPoppingAs Empty pops = pops ≡ 1
+IsPoppingAs Busy pops = pops ≡ 1
+IsPoppingAs Stale pops = pops ≤ 1
+IsPoppingAs Scanned pops = pops ≤ 1
+IsPoppingAs Refused pops = pops ≤ 1
+IsPoppingAs Cut pops = pops ≤ 1
+
 module _ (problem : Problem) where
-  -- one turn on a pool of so many heaps, and the entries that it hands back
-  pub record IsTurn (heaps : ℕ) (from to : Kit) (number : ℕ) (turn : Turn) (hand : Hand) : Type 0 where
-    pub number_is : turn.number ≡ number
-    pub shaped : IsShaped turn
-    pub few : turn.lowered ≤ 2 ^ 28
-    pub hand_is : IsHandOf turn.kind hand
-    pub hand_popped : (entry : Entry) → Contains (option_to_list hand.popped) entry → Contains (popped_in turn) entry
-    pub hand_inside : IsInside problem.network hand
-    pub progress : Progress from to (popped_in turn) (2 + turn.lowered) turn.lowered (option_to_list hand.refused)
-    pub closed : IsClosedTurn problem to.labels.bounds (option_to_list hand.popped) turn
-    pub fresh : IsFreshTurn problem.query.target from.labels.bounds turn
-    -- what a seat with all shares learns
-    pub lone : from.account.shares ≡ SHARES → IsLoneAs heaps from.account turn.kind (entry_at turn.key turn.node)
+  -- One turn with batches of so many entries on a pool of so many heaps.
+  pub record IsTurn (batch heaps : ℕ) (from to : Kit) (number : ℕ) (end : TurnEnd) : Type 0 where
+    pub number_is : end.turn.number ≡ number
+    pub shaped : IsShaped end.turn
+    pub few : end.turn.lowered ≤ 2 ^ 28
+    pub broken_is : IsBrokenAs end.turn.kind end.broken
+    pub broken_visited : (entry : Entry) → Contains (option_to_list end.broken) entry → Contains (visited_in end.turn) entry
+    pub broken_inside : IfSome end.broken (λ entry. IsNode problem.network.nodes entry.node)
+    pub pops : IsPoppingAs end.turn.kind end.pops
+    pub one_push_each : batch ≡ 1 → (end.pops ≡ 1) × (end.pushes ≡ end.turn.lowered)
+    pub taken_few : length to.taken < batch
+    pub fresh_few : IsLeftAs end.turn.kind batch (length to.fresh)
+    pub progress : Progress from to (visited_in end.turn) (2 * end.pops + end.pushes) end.turn.lowered
+    pub closed : IsClosedTurn problem to.labels.bounds (option_to_list end.broken) end.turn
+    pub fresh : IsFreshTurn problem.query.target from.labels.bounds end.turn
+    -- a seat with all shares is never busy, and learns more by a pop
+    pub never_busy : from.account.shares ≡ SHARES → is_busy end.turn.kind ≡ false
+    pub lone : from.taken ≡ [] → from.account.shares ≡ SHARES → IsLoneAs heaps from.account end.turn.kind (entry_at end.turn.key end.turn.node)
 
   module _ {T : Type 0} (shows : T → Turn → Flow → T → Type 0) where
     -- The worker showed the turns of one lawful turn list to its tracer, each once and in order. The pool has so many heaps.
@@ -96,18 +134,21 @@ module _ (problem : Problem) where
       pub turns : List Told
       pub lawful : IsTurnList pace turns
       pub shown : FoldsTo (λ p t q. shows p t.0 t.1 q) tracer turns tracer'
-      pub counted : counters ≡ counters_of turns
-      pub progress : Progress from to (popped_in_all turns) (2 * length turns + lowered_in_all turns) (lowered_in_all turns) (option_to_list hand.refused)
+      pub counted : AreCounters pace.batch turns counters
+      pub progress : Progress from to (visited_in_all turns) (2 * counters.pops + counters.pushes) (lowered_in_all turns)
       pub closed : All (λ t. IsClosedTurn problem to.labels.bounds (option_to_list hand.popped) t.0) turns
       pub fresh : All (λ t. IsFreshTurn problem.query.target from.labels.bounds t.0) turns
-      pub hand_popped : (entry : Entry) → Contains (option_to_list hand.popped) entry → Contains (popped_in_all turns) entry
+      pub hand_popped : (entry : Entry) → Contains (option_to_list hand.popped) entry → Contains (visited_in_all turns) entry
       pub hand_inside : IsInside problem.network hand
+      pub hand_few : hand_size hand ≤ 2 * pace.batch
+      pub unvisited_is : counters.unvisited ≡ array_vec_len hand.taken
       pub returned_is : counters.returned ≡ hand_size hand
-      pub pushed_is : counters.pushed ≡ length progress.pushed
+      pub pushed_is : length to.account.pushed ≡ length from.account.pushed + counters.pushed
       pub pushed_few : counters.pushed < 2 ^ 62
-      pub popped_is : counters.popped ≡ length (popped_in_all turns)
+      pub popped_is : length to.account.popped ≡ length from.account.popped + counters.popped
       -- a seat with all shares is never busy
       pub never_busy : from.account.shares ≡ SHARES → counters.busy ≡ 0
-      -- and where a turn found two heaps empty, so did each later one, and what it pushed is what it popped
-      pub stays_empty : from.account.shares ≡ SHARES → heaps ≡ 2 → StaysEmpty turns
-      pub empty_at_end : from.account.shares ≡ SHARES → heaps ≡ 2 → 0 < counters.empty → NothingLeft to.account
+      -- and with batches of one entry, where a turn found two heaps empty, so did each later one, and what it pushed is what it
+      -- popped
+      pub stays_empty : pace.batch ≡ 1 → from.account.shares ≡ SHARES → heaps ≡ 2 → StaysEmpty turns
+      pub empty_at_end : pace.batch ≡ 1 → from.account.shares ≡ SHARES → heaps ≡ 2 → 0 < counters.empty → NothingLeft to.account

@@ -1,25 +1,29 @@
 //! What is gathered of the workers, one by one.
-ghost use Rattle.std.specs.Prelude.{◌≡◌, ◌+◌, ◌∷◌, [], ◌<◌, ◌≤◌, ◌^◌, ℕ, length, Contains, IfSome, vec_len};
+ghost use Rattle.std.specs.Prelude.{◌≡◌, ◌+◌, ◌*◌, ◌∷◌, [], ◌<◌, ◌≤◌, ◌^◌, ℕ, length, Contains, IfSome, vec_len};
 ghost use Rattle.std.specs.Option.{option_to_list};
 ghost use Rattle.ea_limits.specs.declared.TheConstants.{SHARES as LABEL_SHARES};
 ghost use Rattle.ea_limits.specs.declared.TheConstants.{SHARES};
-ghost use Rattle.ea_limits.specs.declared.TheConstants.{MOST_WORKERS};
+ghost use Rattle.ea_limits.specs.declared.TheConstants.{MOST_BATCH, MOST_WORKERS};
+ghost use Rattle.arrayvec.specs.ArrayVec.{array_vec_len};
+ghost use Rattle.ea_pool.specs.declared.entry.Entry.{Entry as Back};
 ghost use Rattle.ea_engine.specs.Ends.{IsEnd};
 ghost use Rattle.ea_engine.specs.Gathered.{IsGathered};
 ghost use Rattle.ea_engine.specs.Grown.{AddsEnd, HasRoom, Joins, SameRoom};
 ghost use Rattle.ea_engine.specs.Reserved.{AreUnfilled};
 ghost use Rattle.ea_engine.specs.Rowed.{IsFirstEnd, IsDoneRow, AreGathered, IsDonePlace, IsGatheredRow};
 ghost use Rattle.ea_engine.specs.Seated.{tables, AreSeatsOf};
+ghost use Rattle.ea_engine.specs.Worked.{hand_size};
 
 use crate::means::Seats;
 use crate::problem::Posed;
 use crate::ran::Results;
 use crate::row::Place;
 use crate::seeds::Seeds;
+use crate::turn::Hand;
 use crate::work_loop::WorkerEnd;
 use ea_finish::Open;
 use ea_labels::Labels;
-use ea_pool::{Entry, Pool};
+use ea_pool::{Batch, Entry, Pool};
 use ea_road::Known;
 use std::alloc::Global;
 
@@ -49,6 +53,43 @@ pub fn keep(todo: &mut Open, entry: Option<Entry>)
     }
 }
 
+/// Lets the node of each entry of a batch wait.
+pub fn keep_all(todo: &mut Open, entries: &Batch)
+    requires nodes { (entry : Back) → Contains entries.now.items entry
+        → (0 < entry.node) × (entry.node ≤ todo.old.nodes) }
+    ensures inside { (entry : Back) → Contains entries.now.items entry → Contains todo.new.waiting entry.node }
+    ensures kept { (node : ℕ) → Contains todo.old.waiting node → Contains todo.new.waiting node }
+    ensures few { length todo.new.waiting ≤ length todo.old.waiting + array_vec_len entries.now }
+    ensures some { 0 < length todo.old.waiting + array_vec_len entries.now → 0 < length todo.new.waiting }
+    ensures room { todo.new.nodes ≡ todo.old.nodes }
+    ensures walks { todo.new.walks ≡ todo.old.walks }
+{
+    for entry in entries.as_slice() {
+        todo.add(entry.node);
+    }
+}
+
+/// Lets the nodes of what a worker hands back wait.
+pub fn keep_hand(todo: &mut Open, hand: &Hand)
+    requires popped { IfSome hand.now.popped (λ e. (0 < e.node) × (e.node ≤ todo.old.nodes)) }
+    requires taken { (entry : Back) → Contains hand.now.taken.items entry
+        → (0 < entry.node) × (entry.node ≤ todo.old.nodes) }
+    requires fresh { (entry : Back) → Contains hand.now.fresh.items entry
+        → (0 < entry.node) × (entry.node ≤ todo.old.nodes) }
+    ensures popped { IfSome hand.now.popped (λ e. Contains todo.new.waiting e.node) }
+    ensures taken { (entry : Back) → Contains hand.now.taken.items entry → Contains todo.new.waiting entry.node }
+    ensures fresh { (entry : Back) → Contains hand.now.fresh.items entry → Contains todo.new.waiting entry.node }
+    ensures kept { (node : ℕ) → Contains todo.old.waiting node → Contains todo.new.waiting node }
+    ensures few { length todo.new.waiting ≤ length todo.old.waiting + hand_size hand.now }
+    ensures some { 0 < length todo.old.waiting + hand_size hand.now → 0 < length todo.new.waiting }
+    ensures room { todo.new.nodes ≡ todo.old.nodes }
+    ensures walks { todo.new.walks ≡ todo.old.walks }
+{
+    keep(todo, hand.popped);
+    keep_all(todo, &hand.taken);
+    keep_all(todo, &hand.fresh);
+}
+
 /// Adds what one worker leaves that began with fresh seats.
 pub fn join_end<K: Known + Posed, R: Drop, F: Drop>(
     labels: &Labels<K>,
@@ -71,7 +112,7 @@ pub fn join_end<K: Known + Posed, R: Drop, F: Drop>(
     ensures nodes { gathering.new.todo.nodes ≡ K.problem.network.nodes }
     ensures walks { gathering.new.todo.walks ≡ gathering.old.todo.walks }
     ensures joins { Joins end gathering.old gathering.new }
-    ensures returned_few { end.counters.returned ≤ 2 }
+    ensures returned_few { end.counters.returned ≤ 2 * MOST_BATCH }
     ensures results { AddsEnd end gathering.old.results gathering.new.results }
     ensures room { SameRoom gathering.old.results gathering.new.results }
 {
@@ -85,8 +126,7 @@ pub fn join_end<K: Known + Posed, R: Drop, F: Drop>(
     } = end;
     labels.join(&mut gathering.seats.label_seat, label_seat);
     pool.join(&mut gathering.seats.pool_seat, pool_seat);
-    keep(&mut gathering.todo, hand.popped);
-    keep(&mut gathering.todo, hand.refused);
+    keep_hand(&mut gathering.todo, &hand);
     gathering.returned += u128::from(counters.returned);
     gathering.results.counters.push_reserved(counters);
     gathering.results.rngs.push_reserved(rng);
@@ -123,8 +163,7 @@ pub fn begin_gathering<K: Known + Posed, R: Drop, F: Drop>(
         rng,
         tracer,
     } = end;
-    keep(&mut todo, hand.popped);
-    keep(&mut todo, hand.refused);
+    keep_hand(&mut todo, &hand);
     let returned = seeds.returned + u128::from(counters.returned);
     results.counters.push_reserved(counters);
     results.rngs.push_reserved(rng);

@@ -1,63 +1,66 @@
-ghost use Rattle.std.specs.Prelude.{◌≡◌, ℕ, ◌<◌, ◌≤◌, ◌+◌, [], ◌∷◌, ◌^◌, length, Contains, IfNone, IfSome, OnSome};
-ghost use Rattle.std.specs.Option.{option_to_list};
-ghost use Rattle.ea_road.specs.Roads.{IsArc, IsNode};
-ghost use Rattle.ea_pool.specs.declared.entry.Entry.{Entry as Back};
-ghost use Rattle.ea_pool.specs.Replies.{handed_back};
+ghost use Rattle.std.specs.Prelude.{◌≡◌, ℕ, ◌<◌, ◌≤◌, [], ◌^◌, true, false};
+ghost use Rattle.arrayvec.specs.ArrayVec.{array_vec_len};
+ghost use Rattle.ea_limits.specs.declared.TheConstants.{MOST_BATCH};
+ghost use Rattle.ea_road.specs.Roads.{IsArc};
+ghost use Rattle.ea_pool.specs.Entries.{AreKnown};
 ghost use Rattle.ea_engine.specs.Grounds.{IsGround, tables_of};
 ghost use Rattle.ea_engine.specs.Seated.{AreSeatsOf, kit_of};
 ghost use Rattle.ea_engine.specs.Closed.{IsFollowed, IsScanned};
 ghost use Rattle.ea_engine.specs.Worked.{Progress};
-ghost use Rattle.ea_engine.specs.Scans.{lowered_by, refused_by};
+ghost use Rattle.ea_engine.specs.Scans.{is_refused, lowered_by, pushes_by, IsLeft};
 
 use crate::ground::Ground;
 use crate::means::Means;
 use crate::problem::Posed;
+use crate::pushing::push_fresh;
 use ea_labels::Offered;
-use ea_pool::{Entry, PushRefused};
+use ea_pool::{Batch, Entry};
 use ea_road::{Arc, HORIZON, Known, Leaving, TravelTimes};
 use rand_core::Rng;
 use std::alloc::Global;
 
 /// What following an arc came to.
+#[derive(Clone, Copy, Debug, PartialEq, Eq)]
 pub enum Followed {
     Unchanged,
+    /// The head was lowered, and its entry is fresh.
+    Lowered,
+    /// The head was lowered, and the pool took all that was fresh.
     Pushed,
-    Refused(Entry),
+    /// The head was lowered, and the pool didn't take all that was fresh.
+    Refused,
 }
 
-/// What a scan came to: how many heads were lowered, and the entry that the pool refused.
+/// What a scan came to: how many heads were lowered, how often fresh entries were pushed, and whether a push was refused.
 #[derive(Clone, Copy)]
 pub struct ScanEnd {
     pub lowered: u64,
-    pub refused: Option<Entry>,
+    pub pushes: u64,
+    pub refused: bool,
 }
 
-// The entry that comes back.
-fn entry_back(refused: PushRefused) -> Entry
-    ensures { result ≡ handed_back refused }
-{
-    match refused {
-        PushRefused::Busy(entry) => entry,
-        PushRefused::OutOfMemory(entry) => entry,
-    }
-}
-
-/// Follows one arc from a popped entry.
+/// Follows one arc from a popped entry. Where it lowers the head and a batch is fresh then, it is pushed.
 pub fn follow<K: Known + Posed, T: TravelTimes, R: Rng>(
     ground: &Ground<'_, K, T>,
     means: &mut Means<K, R>,
+    fresh: &mut Batch,
+    batch: usize,
     entry: Entry,
     arc: Arc,
 ) -> Followed
     requires ground { IsGround K.is_known K.problem T.answers T.classes ground.now }
     requires seats { AreSeatsOf (tables_of ground.now) means.old.label_seat means.old.pool_seat }
+    requires fresh { AreKnown K.is_known fresh.old.items }
+    requires room { (array_vec_len fresh.old < batch) × (batch ≤ MOST_BATCH) }
     requires entry { K.is_known entry.node entry.key }
     requires arc { (number : ℕ) × IsArc K.problem.network number arc }
     requires tail { arc.tail ≡ entry.node }
     ensures seats { AreSeatsOf (tables_of ground.now) means.new.label_seat means.new.pool_seat }
-    ensures progress { Progress (kit_of R.stream means.old) (kit_of R.stream means.new)
-        [] (lowered_by result) (lowered_by result) (refused_by result) }
-    ensures inside { (back : Back) → Contains (refused_by result) back → IsNode K.problem.network.nodes back.node }
+    ensures fresh { AreKnown K.is_known fresh.new.items }
+    ensures progress { Progress (kit_of R.stream means.old [] fresh.old.items)
+        (kit_of R.stream means.new [] fresh.new.items) [] (pushes_by result) (lowered_by result) }
+    ensures left { IsLeft (is_refused result) batch (array_vec_len fresh.new) }
+    ensures one { batch ≡ 1 → pushes_by result ≡ lowered_by result }
     ensures spent { IsFollowed K.problem means.new.label_seat.history.bounds entry.key arc }
 {
     let arrival = ground
@@ -72,53 +75,70 @@ pub fn follow<K: Known + Posed, T: TravelTimes, R: Rng>(
     {
         Offered::Kept(_) => Followed::Unchanged,
         Offered::Lowered => {
-            let word = means.rng.next_u64();
-            let reached = Entry {
+            fresh.push(Entry {
                 key: arrival,
                 node: arc.head,
-            };
-            match ground.pool.push_as(&mut means.pool_seat, word, reached) {
-                Ok(()) => Followed::Pushed,
-                Err(refused) => Followed::Refused(entry_back(refused)),
+            });
+            if fresh.len() < batch {
+                return Followed::Lowered;
+            }
+            if push_fresh(ground.pool, &mut means.pool_seat, &mut means.rng, fresh) {
+                Followed::Pushed
+            } else {
+                Followed::Refused
             }
         }
     }
 }
 
-/// Scans a popped entry: follows each arc from its node, until the pool refuses an entry.
+/// Scans a popped entry: follows each arc from its node, until the pool refuses a push.
 pub fn scan_entry<K: Known + Posed, T: TravelTimes, R: Rng>(
     ground: &Ground<'_, K, T>,
     means: &mut Means<K, R>,
+    fresh: &mut Batch,
+    batch: usize,
     entry: Entry,
 ) -> ScanEnd
     requires ground { IsGround K.is_known K.problem T.answers T.classes ground.now }
     requires seats { AreSeatsOf (tables_of ground.now) means.old.label_seat means.old.pool_seat }
+    requires fresh { AreKnown K.is_known fresh.old.items }
+    requires room { (array_vec_len fresh.old < batch) × (batch ≤ MOST_BATCH) }
     requires entry { K.is_known entry.node entry.key }
     ensures seats { AreSeatsOf (tables_of ground.now) means.new.label_seat means.new.pool_seat }
-    ensures progress { Progress (kit_of R.stream means.old) (kit_of R.stream means.new)
-        [] result.lowered result.lowered (option_to_list result.refused) }
-    ensures scanned { IfNone result.refused
-        (IsScanned K.problem means.new.label_seat.history.bounds entry) }
-    ensures refused { OnSome result.refused (0 < result.lowered) }
-    ensures inside { IfSome result.refused (λ back. IsNode K.problem.network.nodes back.node) }
+    ensures fresh { AreKnown K.is_known fresh.new.items }
+    ensures progress { Progress (kit_of R.stream means.old [] fresh.old.items)
+        (kit_of R.stream means.new [] fresh.new.items) [] result.pushes result.lowered }
+    ensures left { IsLeft result.refused batch (array_vec_len fresh.new) }
+    ensures scanned { result.refused ≡ false
+        → IsScanned K.problem means.new.label_seat.history.bounds entry }
+    ensures refused { result.refused ≡ true → 0 < result.lowered }
     ensures few { result.lowered ≤ 2 ^ 28 }
+    ensures pushes { result.pushes ≤ result.lowered }
+    ensures one { batch ≡ 1 → result.pushes ≡ result.lowered }
 {
     let mut lowered = 0;
+    let mut pushes = 0;
     let Leaving { numbers: _, arcs } = ground.network.leaving(entry.node);
     for arc in arcs {
-        match follow(ground, means, entry, *arc) {
+        match follow(ground, means, fresh, batch, entry, *arc) {
             Followed::Unchanged => {}
-            Followed::Pushed => lowered += 1,
-            Followed::Refused(back) => {
+            Followed::Lowered => lowered += 1,
+            Followed::Pushed => {
+                lowered += 1;
+                pushes += 1;
+            }
+            Followed::Refused => {
                 return ScanEnd {
                     lowered: lowered + 1,
-                    refused: Some(back),
+                    pushes: pushes + 1,
+                    refused: true,
                 };
             }
         }
     }
     ScanEnd {
         lowered,
-        refused: None,
+        pushes,
+        refused: false,
     }
 }

@@ -1,4 +1,4 @@
-ghost use Rattle.std.specs.Prelude.{◌≡◌, ℕ, ◌+◌, ◌<◌, ◌≤◌, ◌||◌, if◌then◌else◌};
+ghost use Rattle.std.specs.Prelude.{◌≡◌, ℕ, ◌+◌, ◌<◌, ◌≤◌, [], ◌||◌, if◌then◌else◌};
 ghost use Rattle.ea_limits.specs.declared.TheConstants.{MOST_PATIENCE};
 ghost use Rattle.ea_engine.specs.Grounds.{IsGround, tables_of};
 ghost use Rattle.ea_engine.specs.Limits.{IsPace};
@@ -12,8 +12,8 @@ use crate::ground::Ground;
 use crate::means::Means;
 use crate::problem::Posed;
 use crate::settings::Pace;
-use crate::step::take_turn;
-use crate::turn::{Flow, Hand, Turn, TurnKind};
+use crate::taking::take_turn;
+use crate::turn::{Flow, Hand, Lists, Turn, TurnKind};
 use ea_labels::LabelSeat;
 use ea_pool::PoolSeat;
 use ea_road::{Known, TravelTimes};
@@ -32,7 +32,7 @@ pub struct WorkerEnd<K: Known, R, F> {
     pub hand: Hand,
     /// What it counted.
     pub counters: Counters,
-    /// Its generator, two words a turn and one a lowered head later.
+    /// Its generator, two words a pop and one a push later.
     pub rng: R,
     /// Its tracer, which was shown each turn.
     pub tracer: F,
@@ -77,21 +77,23 @@ pub fn work<K: Known + Posed, T: TravelTimes, R: Rng, G: Gate, F: FnMut(Turn) ->
     requires pace { IsPace pace }
     ensures seats { AreSeatsOf (tables_of ground.now) result.label_seat result.pool_seat }
     ensures work { IsWork K.problem F.step (tables_of ground.now).pool.heaps
-        (kit_of R.stream means) (kit_left R.stream result)
+        (kit_of R.stream means [] []) (kit_left R.stream result)
         pace tracer result.tracer result.counters result.hand }
 {
     let target = ground.query.target();
     let among_several = means.pool_seat.shares() < ea_pool::SHARES;
+    let batch = pace.batch as usize;
     let mut counters = Counters::new();
-    let mut hand = Hand::empty();
+    let mut lists = Lists::empty();
+    let mut broken = None;
     let mut number = 0;
     let mut idle = 0u32;
     let mut ended = false;
     'turns: while !ended && idle < pace.patience && number < pace.turns {
         gate.at(worker, number);
-        let end = take_turn(ground, target, &mut means, number);
-        counters.count(&end.turn);
-        hand = end.hand;
+        let end = take_turn(ground, target, &mut means, &mut lists, batch, number);
+        counters.count(&end);
+        broken = end.broken;
         let flow = tracer(end.turn);
         idle = idle_after(idle, end.turn.kind);
         if among_several {
@@ -100,6 +102,13 @@ pub fn work<K: Known + Posed, T: TravelTimes, R: Rng, G: Gate, F: FnMut(Turn) ->
         ended = is_last(end.turn.kind, flow);
         number += 1;
     }
+    let Lists { taken, fresh } = lists;
+    let hand = Hand {
+        popped: broken,
+        taken,
+        fresh,
+    };
+    counters.close(&hand);
     let Means {
         label_seat,
         pool_seat,

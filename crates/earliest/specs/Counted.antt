@@ -6,7 +6,7 @@ use Rattle.ea_engine.specs.declared.settings.Pace.{Pace}
 use Rattle.ea_engine.specs.declared.settings.Settings.{Settings}
 use Rattle.ea_engine.specs.Limits.{pace_of}
 use Rattle.ea_engine.specs.Tallies.{IsTally, IsLoneTally, pushed_by_all, popped_by_all}
-use Rattle.ea_engine.specs.Turns.{Told, IsTurnList, counters_of}
+use Rattle.ea_engine.specs.Turns.{Told, IsTurnList, AreCounters}
 use Rattle.ea_report.specs.declared.stats.Totals.{Totals}
 
 -- The counts of one problem: entries that were seeded, handed back and drained, nodes that were open at the finish, and what
@@ -20,14 +20,14 @@ pub record Counts : Type 0 where
 
 -- A worker counted the turns of a lawful list of turns.
 abbrev pub CountsTurns : Pace → Counters → Type 0
-CountsTurns pace counters = (turns : List Told) × IsTurnList pace turns × (counters ≡ counters_of turns)
+CountsTurns pace counters = (turns : List Told) × IsTurnList pace turns × AreCounters pace.batch turns counters
 
 -- A run of a problem with these settings counts so.
 pub record AreCountsOf (settings : Settings) (query : Asking) (counts : Counts) : Type 0 where
   pub one_each : length counts.workers ≡ settings.workers
   pub turns : All (CountsTurns (pace_of settings)) counts.workers
   pub tally : IsTally (length query.sources) counts.seeded counts.returned counts.drained counts.finish counts.workers
-  pub lone : IsLoneTally (settings.workers * settings.heaps) counts.drained counts.workers
+  pub lone : IsLoneTally settings.batch (settings.workers * settings.heaps) counts.drained counts.workers
 
 -- Runs of problems, one after the other, count so.
 abbrev pub AreCountsOfAll : Settings → List Asking → List Counts → Type 0

@@ -62,6 +62,16 @@ fn one_worker(rt: HostRuntime) -> Result<(), Fail> {
         (counters.stale, counters.scanned, counters.pushed),
         (2, 4, 5)
     );
+    // With batches of one entry each turn pops once, and each lowered head is pushed by itself.
+    assert_eq!(rt;
+        (
+            counters.pops,
+            counters.unvisited,
+            counters.lowered,
+            counters.pushes
+        ),
+        (38, 0, 5, 5)
+    );
     Ok(())
 }
 

@@ -5,6 +5,8 @@
 #[cfg(test)]
 mod asked;
 #[cfg(test)]
+mod batched;
+#[cfg(test)]
 mod constant;
 #[cfg(test)]
 mod counted;

@@ -46,52 +46,58 @@ fn greedy(alloc: Global, workers: u32, calls: u32, room: usize) -> Result<Vec<Gr
 fn refused_push(rt: HostRuntime) -> Result<(), Fail> {
     let alloc = rt.alloc();
     let given = pose(alloc, 4, &FOUR_NODES, &[(1, 0)])?.ok_or("rows")?;
-    let settings = Settings {
-        workers: 1,
-        heaps: 2,
-        turns: 100,
-        batch: 1,
-        patience: 32,
-    };
-    // A turn draws two words before it pops; the third word is that of the worker's first push.
-    let rngs = greedy(alloc, 1, 2, 20_000)?;
-    let shown = AtomicU64::new(0);
-    let right = AtomicU64::new(0);
-    let (calls, rights) = (&shown, &right);
-    let mut tracers = Vec::new(alloc);
-    tracers.push(move |turn: Turn| -> Flow {
-        calls.fetch_add(1, Ordering::SeqCst);
-        if matches!(turn.kind, TurnKind::Refused)
-            && turn.node == 1
-            && turn.key == 0
-            && turn.lowered == 1
-        {
-            rights.fetch_add(1, Ordering::SeqCst);
+    // The batch is full with the first head that is lowered, or with the second.
+    for (batch, back) in [(1u32, 2u128), (2, 3)] {
+        let settings = Settings {
+            workers: 1,
+            heaps: 2,
+            turns: 100,
+            batch,
+            patience: 32,
+        };
+        // A turn draws two words before it pops; the third word is that of the worker's first push.
+        let rngs = greedy(alloc, 1, 2, 20_000)?;
+        let shown = AtomicU64::new(0);
+        let right = AtomicU64::new(0);
+        let (calls, rights) = (&shown, &right);
+        let mut tracers = Vec::new(alloc);
+        tracers.push(move |turn: Turn| -> Flow {
+            calls.fetch_add(1, Ordering::SeqCst);
+            if matches!(turn.kind, TurnKind::Refused)
+                && turn.node == 1
+                && turn.key == 0
+                && turn.lowered == u64::from(batch)
+            {
+                rights.fetch_add(1, Ordering::SeqCst);
+            }
+            Flow::Go
+        })?;
+        let crew = Crew {
+            settings,
+            rngs,
+            gate: &NoGate,
+            tracers,
+        };
+        let mut large = Held::of_large(alloc)?;
+        let answer = run(alloc, &rt, &given, crew);
+        large.release();
+        let came = answer?.ok_or("problem")?;
+        assert!(rt; has_four(&came.answer));
+        assert_eq!(rt; shown.load(Ordering::SeqCst), 1);
+        assert_eq!(rt; right.load(Ordering::SeqCst), 1);
+        assert_eq!(rt; (came.seeded, came.returned), (1, back));
+        assert_eq!(rt; (came.drained, came.finish), (0, back));
+        assert_eq!(rt; came.counters.len(), 1);
+        for counters in &came.counters {
+            assert_eq!(rt;
+                (counters.pushed, counters.popped, counters.scanned),
+                (0, 1, 0)
+            );
+            assert_eq!(rt;
+                (counters.refused, u128::from(counters.returned)),
+                (1, back)
+            );
         }
-        Flow::Go
-    })?;
-    let crew = Crew {
-        settings,
-        rngs,
-        gate: &NoGate,
-        tracers,
-    };
-    let mut large = Held::of_large(alloc)?;
-    let answer = run(alloc, &rt, &given, crew);
-    large.release();
-    let came = answer?.ok_or("problem")?;
-    assert!(rt; has_four(&came.answer));
-    assert_eq!(rt; shown.load(Ordering::SeqCst), 1);
-    assert_eq!(rt; right.load(Ordering::SeqCst), 1);
-    assert_eq!(rt; (came.seeded, came.returned), (1, 2));
-    assert_eq!(rt; (came.drained, came.finish), (0, 2));
-    assert_eq!(rt; came.counters.len(), 1);
-    for counters in &came.counters {
-        assert_eq!(rt;
-            (counters.pushed, counters.popped, counters.scanned),
-            (0, 1, 0)
-        );
-        assert_eq!(rt; (counters.refused, counters.returned), (1, 2));
     }
     Ok(())
 }

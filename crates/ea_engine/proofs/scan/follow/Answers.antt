@@ -1,9 +1,10 @@
-use Rattle.std.proofs.Common.{ℕ, ◌≤◌, refl, ap, ◌∙◌, arith}
+use Rattle.std.proofs.Common.{ℕ, ◌≤◌, [], refl, ap, ◌∙◌, arith}
 use Rattle.ea_limits.specs.declared.TheConstants.{HORIZON}
 use Rattle.ea_road.specs.Answers.{IsQuestion}
 use Rattle.ea_road.proofs.Arcs.{is_question}
 use Rattle.ea_road.proofs.Reached.{reaches_more}
-use Rattle.ea_engine.proofs.ProgressLemmas.{Progress-noted, Progress-pushed, Progress-refused}
+use Rattle.ea_engine.proofs.HoldLemmas.{known_more}
+use Rattle.ea_engine.proofs.ProgressLemmas.{Progress-none, Progress-noted, Progress-lowered, Progress-then}
 use Rattle.ea_engine.proofs.BoundLemmas.{IsReachedBy-noted}
 use Rattle.ea_engine.proofs.scan.follow.Goals as goal
 use Rattle.ea_engine.proofs.scan.follow.Goals.{After-arrive-arrival}
@@ -41,16 +42,13 @@ reached g c within =
 pub offer-requires-clause-known : goal.offer-requires-clause-known
 offer-requires-clause-known g c κs outlives = reached g (goal.at.offer-requires-clause-known g c).After-arrive-arrival (omega (arith, c.if-arrival-gt-HORIZON.false))
 
-pub push_as-requires-clause-known : goal.push_as-requires-clause-known
-push_as-requires-clause-known g c κs outlives = reached g (goal.at.push_as-requires-clause-known g c).After-arrive-arrival (omega (arith, c.if-arrival-gt-HORIZON.false))
-
 pub returns-then-arrival-gt-HORIZON-clause-spent : goal.returns-then-arrival-gt-HORIZON-clause-spent
 returns-then-arrival-gt-HORIZON-clause-spent g c =
     let d = (goal.at.returns-then-arrival-gt-HORIZON-clause-spent g c).After-arrive-arrival in
     λ arrival answer within. absurd (omega (arith, least g d arrival answer, c.if-arrival-gt-HORIZON.true))
 
 pub returns-in-Kept-clause-progress : goal.returns-in-Kept-clause-progress
-returns-in-Kept-clause-progress g c = Progress-noted _ _ _ _ c.args.arc.head c.in-Kept.field-0 c.in-Kept.ensures.kept.3
+returns-in-Kept-clause-progress g c = Progress-noted _ _ _ _ _ _ c.args.arc.head c.in-Kept.field-0 c.in-Kept.ensures.kept.3
 
 pub returns-in-Kept-clause-spent : goal.returns-in-Kept-clause-spent
 returns-in-Kept-clause-spent g c =
@@ -58,24 +56,48 @@ returns-in-Kept-clause-spent g c =
     let kept = c.in-Kept.ensures.kept in
     λ arrival answer within. IsReachedBy-noted _ _ c.args.arc.head c.in-Kept.field-0 arrival (ap (λ x. x.bounds) kept.3) (omega (arith, kept.1, least g d arrival answer))
 
-pub returns-in-Ok-clause-progress : goal.returns-in-Ok-clause-progress
-returns-in-Ok-clause-progress g c =
-    let fell = c.in-Lowered.ensures.lowered in
-    Progress-pushed _ _ _ _ _ _ c.next_u64-word.result c.args.arc.head fell.0 c.arrive-arrival.result fell.4 c.in-Ok.ensures.pushed c.next_u64-word.ensures
+pub returns-then-arrival-gt-HORIZON-clause-progress : goal.returns-then-arrival-gt-HORIZON-clause-progress
+returns-then-arrival-gt-HORIZON-clause-progress g c = Progress-none _
 
-pub returns-in-Ok-clause-spent : goal.returns-in-Ok-clause-spent
-returns-in-Ok-clause-spent g c =
-    let d = (goal.at.returns-in-Ok-clause-spent g c).After-arrive-arrival in
-    let fell = c.in-Lowered.ensures.lowered in
-    λ arrival answer within. IsReachedBy-noted _ _ c.args.arc.head c.arrive-arrival.result arrival (ap (λ x. x.bounds) fell.4) (least g d arrival answer)
+pub returns-then-len-batch-clause-fresh : goal.returns-then-len-batch-clause-fresh
+returns-then-len-batch-clause-fresh g c =
+    let d = (goal.at.returns-then-len-batch-clause-fresh g c).After-arrive-arrival in
+    known_more g.K.Known.is_known c.args.fresh.now.items _ _ c.push.ensures.items c.requires.fresh (reached g d (omega (arith, c.if-arrival-gt-HORIZON.false)))
 
-pub returns-in-Err-clause-progress : goal.returns-in-Err-clause-progress
-returns-in-Err-clause-progress g c =
-    let fell = c.in-Lowered.ensures.lowered in
-    Progress-refused _ _ _ _ _ _ c.next_u64-word.result c.args.arc.head fell.0 c.arrive-arrival.result _ fell.4 c.in-Err.ensures.refused.1 (c.entry_back.ensures ∙ c.in-Err.ensures.refused.0) c.next_u64-word.ensures
+pub returns-then-len-batch-clause-progress : goal.returns-then-len-batch-clause-progress
+returns-then-len-batch-clause-progress g c =
+    let low = c.in-Lowered.ensures.lowered in
+    Progress-lowered _ _ _ _ [] _ _ c.args.arc.head low.0 c.arrive-arrival.result low.4 c.push.ensures.items
 
-pub returns-in-Err-clause-spent : goal.returns-in-Err-clause-spent
-returns-in-Err-clause-spent g c =
-    let d = (goal.at.returns-in-Err-clause-spent g c).After-arrive-arrival in
-    let fell = c.in-Lowered.ensures.lowered in
-    λ arrival answer within. IsReachedBy-noted _ _ c.args.arc.head c.arrive-arrival.result arrival (ap (λ x. x.bounds) fell.4) (least g d arrival answer)
+pub returns-then-len-batch-clause-spent : goal.returns-then-len-batch-clause-spent
+returns-then-len-batch-clause-spent g c =
+    let d = (goal.at.returns-then-len-batch-clause-spent g c).After-arrive-arrival in
+    let low = c.in-Lowered.ensures.lowered in
+    λ arrival answer within. IsReachedBy-noted _ _ c.args.arc.head c.arrive-arrival.result arrival (ap (λ x. x.bounds) low.4) (least g d arrival answer)
+
+pub push_fresh-requires-clause-known : goal.push_fresh-requires-clause-known
+push_fresh-requires-clause-known g c κs outlives =
+    let d = (goal.at.push_fresh-requires-clause-known g c).After-arrive-arrival in
+    known_more g.K.Known.is_known c.args.fresh.now.items _ _ c.push.ensures.items c.requires.fresh (reached g d (omega (arith, c.if-arrival-gt-HORIZON.false)))
+
+pub returns-then-push_fresh-clause-progress : goal.returns-then-push_fresh-clause-progress
+returns-then-push_fresh-clause-progress g c =
+    let low = c.in-Lowered.ensures.lowered in
+    Progress-then _ _ _ [] [] [] 0 1 _ 1 0 _ (Progress-lowered _ _ _ _ [] _ _ c.args.arc.head low.0 c.arrive-arrival.result low.4 c.push.ensures.items) (c.push_fresh.ensures.progress _) refl refl refl
+
+pub returns-then-push_fresh-clause-spent : goal.returns-then-push_fresh-clause-spent
+returns-then-push_fresh-clause-spent g c =
+    let d = (goal.at.returns-then-push_fresh-clause-spent g c).After-arrive-arrival in
+    let low = c.in-Lowered.ensures.lowered in
+    λ arrival answer within. IsReachedBy-noted _ _ c.args.arc.head c.arrive-arrival.result arrival (ap (λ x. x.bounds) low.4) (least g d arrival answer)
+
+pub returns-else-push_fresh-clause-progress : goal.returns-else-push_fresh-clause-progress
+returns-else-push_fresh-clause-progress g c =
+    let low = c.in-Lowered.ensures.lowered in
+    Progress-then _ _ _ [] [] [] 0 1 _ 1 0 _ (Progress-lowered _ _ _ _ [] _ _ c.args.arc.head low.0 c.arrive-arrival.result low.4 c.push.ensures.items) (c.push_fresh.ensures.progress _) refl refl refl
+
+pub returns-else-push_fresh-clause-spent : goal.returns-else-push_fresh-clause-spent
+returns-else-push_fresh-clause-spent g c =
+    let d = (goal.at.returns-else-push_fresh-clause-spent g c).After-arrive-arrival in
+    let low = c.in-Lowered.ensures.lowered in
+    λ arrival answer within. IsReachedBy-noted _ _ c.args.arc.head c.arrive-arrival.result arrival (ap (λ x. x.bounds) low.4) (least g d arrival answer)

@@ -8,7 +8,7 @@ use Rattle.ea_engine.specs.Closed.{IsFollowed}
 use Rattle.ea_engine.proofs.ProgressLemmas.{Progress-none, Progress-then}
 use Rattle.ea_engine.proofs.BoundLemmas.{IsFollowed-more}
 use Rattle.ea_engine.proofs.scan.scan_entry.Goals as goal
-use Rattle.ea_engine.proofs.scan.scan_entry.Goals.{in-Unchanged, in-Pushed, After-follow, After-leaving}
+use Rattle.ea_engine.proofs.scan.scan_entry.Goals.{in-Unchanged, in-Lowered, in-Pushed, After-follow, After-leaving}
 
 pub leaving-requires : goal.leaving-requires
 leaving-requires g c =
@@ -24,9 +24,13 @@ beside g c =
 pub loop-arc-init : goal.loop-arc-init
 loop-arc-init g c = record {
   fit = c.requires.seats;
+  known = c.requires.fresh;
+  room = c.requires.room.0;
   progress = Progress-none _;
   spent = λ k default lt. absurd (omega (arith, lt));
   few = omega arith;
+  pushes = omega arith;
+  one = λ is. refl;
 }
 
 pub follow-requires-clause-arc : goal.follow-requires-clause-arc
@@ -54,17 +58,30 @@ spent g c k default lt =
     k lt
 
 pub returns-in-Refused-clause-progress : goal.returns-in-Refused-clause-progress
-returns-in-Refused-clause-progress g c = Progress-then _ _ _ [] [] [] c.loop-arc.lowered 1 _ c.loop-arc.lowered 1 _ _ c.loop-arc.invariant.progress c.in-Refused.ensures.progress refl refl refl
+returns-in-Refused-clause-progress g c = Progress-then _ _ _ [] [] [] c.loop-arc.pushes 1 _ c.loop-arc.lowered 1 _ c.loop-arc.invariant.progress c.in-Refused.ensures.progress refl refl refl
 
 pub loop-arc-preserved : goal.loop-arc-preserved
 loop-arc-preserved g c = record {
   fit = c.follow.ensures.seats;
+  known = c.follow.ensures.fresh;
+  room = elim c.match-follow.branch [
+    | in-Unchanged w ↦ w.in-Unchanged.ensures.left
+    | in-Lowered w ↦ w.in-Lowered.ensures.left
+    | in-Pushed w ↦ w.in-Pushed.ensures.left
+  ];
   progress = elim c.match-follow.branch [
-    | in-Unchanged w ↦ Progress-then _ _ _ [] [] [] c.loop-arc.lowered 0 _ c.loop-arc.lowered 0 _ _ c.loop-arc.invariant.progress w.in-Unchanged.ensures.progress refl (omega arith) (omega arith)
-    | in-Pushed w ↦ Progress-then _ _ _ [] [] [] c.loop-arc.lowered 1 _ c.loop-arc.lowered 1 _ _ c.loop-arc.invariant.progress w.in-Pushed.ensures.progress refl (omega arith) (omega arith)
+    | in-Unchanged w ↦ Progress-then _ _ _ [] [] [] c.loop-arc.pushes 0 _ c.loop-arc.lowered 0 _ c.loop-arc.invariant.progress w.in-Unchanged.ensures.progress refl (omega arith) (omega arith)
+    | in-Lowered w ↦ Progress-then _ _ _ [] [] [] c.loop-arc.pushes 0 _ c.loop-arc.lowered 1 _ c.loop-arc.invariant.progress w.in-Lowered.ensures.progress refl (omega arith) (omega arith)
+    | in-Pushed w ↦ Progress-then _ _ _ [] [] [] c.loop-arc.pushes 1 _ c.loop-arc.lowered 1 _ c.loop-arc.invariant.progress w.in-Pushed.ensures.progress refl (omega arith) (omega arith)
   ];
   spent = spent g (goal.at.loop-arc-preserved g c).After-follow;
-  few = elim c.match-follow.branch [ in-Unchanged w ↦ omega arith | in-Pushed w ↦ omega arith ];
+  few = elim c.match-follow.branch [ in-Unchanged w ↦ omega arith | in-Lowered w ↦ omega arith | in-Pushed w ↦ omega arith ];
+  pushes = elim c.match-follow.branch [ in-Unchanged w ↦ omega arith | in-Lowered w ↦ omega arith | in-Pushed w ↦ omega arith ];
+  one = λ is. elim c.match-follow.branch [
+    | in-Unchanged w ↦ omega (arith, c.loop-arc.invariant.one is)
+    | in-Lowered w ↦ omega (arith, c.loop-arc.invariant.one is, w.in-Lowered.ensures.one is)
+    | in-Pushed w ↦ omega (arith, c.loop-arc.invariant.one is)
+  ];
 }
 
 -- so few arcs leave the node
@@ -83,12 +100,12 @@ returns-clause-few g c =
 
 pub returns-clause-scanned : goal.returns-clause-scanned
 returns-clause-scanned g c =
-    λ number arc is_arc tail.
+    λ whole number arc is_arc tail.
     let d = (goal.at.returns-clause-scanned g c).After-leaving in
     let roads = g.K.Posed.problem.network in
     let at = place_beside roads c.args.entry.node number arc arc c.leaving.result.arcs.now (beside g d) is_arc tail in
     subst (λ (a : Arc). IsFollowed g.K.Posed.problem c.loop-arc.means.label_seat.history.bounds c.args.entry.key a) at.3
     (c.loop-arc.invariant.spent at.0 arc (omega (arith, at.1)))
 
-pub returns-in-Refused-clause-inside : goal.returns-in-Refused-clause-inside
-returns-in-Refused-clause-inside g c = c.in-Refused.ensures.inside c.in-Refused.back (0, omega arith, refl)
+pub returns-in-Refused-clause-one : goal.returns-in-Refused-clause-one
+returns-in-Refused-clause-one g c = λ is. omega (arith, c.loop-arc.invariant.one is)

@@ -34,7 +34,7 @@ pub run_workers-requires-clause-ready : goal.run_workers-requires-clause-ready
 run_workers-requires-clause-ready g c κs within =
     let rng = some_of c.args.crew.rngs.items (omega (arith, c.requires.crew.settings.some_worker, c.requires.crew.rngs, c.args.crew.rngs.ok)) in
     let tracer = some_of c.args.crew.tracers.items (omega (arith, c.requires.crew.settings.some_worker, c.requires.crew.tracers, c.args.crew.tracers.ok)) in
-    rw c.deref_mut.ensures.value (ready_row g.K.Posed.problem (tables c.args.arrays.labels c.args.arrays.pool) g.R.Rng.stream (given.F-step g) c.pace.result
+    rw c.deref_mut.ensures.value (ready_row g.K.Posed.problem (tables c.args.arrays.labels c.args.arrays.pool) g.R.Rng.stream (given.F-step g) c.pace.result c.pace.ensures.limits.batch
     (given.F-IsAlwaysCallable g) c.args.crew.rngs.items c.args.crew.tracers.items c.seat_workers.new.row.items rng tracer c.seed_all-seeds.result.seeded c.seed_all-seeds.new.todo.waiting (seated g (goal.at.run_workers-requires-clause-ready g c).After-seat_workers) c.requires.crew.callable_all (omega (arith, c.seat_workers.ensures.len, c.requires.crew.rngs, c.requires.crew.tracers)))
 
 pub gather_row-seats-requires-clause-row : goal.gather_row-seats-requires-clause-row
@@ -45,7 +45,7 @@ gather_row-seats-requires-clause-row g c κs within =
     let same : length row ≡ length c.seat_workers.new.row.items = omega (arith, c.run_workers.auto.row, ap length c.deref_mut.ensures.value) in
     subst (λ places. IsDoneRow g.K.Posed.problem (tables c.args.arrays.labels c.args.arrays.pool) c.seed_all-seeds.result.seeded c.seed_all-seeds.new.todo.waiting places)
     (sym (written c.seat_workers.new.row.len c.seat_workers.new.row.items row (c.seat_workers.new.row.ok.0) same))
-    (seated_done g.K.Posed.problem (tables c.args.arrays.labels c.args.arrays.pool) g.R.Rng.stream (given.F-step g) c.pace.result
+    (seated_done g.K.Posed.problem (tables c.args.arrays.labels c.args.arrays.pool) g.R.Rng.stream (given.F-step g) c.pace.result c.pace.ensures.limits.batch
     c.args.crew.rngs.items c.args.crew.tracers.items c.seat_workers.new.row.items c.run_workers.new.row rng tracer c.seed_all-seeds.result.seeded c.seed_all-seeds.new.todo.waiting (seated g (goal.at.gather_row-seats-requires-clause-row g c).After-seat_workers) (rw c.deref_mut.ensures.value at c.run_workers.ensures.run) same)
 
 -- the row after the run, and how many workers left it
@@ -58,7 +58,7 @@ ends_of_row g c =
     (is, omega (arith, ap length is, all_done-length ends, same, c.seat_workers.ensures.len, c.args.crew.rngs.ok, c.seat_workers.new.row.ok))
 
 lone_of : (g : _) (c : After-len g) → AreSeated g.K.Posed.problem (tables c.args.arrays.labels c.args.arrays.pool) c.seed_all-seeds.result.seeded c.seed_all-seeds.new.todo.waiting c.args.crew.rngs.items c.args.crew.tracers.items c.seat_workers.new.row.items
-    → IsLoneTally (c.args.crew.settings.workers * c.args.crew.settings.heaps) c.settle-table.result.drained c.gather_row-seats.result.results.counters.items
+    → IsLoneTally c.args.crew.settings.batch (c.args.crew.settings.workers * c.args.crew.settings.heaps) c.settle-table.result.drained c.gather_row-seats.result.results.counters.items
 lone_of g c began =
     let all = c.gather_row-seats.ensures.gathered.all in
     let ends = c.gather_row-seats.ensures.gathered.ends in
@@ -67,14 +67,14 @@ lone_of g c began =
     let tracer = some_of c.args.crew.tracers.items (omega (arith, c.requires.crew.tracers, c.requires.crew.settings.some_worker, c.args.crew.tracers.ok)) in
     let counters = c.gather_row-seats.result.results.counters.items in
     let few : length counters ≡ 1 → length ends ≡ 1 = λ one. omega (arith, one, ap length all.counters_are, length-map ends (λ e. e.counters)) in
-    let lone = λ (one : length counters ≡ 1). lone_of_row g.K.Posed.problem (tables c.args.arrays.labels c.args.arrays.pool) g.R.Rng.stream (given.F-step g) c.pace.result
+    let lone = λ (one : length counters ≡ 1). lone_of_row g.K.Posed.problem (tables c.args.arrays.labels c.args.arrays.pool) g.R.Rng.stream (given.F-step g) c.pace.result c.pace.ensures.limits.batch
     c.args.crew.rngs.items c.args.crew.tracers.items c.seat_workers.new.row.items c.run_workers.new.row ends rng tracer c.seed_all-seeds.result.seeded c.seed_all-seeds.new.todo.waiting began (rw c.deref_mut.ensures.value at c.run_workers.ensures.run)
     (omega (arith, few one, is.1, c.seat_workers.ensures.len, c.args.crew.rngs.ok, c.seat_workers.new.row.ok)) is.0 (few one) in
     record {
       never_busy = λ one. ap busy_by_all all.counters_are ∙ (lone one).0;
-      empty_at_end = λ one two some. omega (
+      empty_at_end = λ is one two some. omega (
         arith,
-        (lone one).1 (c.requires.arrays.heaps_are ∙ two) (omega (arith, some, ap empty_by_all all.counters_are)),
+        (lone one).1 (ap (λ p. p.batch) c.pace.ensures.pace ∙ is) (c.requires.arrays.heaps_are ∙ two) (omega (arith, some, ap empty_by_all all.counters_are)),
         all.pushed_is,
         all.popped_is,
         c.settle-table.ensures.drained,
@@ -107,7 +107,7 @@ returns-clause-run g c =
       tally = subst (λ n. IsTally (length c.args.query.now.sources) c.seed_all-seeds.result.seeded c.gather_row-seats.result.returned c.settle-table.result.drained n r.counters.items) (sym c.len.ensures) (tally_of g d);
       lone = lone_of g d began;
       reports = subst (λ (p : Pace). AreReports g.R.Rng.stream (given.F-step g) p c.args.crew.rngs.items r.rngs.items c.args.crew.tracers.items r.tracers.items r.counters.items) c.pace.ensures.pace (rw (all.rngs_are, all.tracers_are, all.counters_are)
-          (reports_of_row g.K.Posed.problem (tables c.args.arrays.labels c.args.arrays.pool) g.R.Rng.stream (given.F-step g) c.pace.result
+          (reports_of_row g.K.Posed.problem (tables c.args.arrays.labels c.args.arrays.pool) g.R.Rng.stream (given.F-step g) c.pace.result c.pace.ensures.limits.batch
           c.args.crew.rngs.items c.args.crew.tracers.items c.seat_workers.new.row.items c.run_workers.new.row ends c.seed_all-seeds.result.seeded c.seed_all-seeds.new.todo.waiting end began (rw c.deref_mut.ensures.value at c.run_workers.ensures.run) (omega (arith, c.seat_workers.ensures.len, c.args.crew.rngs.ok, c.seat_workers.new.row.ok)) is.1 is.0));
       counters_len = omega (arith, is.1, ap length all.counters_are, length-map ends (λ e. e.counters), r.counters.ok, c.args.crew.rngs.ok, c.requires.crew.rngs);
       rngs_len = omega (arith, is.1, ap length all.rngs_are, length-map ends (λ e. e.rng), r.rngs.ok, c.args.crew.rngs.ok, c.requires.crew.rngs);

@@ -1,0 +1,47 @@
+-- What a worker holds: what a pop brought, and what a visit of the next entry comes to.
+use Rattle.std.specs.Prelude.{◌≡◌, ℕ, ◌^◌, ◌<◌, ◌≤◌, List, [], ◌∷◌, ◌++◌, length, reverse, Contains, IfSome}
+use Rattle.std.specs.Option.{option_to_list}
+use Rattle.ea_limits.specs.declared.TheConstants.{SHARES}
+use Rattle.ea_road.specs.Roads.{IsNode}
+use Rattle.ea_pool.specs.declared.entry.Entry.{Entry}
+use Rattle.ea_pool.specs.declared.account.Account.{Account}
+use Rattle.ea_pool.specs.Batches.{IsLowest}
+use Rattle.ea_pool.specs.Entries.{AreKnown, IsAscending}
+use Rattle.ea_pool.specs.Pools.{AreLeft, PopsAll}
+use Rattle.ea_engine.specs.declared.turn.TurnEnd.{TurnEnd}
+use Rattle.ea_engine.specs.Problems.{Problem}
+use Rattle.ea_engine.specs.Closed.{IsClosedTurn, IsFreshTurn}
+use Rattle.ea_engine.specs.Turns.{IsShaped, visited_in}
+use Rattle.ea_engine.specs.Worked.{Kit, Progress, IsBrokenAs, IsLeftAs}
+
+-- A pop from so many heaps brought known entries, at least one and at most so many, which stand with the least one last. A
+-- seat with all shares pops what was left, and of two heaps the least of it.
+pub record Took (known : ℕ → ℕ → Type 0) (heaps most : ℕ) (taken : List Entry) (before after : Account) : Type 0 where
+  pub out : List Entry
+  pub turned : taken ≡ reverse out
+  pub some : 0 < length out
+  pub few : length out ≤ most
+  pub popped : PopsAll before out after
+  pub known_all : AreKnown known out
+  pub ascending : IsAscending out
+  pub left : before.shares ≡ SHARES → AreLeft out before
+  pub lowest : IsLowest heaps out before
+
+-- The last one of the taken entries was visited, with batches of so many.
+pub record IsVisit (problem : Problem) (batch : ℕ) (from to : Kit) (number : ℕ) (end : TurnEnd) : Type 0 where
+  pub entry : Entry
+  pub next : from.taken ≡ to.taken ++ entry ∷ []
+  pub visited : visited_in end.turn ≡ entry ∷ []
+  pub number_is : end.turn.number ≡ number
+  pub shaped : IsShaped end.turn
+  pub few : end.turn.lowered ≤ 2 ^ 28
+  pub broken_is : IsBrokenAs end.turn.kind end.broken
+  pub broken_visited : (popped : Entry) → Contains (option_to_list end.broken) popped → Contains (visited_in end.turn) popped
+  pub broken_inside : IfSome end.broken (λ popped. IsNode problem.network.nodes popped.node)
+  pub pops : end.pops ≡ 0
+  pub pushes : end.pushes ≤ end.turn.lowered
+  pub one_push_each : batch ≡ 1 → end.pushes ≡ end.turn.lowered
+  pub fresh_few : IsLeftAs end.turn.kind batch (length to.fresh)
+  pub progress : Progress from to (visited_in end.turn) end.pushes end.turn.lowered
+  pub closed : IsClosedTurn problem to.labels.bounds (option_to_list end.broken) end.turn
+  pub fresh : IsFreshTurn problem.query.target from.labels.bounds end.turn
