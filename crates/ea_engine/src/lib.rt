@@ -33,8 +33,8 @@ mod workers;
 pub use counters::Counters;
 pub use crew::Crew;
 pub use ea_finish::{
-    Answer, Finished, Open, arrivals_alone, arrivals_alone_by, finish, solve_alone, solve_alone_by,
-    unwind, without_walks,
+    Answer, Finished, Open, arrivals_alone, arrivals_alone_by, finish, finish_in_order,
+    solve_alone, solve_alone_by, unwind, without_walks,
 };
 pub use gate::{Gate, NoGate};
 pub use ground::Ground;

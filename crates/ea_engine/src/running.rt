@@ -14,7 +14,7 @@ use crate::problem::Posed;
 use crate::ran::Ran;
 use crate::turn::{Flow, Turn};
 use crate::workers::{Begun, run};
-use ea_finish::{Finished, finish};
+use ea_finish::{Finished, finish_in_order};
 use ea_road::{Known, Network, Query, TravelTimes};
 use rand_core::Rng;
 use std::alloc::{AllocError, Global};
@@ -27,7 +27,8 @@ pub struct Ended<R, F> {
     pub ran: Ran<R, F>,
 }
 
-/// Runs the workers and the finishing pass, with the arrays for walks where these are asked for.
+/// Runs the workers and the finishing pass, with the arrays for walks where these are asked for. What is open then is
+/// finished in about the order of labels.
 pub fn run_named<
     K: Known + Posed,
     H: Threads + Sync,
@@ -56,6 +57,6 @@ pub fn run_named<
     times_are_fifo(times);
     let arrays = Arrays::<K, R, F>::reserve(alloc, network.nodes(), crew.settings, walks)?;
     let Begun { table, todo, ran } = run(rt, network, times, query, arrays, crew);
-    let finished = finish(network, times, query, table, todo);
+    let finished = finish_in_order(alloc, network, times, query, table, todo);
     Ok(Ended { finished, ran })
 }

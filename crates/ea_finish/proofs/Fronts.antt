@@ -1,5 +1,5 @@
 -- Entries that a frontier gains and loses.
-use Rattle.std.proofs.Common.{◌≡◌, ℕ, ◌+◌, ◌<◌, ◌≤◌, List, Option, Some, None, MatchOption, option_to_list, [], ◌∷◌, ◌++◌, length, get_or, set, map, sum_by, Contains, refl, sym, ◌∙◌, ap, subst, ◌⊎◌, inl, inr, arith}
+use Rattle.std.proofs.Common.{◌≡◌, ℕ, zero, suc, ◌+◌, ◌<◌, ◌≤◌, List, Option, Some, None, MatchOption, option_to_list, [], ◌∷◌, ◌++◌, length, get_or, set, map, sum_by, Contains, refl, sym, ◌∙◌, ap, subst, ◌⊎◌, inl, inr, arith}
 use Rattle.std.proofs.lemmas.Bool.{cases_eq}
 use Rattle.std.proofs.lemmas.List.{append-nil, get_or-map, get_or-set_same, get_or-set_other, length-set, length-append, length-map, map-append, map-set, nil_from_length}
 use Rattle.std.proofs.Math.Seq.{map-set_same}
@@ -198,6 +198,28 @@ module _ (label : ℕ → ℕ) where
   ]
 
 -- lists of which each is empty
+-- a node that waits in a list, or is another
+first_or_later : (x v : ℕ) (xs : List ℕ) → Contains (x ∷ xs) v → (x ≡ v) ⊎ Contains xs v
+first_or_later x v xs (zero, lt, e) = inl e
+first_or_later x v xs (suc i, lt, e) = inr (i, omega (arith, lt), e)
+
+-- a node that waited in the list has an entry at its label now, and what else waited goes on waiting
+pub waiting_moved : (label : ℕ → ℕ) (node : ℕ) (first middle last : Frontage) (time : ℕ) → first.todo.waiting ≡ node ∷ middle.todo.waiting → middle.lists ≡ first.lists → time ≡ label node → Puts (time, node) middle last
+    → (v : ℕ) → WaitsAt first label v → WaitsAt last label v
+waiting_moved label node first middle last time taken same is puts v waits = elim waits [
+  | inl inside ↦ elim (first_or_later node v middle.todo.waiting (subst (λ (xs : List ℕ). Contains xs v) taken inside)) [
+    | inl at ↦ subst (λ (u : ℕ). WaitsAt last label u) at (puts.there label (sym is))
+    | inr other ↦ puts.rest label label v refl (inl other)
+  ]
+  | inr entry ↦ puts.rest label label v refl (inr (subst (λ (ls : List Entries). IsIn ls (label v, v)) (sym same) entry))
+]
+
+-- the node that has waited longest is taken out of the list
+pub taken_waiting : (found : Option ℕ) (lists : List Entries) (old new : Worklist) → MatchOption found ((old.waiting ≡ []) × (new ≡ old)) (λ node. old.waiting ≡ node ∷ new.waiting)
+    → MatchOption found (◌≡◌ {A = Frontage} (record { lists = lists; todo = new }) (record { lists = lists; todo = old })) (λ node. old.waiting ≡ node ∷ new.waiting)
+taken_waiting None lists old new h = ap (λ (t : Worklist). (λ (f : Frontage). f) (record { lists = lists; todo = t })) h.1
+taken_waiting (Some n) lists old new h = h
+
 pub all_empty : (lists : List Entries) → length lists ≡ 66 → ((place : ℕ) → place < 66 → get_or lists place [] ≡ []) → HaveNone lists
 all_empty lists many each entry is =
     let P : Entries → Type 0 = λ l. Contains l entry in

@@ -1,6 +1,6 @@
 //! Nodes by their labels, nearly the least first.
-ghost use Rattle.std.specs.Prelude.{◌≡◌, ℕ, ◌+◌, ◌<◌, ◌≤◌, length, map, IfOk, MatchOption};
-ghost use Rattle.ea_finish.specs.Frontiers.{AreEntries, HaveNone, HasNone, KeepsWaiting, Puts, Takes};
+ghost use Rattle.std.specs.Prelude.{◌≡◌, ℕ, ◌+◌, ◌<◌, ◌≤◌, ◌∷◌, length, map, IfOk, IfSome, MatchOption};
+ghost use Rattle.ea_finish.specs.Frontiers.{AreEntries, HaveNone, HasNone, KeepsWaiting, Puts, Takes, WaitsAt};
 ghost use Rattle.ea_finish.specs.Underway.{bound_of};
 
 use crate::open::Open;
@@ -265,6 +265,36 @@ impl Frontier {
         }
         self.refill(network, table);
         self.pop_lowest()
+    }
+
+    /// Takes the node that has waited longest in the list.
+    fn take_waiting(&mut self) -> Option<u32>
+        ensures lists { self.new.lists ≡ self.old.lists }
+        ensures taken { MatchOption result (self.new ≡ self.old)
+            (λ node. self.old.todo.waiting ≡ node ∷ self.new.todo.waiting) }
+        ensures room { (self.new.todo.nodes ≡ self.old.todo.nodes)
+            × (self.new.todo.walks ≡ self.old.todo.walks) }
+        ensures node { IfSome result (λ node. (0 < node) × (node ≤ self.old.todo.nodes)) }
+    {
+        self.todo.take()
+    }
+
+    /// Puts the nodes that wait in the list among the entries, at their labels.
+    pub(crate) fn move_in(&mut self, table: &[u64])
+        requires { length table.now ≡ self.old.todo.nodes }
+        ensures rest { (node : ℕ) → WaitsAt self.old (bound_of table.now) node
+            → WaitsAt self.new (bound_of table.now) node }
+        ensures room { (self.new.todo.nodes ≡ self.old.todo.nodes)
+            × (self.new.todo.walks ≡ self.old.todo.walks) }
+    {
+        'moving: for _ in 0..self.todo.len() {
+            let Some(node) = self.take_waiting() else {
+                return;
+            };
+            let time = table[node as usize - 1];
+            let place = self.list_of(time);
+            self.put(place, time, node);
+        }
     }
 
     /// The lists, and the nodes that wait.

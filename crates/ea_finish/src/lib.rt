@@ -13,6 +13,7 @@ mod open;
 mod opens;
 mod search;
 mod searching;
+mod soon;
 mod touching;
 mod unwinding;
 mod waiting;
@@ -23,6 +24,7 @@ pub use finishing::{Finished, finish};
 pub use link::{Link, NO_LEVEL};
 pub use open::Open;
 pub use search::Search;
+pub use soon::finish_in_order;
 pub use unwinding::{find_links, unwind, without_walks};
 
 #[cfg(test)]

@@ -91,3 +91,27 @@ pub(crate) fn search<T: TravelTimes, K: Track>(
     begin(network, times, query, track, table, frontier);
     exhaust(network, times, query, track, table, frontier);
 }
+
+/// The search from a table as it stands, on a frontier in whose list the nodes wait that are open. Only nodes for which it
+/// finds no memory still wait then.
+pub(crate) fn search_on<T: TravelTimes, K: Track>(
+    network: &Network,
+    times: &T,
+    query: &Query,
+    track: &mut K,
+    table: &mut [u64],
+    frontier: &mut Frontier,
+)
+    requires problem { IsProblem network.now (T.classes times.now) query.now }
+    requires room { frontier.old.todo.nodes ≡ network.now.nodes }
+    requires underway { IsUnderway network.now (T.answers times.now) query.now
+        table.old frontier.old.todo.waiting }
+    ensures underway { IsUnderway network.now (T.answers times.now) query.now
+        table.new frontier.new.todo.waiting }
+    ensures nodes { frontier.new.todo.nodes ≡ frontier.old.todo.nodes }
+    ensures walks { frontier.new.todo.walks ≡ frontier.old.todo.walks }
+{
+    network.keeps_limits();
+    frontier.move_in(table);
+    exhaust(network, times, query, track, table, frontier);
+}

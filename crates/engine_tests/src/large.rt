@@ -70,3 +70,42 @@ fn one_thread_along_a_million_nodes(rt: HostRuntime) -> Result<(), Fail> {
     assert!(rt; walks_all(alloc, &answer)?);
     Ok(())
 }
+
+const RING: u32 = 80_000;
+
+/// A path of 100 nodes, whose arcs have weight 0, and then a ring: its i-th node is reached from the first one at 2i, the last
+/// one first, and from the node before it one later. A pass in the order of opening takes quadratic time on it.
+fn late_ring(alloc: Global) -> Result<Option<Given>, AllocError> {
+    let mut rows: Vec<Row> = Vec::new(alloc);
+    for node in 1..101 {
+        rows.push((node, node + 1, 0, 0))?;
+    }
+    for back in 1..RING {
+        let place = RING - back;
+        rows.push((101, 101 + place, 2 * place, 0))?;
+    }
+    for place in 1..RING - 1 {
+        rows.push((101 + place, 102 + place, 1, 0))?;
+    }
+    pose(alloc, 100 + RING, &rows, &[(1, 0)])
+}
+
+/// With no turns, and with heaps that the workers' words never meet, all is left to the end of the run.
+#[test]
+fn late_work_is_done_in_the_order_of_labels(rt: HostRuntime) -> Result<(), Fail> {
+    let alloc = rt.alloc();
+    let given = late_ring(alloc)?.ok_or("rows")?;
+    for turns in [0, 1000] {
+        let mut rngs = Vec::new(alloc);
+        for _ in 0..4 {
+            rngs.push(Constant(2))?;
+        }
+        let came = run_crew(alloc, &rt, &given, 8, turns, rngs, &NoGate)?.ok_or("problem")?;
+        assert_eq!(rt; (came.drained, came.finish), (1, 1));
+        assert!(rt; arrives(&came.answer, 101, Some(0)));
+        for place in [1, 2, 3, 40_000, RING - 1] {
+            assert!(rt; arrives(&came.answer, 101 + place, Some(u64::from(place) + 1)));
+        }
+    }
+    Ok(())
+}

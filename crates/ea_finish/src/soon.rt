@@ -1,0 +1,69 @@
+//! The finishing pass in about the order of labels.
+ghost use Rattle.std.specs.Prelude.{◌≡◌, length, map};
+ghost use Rattle.ea_road.specs.Queries.{IsProblem};
+ghost use Rattle.ea_finish.specs.Frontiers.{HaveNone};
+ghost use Rattle.ea_finish.specs.Underway.{IsFinished, IsUnderway};
+
+use crate::finishing::{Finished, finish};
+use crate::frontier::{Frontier, empty_lists};
+use crate::levels::Untracked;
+use crate::open::Open;
+use crate::searching::search_on;
+use ea_road::{Network, Query, TravelTimes};
+use std::alloc::Global;
+
+/// Searches from the nodes that wait, on lists without entries, and finishes what is left then.
+fn finish_on<T: TravelTimes>(
+    network: &Network,
+    times: &T,
+    query: &Query,
+    lists: Vec<Vec<(u64, u32)>>,
+    mut table: Vec<u64>,
+    todo: Open,
+) -> Finished
+    requires problem { IsProblem network.now (T.classes times.now) query.now }
+    requires underway { IsUnderway network.now (T.answers times.now) query.now
+        table.items todo.waiting }
+    requires room { todo.nodes ≡ network.now.nodes }
+    requires lists { (length lists.items ≡ 66) × HaveNone (map (λ l. l.items) lists.items) }
+    ensures finished { IsFinished network.now (T.answers times.now) query.now
+        result.table.items result.todo }
+    ensures walks { result.todo.walks ≡ todo.walks }
+{
+    let mut frontier = Frontier::over(lists, todo, network.mean_weight());
+    search_on(
+        network,
+        times,
+        query,
+        &mut Untracked,
+        &mut table,
+        &mut frontier,
+    );
+    let (_, todo) = frontier.into_parts();
+    finish(network, times, query, table, todo)
+}
+
+/// As `finish`, but the waiting nodes are first searched in about the order of their labels, as `arrivals_alone` searches
+/// from the sources: so what was left open costs what one thread would take for it. What is left then is finished in the
+/// order of opening, which is nothing where memory suffices. Where it doesn't, the answer is the same.
+pub fn finish_in_order<T: TravelTimes>(
+    alloc: Global,
+    network: &Network,
+    times: &T,
+    query: &Query,
+    table: Vec<u64>,
+    todo: Open,
+) -> Finished
+    requires problem { IsProblem network.now (T.classes times.now) query.now }
+    requires underway { IsUnderway network.now (T.answers times.now) query.now
+        table.items todo.waiting }
+    requires room { todo.nodes ≡ network.now.nodes }
+    ensures finished { IsFinished network.now (T.answers times.now) query.now
+        result.table.items result.todo }
+    ensures walks { result.todo.walks ≡ todo.walks }
+{
+    match empty_lists(alloc) {
+        Ok(lists) => finish_on(network, times, query, lists, table, todo),
+        Err(_) => finish(network, times, query, table, todo),
+    }
+}
