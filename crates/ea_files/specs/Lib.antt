@@ -3,3 +3,4 @@ pub mod Files
 pub mod Given
 pub mod Sound
 pub mod Starts
+pub mod Texts

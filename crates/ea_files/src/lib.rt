@@ -6,9 +6,11 @@ mod files;
 mod reading;
 mod road;
 mod starts;
+mod texts;
 
 pub use fault::{FileFault, FileWord};
 pub use files::{PairFiles, RunFiles, read_run, read_trips};
 pub use reading::read_report;
 pub use road::{Road, timetables_law};
 pub use starts::{departures_fit, pair_queries, run_queries};
+pub use texts::road_of_texts;

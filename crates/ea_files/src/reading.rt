@@ -9,7 +9,7 @@ ghost use Rattle.ea_input.specs.Pairs.{DenotesPairs};
 ghost use Rattle.ea_input.specs.Views.{graph};
 ghost use Rattle.ea_input.specs.TableViews.{table};
 ghost use Rattle.ea_files.specs.Files.{IsFaultAs, IsFaultIfThere, IsFaultIn, IsFileText, IsReadFaultAs, IsTextIfThere, IsUnreadBy, reading};
-ghost use Rattle.ea_files.specs.Given.{IsTableOf};
+ghost use Rattle.ea_files.specs.Given.{IsTableOf, no_table as none_given};
 
 use crate::fault::{FileFault, FileWord};
 use ea_input::{
@@ -43,7 +43,7 @@ fn read_fault_of(file: FileWord, fault: ReadFault) -> FileFault
 }
 
 /// A text's fault as one of its file.
-fn fault_of(file: FileWord, fault: InputFault) -> FileFault
+pub(crate) fn fault_of(file: FileWord, fault: InputFault) -> FileFault
     ensures { IsFaultAs file fault result }
 {
     if fault.kind == FaultKind::OutOfMemory {
@@ -121,6 +121,17 @@ fn read_timetables<R: ByteIn>(alloc: Global, tp: &mut R, arcs: u32) -> Result<Ra
     }
 }
 
+/// No timetables.
+pub(crate) fn no_table(alloc: Global) -> RawTable
+    ensures { table result ≡ none_given }
+{
+    RawTable {
+        kinds: Vec::new(alloc),
+        assigned: Vec::new(alloc),
+        steps: Vec::new(alloc),
+    }
+}
+
 /// The timetables of a file that may be left out.
 pub(crate) fn read_table<R: ByteIn>(
     alloc: Global,
@@ -134,11 +145,7 @@ pub(crate) fn read_table<R: ByteIn>(
         (IsFaultIfThere R.seen FileWord.Tp (table_format arcs) tp.old tp.new) }
 {
     match tp {
-        None => Ok(RawTable {
-            kinds: Vec::new(alloc),
-            assigned: Vec::new(alloc),
-            steps: Vec::new(alloc),
-        }),
+        None => Ok(no_table(alloc)),
         Some(tp) => read_timetables(alloc, tp, arcs),
     }
 }

@@ -30,7 +30,7 @@ fn classed_arcs(alloc: Global, graph: RawGraph, table: &RawTable) -> Result<Vec<
 }
 
 /// The road of a graph and a table.
-fn road_of(alloc: Global, graph: RawGraph, table: RawTable) -> Result<Road, AllocError>
+pub(crate) fn road_of(alloc: Global, graph: RawGraph, table: RawTable) -> Result<Road, AllocError>
     requires { IsSound (given_by graph table) }
     ensures { IfOk result (IsRoadOf (given_by graph table)) }
 {

@@ -1,0 +1,6 @@
+pub mod Faults
+pub mod Held
+pub mod Roads
+pub mod Sessions
+pub mod States
+pub mod Calls

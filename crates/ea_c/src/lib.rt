@@ -1,0 +1,10 @@
+//! The calls for C: roads and searches behind handles.
+#![tactic(auto)]
+
+mod content;
+mod handle;
+mod loose;
+mod numbers;
+mod queries;
+mod roads;
+mod sessions;
