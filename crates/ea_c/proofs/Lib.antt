@@ -1,2 +1,7 @@
 mod Values
 mod Handles
+mod Starting
+mod Telling
+mod Querying
+mod Asking
+mod Begun

@@ -16,9 +16,9 @@ use Rattle.ea_c.specs.States.{road_of}
 abbrev pub answers_on : Road → ℕ → ℕ → ℕ → ℕ → Type 0
 answers_on road = TimetablesAnswer road.times.list.items (steps_in road.times.steps)
 
--- A source of a road: one of its nodes, and a departure within the horizon.
-pub record IsStart (road : Road) (source : Source) : Type 0 where
-  pub node : IsNode road.network.nodes source.node
+-- A source among so many nodes: one of these, and a departure within the horizon.
+pub record IsStart (nodes : ℕ) (source : Source) : Type 0 where
+  pub node : IsNode nodes source.node
   pub departure : source.departure ≤ HORIZON
 
 -- Nodes with their departures.

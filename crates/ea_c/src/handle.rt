@@ -2,8 +2,8 @@
 ghost use Rattle.std.specs.Prelude.{◌≡◌, Option, Some, None, MatchOption};
 ghost use Rattle.ea_c.specs.declared.content.Content.{Content};
 
-use crate::loose::Loose;
 use crate::content::Content;
+use crate::loose::Loose;
 use std::alloc::Global;
 use std::marker::Model;
 use std::mem;
@@ -27,14 +27,20 @@ impl Handle {
     fn empty(alloc: Global) -> Handle
         ensures { result.value ≡ None }
     {
-        Handle { at: null_mut(), alloc }
+        Handle {
+            at: null_mut(),
+            alloc,
+        }
     }
 
     fn full(loose: Loose<Content, Global>) -> Handle
         ensures { result.value ≡ Some loose.value }
     {
         let Loose { at, alloc } = loose;
-        Handle { at: at as *mut u8, alloc }
+        Handle {
+            at: at as *mut u8,
+            alloc,
+        }
     }
 
     fn open(self) -> Option<Loose<Content, Global>>
@@ -44,7 +50,10 @@ impl Handle {
         if at.is_null() {
             None
         } else {
-            Some(Loose { at: at as *mut Content, alloc })
+            Some(Loose {
+                at: at as *mut Content,
+                alloc,
+            })
         }
     }
 
@@ -65,5 +74,27 @@ impl Handle {
         if let Some(loose) = before.open() {
             drop(loose.into_box());
         }
+    }
+
+    /// What the handle holds, and the box in which it was; the handle holds nothing then.
+    pub fn empty_out(&mut self, alloc: Global) -> Option<(Box<Content, Global>, Content)>
+        ensures old { MatchOption result (self.old.value ≡ None)
+            (λ it. self.old.value ≡ Some it.1) }
+        ensures new { self.new.value ≡ None }
+    {
+        let Some(mut room) = self.take(alloc) else {
+            return None;
+        };
+        let content = Box::replace(&mut room, Content::Away);
+        Some((room, content))
+    }
+
+    /// Puts something into a box and that into the handle.
+    pub fn fill(&mut self, room: Box<Content, Global>, content: Content)
+        ensures { self.new.value ≡ Some content }
+    {
+        let mut room = room;
+        let _ = Box::replace(&mut room, content);
+        self.put(room);
     }
 }

@@ -1,6 +1,7 @@
 //! The calls for C: roads and searches behind handles.
 #![tactic(auto)]
 
+mod begin;
 mod content;
 mod handle;
 mod loose;
@@ -8,3 +9,5 @@ mod numbers;
 mod queries;
 mod roads;
 mod sessions;
+mod tellings;
+mod walks;

@@ -11,7 +11,6 @@ use ea_files::{Road, road_of_texts};
 use std::alloc::{AllocError, Global};
 use std::sync::Arc;
 
-
 /// A road in a box of its own.
 fn boxed(alloc: Global, road: Road) -> Result<Box<Content, Global>, AllocError>
     requires { top_class road.network.arcs ≤ length road.times.list.items }
@@ -52,7 +51,11 @@ pub extern "C" fn earliest_road_read(
     match road_of_texts(alloc, gr, tp) {
         Ok(found) => {
             let number = keep(alloc, found, road);
-            *fault = Fault { line: 0, number, text: 0 };
+            *fault = Fault {
+                line: 0,
+                number,
+                text: 0,
+            };
             number
         }
         Err(found) => {

@@ -91,10 +91,10 @@ impl Session {
 
     /// Whether a node and a departure make a source of its road: 0, or the refusal's number.
     pub fn refusal(&self, node: u32, departure: u64) -> u32
-        ensures done { result ≡ 0 →
-            IsStart (road_of self.now) (record { node = node; departure = departure }) }
-        ensures refused { IsStart (road_of self.now) (record { node = node; departure = departure })
-            → result ≡ 0 }
+        ensures done { result ≡ 0 → IsStart (road_of self.now).network.nodes
+            (record { node = node; departure = departure }) }
+        ensures refused { IsStart (road_of self.now).network.nodes
+            (record { node = node; departure = departure }) → result ≡ 0 }
     {
         if node == 0 || node > self.nodes() {
             return NO_SUCH_NODE;

@@ -1,0 +1,132 @@
+/* The engine of `earliest` in a C program: earliest arrivals in road networks whose travel times depend on the departure.
+ *
+ * Every call that can refuse answers 0 where it is done and else the refusal's number (enum earliest_number). Whatever numbers a
+ * caller passes are tested and answered. What a caller owes beyond that:
+ *
+ *   - Pointers point to what they say: a list to as many readable (for `out`: writable) members as its count says, and a handle, a
+ *     fault or a single result to one such value. None is NULL, not even that of a list of 0 members (pass "" or the address of
+ *     anything). Lists and results of one call don't overlap one another or a handle.
+ *   - A handle is set to EARLIEST_NOTHING before its first use, and is not copied: it is passed by its address, and one copy of it is
+ *     in use. No program writes to it.
+ *   - One thread at a time is in a call with one handle, and hands it to another thread through a lock, the thread's start or its
+ *     end. Different handles are used by different threads at the same time, also where searches share a road.
+ *   - No call is made from a signal handler, or in the child of a fork of a process with threads.
+ *
+ * Nodes and arcs are numbered from 1, arcs in the order in which they were given. Times are whole numbers from 0 to
+ * EARLIEST_HORIZON, in whatever unit the travel times have.
+ */
+#ifndef EARLIEST_H
+#define EARLIEST_H
+
+#include <stddef.h>
+#include <stdint.h>
+
+#ifdef __cplusplus
+extern "C" {
+#endif
+
+/* The greatest time. */
+#define EARLIEST_HORIZON UINT64_C(281474976710655)
+/* The arrival at a node that no walk reaches within the horizon. */
+#define EARLIEST_NEVER UINT64_MAX
+
+/* A share of a road; EARLIEST_NOTHING where it holds none. */
+typedef struct earliest_road { void *at; } earliest_road;
+/* A search with its last answer; EARLIEST_NOTHING where it holds none. */
+typedef struct earliest_search { void *at; } earliest_search;
+#define EARLIEST_NOTHING { 0 }
+
+/* What is wrong with a text. */
+typedef struct earliest_fault {
+    uint64_t line;   /* from 1; 0 for a fault of the whole text */
+    uint32_t number; /* enum earliest_number; 0 where there is no fault */
+    uint32_t text;   /* 1 the network, 2 the timetables, 3 the report; 0 none */
+} earliest_fault;
+
+/* 1 to 13 are the program's own numbers. */
+enum earliest_number {
+    EARLIEST_DONE = 0,
+    EARLIEST_NO_PROBLEM_LINE = 1,
+    EARLIEST_SECOND_PROBLEM_LINE = 2,
+    EARLIEST_UNKNOWN_LINE = 3,
+    EARLIEST_FIELD_COUNT = 4,
+    EARLIEST_BAD_NUMBER = 5,
+    EARLIEST_OUT_OF_RANGE = 6,
+    EARLIEST_TOO_MANY_LINES = 7,
+    EARLIEST_TOO_FEW_LINES = 8,
+    EARLIEST_BAD_KIND = 9,
+    EARLIEST_OUT_OF_MEMORY = 13,
+    EARLIEST_NO_ROAD = 16,        /* the handle holds no road */
+    EARLIEST_NO_SEARCH = 17,      /* the handle holds no search */
+    EARLIEST_NO_SUCH_NODE = 18,   /* a number is not that of a node */
+    EARLIEST_BEYOND_HORIZON = 19, /* a departure is beyond the horizon */
+    EARLIEST_NOT_ASKED = 20,      /* the last query asked for another node alone */
+    EARLIEST_NO_WALKS = 21,       /* the last query found no walks */
+    EARLIEST_NOT_REACHED = 22,    /* no walk reaches the node within the horizon */
+    EARLIEST_LENGTHS_DIFFER = 23, /* lists that belong together have different lengths */
+    EARLIEST_ROOM_TOO_SMALL = 24  /* there is another room than the result takes */
+};
+
+/* Makes the road of the text of a network (.gr) and of that of its timetables (.tp); tp_length 0 means no timetables. The texts may go
+ * afterwards. `road` holds the road then, and what it held before is let go. Refusals: 1 to 9, with `fault` telling text and line, and
+ * 13; `road` is as it was then. */
+uint32_t earliest_road_read(const char *gr, size_t gr_length, const char *tp, size_t tp_length, earliest_road *road, earliest_fault *fault);
+/* How many nodes, and how many arcs, a road has; 0 where the handle holds none. */
+uint32_t earliest_road_nodes(earliest_road *road);
+uint32_t earliest_road_arcs(earliest_road *road);
+/* Lets a road go; `road` is EARLIEST_NOTHING then. Searches on it keep their shares and go on. */
+void earliest_road_free(earliest_road *road);
+
+/* Makes a search on a road, with room for walks where `walks` isn't 0: then each query finds canonical walks, too, which takes about
+ * twice as long. `search` holds it then, and what it held before is let go. Refusals: EARLIEST_NO_ROAD, 13. */
+uint32_t earliest_search_new(earliest_road *road, uint32_t walks, earliest_search *search);
+/* Searches from these nodes, each departing at its time, to all nodes; lists of 0 reach no node. Refusals: EARLIEST_NO_SEARCH,
+ * EARLIEST_LENGTHS_DIFFER, EARLIEST_NO_SUCH_NODE, EARLIEST_BEYOND_HORIZON, 13; the search keeps its last answer then. */
+uint32_t earliest_search_from(earliest_search *search, const uint32_t *nodes, size_t node_count, const uint64_t *departures, size_t departure_count);
+/* Searches from one node to one target. Refusals: EARLIEST_NO_SEARCH, EARLIEST_NO_SUCH_NODE, EARLIEST_BEYOND_HORIZON. */
+uint32_t earliest_search_pair(earliest_search *search, uint32_t source, uint64_t departure, uint32_t target);
+/* The earliest arrival at a node for which the last query asked; EARLIEST_NEVER where no walk reaches it, and before the first
+ * query. Refusals: EARLIEST_NO_SEARCH, EARLIEST_NO_SUCH_NODE, EARLIEST_NOT_ASKED; `arrival` is as it was then. */
+uint32_t earliest_search_arrival(earliest_search *search, uint32_t node, uint64_t *arrival);
+/* The earliest arrivals at all nodes: `count` is the number of nodes, and place 0 is node 1. Refusals: EARLIEST_NO_SEARCH,
+ * EARLIEST_ROOM_TOO_SMALL where `count` is another, EARLIEST_NOT_ASKED after a query for one target; `out` is as it was then. */
+uint32_t earliest_search_arrivals(earliest_search *search, uint64_t *out, size_t count);
+/* The canonical walk to a node: the numbers of its arcs, first arc first, at the head of `out`, and how many they are in `count`. A
+ * source at its own departure has the empty walk. Refusals: EARLIEST_ROOM_TOO_SMALL, where `count` tells how much room it takes;
+ * EARLIEST_NO_SEARCH, EARLIEST_NO_SUCH_NODE, EARLIEST_NOT_ASKED, EARLIEST_NO_WALKS, EARLIEST_NOT_REACHED, 13, where `out` and `count`
+ * are as they were. */
+uint32_t earliest_search_walk(earliest_search *search, uint32_t node, uint32_t *out, size_t room, uint64_t *count);
+/* Lets a search go; `search` is EARLIEST_NOTHING then. */
+void earliest_search_free(earliest_search *search);
+
+/* The name and the meaning of a number. */
+static inline const char *earliest_message(uint32_t number) {
+    switch (number) {
+    case EARLIEST_DONE: return "it is done (0 Done)";
+    case EARLIEST_NO_PROBLEM_LINE: return "the problem line `p ..` is missing (1 NoProblemLine)";
+    case EARLIEST_SECOND_PROBLEM_LINE: return "there is a second problem line (2 SecondProblemLine)";
+    case EARLIEST_UNKNOWN_LINE: return "lines of this file don't begin with this word (3 UnknownLine)";
+    case EARLIEST_FIELD_COUNT: return "the line has too few or too many fields (4 FieldCount)";
+    case EARLIEST_BAD_NUMBER: return "a field is not a number (5 BadNumber)";
+    case EARLIEST_OUT_OF_RANGE: return "a number is out of its range (6 OutOfRange)";
+    case EARLIEST_TOO_MANY_LINES: return "there are more lines of this sort than were announced (7 TooManyLines)";
+    case EARLIEST_TOO_FEW_LINES: return "there are fewer lines than were announced (8 TooFewLines)";
+    case EARLIEST_BAD_KIND: return "a kind word is not the one expected here (9 BadKind)";
+    case EARLIEST_OUT_OF_MEMORY: return "there is not enough memory (13 OutOfMemory)";
+    case EARLIEST_NO_ROAD: return "the handle holds no road (16 NoRoad)";
+    case EARLIEST_NO_SEARCH: return "the handle holds no search (17 NoSearch)";
+    case EARLIEST_NO_SUCH_NODE: return "a number is not that of a node (18 NoSuchNode)";
+    case EARLIEST_BEYOND_HORIZON: return "a departure is beyond the horizon (19 BeyondHorizon)";
+    case EARLIEST_NOT_ASKED: return "the last query asked for another node alone (20 NotAsked)";
+    case EARLIEST_NO_WALKS: return "the last query found no walks (21 NoWalks)";
+    case EARLIEST_NOT_REACHED: return "no walk reaches the node within the horizon (22 NotReached)";
+    case EARLIEST_LENGTHS_DIFFER: return "lists that belong together have different lengths (23 LengthsDiffer)";
+    case EARLIEST_ROOM_TOO_SMALL: return "the room is not that of the result (24 RoomTooSmall)";
+    default: return "this is no number of a call";
+    }
+}
+
+#ifdef __cplusplus
+}
+#endif
+#endif
