@@ -1,14 +1,18 @@
 # `make` builds the program, `make run` runs its main job, `make test` runs the whole gate (`rt ci`, the edits that must be
 # refused, then the table of tests/ with the program that `rt ci` has built), and `make cases` runs the table alone.
-# `make install PREFIX=..` installs the program, its man page and the completions of bash, zsh and fish.
+# `make lib` builds the library for C, C++ and Python (lib/), and puts it beside the Python package. `make install PREFIX=..` installs
+# the program, its man page, the completions of bash, zsh and fish, the library, its headers and its pkg-config file.
 # `make try` runs the program with no proof, within about a minute. `make part CRATES="ea_input"` runs the gate of some crates
 # and of those that they stand on, with ABOVE=1 also of those that stand on them.
-.PHONY: all run try test part cases install clean
+.PHONY: all lib run try test part cases install clean
 
 PREFIX ?= /usr/local
 
 all:
 	@python3 tools/build.py
+
+lib:
+	@python3 tools/library.py
 
 run: all
 	bin/earliest run examples/four-nodes.gr examples/four-nodes.ss --walks
@@ -26,9 +30,10 @@ part:
 cases: all
 	python3 tests/run.py bin/earliest
 
-install: all
+install: all lib
 	install -D bin/earliest $(DESTDIR)$(PREFIX)/bin/earliest
 	python3 tools/pages.py bin/earliest $(DESTDIR)$(PREFIX)
+	python3 tools/library.py --install $(PREFIX) $(DESTDIR)$(PREFIX)
 
 clean:
-	rm -rf bin crates/*/out
+	rm -rf bin lib crates/*/out

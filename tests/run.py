@@ -11,6 +11,7 @@ import tempfile
 
 sys.dont_write_bytecode = True
 import commuter_network
+import embedding
 import large
 import opening
 import people
@@ -123,6 +124,7 @@ def run_all(program):
     results += travel_times.results(program)
     results += commuter_network.results(program)
     results += large.results(program, EXAMPLES)
+    results += embedding.results(program)
     failed = [(name, was) for name, was, want in results if was != want]
     for name, was in failed:
         print("failed:", name, *was)

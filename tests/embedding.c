@@ -1,0 +1,168 @@
+/* The calls of include/earliest.h: happy paths, each refusal, and many calls with bad numbers. Exits with the line of the first test that
+ * fails, or 0. Its words are the files of two networks and of the second one's timetables. */
+#include <stdio.h>
+#include <stdlib.h>
+#include <string.h>
+
+#include "earliest.h"
+
+#define TEST(holds) do { if (!(holds)) { fprintf(stderr, "line %d: %s\n", __LINE__, #holds); return 1; } } while (0)
+
+static char *text_of(const char *path, size_t *length) {
+    FILE *file = fopen(path, "rb");
+    if (!file) exit(2);
+    char *text = malloc(1 << 20);
+    *length = fread(text, 1, 1 << 20, file);
+    fclose(file);
+    return text;
+}
+
+static uint64_t state = 1;
+static uint64_t word(void) {
+    state ^= state << 13, state ^= state >> 7, state ^= state << 17;
+    return state;
+}
+
+/* The example four-nodes: each call on its happy path, and each refusal. */
+static int four_nodes(const char *gr, size_t length) {
+    earliest_road road = EARLIEST_NOTHING, other = EARLIEST_NOTHING;
+    earliest_search search = EARLIEST_NOTHING, plain = EARLIEST_NOTHING;
+    earliest_fault fault = {9, 9, 9};
+    uint32_t nodes[2] = {1, 4}, walk[3];
+    uint64_t departures[2] = {0, 1}, arrivals[4] = {7, 7, 7, 7}, arrival = 7, count = 7;
+
+    TEST(earliest_road_nodes(&road) == 0 && earliest_road_arcs(&road) == 0);
+    TEST(earliest_search_new(&road, 1, &search) == EARLIEST_NO_ROAD && search.at == NULL);
+    TEST(earliest_search_from(&search, nodes, 1, departures, 1) == EARLIEST_NO_SEARCH);
+    TEST(earliest_search_pair(&search, 1, 0, 4) == EARLIEST_NO_SEARCH);
+    TEST(earliest_search_arrival(&search, 1, &arrival) == EARLIEST_NO_SEARCH && arrival == 7);
+    TEST(earliest_search_arrivals(&search, arrivals, 4) == EARLIEST_NO_SEARCH && arrivals[0] == 7);
+    TEST(earliest_search_walk(&search, 4, walk, 3, &count) == EARLIEST_NO_SEARCH && count == 7);
+
+    TEST(earliest_road_read(gr, length, "", 0, &road, &fault) == 0);
+    TEST(fault.line == 0 && fault.number == 0 && fault.text == 0);
+    TEST(earliest_road_nodes(&road) == 4 && earliest_road_arcs(&road) == 5);
+    TEST(earliest_search_new(&road, 1, &search) == 0 && earliest_search_new(&road, 0, &plain) == 0);
+    TEST(earliest_search_arrival(&search, 1, &arrival) == 0 && arrival == EARLIEST_NEVER);
+
+    TEST(earliest_search_from(&search, nodes, 1, departures, 1) == 0);
+    TEST(earliest_search_arrivals(&search, arrivals, 4) == 0);
+    TEST(arrivals[0] == 0 && arrivals[1] == 5 && arrivals[2] == 2 && arrivals[3] == 6);
+    TEST(earliest_search_arrival(&search, 2, &arrival) == 0 && arrival == 5);
+    TEST(earliest_search_walk(&search, 4, walk, 3, &count) == 0 && count == 3);
+    TEST(walk[0] == 2 && walk[1] == 3 && walk[2] == 4);
+    TEST(earliest_search_walk(&search, 1, walk, 0, &count) == 0 && count == 0);
+    TEST(earliest_search_walk(&search, 4, walk, 2, &count) == EARLIEST_ROOM_TOO_SMALL && count == 3);
+    TEST(earliest_search_walk(&search, 0, walk, 3, &count) == EARLIEST_NO_SUCH_NODE);
+    TEST(earliest_search_walk(&search, 5, walk, 3, &count) == EARLIEST_NO_SUCH_NODE);
+    TEST(earliest_search_arrival(&search, 0, &arrival) == EARLIEST_NO_SUCH_NODE && arrival == 5);
+    TEST(earliest_search_arrival(&search, UINT32_MAX, &arrival) == EARLIEST_NO_SUCH_NODE);
+    TEST(earliest_search_arrivals(&search, arrivals, 3) == EARLIEST_ROOM_TOO_SMALL);
+    TEST(earliest_search_arrivals(&search, arrivals, 0) == EARLIEST_ROOM_TOO_SMALL);
+
+    TEST(earliest_search_from(&search, nodes, 2, departures, 1) == EARLIEST_LENGTHS_DIFFER);
+    nodes[1] = 5;
+    TEST(earliest_search_from(&search, nodes, 2, departures, 2) == EARLIEST_NO_SUCH_NODE);
+    nodes[1] = 0;
+    TEST(earliest_search_from(&search, nodes, 2, departures, 2) == EARLIEST_NO_SUCH_NODE);
+    nodes[1] = 4, departures[1] = EARLIEST_HORIZON + 1;
+    TEST(earliest_search_from(&search, nodes, 2, departures, 2) == EARLIEST_BEYOND_HORIZON);
+    TEST(earliest_search_arrival(&search, 4, &arrival) == 0 && arrival == 6);
+    departures[1] = 1;
+    TEST(earliest_search_from(&search, nodes, 2, departures, 2) == 0);
+    TEST(earliest_search_arrival(&search, 4, &arrival) == 0 && arrival == 1);
+    TEST(earliest_search_from(&search, nodes, 0, departures, 0) == 0);
+    TEST(earliest_search_arrival(&search, 1, &arrival) == 0 && arrival == EARLIEST_NEVER);
+    TEST(earliest_search_walk(&search, 1, walk, 3, &count) == EARLIEST_NOT_REACHED);
+
+    TEST(earliest_search_pair(&search, 0, 0, 4) == EARLIEST_NO_SUCH_NODE);
+    TEST(earliest_search_pair(&search, 1, 0, 0) == EARLIEST_NO_SUCH_NODE);
+    TEST(earliest_search_pair(&search, 1, 0, 5) == EARLIEST_NO_SUCH_NODE);
+    TEST(earliest_search_pair(&search, 1, EARLIEST_HORIZON + 1, 4) == EARLIEST_BEYOND_HORIZON);
+    TEST(earliest_search_pair(&search, 1, 0, 4) == 0);
+    TEST(earliest_search_arrival(&search, 4, &arrival) == 0 && arrival == 6);
+    TEST(earliest_search_arrival(&search, 2, &arrival) == EARLIEST_NOT_ASKED);
+    TEST(earliest_search_arrivals(&search, arrivals, 4) == EARLIEST_NOT_ASKED);
+    TEST(earliest_search_walk(&search, 4, walk, 3, &count) == 0 && count == 3);
+
+    TEST(earliest_search_from(&plain, nodes, 1, departures, 1) == 0);
+    TEST(earliest_search_walk(&plain, 4, walk, 3, &count) == EARLIEST_NO_WALKS);
+    TEST(earliest_search_arrival(&plain, 4, &arrival) == 0 && arrival == 6);
+
+    /* A search goes on when its road was let go, and a handle that is filled anew lets its former value go. */
+    earliest_road_free(&road);
+    earliest_road_free(&road);
+    TEST(road.at == NULL);
+    TEST(earliest_search_from(&search, nodes, 1, departures, 1) == 0);
+    TEST(earliest_search_arrival(&search, 4, &arrival) == 0 && arrival == 6);
+    TEST(earliest_road_read(gr, length, "", 0, &road, &fault) == 0 && earliest_road_read(gr, length, "", 0, &road, &fault) == 0);
+    TEST(earliest_search_new(&road, 1, &search) == 0 && earliest_search_arrival(&search, 4, &arrival) == 0 && arrival == EARLIEST_NEVER);
+
+    /* Faults of texts. */
+    TEST(earliest_road_read("", 0, "", 0, &other, &fault) == EARLIEST_NO_PROBLEM_LINE && fault.line == 0 && fault.text == 1);
+    TEST(earliest_road_read("p sp 2 1\na 1 3 1\n", 17, "", 0, &road, &fault) == EARLIEST_OUT_OF_RANGE);
+    TEST(fault.line == 2 && fault.number == EARLIEST_OUT_OF_RANGE && fault.text == 1);
+    TEST(earliest_road_read(gr, length, "x\n", 2, &other, &fault) == EARLIEST_UNKNOWN_LINE && fault.line == 1 && fault.text == 2);
+    TEST(other.at == NULL && earliest_road_nodes(&road) == 4);
+    /* A handle of the other kind holds nothing of this one. */
+    TEST(earliest_road_nodes((earliest_road *)&search) == 0);
+    TEST(earliest_search_from((earliest_search *)&road, nodes, 1, departures, 1) == EARLIEST_NO_SEARCH);
+    TEST(strstr(earliest_message(EARLIEST_NO_ROAD), "NoRoad") != NULL);
+    earliest_search_free(&search), earliest_search_free(&plain), earliest_road_free(&road);
+    TEST(search.at == NULL);
+    return 0;
+}
+
+/* A number that is bad more often than not. */
+static uint64_t any(uint64_t near) {
+    switch (word() % 6) {
+    case 0: return 0;
+    case 1: return word();
+    case 2: return near + word() % 3;
+    case 3: return UINT64_MAX - word() % 2;
+    case 4: return EARLIEST_HORIZON + word() % 2;
+    default: return near ? word() % near + 1 : 0;
+    }
+}
+
+/* 100,000 calls with such numbers, on handles of any state. */
+static int many(const char *gr, size_t gr_length, const char *tp, size_t tp_length) {
+    earliest_road roads[2] = {EARLIEST_NOTHING, EARLIEST_NOTHING};
+    earliest_search searches[3] = {EARLIEST_NOTHING, EARLIEST_NOTHING, EARLIEST_NOTHING};
+    earliest_fault fault;
+    uint32_t nodes[4], out[64];
+    uint64_t departures[4], one, *all = malloc(4096 * sizeof *all);
+    for (int call = 0; call < 100000; call++) {
+        earliest_road *road = &roads[word() % 2];
+        earliest_search *search = &searches[word() % 3];
+        uint32_t size = earliest_road_nodes(road);
+        for (int i = 0; i < 4; i++) nodes[i] = (uint32_t)any(size), departures[i] = any(1000);
+        uint32_t number = 0;
+        switch (word() % 40) {
+        case 0: number = earliest_road_read(gr, word() % 3 ? gr_length : word() % gr_length, tp, word() % 2 ? tp_length : word() % tp_length, road, &fault); break;
+        case 1: earliest_road_free(road); break;
+        case 2: earliest_search_free(search); break;
+        case 3: case 4: number = earliest_search_new(road, (uint32_t)any(1), search); break;
+        case 5: case 6: case 7: case 8: number = earliest_search_from(search, nodes, word() % 5, departures, word() % 5); break;
+        case 9: case 10: case 11: number = earliest_search_from(search, nodes, 1, departures, 1); break;
+        case 12: case 13: case 14: case 15: number = earliest_search_pair(search, nodes[0], departures[0], nodes[1]); break;
+        case 16: case 17: number = earliest_search_arrivals(search, all, word() % 2 ? size : word() % 4096); break;
+        case 18: case 19: case 20: case 21: case 22: case 23: number = earliest_search_walk(search, nodes[0], out, word() % 65, &one); break;
+        default: number = earliest_search_arrival(search, nodes[0], &one); break;
+        }
+        TEST(number <= 24);
+    }
+    for (int i = 0; i < 2; i++) earliest_road_free(&roads[i]);
+    for (int i = 0; i < 3; i++) earliest_search_free(&searches[i]);
+    free(all);
+    return 0;
+}
+
+int main(int count, char **words) {
+    if (count != 4) return 2;
+    size_t four_length, gr_length, tp_length;
+    char *four = text_of(words[1], &four_length), *gr = text_of(words[2], &gr_length), *tp = text_of(words[3], &tp_length);
+    int failed = four_nodes(four, four_length) || many(gr, gr_length, tp, tp_length);
+    free(four), free(gr), free(tp);
+    return failed;
+}

@@ -1,0 +1,141 @@
+"""The engine in other people's programs: the calls of C, the C++ classes and the Python package, against the program's own reports.
+
+What can't be run for want of a compiler or of a checker of memory is told, and left out.
+"""
+import os
+import shutil
+import subprocess
+import sys
+import tempfile
+from concurrent.futures import ThreadPoolExecutor
+
+HERE = os.path.dirname(os.path.abspath(__file__))
+ROOT = os.path.normpath(os.path.join(HERE, ".."))
+EXAMPLES = os.path.join(ROOT, "examples")
+STATIC, SHARED = (os.path.join(ROOT, "lib", name) for name in ("libearliest.a", "libearliest.so"))
+FILES = ["four-nodes.gr", "road.gr", "road.tp"]
+
+
+def ran(words, **more):
+    """Status, standard output and standard error of a program that runs among the examples."""
+    run = subprocess.run(words, cwd=EXAMPLES, stdin=subprocess.DEVNULL, capture_output=True, timeout=300, **more)
+    return run.returncode, run.stdout, run.stderr
+
+
+def built(compiler, flags, source, to):
+    """Compiles a program over the library; None where that is done, else what the compiler says."""
+    words = [compiler, *flags, "-Wall", "-Wextra", "-I" + os.path.join(ROOT, "include"), source, STATIC, "-o", to]
+    run = subprocess.run(words, capture_output=True, text=True)
+    return run.stderr if run.returncode or run.stderr else None
+
+
+def in_c(room):
+    """Each call of C with each refusal, and 100,000 calls with bad numbers, under a checker of memory; the example."""
+    checked, plain, example = (os.path.join(room, name) for name in ("checked", "plain", "walk_to"))
+    said = built("cc", ["-std=c99", "-g", "-fsanitize=address,undefined"], os.path.join(HERE, "embedding.c"), checked)
+    yield "the calls of C, compiled", said, None
+    yield "the calls of C", ran([checked, *FILES]), (0, b"", b"")
+    if shutil.which("valgrind"):
+        yield "the calls of C, compiled for valgrind", built("cc", ["-std=c99", "-g"], os.path.join(HERE, "embedding.c"), plain), None
+        words = ["valgrind", "-q", "--error-exitcode=9", "--leak-check=full"]
+        yield "the calls of C under valgrind", ran([*words, plain, *FILES]), (0, b"", b"")
+    else:
+        print("left out: the calls of C under valgrind, which isn't there")
+    yield "walk_to.c, compiled", built("cc", ["-std=c99"], os.path.join(EXAMPLES, "walk_to.c"), example), None
+    yield "walk_to", ran([example, "four-nodes.gr", "1", "0", "4"]), (0, b"node 4 at 6, over 2 3 4\n", b"")
+    yield "walk_to, not reached", ran([example, "four-nodes.gr", "4", "0", "1"]), (0, b"node 1 is not reached\n", b"")
+    told = b"walk_to: a number is not that of a node (18 NoSuchNode)\n"
+    yield "walk_to, no such node", ran([example, "four-nodes.gr", "1", "0", "5"]), (1, b"", told)
+    told = b"walk_to: line 1: lines of this file don't begin with this word (3 UnknownLine)\n"
+    yield "walk_to, no network", ran([example, "README.md", "1", "0", "5"])[::2], (1, told)
+
+
+def in_cpp(room):
+    """The example in C++: a road, and a search by each thread."""
+    example = os.path.join(room, "by_threads")
+    said = built("c++", ["-std=c++17", "-pthread", "-g", "-fsanitize=address,undefined"], os.path.join(EXAMPLES, "by_threads.cpp"), example)
+    yield "by_threads.cpp, compiled", said, None
+    told = b"from 1: 1880 nodes are reached\nfrom 2: 1880 nodes are reached\nfrom 9999: a number is not that of a node (18 NoSuchNode)\n"
+    yield "by_threads", ran([example, "road.gr", "road.tp", "1", "2", "9999"]), (0, told, b"")
+
+
+def report(road, source, departure, earliest):
+    """A problem's lines of a report, by the package."""
+    found = road.search([source], [departure])
+    lines = [f"s {source} {departure}\n"]
+    for node, time in enumerate(found.arrivals, 1):
+        lines.append(f"d {node} inf\n" if time == earliest.NEVER else f"d {node} {time}\n")
+        if time != earliest.NEVER:
+            walk = found.walk(node)
+            lines.append(" ".join(["w", str(node), str(len(walk)), *map(str, walk)]) + "\n")
+    return "".join(lines)
+
+
+def failure_of(call):
+    """The exception of a call: its type, and what it tells."""
+    try:
+        call()
+    except Exception as refused:
+        return type(refused).__name__, str(refused)
+    return None
+
+
+def in_python(program):
+    """The same reports as the program's, by four threads on one road; exceptions; the example."""
+    os.environ["EARLIEST_LIBRARY"] = SHARED
+    sys.path.insert(0, os.path.join(ROOT, "python"))
+    import earliest
+
+    print("the package runs " + ("with NumPy" if earliest._engine.numpy else "without NumPy, which isn't there"))
+    at = lambda name: os.path.join(EXAMPLES, name)
+    for gr, ss, tp, depart in (("four-nodes.gr", "four-nodes.ss", None, 0), ("road.gr", "road.ss", "road.tp", 1000)):
+        road = earliest.Road.read(at(gr), tp and at(tp))
+        words = ["run", gr, ss, "--walks", "--depart", str(depart), *(["--tp", tp] if tp else [])]
+        want = b"".join(line for line in ran([program, *words])[1].splitlines(True) if not line.startswith(b"c"))
+        with open(at(ss), encoding="ascii") as file:
+            sources = [int(line.split()[1]) for line in file if line.startswith("s")]
+        with ThreadPoolExecutor(4) as pool:
+            texts = list(pool.map(lambda source: report(road, source, depart, earliest), sources))
+        yield f"{gr} by four threads of Python", "".join(texts).encode() == want and len(want) > 0, True
+    four = earliest.Road.read(at("four-nodes.gr"))
+    search = four.searcher()
+    first = search.find([1])
+    yield "counts", (four.nodes, four.arcs), (4, 5)
+    yield "a pair", search.pair(1, 0, 4), 6
+    yield "a pair that isn't reached", search.pair(4, 0, 1), None
+    yield "an answer whose search went on", failure_of(lambda: first.arrivals), ("RuntimeError", "the search has answered a later query")
+    yield "no sources", list(four.search([]).arrivals), [earliest.NEVER] * 4
+    yield "no such node", failure_of(lambda: four.search([5])), ("Failure", "18 NoSuchNode")
+    yield "a target of 0", failure_of(lambda: search.pair(1, 0, 0)), ("Failure", "18 NoSuchNode")
+    yield "beyond the horizon", failure_of(lambda: four.search([1], [2**48])), ("Failure", "19 BeyondHorizon")
+    yield "too few departures", failure_of(lambda: four.search([1, 2], [0])), ("Failure", "23 LengthsDiffer")
+    yield "no walks", failure_of(lambda: four.search([1], walks=False).walk(4)), ("Failure", "21 NoWalks")
+    yield "a text's fault", failure_of(lambda: earliest.Road(b"p sp 2 1\na 1 3 1\n")), ("InputFailure", "gr 2: 6 OutOfRange")
+    yield "no timetables in their text", failure_of(lambda: earliest.Road(b"p sp 1 0\n", b"")), ("InputFailure", "tp 0: 1 NoProblemLine")
+    run = ran([sys.executable, "many_sources.py"], env={**os.environ, "PYTHONPATH": os.path.join(ROOT, "python")})
+    yield "many_sources.py", (run[0], run[1].splitlines()[0], run[2]), (0, b"2025 nodes, 5000 arcs", b"")
+
+
+def results(program):
+    """Each test with what came and what has to come. The library is proved and built first, over what earlier builds left."""
+    run = subprocess.run([sys.executable, os.path.join(ROOT, "tools", "library.py")], stdout=subprocess.PIPE, text=True)
+    yield "the library, built", run.returncode or None, None
+    if run.returncode:
+        print(run.stdout)
+        return
+    with tempfile.TemporaryDirectory() as room:
+        for compiler, cases in (("cc", in_c), ("c++", in_cpp)):
+            if shutil.which(compiler):
+                yield from cases(room)
+            else:
+                print(f"left out: the programs that take {compiler}, which isn't there")
+    yield from in_python(os.path.abspath(program))
+
+
+if __name__ == "__main__":
+    FOUND = list(results(sys.argv[1]))
+    ILL = [(name, was, want) for name, was, want in FOUND if was != want]
+    for name, was, want in ILL:
+        print("failed:", name, was, "and not", want)
+    print(f"{len(FOUND) - len(ILL)} passed, {len(ILL)} failed")
+    sys.exit(1 if ILL else 0)
