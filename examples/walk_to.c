@@ -35,7 +35,7 @@ int main(int count, char **words) {
     char *text = text_of(words[1], &length);
     uint32_t number = earliest_road_read(text, length, "", 0, &road, &fault);
     free(text);
-    if (number && fault.text) fprintf(stderr, "walk_to: line %" PRIu64 ": ", fault.line);
+    if (number && fault.text) fprintf(stderr, "line %" PRIu64 ": ", fault.line);
     if (!number) number = earliest_search_new(&road, 1, &search);
     if (!number) number = earliest_search_pair(&search, source, departure, target);
     if (!number) number = earliest_search_arrival(&search, target, &arrival);
@@ -51,7 +51,7 @@ int main(int count, char **words) {
         printf("\n");
         free(walk);
     }
-    if (number) fprintf(stderr, "walk_to: %s\n", earliest_message(number));
+    if (number) fprintf(stderr, "%s\n", earliest_message(number));
     earliest_search_free(&search);
     earliest_road_free(&road);
     return number != 0;

@@ -44,9 +44,9 @@ def in_c(room):
     yield "walk_to.c, compiled", built("cc", ["-std=c99"], os.path.join(EXAMPLES, "walk_to.c"), example), None
     yield "walk_to", ran([example, "four-nodes.gr", "1", "0", "4"]), (0, b"node 4 at 6, over 2 3 4\n", b"")
     yield "walk_to, not reached", ran([example, "four-nodes.gr", "4", "0", "1"]), (0, b"node 1 is not reached\n", b"")
-    told = b"walk_to: a number is not that of a node (18 NoSuchNode)\n"
+    told = b"a number is not that of a node (18 NoSuchNode)\n"
     yield "walk_to, no such node", ran([example, "four-nodes.gr", "1", "0", "5"]), (1, b"", told)
-    told = b"walk_to: line 1: lines of this file don't begin with this word (3 UnknownLine)\n"
+    told = b"line 1: lines of this file don't begin with this word (3 UnknownLine)\n"
     yield "walk_to, no network", ran([example, "README.md", "1", "0", "5"])[::2], (1, told)
 
 
@@ -116,6 +116,18 @@ def in_python(program):
     yield "many_sources.py", (run[0], run[1].splitlines()[0], run[2]), (0, b"2025 nodes, 5000 arcs", b"")
 
 
+def installed(room):
+    """The package, installed with no network, in an environment of its own."""
+    place = os.path.join(room, "environment")
+    subprocess.run([sys.executable, "-m", "venv", place], check=True)
+    python = os.path.join(place, "bin", "python")
+    run = subprocess.run([python, "-m", "pip", "install", "-q", "--no-index", "--disable-pip-version-check", os.path.join(ROOT, "python")], capture_output=True, text=True)
+    yield "pip install ./python", (run.returncode, run.stderr), (0, "")
+    text = "import earliest; print(earliest.Road.read('four-nodes.gr').search([1]).walk(4))"
+    environment = {name: value for name, value in os.environ.items() if name != "EARLIEST_LIBRARY"}
+    yield "the installed package", ran([python, "-c", text], env=environment), (0, b"[2, 3, 4]\n", b"")
+
+
 def results(program):
     """Each test with what came and what has to come. The library is proved and built first, over what earlier builds left."""
     run = subprocess.run([sys.executable, os.path.join(ROOT, "tools", "library.py")], stdout=subprocess.PIPE, text=True)
@@ -129,6 +141,7 @@ def results(program):
                 yield from cases(room)
             else:
                 print(f"left out: the programs that take {compiler}, which isn't there")
+        yield from installed(room)
     yield from in_python(os.path.abspath(program))
 
 
