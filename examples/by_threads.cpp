@@ -42,6 +42,7 @@ int main(int count, char **words) try {
             for (auto time : searches[i].arrivals()) reached += time != earliest::never;
         std::cout << "from " << words[3 + i] << ": " << (failures[i].empty() ? std::to_string(reached) + " nodes are reached" : failures[i]) << "\n";
     }
+    road.check({}, {0, 0, 0}, "");
     return 0;
 } catch (const std::exception &refused) {
     std::cerr << "by_threads: " << refused.what() << "\n";

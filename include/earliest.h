@@ -64,8 +64,19 @@ enum earliest_number {
     EARLIEST_NO_WALKS = 21,       /* the last query found no walks */
     EARLIEST_NOT_REACHED = 22,    /* no walk reaches the node within the horizon */
     EARLIEST_LENGTHS_DIFFER = 23, /* lists that belong together have different lengths */
-    EARLIEST_ROOM_TOO_SMALL = 24  /* there is another room than the result takes */
+    EARLIEST_ROOM_TOO_SMALL = 24, /* there is another room than the result takes */
+    EARLIEST_BAD_LINE = 31,       /* a report's line is not what its place asks; 0 where it ends too early */
+    EARLIEST_NOT_ATTAINED = 32,   /* a report's time or walk is not attained */
+    EARLIEST_NOT_LEAST = 33,      /* a walk arrives before a report's time */
+    EARLIEST_NOT_CANONICAL = 35   /* a report's walk is not the canonical one */
 };
+
+/* When the searches of a report start: the first node departs at `depart`, each next one later by `gap`, each in a problem of its own
+ * where `joint` is 0, else all in one. */
+typedef struct earliest_starts {
+    uint64_t depart, gap;
+    uint32_t joint;
+} earliest_starts;
 
 /* Makes the road of the text of a network (.gr) and of that of its timetables (.tp); tp_length 0 means no timetables. The texts may go
  * afterwards. `road` holds the road then, and what it held before is let go. Refusals: 1 to 9, with `fault` telling text and line, and
@@ -99,6 +110,11 @@ uint32_t earliest_search_walk(earliest_search *search, uint32_t node, uint32_t *
 /* Lets a search go; `search` is EARLIEST_NOTHING then. */
 void earliest_search_free(earliest_search *search);
 
+/* Checks the text of a report on a road, of searches from these nodes to all nodes: 0 where it is right, else 31 to 35, with its first
+ * wrong line in `fault`. Refusals: EARLIEST_NO_ROAD, EARLIEST_NO_SUCH_NODE, EARLIEST_BEYOND_HORIZON, 13, which say nothing of the
+ * report. */
+uint32_t earliest_check(earliest_road *road, const uint32_t *nodes, size_t count, const earliest_starts *starts, const char *report, size_t length, earliest_fault *fault);
+
 /* The name and the meaning of a number. */
 static inline const char *earliest_message(uint32_t number) {
     switch (number) {
@@ -122,6 +138,10 @@ static inline const char *earliest_message(uint32_t number) {
     case EARLIEST_NOT_REACHED: return "no walk reaches the node within the horizon (22 NotReached)";
     case EARLIEST_LENGTHS_DIFFER: return "lists that belong together have different lengths (23 LengthsDiffer)";
     case EARLIEST_ROOM_TOO_SMALL: return "the room is not that of the result (24 RoomTooSmall)";
+    case EARLIEST_BAD_LINE: return "a line is not what its place asks (31 BadLine)";
+    case EARLIEST_NOT_ATTAINED: return "a line is not attained (32 NotAttained)";
+    case EARLIEST_NOT_LEAST: return "a line is not the least arrival (33 NotLeast)";
+    case EARLIEST_NOT_CANONICAL: return "a line is not the canonical walk (35 NotCanonical)";
     default: return "this is no number of a call";
     }
 }

@@ -32,10 +32,10 @@ private:
 class input_failure : public failure {
 public:
     explicit input_failure(const earliest_fault &fault)
-        : failure(fault.number, (fault.text == 1 ? "gr " : "tp ") + std::to_string(fault.line) + ": "), fault_(fault) {}
+        : failure(fault.number, (fault.text == 1 ? "gr " : fault.text == 2 ? "tp " : "report ") + std::to_string(fault.line) + ": "), fault_(fault) {}
     /// From 1; 0 for a fault of the whole text.
     std::uint64_t line() const noexcept { return fault_.line; }
-    /// 1 the network, 2 the timetables.
+    /// 1 the network, 2 the timetables, 3 the report.
     std::uint32_t text() const noexcept { return fault_.text; }
 
 private:
@@ -71,6 +71,15 @@ public:
 
     std::uint32_t nodes() { return earliest_road_nodes(&handle_); }
     std::uint32_t arcs() { return earliest_road_arcs(&handle_); }
+
+    /// Checks a report of searches from these nodes; one that isn't right is an input_failure with the line of its first fault.
+    void check(const std::vector<std::uint32_t> &nodes, const earliest_starts &starts, std::string_view report) {
+        static const std::uint32_t none = 0;
+        earliest_fault fault = {0, 0, 0};
+        std::uint32_t number = earliest_check(&handle_, nodes.empty() ? &none : nodes.data(), nodes.size(), &starts, at(report), report.size(), &fault);
+        if (number && fault.text) throw input_failure(fault);
+        test(number);
+    }
 
 private:
     friend class search;

@@ -98,6 +98,28 @@ static int four_nodes(const char *gr, size_t length) {
     TEST(earliest_road_read(gr, length, "", 0, &road, &fault) == 0 && earliest_road_read(gr, length, "", 0, &road, &fault) == 0);
     TEST(earliest_search_new(&road, 1, &search) == 0 && earliest_search_arrival(&search, 4, &arrival) == 0 && arrival == EARLIEST_NEVER);
 
+    /* Reports: right ones, each by itself and together, and wrong ones. */
+    static const char right[] = "s 1 0\nd 1 0\nd 2 5\nd 3 2\nd 4 6\n", early[] = "s 1 0\nd 1 0\nd 2 4\nd 3 2\nd 4 6\n";
+    static const char late[] = "s 1 0\nd 1 0\nd 2 7\nd 3 2\nd 4 8\n", ill[] = "s 1 0\nd 1 0\nd 2 x\n";
+    earliest_starts starts = {0, 0, 0};
+    nodes[0] = 1;
+    TEST(earliest_check(&road, nodes, 1, &starts, right, sizeof right - 1, &fault) == 0 && fault.number == 0 && fault.text == 0);
+    TEST(earliest_check(&road, nodes, 1, &starts, early, sizeof early - 1, &fault) == EARLIEST_NOT_ATTAINED);
+    TEST(fault.line == 3 && fault.number == EARLIEST_NOT_ATTAINED && fault.text == 3);
+    TEST(earliest_check(&road, nodes, 1, &starts, late, sizeof late - 1, &fault) == EARLIEST_NOT_LEAST && fault.line == 3);
+    TEST(earliest_check(&road, nodes, 1, &starts, ill, sizeof ill - 1, &fault) == EARLIEST_BAD_LINE && fault.line == 3);
+    TEST(earliest_check(&road, nodes, 1, &starts, "", 0, &fault) == EARLIEST_BAD_LINE && fault.line == 0 && fault.text == 3);
+    TEST(earliest_check(&road, nodes, 0, &starts, "", 0, &fault) == 0);
+    nodes[0] = 5;
+    TEST(earliest_check(&road, nodes, 1, &starts, right, sizeof right - 1, &fault) == EARLIEST_NO_SUCH_NODE && fault.text == 0);
+    nodes[0] = 0;
+    TEST(earliest_check(&road, nodes, 1, &starts, right, sizeof right - 1, &fault) == EARLIEST_NO_SUCH_NODE);
+    nodes[0] = 1, starts.depart = EARLIEST_HORIZON + 1;
+    TEST(earliest_check(&road, nodes, 1, &starts, right, sizeof right - 1, &fault) == EARLIEST_BEYOND_HORIZON);
+    starts.depart = 1, starts.joint = 1;
+    TEST(earliest_check(&road, nodes, 1, &starts, right, sizeof right - 1, &fault) == EARLIEST_BAD_LINE && fault.line == 1);
+    TEST(earliest_check(&other, nodes, 1, &starts, right, sizeof right - 1, &fault) == EARLIEST_NO_ROAD);
+
     /* Faults of texts. */
     TEST(earliest_road_read("", 0, "", 0, &other, &fault) == EARLIEST_NO_PROBLEM_LINE && fault.line == 0 && fault.text == 1);
     TEST(earliest_road_read("p sp 2 1\na 1 3 1\n", 17, "", 0, &road, &fault) == EARLIEST_OUT_OF_RANGE);
@@ -148,9 +170,10 @@ static int many(const char *gr, size_t gr_length, const char *tp, size_t tp_leng
         case 12: case 13: case 14: case 15: number = earliest_search_pair(search, nodes[0], departures[0], nodes[1]); break;
         case 16: case 17: number = earliest_search_arrivals(search, all, word() % 2 ? size : word() % 4096); break;
         case 18: case 19: case 20: case 21: case 22: case 23: number = earliest_search_walk(search, nodes[0], out, word() % 65, &one); break;
+        case 24: number = earliest_check(road, nodes, word() % 5, &(earliest_starts){any(9), any(9), (uint32_t)any(1)}, tp, word() % tp_length, &fault); break;
         default: number = earliest_search_arrival(search, nodes[0], &one); break;
         }
-        TEST(number <= 24);
+        TEST(number <= 35);
     }
     for (int i = 0; i < 2; i++) earliest_road_free(&roads[i]);
     for (int i = 0; i < 3; i++) earliest_search_free(&searches[i]);

@@ -97,6 +97,9 @@ def in_python(program):
         with ThreadPoolExecutor(4) as pool:
             texts = list(pool.map(lambda source: report(road, source, depart, earliest), sources))
         yield f"{gr} by four threads of Python", "".join(texts).encode() == want and len(want) > 0, True
+        yield f"{gr}, checked", failure_of(lambda: road.check(sources, want, depart)), None
+        longer = failure_of(lambda: road.check(sources, want + b"x\n", depart))
+        yield f"{gr}, with a line too many", longer, ("InputFailure", f"report {want.count(10) + 1}: 31 BadLine")
     four = earliest.Road.read(at("four-nodes.gr"))
     search = four.searcher()
     first = search.find([1])

@@ -18,7 +18,8 @@ NEVER = 2**64 - 1
 _NAMES = {
     1: "NoProblemLine", 2: "SecondProblemLine", 3: "UnknownLine", 4: "FieldCount", 5: "BadNumber", 6: "OutOfRange", 7: "TooManyLines",
     8: "TooFewLines", 9: "BadKind", 13: "OutOfMemory", 16: "NoRoad", 17: "NoSearch", 18: "NoSuchNode", 19: "BeyondHorizon",
-    20: "NotAsked", 21: "NoWalks", 22: "NotReached", 23: "LengthsDiffer", 24: "RoomTooSmall",
+    20: "NotAsked", 21: "NoWalks", 22: "NotReached", 23: "LengthsDiffer", 24: "RoomTooSmall", 31: "BadLine", 32: "NotAttained",
+    33: "NotLeast", 35: "NotCanonical",
 }
 
 
@@ -28,6 +29,10 @@ class _Handle(ctypes.Structure):
 
 class _Fault(ctypes.Structure):
     _fields_ = [("line", ctypes.c_uint64), ("number", ctypes.c_uint32), ("text", ctypes.c_uint32)]
+
+
+class _Starts(ctypes.Structure):
+    _fields_ = [("depart", ctypes.c_uint64), ("gap", ctypes.c_uint64), ("joint", ctypes.c_uint32)]
 
 
 def _loaded():
@@ -46,6 +51,7 @@ def _loaded():
         ("search_arrivals", number, [handle, ctypes.c_void_p, size]),
         ("search_walk", number, [handle, number, ctypes.c_void_p, size, ctypes.POINTER(ctypes.c_uint64)]),
         ("search_free", None, [handle]),
+        ("check", number, [handle, ctypes.c_void_p, size, ctypes.POINTER(_Starts), ctypes.c_char_p, size, ctypes.POINTER(_Fault)]),
     ):
         call = getattr(library, "earliest_" + name)
         call.restype, call.argtypes = result, words
@@ -64,7 +70,7 @@ class Failure(Exception):
 
 
 class InputFailure(Failure):
-    """A text has a fault: `file` (a path, or "gr" or "tp"), `line` (from 1; 0 for the whole text), `number` and `name`."""
+    """A text has a fault: `file` (a path, or "gr", "tp" or "report"), `line` (from 1; 0 for the whole text), `number` and `name`."""
 
     def __init__(self, file: str, line: int, number: int):
         self.file, self.line = file, line
@@ -135,6 +141,19 @@ class Road:
         `nodes` and `departures` are lists of one length, or NumPy arrays of whole numbers with one dimension.
         """
         return self.searcher(walks).find(nodes, departures)
+
+    def check(self, nodes: Iterable[int], report: bytes, depart: int = 0, gap: int = 0, joint: bool = False) -> None:
+        """Checks a report of searches from these nodes: the first departs at `depart`, each next one later by `gap`, each in a problem of
+        its own, or with `joint` all in one. A report that isn't right is an InputFailure with the line of its first fault."""
+        if not (0 <= depart <= HORIZON and 0 <= gap <= HORIZON):
+            raise Failure(19)
+        nodes, at, count = _list("I", 2**32 - 1, nodes)
+        starts, fault = _Starts(depart, gap, 1 if joint else 0), _Fault()
+        with self._lock:
+            number = _library.earliest_check(self._handle, at, count, starts, report, len(report), fault)
+        if number and fault.text:
+            raise InputFailure("report", fault.line, number)
+        _test(number)
 
     def __del__(self):
         if getattr(self, "_handle", None) is not None:

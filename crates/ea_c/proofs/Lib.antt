@@ -5,3 +5,4 @@ mod Telling
 mod Querying
 mod Asking
 mod Begun
+mod Judged

@@ -4,3 +4,4 @@ pub mod Roads
 pub mod Sessions
 pub mod States
 pub mod Calls
+pub mod Checks

@@ -2,6 +2,7 @@
 #![tactic(auto)]
 
 mod begin;
+mod checks;
 mod content;
 mod handle;
 mod loose;
