@@ -10,12 +10,14 @@ import sys
 import tempfile
 
 sys.dont_write_bytecode = True
+import at_once
 import commuter_network
 import embedding
 import large
 import opening
 import people
 import road_network
+import scripts
 import travel_times
 
 HERE = os.path.dirname(os.path.abspath(__file__))
@@ -123,6 +125,8 @@ def run_all(program):
     results += road_network.results(program)
     results += travel_times.results(program)
     results += commuter_network.results(program)
+    results += at_once.results(program)
+    results += scripts.results(program)
     results += large.results(program, EXAMPLES)
     results += embedding.results(program)
     failed = [(name, was) for name, was, want in results if was != want]

@@ -30,6 +30,9 @@ pub const MOST_INTERRUPTIONS: u64 = 1000;
 /// The most workers of a run.
 pub const MOST_WORKERS: u32 = 16;
 
+/// The most problems that are searched at once.
+pub const MOST_AT_ONCE: u32 = 16;
+
 /// The fewest heaps for each worker.
 pub const LEAST_HEAPS: u32 = 2;
 
@@ -59,6 +62,7 @@ pub fn limits_are_these()
     ensures bytes { MOST_BYTES ≡ 2 ^ 33 }
     ensures interruptions { MOST_INTERRUPTIONS ≡ 1000 }
     ensures workers { MOST_WORKERS ≡ 16 }
+    ensures at_once { MOST_AT_ONCE ≡ 16 }
     ensures least_heaps { LEAST_HEAPS ≡ 2 }
     ensures heaps { MOST_HEAPS ≡ 8 }
     ensures shares { SHARES ≡ 64 }

@@ -20,6 +20,7 @@ use Rattle.ea_report.specs.Report.{line, source_line}
 use Rattle.ea_report.specs.Delivery.{Delivery}
 use Rattle.ea_report.specs.Sent.{Adds, Delivers, IsCutAt, Stops}
 use Rattle.ea_report.specs.declared.report.WriteFaultKind.TheVariants.{WriteFailed}
+use Rattle.ea_words.specs.Limits.{counted_workers}
 use Rattle.ea_words.specs.declared.options.RunOptions.{RunOptions}
 use Rattle.ea_outcomes.specs.Asked.{Asks}
 use Rattle.ea_ranking.specs.Generators.{words_from}
@@ -28,7 +29,7 @@ use Rattle.ea_outcomes.specs.declared.fault.AnswerFault.TheVariants.{Read, Input
 
 -- A recorded run has as many heaps as all workers have.
 abbrev pub heaps_of : RunOptions → ℕ
-heaps_of options = options.workers * options.heaps
+heaps_of options = counted_workers options * options.heaps
 
 -- `r POPS MAX SUM`
 abbrev pub rank_line : Summary → List ℕ

@@ -31,7 +31,7 @@ fn heaps_of_run(options: &RunOptions) -> usize
     ensures heaps { result ≡ heaps_of options.now }
     ensures few { (2 ≤ result) × (result ≤ 128) }
 {
-    (options.workers * options.heaps) as usize
+    (options.counted_workers() * options.heaps) as usize
 }
 
 /// The rank errors of a recorded run.

@@ -1,13 +1,17 @@
--- The limits of options.
-use Rattle.std.specs.Prelude.{◌≤◌}
-use Rattle.ea_limits.specs.declared.TheConstants.{HORIZON, LEAST_HEAPS, MOST_HEAPS, MOST_TURNS, MOST_WORKERS}
+-- The limits of options, and what those are that aren't given.
+use Rattle.std.specs.Prelude.{ℕ, ◌≤◌, IfSome, unwrap_or}
+use Rattle.ea_limits.specs.declared.TheConstants.{HORIZON, LEAST_HEAPS, MOST_AT_ONCE, MOST_HEAPS, MOST_TURNS, MOST_WORKERS}
 use Rattle.ea_words.specs.declared.options.RunOptions.{RunOptions}
 use Rattle.ea_words.specs.declared.options.Command.{Command}
 use Rattle.ea_words.specs.declared.options.Command.TheVariants.{Stored, Run, Pairs, Rank, Check, Explain, Formats}
 
+-- A number that may be left to the program is from 1 to its limit where it is given.
+abbrev pub IsUpTo : ℕ → ℕ → Type 0
+IsUpTo most n = (1 ≤ n) × (n ≤ most)
+
 pub record AreOptions (options : RunOptions) : Type 0 where
-  pub some_worker : 1 ≤ options.workers
-  pub workers : options.workers ≤ MOST_WORKERS
+  pub workers : IfSome options.workers (IsUpTo MOST_WORKERS)
+  pub at_once : IfSome options.at_once (IsUpTo MOST_AT_ONCE)
   pub two_heaps : LEAST_HEAPS ≤ options.heaps
   pub heaps : options.heaps ≤ MOST_HEAPS
   pub turns : options.turns ≤ MOST_TURNS
@@ -23,3 +27,7 @@ HasLimits (Rank gr ss tp output options) = AreOptions options
 HasLimits (Check gr ss tp report options) = AreOptions options
 HasLimits (Explain fault) = Unit {0}
 HasLimits Formats = Unit {0}
+
+-- The workers of statistics and of rank errors: those that are asked for, else 4.
+abbrev pub counted_workers : RunOptions → ℕ
+counted_workers options = unwrap_or options.workers 4

@@ -2,14 +2,14 @@
 -- the others, with the defaults and limits of each option.
 use Rattle.std.specs.Prelude.{ℕ, ◌+◌, Bool, true, false, nat_le, List, codes, Option, Some, None, option_and_then, option_map, if◌then◌else◌}
 use Rattle.std.specs.Str.{bytes_eq}
-use Rattle.ea_limits.specs.declared.TheConstants.{HORIZON, LEAST_HEAPS, MOST_HEAPS, MOST_TURNS, MOST_WORKERS}
+use Rattle.ea_limits.specs.declared.TheConstants.{HORIZON, LEAST_HEAPS, MOST_AT_ONCE, MOST_HEAPS, MOST_TURNS, MOST_WORKERS}
 use Rattle.clap.specs.Words.{App, Row, Text, first_of, matches_of}
 use Rattle.ea_words.specs.declared.meaning.Names.{Names}
 use Rattle.ea_words.specs.declared.options.RunOptions.{RunOptions}
 use Rattle.ea_words.specs.declared.options.Command.{Command}
 use Rattle.ea_words.specs.declared.options.Command.TheVariants as command
 use Rattle.ea_words.specs.Grammar.{run_app, pairs_app, rank_app, check_app}
-use Rattle.ea_words.specs.Values.{option_of, is_given}
+use Rattle.ea_words.specs.Values.{chosen_of, option_of, is_given}
 
 infixl 10 ◌>>=◌
 abbrev pub ◌>>=◌ : {A B : Type 0} → Option A → (A → Option B) → Option B
@@ -18,7 +18,8 @@ o >>= f = option_and_then f o
 -- The numbers of the options, where each is a number within its limits.
 unfoldable pub options_of : List Row → Option RunOptions
 options_of rows = do
-  workers ← option_of (codes "workers") 4 1 MOST_WORKERS rows
+  workers ← chosen_of (codes "workers") 1 MOST_WORKERS rows
+  at_once ← chosen_of (codes "at-once") 1 MOST_AT_ONCE rows
   heaps ← option_of (codes "heaps") 2 LEAST_HEAPS MOST_HEAPS rows
   turns ← option_of (codes "turns") 1000000 0 MOST_TURNS rows
   seed ← option_of (codes "seed") 1 0 18446744073709551615 rows
@@ -29,6 +30,7 @@ options_of rows = do
     walks = is_given (codes "walks") rows;
     stats = is_given (codes "stats") rows;
     workers = workers;
+    at_once = at_once;
     heaps = heaps;
     turns = turns;
     seed = seed;

@@ -132,7 +132,7 @@ pub(crate) fn with_workers<'a>(
             alloc,
             "workers",
             "P",
-            "Threads that search at once: 1 to 16 [default: 4]",
+            "Threads that search one problem together: 1 to 16 [default: 1; 4 with --stats and for rank]",
         ),
     )?;
     let command = with_arg(
@@ -156,7 +156,7 @@ pub(crate) fn with_workers<'a>(
     Ok(command)
 }
 
-/// The options that say what a report shows, and for how many turns the workers go.
+/// The options that say how many problems are searched at once, for how many turns the workers go, and what a report shows.
 pub(crate) fn with_report<'a>(
     alloc: Global,
     command: Command<'a>,
@@ -165,6 +165,15 @@ pub(crate) fn with_report<'a>(
     ensures local { IfOk result
         (λ c. (fields_of command.entry).has_globals ≡ false → (fields_of c).has_globals ≡ false) }
 {
+    let command = with_arg(
+        command,
+        valued(
+            alloc,
+            "at-once",
+            "N",
+            "Problems that are searched at once, each by one thread: 1 to 16 [default: as many as there are processors; 1 with --workers or --stats]",
+        ),
+    )?;
     let command = with_arg(
         command,
         valued(

@@ -14,10 +14,10 @@ use crate::commands::{
 };
 use crate::fault::CommandFault;
 use crate::options::{Command, RunOptions};
-use crate::values::{has_flag, option_number, text_of};
+use crate::values::{chosen_number, has_flag, option_number, text_of};
 use clap::error::ErrorKind;
 use clap::{ArgMatches, Error};
-use ea_limits::{HORIZON, LEAST_HEAPS, MOST_HEAPS, MOST_TURNS, MOST_WORKERS};
+use ea_limits::{HORIZON, LEAST_HEAPS, MOST_AT_ONCE, MOST_HEAPS, MOST_TURNS, MOST_WORKERS};
 use std::alloc::Global;
 use std::convert::AsStr;
 
@@ -27,7 +27,8 @@ fn options_in(matches: &ArgMatches<'_>) -> Option<RunOptions>
     ensures options { result ≡ options_of (rows_of (found_of matches.now)) }
     ensures limits { IfSome result AreOptions }
 {
-    let workers = option_number(matches, "workers", 4, 1, u64::from(MOST_WORKERS))?;
+    let workers = chosen_number(matches, "workers", 1, u64::from(MOST_WORKERS))?;
+    let at_once = chosen_number(matches, "at-once", 1, u64::from(MOST_AT_ONCE))?;
     let most_heaps = u64::from(MOST_HEAPS);
     let heaps = option_number(matches, "heaps", 2, u64::from(LEAST_HEAPS), most_heaps)?;
     let turns = option_number(matches, "turns", 1_000_000, 0, MOST_TURNS)?;
@@ -39,6 +40,7 @@ fn options_in(matches: &ArgMatches<'_>) -> Option<RunOptions>
         walks: has_flag(matches, "walks"),
         stats: has_flag(matches, "stats"),
         workers,
+        at_once,
         heaps,
         turns,
         seed,

@@ -1,4 +1,6 @@
 //! What words may ask for.
+ghost use Rattle.std.specs.Prelude.{◌≡◌};
+ghost use Rattle.ea_words.specs.Limits.{counted_workers};
 
 /// How a run is to go and what its report shows. Each number is within its limits.
 #[derive(Clone, Copy, Debug, PartialEq, Eq)]
@@ -9,8 +11,10 @@ pub struct RunOptions {
     pub walks: bool,
     /// The report ends with totals of what the workers did.
     pub stats: bool,
-    /// How many workers run at once: 1 to 16.
-    pub workers: u64,
+    /// How many workers search each problem: 1 to 16; none leaves it to the program.
+    pub workers: Option<u64>,
+    /// How many problems are searched at once: 1 to 16; none leaves it to the program.
+    pub at_once: Option<u64>,
     /// How many heaps the queue has for each worker: 2 to 8.
     pub heaps: u64,
     /// How many turns a worker takes at most: 0 to 1,000,000,000.
@@ -21,6 +25,15 @@ pub struct RunOptions {
     pub depart: u64,
     /// By how much the departure of each later source is greater: 0 to HORIZON.
     pub gap: u64,
+}
+
+impl RunOptions {
+    /// How many workers statistics and rank errors are of: those that are asked for, else 4.
+    pub fn counted_workers(&self) -> u64
+        ensures { result ≡ counted_workers self.now }
+    {
+        self.workers.unwrap_or(4)
+    }
 }
 
 /// What words ask for. The names of files lie in the words.

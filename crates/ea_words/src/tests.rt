@@ -29,7 +29,18 @@ fn no_words(rt: HostRuntime) {
 
 #[test]
 fn a_run(rt: HostRuntime) {
-    let words = ["run", "g", "s", "--joint", "--gap", "5", "--workers", "03"];
+    let words = [
+        "run",
+        "g",
+        "s",
+        "--joint",
+        "--gap",
+        "5",
+        "--workers",
+        "03",
+        "--at-once",
+        "16",
+    ];
     let Some(
         Command::Run {
             gr,
@@ -50,7 +61,8 @@ fn a_run(rt: HostRuntime) {
                 joint: true,
                 walks: false,
                 stats: false,
-                workers: 3,
+                workers: Some(3),
+                at_once: Some(16),
                 heaps: 2,
                 turns: 1_000_000,
                 seed: 1,
@@ -86,7 +98,7 @@ fn pairs_with_timetables(rt: HostRuntime) {
         return;
     };
     assert!(rt; gr == "g" && p2p == "q" && tp == Some("t") && output.is_none());
-    assert!(rt; options.walks && options.seed == u64::MAX && options.workers == 4);
+    assert!(rt; options.walks && options.seed == u64::MAX && options.workers == None);
 }
 
 #[test]
@@ -124,7 +136,8 @@ fn a_rank(rt: HostRuntime) {
                 joint: false,
                 walks: false,
                 stats: false,
-                workers: 16,
+                workers: Some(16),
+                at_once: None,
                 heaps: 8,
                 turns: 1_000_000,
                 seed: 0,
@@ -167,7 +180,8 @@ fn a_check(rt: HostRuntime) {
                 joint: true,
                 walks: false,
                 stats: false,
-                workers: 4,
+                workers: None,
+                at_once: None,
                 heaps: 2,
                 turns: 1_000_000,
                 seed: 1,
@@ -227,7 +241,7 @@ fn names_that_are_missing(rt: HostRuntime) {
 
 #[test]
 fn words_that_rank_and_check_dont_have(rt: HostRuntime) {
-    for option in ["--walks", "--stats", "--joint", "--turns"] {
+    for option in ["--walks", "--stats", "--joint", "--turns", "--at-once"] {
         assert!(rt;
             says(&rt, ["rank", "g", "s", option].as_slice(), false, option),
             "{option}"
@@ -237,6 +251,7 @@ fn words_that_rank_and_check_dont_have(rt: HostRuntime) {
         "--walks",
         "--stats",
         "--workers",
+        "--at-once",
         "--heaps",
         "--turns",
         "--seed",
@@ -251,6 +266,8 @@ fn words_that_rank_and_check_dont_have(rt: HostRuntime) {
 #[test]
 fn options_out_of_their_limits(rt: HostRuntime) {
     assert!(rt; is_bad(&rt, ["run", "g", "s", "--workers", "17"].as_slice()));
+    assert!(rt; is_bad(&rt, ["run", "g", "s", "--at-once", "17"].as_slice()));
+    assert!(rt; is_bad(&rt, ["pairs", "g", "s", "--at-once", "0"].as_slice()));
     assert!(rt; is_bad(&rt, ["run", "g", "s", "--heaps", "1"].as_slice()));
     assert!(rt; is_bad(&rt, ["run", "g", "s", "--gap", "x"].as_slice()));
     assert!(rt; is_bad(&rt, ["run", "g", "s", "--gap", ""].as_slice()));

@@ -2,7 +2,7 @@
 ghost use Rattle.std.specs.Prelude.{◌≡◌, ◌≤◌, ◌<◌, ◌^◌, IfSome, Some, option_and_then, option_map};
 ghost use Rattle.clap.specs.Words.{found_of, rows_of, first_of};
 ghost use Rattle.ea_text.specs.Text.{number_of};
-ghost use Rattle.ea_words.specs.Values.{number_in, option_of, is_given};
+ghost use Rattle.ea_words.specs.Values.{chosen_of, number_in, option_of, is_given};
 
 use clap::ArgMatches;
 use ea_text::number;
@@ -40,6 +40,21 @@ fn number_or(default: u64, low: u64, high: u64, text: Option<&str>) -> Option<u6
     }
 }
 
+/// The number of a text that is there.
+fn number_if_given(low: u64, high: u64, text: Option<&str>) -> Option<Option<u64>>
+    ensures value { result ≡ Rattle.ea_words.specs.Values.number_if_given low high
+        (option_map (λ t. t.now) text.entry) }
+    ensures limits { IfSome result (λ chosen. IfSome chosen (λ n. (low ≤ n) × (n ≤ high))) }
+{
+    match text {
+        None => Some(None),
+        Some(text) => match number_of_text(low, high, text) {
+            Some(number) => Some(Some(number)),
+            None => None,
+        },
+    }
+}
+
 /// The text that an argument has.
 pub(crate) fn text_of<'a>(matches: &ArgMatches<'a>, name: &str) -> Option<&'a str>
     ensures { option_map (λ t. t.now) result ≡ first_of name.now (rows_of (found_of matches.now)) }
@@ -60,6 +75,19 @@ pub(crate) fn option_number(
     ensures limits { IfSome result (λ n. (low ≤ n) × (n ≤ high)) }
 {
     number_or(default, low, high, matches.get_str(name))
+}
+
+/// The number that an option has which may be left to the program.
+pub(crate) fn chosen_number(
+    matches: &ArgMatches<'_>,
+    name: &str,
+    low: u64,
+    high: u64,
+) -> Option<Option<u64>>
+    ensures value { result ≡ chosen_of name.now low high (rows_of (found_of matches.now)) }
+    ensures limits { IfSome result (λ chosen. IfSome chosen (λ n. (low ≤ n) × (n ≤ high))) }
+{
+    number_if_given(low, high, matches.get_str(name))
 }
 
 /// Whether a flag is there.

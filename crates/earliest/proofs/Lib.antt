@@ -1,5 +1,6 @@
 pub mod Copied
 pub mod Counting
+pub mod Placing
 pub mod Sending
 pub mod Verdicts
 pub mod OneReport

@@ -1,5 +1,6 @@
 pub mod Checks
 pub mod Counted
+pub mod Drafts
 pub mod Fronts
 pub mod Reported
 pub mod Runs

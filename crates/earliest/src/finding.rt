@@ -36,7 +36,7 @@ fn settings_of(options: &RunOptions) -> Settings
     ensures asked { result ≡ settings_by options.now }
 {
     Settings {
-        workers: options.workers as u32,
+        workers: options.counted_workers() as u32,
         heaps: options.heaps as u32,
         turns: options.turns,
         batch: 1,

@@ -1,12 +1,15 @@
 //! Earliest arrivals from files to reports: the calls that the program `earliest` makes.
 #![tactic(auto)]
 
+mod ahead;
 mod answering;
 mod checking;
+mod drafts;
 mod finding;
 pub mod laws;
 mod performing;
 mod progress;
+mod sheet;
 mod totals;
 
 pub use answering::{answer, answer_pairs};

@@ -1,5 +1,5 @@
 //! Reports of problems, written one after the other.
-ghost use Rattle.std.specs.Prelude.{◌≡◌, ◌≤◌, ◌<◌, ◌+◌, ◌*◌, ◌^◌, ℕ, [], IfOk, IfErr, IfSome, OnOk, if◌then◌else◌, length, true};
+ghost use Rattle.std.specs.Prelude.{◌≡◌, ◌≤◌, ◌<◌, ◌+◌, ◌*◌, ◌^◌, ℕ, [], IfOk, IfErr, IfSome, None, OnOk, if◌then◌else◌, length, true};
 ghost use Rattle.std.specs.Io.KnownBytes.{Appends};
 ghost use Rattle.ea_text.specs.Device.{BearsOn, GivesUp};
 ghost use Rattle.ea_limits.specs.declared.TheConstants.{MOST_NODES, MOST_STARTS};
@@ -8,13 +8,14 @@ ghost use Rattle.ea_report.specs.Sent.{IsCutAt};
 ghost use Rattle.ea_report.specs.Stats.{stats_text};
 ghost use Rattle.ea_report.specs.declared.stats.Totals.{Totals};
 ghost use Rattle.ea_words.specs.Limits.{AreOptions};
-ghost use Rattle.earliest.specs.Counted.{AreBalanced, AreSmall, AreTotals, IsTotal, plus};
+ghost use Rattle.earliest.specs.Counted.{AreBalanced, AreSmall, AreTotals, IsTotal, plus, totals_of};
 ghost use Rattle.ea_outcomes.specs.Faults;
 ghost use Rattle.ea_outcomes.specs.Posed.{AreProblems, times_on};
 ghost use Rattle.earliest.specs.Fronts.{AreSent, IsCutShort, IsSent, IsStoppedBy, IsWritten};
 ghost use Rattle.earliest.specs.Solved.{AnswersOn, ArrivesOn, Serves};
 ghost use Rattle.earliest.specs.Workers.{settings_by};
 
+use crate::ahead::{report_ahead, threads_at_once};
 use crate::finding::{find, search};
 use crate::totals::{add_totals, no_totals};
 use ea_engine::Answer;
@@ -36,8 +37,25 @@ pub(crate) struct Progress {
     pub search: Option<Search>,
 }
 
+impl Progress {
+    /// Nothing went out.
+    pub(crate) fn begin() -> Progress
+        ensures totals { result.totals ≡ totals_of [] }
+        ensures balanced { AreBalanced result.totals }
+        ensures small { AreSmall 0 result.totals }
+        ensures written { result.written ≡ 0 }
+        ensures search { result.search ≡ None }
+    {
+        Progress {
+            totals: no_totals(),
+            written: 0,
+            search: None,
+        }
+    }
+}
+
 /// What a fault of one problem's report is, after so many bytes of those before.
-fn fault_after(before: u128, fault: WriteFault) -> AnswerFault
+pub(crate) fn fault_after(before: u128, fault: WriteFault) -> AnswerFault
     requires { before + fault.written < 2 ^ 128 }
     ensures { result ≡ Faults.fault_after before fault }
 {
@@ -50,7 +68,7 @@ fn fault_after(before: u128, fault: WriteFault) -> AnswerFault
 
 impl Progress {
     /// Writes the report of a problem that is answered.
-    fn write<W: ByteOut>(
+    pub(crate) fn write<W: ByteOut>(
         &mut self,
         alloc: Global,
         road: &Road,
@@ -134,7 +152,7 @@ impl Progress {
     }
 
     /// Finds the answer of a problem by one thread, on the arrays of the last search, and writes its report.
-    fn report_alone<W: ByteOut>(
+    pub(crate) fn report_alone<W: ByteOut>(
         &mut self,
         alloc: Global,
         road: &Road,
@@ -167,7 +185,7 @@ impl Progress {
     }
 
     /// Finds the answer of a problem and writes its report. One worker is the search of one thread where nothing is to be
-    /// counted.
+    /// counted, and where workers aren't asked for it is one.
     fn report<H: Threads + Sync, W: ByteOut>(
         &mut self,
         alloc: Global,
@@ -199,7 +217,7 @@ impl Progress {
             AreSmall problems self.old.totals → AreSmall (problems + 1) self.new.totals) }
         ensures search { IfSome self.new.search (Serves road.now.network options.now.walks) }
     {
-        if options.workers == 1 && !options.stats {
+        if options.workers.unwrap_or(1) == 1 && !options.stats {
             return self.report_alone(alloc, road, query, options.walks, out);
         }
         self.report_by_workers(alloc, rt, road, query, options, out)
@@ -228,17 +246,43 @@ fn report_each<H: Threads + Sync, W: ByteOut>(
         → AreTotals (settings_by options.now) queries.now progress.totals) }
     ensures balanced { IfOk result (λ progress. AreBalanced progress.totals) }
 {
-    let mut progress = Progress {
-        totals: no_totals(),
-        written: 0,
-        search: None,
-    };
+    let mut progress = Progress::begin();
     // Tells that the count is one of 64 bits.
     let _ = out.interruptions();
     for query in queries {
         progress.report(alloc, rt, road, query, options, out)?;
     }
     Ok(progress)
+}
+
+/// Writes the reports of problems in their order: by several threads at once where the options or the processors say so.
+fn report_problems<H: Threads + Sync, W: ByteOut>(
+    alloc: Global,
+    rt: &H,
+    road: &Road,
+    queries: &[Query],
+    options: &RunOptions,
+    out: &mut W,
+) -> Result<Progress, AnswerFault>
+    requires problems { AreProblems road.now queries.now }
+    requires few { (length queries.now ≤ MOST_STARTS) × (road.now.network.nodes ≤ MOST_NODES) }
+    requires options { AreOptions options.now }
+    ensures ok { IfOk result (λ progress.
+        AreSent options.now.walks road.now.network (times_on road.now) queries.now
+        (W.seen out.old) (W.seen out.new) progress.written) }
+    ensures err { IfErr result (IsCutShort options.now road.now.network (times_on road.now) queries.now
+        (W.seen out.old) (W.seen out.new)) }
+    ensures bound { IfOk result (λ progress. progress.written ≤ MOST_STARTS * 2 ^ 90) }
+    ensures counted { IfOk result (λ progress. options.now.stats ≡ true
+        → AreTotals (settings_by options.now) queries.now progress.totals) }
+    ensures balanced { IfOk result (λ progress. AreBalanced progress.totals) }
+{
+    let threads = threads_at_once(rt, options);
+    if options.stats || options.workers.unwrap_or(1) > 1 || threads == 1 || queries.len() < 2 {
+        report_each(alloc, rt, road, queries, options, out)
+    } else {
+        report_ahead(alloc, rt, road, queries, options, threads, out)
+    }
 }
 
 /// Writes with statistics the totals.
@@ -286,7 +330,7 @@ pub(crate) fn report_all<H: Threads + Sync, W: ByteOut>(
     ensures err { IfErr result (IsCutShort options.now road.now.network (times_on road.now) queries.now
         (W.seen out.old) (W.seen out.new)) }
 {
-    let progress = report_each(alloc, rt, road, queries, options, out)?;
+    let progress = report_problems(alloc, rt, road, queries, options, out)?;
     match write_totals(&progress, options.stats, out) {
         Ok(()) => Ok(progress.totals),
         Err(fault) => Err(fault),

@@ -183,7 +183,7 @@ fn cut_at_equal_keys(rt: HostRuntime) {
         tp: None,
     };
     let options = RunOptions {
-        workers: 1,
+        workers: Some(1),
         ..WALKS
     };
     assert!(rt; reports_pairs(&rt, &rt, texts, &options, b"q 1 3 0\nd 3 3\nw 3 3 1 2 3\n"));

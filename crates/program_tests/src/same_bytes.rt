@@ -47,7 +47,7 @@ fn has_report<H: Threads + Sync>(
     seed: u64,
 ) -> bool {
     let options = RunOptions {
-        workers,
+        workers: Some(workers),
         heaps,
         turns,
         seed,

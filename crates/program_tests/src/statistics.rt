@@ -24,7 +24,7 @@ fn no_turns(rt: HostRuntime) {
 #[test]
 fn one_worker(rt: HostRuntime) {
     let options = RunOptions {
-        workers: 1,
+        workers: Some(1),
         turns: 100,
         stats: true,
         ..DEFAULTS
@@ -62,7 +62,7 @@ fn no_turns_for_two_sources(rt: HostRuntime) {
 #[test]
 fn one_worker_for_two_sources(rt: HostRuntime) {
     let options = RunOptions {
-        workers: 1,
+        workers: Some(1),
         turns: 100,
         stats: true,
         ..DEFAULTS
@@ -76,7 +76,7 @@ fn one_worker_for_two_sources(rt: HostRuntime) {
 fn several_workers_for_two_sources(rt: HostRuntime) -> Result<(), AnswerFault> {
     for workers in [2u64, 4, 16] {
         let options = RunOptions {
-            workers,
+            workers: Some(workers),
             stats: true,
             ..DEFAULTS
         };

@@ -20,8 +20,11 @@ fn run_with(alloc: Global, small: &mut Held, piece: Vec<u8>) -> Came {
                 output: None,
                 options,
             },
-        ) if gr == "g" && ss == "s" && options.joint && options.gap == 5 && options.workers == 3 =>
-            Came::Whole,
+        ) if gr == "g"
+            && ss == "s"
+            && options.joint
+            && options.gap == 5
+            && options.workers == Some(3) => Came::Whole,
         Err(CommandFault::OutOfMemory) => Came::Refused,
         _ => Came::Wrong,
     }

@@ -1,0 +1,187 @@
+//! Reports of problems that are made before their turn, by several threads.
+ghost use Rattle.std.specs.Prelude.{◌≡◌, ◌≤◌, ◌<◌, ◌+◌, ◌^◌, ℕ, Bool, IfOk, IfSome, Some, length, slice_get, vec_len};
+ghost use Rattle.ea_limits.specs.declared.TheConstants.{MOST_NODES, MOST_STARTS};
+ghost use Rattle.ea_road.specs.Queries.{Asking, IsProblem};
+ghost use Rattle.ea_road.specs.Roads.{Roads};
+ghost use Rattle.ea_outcomes.specs.Posed.{AreProblems};
+ghost use Rattle.earliest.specs.Drafts.{AreDraftsFrom, AreServing, IsDraftOf};
+ghost use Rattle.earliest.specs.Solved.{Serves};
+
+use crate::finding::search;
+use crate::sheet::Sheet;
+use ea_files::Road;
+use ea_finish::Search;
+use ea_report::{ReportOptions, write_problem};
+use ea_road::Query;
+use std::alloc::{AllocError, Global};
+use std::thread;
+use std::thread::Threads;
+
+/// What was made of a problem.
+#[derive(Drop)]
+pub(crate) enum Draft {
+    /// Nothing: there is no such problem, memory was refused, or the problem before was too long.
+    Nothing,
+    /// The text of its report.
+    Text(Vec<u8>),
+    /// The search that has its answer: the text is too long to be kept.
+    Answer(Search),
+}
+
+/// The place of a problem in a row: its draft, and in the first place of a thread's part the arrays of that thread's
+/// searches.
+#[derive(Drop)]
+pub(crate) struct Place {
+    pub search: Option<Search>,
+    pub draft: Draft,
+}
+
+/// How drafts are made.
+#[derive(Clone, Copy)]
+pub(crate) struct Plan {
+    /// Whether reports show walks.
+    pub walks: bool,
+    /// How many problems a thread takes at once.
+    pub part: usize,
+    /// How many bytes of a report it keeps at most.
+    pub most: usize,
+}
+
+/// So many places where nothing was made.
+pub(crate) fn places_of(alloc: Global, count: usize) -> Result<Vec<Place>, AllocError>
+    ensures count { IfOk result (λ row. vec_len row ≡ count) }
+    ensures serving { IfOk result (λ row. (roads : Roads) (walks : Bool) → AreServing roads walks row.items) }
+{
+    let mut row = Vec::with_capacity(alloc, count)?;
+    for i in 0..count {
+        row.push(Place {
+            search: None,
+            draft: Draft::Nothing,
+        })?;
+    }
+    Ok(row)
+}
+
+/// Makes the draft of a problem, on the arrays of the last search where there are some. They are left there where they aren't
+/// the draft.
+fn make_draft(
+    alloc: Global,
+    road: &Road,
+    query: &Query,
+    plan: Plan,
+    last: &mut Option<Search>,
+) -> Draft
+    requires problem { IsProblem road.now.network (length road.now.times.list.items) query.now }
+    requires few { (length query.now.sources ≤ MOST_STARTS) × (road.now.network.nodes ≤ MOST_NODES) }
+    requires search { IfSome last.old (Serves road.now.network plan.walks) }
+    ensures draft { IsDraftOf plan.walks road.now query.now result }
+    ensures search { IfSome last.new (Serves road.now.network plan.walks) }
+{
+    let found = match search(alloc, road, query, plan.walks, last.take()) {
+        Ok(found) => found,
+        Err(_) => return Draft::Nothing,
+    };
+    let mut sheet = Sheet::new(alloc, plan.most);
+    let options = ReportOptions { walks: plan.walks };
+    match write_problem(
+        alloc,
+        &road.network,
+        query,
+        found.answer(),
+        options,
+        &mut sheet,
+    ) {
+        Ok(_) => {
+            *last = Some(found);
+            Draft::Text(sheet.text)
+        }
+        Err(_) => Draft::Answer(found),
+    }
+}
+
+/// Makes the draft of the problem with this number, from 0, where there is one; but for the first one of a part it is made
+/// only where arrays are left.
+fn make_draft_at(
+    alloc: Global,
+    road: &Road,
+    queries: &[Query],
+    plan: Plan,
+    at: usize,
+    is_first: bool,
+    last: &mut Option<Search>,
+) -> Draft
+    requires problems { AreProblems road.now queries.now }
+    requires few { road.now.network.nodes ≤ MOST_NODES }
+    requires search { IfSome last.old (Serves road.now.network plan.walks) }
+    ensures draft { (query : Asking) → slice_get queries.now at ≡ Some query
+        → IsDraftOf plan.walks road.now query result }
+    ensures search { IfSome last.new (Serves road.now.network plan.walks) }
+{
+    match queries.get(at) {
+        Some(query) => {
+            if is_first || last.is_some() {
+                make_draft(alloc, road, query, plan, last)
+            } else {
+                Draft::Nothing
+            }
+        }
+        None => Draft::Nothing,
+    }
+}
+
+/// Makes the drafts of a part of a row that begins at this place of it. After one that is too long to be kept no more are
+/// made there.
+fn make_part(
+    alloc: Global,
+    road: &Road,
+    queries: &[Query],
+    plan: Plan,
+    start: usize,
+    part: &mut [Place],
+)
+    requires problems { AreProblems road.now queries.now }
+    requires few { road.now.network.nodes ≤ MOST_NODES }
+    requires serving { AreServing road.now.network plan.walks part.old }
+    requires some { 0 < length part.old }
+    requires room { start + length part.old < 2 ^ 64 }
+    ensures length { length part.new ≡ length part.old }
+    ensures serving { AreServing road.now.network plan.walks part.new }
+    ensures drafts { AreDraftsFrom plan.walks road.now queries.now start part.new }
+{
+    let mut last = part[0].search.take();
+    for k in 0..part.len() {
+        part[k].draft = make_draft_at(alloc, road, queries, plan, start + k, k == 0, &mut last);
+    }
+    part[0].search = last;
+}
+
+/// Makes the drafts of a row for the problems from this one on, each part of it in a thread of its own where one can be
+/// started.
+pub(crate) fn make_row<H: Threads + Sync>(
+    alloc: Global,
+    rt: &H,
+    road: &Road,
+    queries: &[Query],
+    plan: Plan,
+    first: usize,
+    row: &mut [Place],
+)
+    requires problems { AreProblems road.now queries.now }
+    requires few { road.now.network.nodes ≤ MOST_NODES }
+    requires part { 0 < plan.part }
+    requires room { first + length row.old < 2 ^ 64 }
+    requires serving { AreServing road.now.network plan.walks row.old }
+    ensures length { length row.new ≡ length row.old }
+    ensures serving { AreServing road.now.network plan.walks row.new }
+    ensures drafts { AreDraftsFrom plan.walks road.now queries.now first row.new }
+{
+    let make_one = |start: usize, places: &mut [Place]|
+        requires { AreProblems road.now queries.now × (road.now.network.nodes ≤ MOST_NODES)
+            × AreServing road.now.network plan.walks places.now
+            × (0 < length places.now) × (first + start + length places.now < 2 ^ 64) }
+        ensures { (length places.exit.now ≡ length places.entry.now)
+            × AreServing road.entry.now.network plan.walks places.exit.now
+            × AreDraftsFrom plan.walks road.entry.now queries.entry.now (first + start) places.exit.now }
+    { make_part(alloc, road, queries, plan, first + start, places) };
+    thread::for_each_chunk_mut(rt, row, plan.part, &make_one);
+}

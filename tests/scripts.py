@@ -1,0 +1,56 @@
+"""The scripts of tools/ on the examples: parts of many sources, whose reports one after the other are the report of the whole,
+and the picture of arrivals, which has a dot for each node and a line for each arc that a walk takes."""
+import os
+import re
+import subprocess
+import sys
+import tempfile
+
+HERE = os.path.dirname(os.path.abspath(__file__))
+EXAMPLES = os.path.join(HERE, "..", "examples")
+TOOLS = os.path.join(HERE, "..", "tools")
+ROAD = "--tp road.tp".split()
+
+
+def said(words):
+    return subprocess.run(words, cwd=EXAMPLES, stdin=subprocess.DEVNULL, capture_output=True, timeout=120)
+
+
+def script(name, *words):
+    return said([sys.executable, os.path.join(TOOLS, name), *words])
+
+
+def parts(program, room):
+    """Seven parts of a hundred sources."""
+    cut = script("parts.py", "road.ss", "7", room, "--depart", "1000", "--gap", "60")
+    with open(os.path.join(room, "parts.txt"), encoding="ascii") as lines:
+        named = [line.split() for line in lines]
+    reports = [said([program, "run", "road.gr", name, *ROAD, "--depart", depart, "--gap", gap]).stdout for name, depart, gap in named]
+    whole = said([program, "run", "road.gr", "road.ss", *ROAD, "--depart", "1000", "--gap", "60"]).stdout
+    sources = [report.count(b"\ns ") + report.startswith(b"s ") for report in reports]
+    yield "seven parts of a hundred sources", (cut.returncode, cut.stderr, b"".join(reports) == whole, sources), (0, b"", True, [14, 14, 14, 15, 14, 14, 15])
+    many = script("parts.py", "road.ss", "101", room)
+    yield "more parts than sources", (many.returncode, many.stderr), (1, b"parts: 100 lines can't be cut into 101 parts\n")
+
+
+def picture(program, room):
+    """The second problem of a report with walks."""
+    report, drawn = os.path.join(room, "report"), os.path.join(room, "road.svg")
+    with open(report, "wb") as out:
+        out.write(said([program, "run", "road.gr", "road.ss", *ROAD, "--depart", "1000", "--walks"]).stdout)
+    made = script("isochrones.py", report, "road.co", "--graph", "road.gr", "--problem", "2", "--out", drawn)
+    with open(drawn, encoding="utf-8") as text:
+        svg = text.read()
+    with open(report, encoding="ascii") as text:
+        problem = text.read().split("\ns ")[1]
+    arcs = {arc for line in problem.split("\n") if line.startswith("w ") for arc in line.split()[3:]}
+    with open(os.path.join(EXAMPLES, "road.gr"), encoding="ascii") as text:
+        roads = sum(line.startswith("a ") for line in text)
+    paths = [len(re.findall("M", path)) for path in re.findall(r'<path d="([^"]*)"', svg)]
+    dots = sum(len(re.findall("<circle", group)) for group in re.findall(r"<g fill=.*?</g>", svg, re.S))
+    yield "a picture of arrivals and walks", (made.returncode, made.stderr, dots, paths), (0, b"", 2025, [roads, len(arcs)])
+
+
+def results(program):
+    with tempfile.TemporaryDirectory(prefix="scripts-") as room:
+        return [*parts(program, room), *picture(program, room)]
