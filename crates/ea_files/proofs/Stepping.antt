@@ -220,10 +220,13 @@ trips_more period count steps step part room ranges = record {
   where
     end : length (and_one steps step) - 1 ≡ length steps
     end = omega (arith, longer steps step)
+
     last_time : time_at (and_one steps step) (length (and_one steps step) - 1) ≡ step.0
     last_time = new_time steps step (length (and_one steps step) - 1) (sym end)
+
     last_value : value_at (and_one steps step) (length (and_one steps step) - 1) ≡ step.1
     last_value = new_value steps step (length (and_one steps step) - 1) (sym end)
+
     turns : ((leb (length steps) 0 ≡ true) × (length steps ≤ 0)) ⊎ ((leb (length steps) 0 ≡ false) × (0 < length steps)) → length (and_one steps step) ≡ count → 0 < period
         → time_at (and_one steps step) (length (and_one steps step) - 1) + value_at (and_one steps step) (length (and_one steps step) - 1) ≤ period + time_at (and_one steps step) 0 + value_at (and_one steps step) 0
     turns (inl none) full there =
