@@ -125,7 +125,7 @@ runs_have_one_report gr ss tp joint depart gap walks first second this that =
     let small = few_nodes (field_lines gr) that.given.graph that.denoted.graph in
     let sources = (grammar_law (source_grammar that.given.graph.nodes small)).one_value (field_lines ss) this.sources that.sources (subst (λ (n : ℕ). DenotesSources n (field_lines ss) this.sources) nodes this.starts) that.starts in
     let here : AreReported walks (roads_of that.given) (times_of that.given.table) (run_problems joint depart gap that.sources) first =
-    subst (λ (g : Given). AreReported walks (roads_of g) (times_of g.table) (run_problems joint depart gap that.sources) first) given (subst (λ (xs : List ℕ). AreReported walks (roads_of this.given) (times_of this.given.table.kinds) (run_problems joint depart gap xs) first) sources this.reported) in
+    subst (λ (g : Given). AreReported walks (roads_of g) (times_of g.table) (run_problems joint depart gap that.sources) first) given (subst (λ (xs : List ℕ). AreReported walks (roads_of this.given) (times_of this.given.table) (run_problems joint depart gap xs) first) sources this.reported) in
     many walks (roads_of that.given) (times_of that.given.table) (run_problems joint depart gap that.sources) (λ k d node lt is. absurd (no_targets joint depart gap that.sources k d node lt is)) first second here that.reported
 
 pub pairs_have_one_report : PairsHaveOneReport
@@ -135,7 +135,7 @@ pairs_have_one_report gr p2p tp depart gap walks first second this that =
     let small = few_nodes (field_lines gr) that.given.graph that.denoted.graph in
     let pairs = (grammar_law (pair_grammar that.given.graph.nodes small)).one_value (field_lines p2p) this.pairs that.pairs (subst (λ (n : ℕ). DenotesPairs n (field_lines p2p) this.pairs) nodes this.starts) that.starts in
     let here : AreReported walks (roads_of that.given) (times_of that.given.table) (pair_problems depart gap 0 that.pairs) first =
-    subst (λ (g : Given). AreReported walks (roads_of g) (times_of g.table) (pair_problems depart gap 0 that.pairs) first) given (subst (λ (xs : List (ℕ × ℕ)). AreReported walks (roads_of this.given) (times_of this.given.table.kinds) (pair_problems depart gap 0 xs) first) pairs this.reported) in
+    subst (λ (g : Given). AreReported walks (roads_of g) (times_of g.table) (pair_problems depart gap 0 that.pairs) first) given (subst (λ (xs : List (ℕ × ℕ)). AreReported walks (roads_of this.given) (times_of this.given.table) (pair_problems depart gap 0 xs) first) pairs this.reported) in
     let are_nodes = (pairs_are_nodes that.given.graph.nodes (field_lines p2p) that.pairs that.starts).0 in
     let targets : All (λ (query : Asking). (node : ℕ) → query.target ≡ Some node → IsNode that.given.graph.nodes node) (pair_problems depart gap 0 that.pairs) =
     each_pair (λ (query : Asking). (node : ℕ) → query.target ≡ Some node → IsNode that.given.graph.nodes node) depart gap 0 that.pairs (λ k d lt node is. subst (IsNode that.given.graph.nodes) (ap (λ o. unwrap_or o node) is) (are_nodes k d lt).1) in
