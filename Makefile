@@ -36,4 +36,4 @@ install: all lib
 	python3 tools/library.py --install $(PREFIX) $(DESTDIR)$(PREFIX)
 
 clean:
-	rm -rf bin lib crates/*/out
+	rm -rf bin lib python/earliest/libearliest.so crates/*/out
