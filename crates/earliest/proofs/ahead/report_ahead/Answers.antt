@@ -1,4 +1,4 @@
-use Rattle.std.proofs.Common.{refl, inl}
+use Rattle.std.proofs.Common.{◌-◌, ◌<◌, arith, inl, length, refl}
 use Rattle.std.proofs.lemmas.Result.{err_from_is_err_and}
 use Rattle.ea_outcomes.specs.Posed.{times_on}
 use Rattle.earliest.proofs.Sending.{sent_none, stops}
@@ -15,4 +15,8 @@ returns-in_err-send_row-clause-err g c =
     rw (p.1, p.2) (c.in_err-send_row.ensures.err (g.W.Device.seen c.args.out.now) c.loop-sent.invariant.fits c.loop-sent.invariant.sent)
 
 pub loop-sent-smaller : goal.loop-sent-smaller
-loop-sent-smaller g c = ?
+loop-sent-smaller g c =
+    let all = length c.args.queries.now in
+    let smaller : all - c.min.result < all - c.loop-sent.sent =
+    omega (arith, c.loop-sent-test.true, c.loop-sent.invariant.some, c.min.ensures) in
+    smaller

@@ -19,5 +19,5 @@ invariant-loop-sent g l = record {
   search : IfSome l.progress.search (Serves l.road.network l.options.walks);
 }
 
-pub decreases-loop-sent : goal.decreases-loop-sent
+abbrev pub decreases-loop-sent : goal.decreases-loop-sent
 decreases-loop-sent g l = length l.queries - l.sent
