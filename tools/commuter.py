@@ -2,7 +2,8 @@
 
 A town of 300 crossings, 20 from west to east and 15 from north to south, in two halves with a river between the tenth and the
 eleventh column: a main road through the middle row, which crosses the river by the only bridge, side streets, and a ferry
-further south. Times are seconds of the day. It writes commuter.gr, commuter.tp, commuter.ss and commuter.p2p.
+further south. Times are seconds of the day. It writes commuter.gr, commuter.tp, commuter.ss, commuter.p2p, and where the
+crossings lie on a map, commuter.co.
 """
 import os
 import sys
@@ -58,11 +59,19 @@ def kinds():
             yield f"v {60 * minute} 0\n"
 
 
+def places():
+    """The lines of the crossings' places: a hundred units from one to the next, and twice as far over the river."""
+    for row in range(HIGH):
+        for column in range(WIDE):
+            yield f"v {node(column, row)} {100 * (column + (column >= WIDE // 2))} {100 * (HIGH - 1 - row)}\n"
+
+
 def texts():
     """The files by their names."""
     arcs = list(streets())
     yield "commuter.gr", f"c the commuter network: seconds at full speed\np sp {WIDE * HIGH} {len(arcs)}\n" + "".join(f"a {tail} {head} {weight}\n" for tail, head, weight, _ in arcs)
     yield "commuter.tp", f"p tp 7 {len(arcs)}\n" + "".join(kinds()) + "".join(f"t {number} {kind}\n" for number, (_, _, _, kind) in enumerate(arcs, 1))
+    yield "commuter.co", f"p aux sp co {WIDE * HIGH}\n" + "".join(places())
     yield "commuter.ss", f"p aux sp ss 1\ns {node(*HOME)}\n"
     yield "commuter.p2p", f"p aux sp p2p 2\nq {node(*HOME)} {node(*OFFICE)}\nq {node(*HOME)} {node(*OFFICE)}\n"
 
