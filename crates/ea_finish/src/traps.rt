@@ -48,7 +48,8 @@ fn count_of<T: TravelTimes>(
 {
     let mut counting = Counting { count: 0 };
     let todo = Open::reserve_without_walks(alloc, network.nodes())?;
-    let mut frontier = Frontier::over(empty_lists(alloc)?, todo, width);
+    let lists = empty_lists(alloc)?;
+    let mut frontier = Frontier::over(lists, todo, width);
     let mut table = vec![in alloc; NONE; network.nodes() as usize]?;
     search(
         network,
