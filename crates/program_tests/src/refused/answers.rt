@@ -154,7 +154,12 @@ fn two_sources_with<H: Threads + Sync>(
 fn second_problem(rt: HostRuntime) -> Result<(), Fail> {
     let alloc = rt.alloc();
     for many in [false, true] {
-        let sizes = pieces(alloc, 0, 300, 16)?;
+        // The places of two workers take some thousand bytes each.
+        let sizes = if many {
+            pieces(alloc, 0, 300, 128)?
+        } else {
+            pieces(alloc, 0, 300, 16)?
+        };
         let mut large = Held::of_large(alloc)?;
         let mut count = Count::new();
         for piece in sizes {
@@ -197,7 +202,12 @@ fn two_pairs_with<H: Threads + Sync>(
 fn second_pair(rt: HostRuntime) -> Result<(), Fail> {
     let alloc = rt.alloc();
     for many in [false, true] {
-        let sizes = pieces(alloc, 0, 300, 16)?;
+        // The places of two workers take some thousand bytes each.
+        let sizes = if many {
+            pieces(alloc, 0, 300, 128)?
+        } else {
+            pieces(alloc, 0, 300, 16)?
+        };
         let mut large = Held::of_large(alloc)?;
         let mut count = Count::new();
         for piece in sizes {
