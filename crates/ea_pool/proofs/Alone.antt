@@ -12,6 +12,7 @@ use Rattle.ea_limits.specs.declared.TheConstants.{HORIZON}
 use Rattle.ea_pool.specs.declared.words.TheConstants.{EMPTY}
 use Rattle.ea_pool.specs.declared.account.LastTake.{LastTake}
 use Rattle.ea_pool.specs.Entries.{only, times, IsKnown, AreKnown, face}
+use Rattle.ea_pool.specs.Kinds.{HeapKind, Least, Shows, IsBelow}
 use Rattle.ea_pool.specs.States.{saw}
 use Rattle.ea_pool.specs.Plays.{Surveys}
 use Rattle.ea_limits.specs.declared.TheConstants.{SHARES}
@@ -20,7 +21,8 @@ use Rattle.ea_pool.specs.Replies.{MatchPopped}
 use Rattle.ea_pool.specs.Solos.{lesser}
 use Rattle.ea_pool.specs.Tries.{TookLeast, TookLesser}
 use Rattle.ea_pool.specs.Batches.{PopsSome, IsLowest}
-use Rattle.ea_pool.proofs.Batching.{face_out}
+use Rattle.ea_pool.proofs.Batching.{below_out}
+use Rattle.ea_pool.proofs.Shown.{shown_face}
 use Rattle.ea_pool.proofs.Weights.{only-same, only-one}
 
 face_le : (d : Entry) (es : List Entry) → 0 < times d es → face es ≤ d.key
@@ -60,9 +62,9 @@ pub all_true : (k x : ℕ) (pairs : List (ℕ × ℕ)) → AllByRecursion (λ p.
 all_true k x [] = tt
 all_true k x (p ∷ ps) = ((λ _ _. refl), all_true k x ps)
 
-module _ (known : ℕ → ℕ → Type 0) (in_time : (node time : ℕ) → known node time → time ≤ HORIZON) (v w : SeatMemory) (i x j y : ℕ) (survey : Surveys known 2 w) (is : w ≡ saw (saw v i x) j y) (near : i < 2) (other : j < 2) (apart : i ≢ j) where
-  seen : AllByRecursion (λ p. p.0 < 2 → face (slice_index_or survey.contents p.0 []) ≡ p.1) ((j, y) ∷ (i, x) ∷ v.seen)
-  seen = subst (λ (a : SeatMemory). AllByRecursion (λ p. p.0 < 2 → face (slice_index_or survey.contents p.0 []) ≡ p.1) a.seen) is survey.seen
+module _ (known : ℕ → ℕ → Type 0) (kind : HeapKind) (in_time : (node time : ℕ) → known node time → time ≤ HORIZON) (v w : SeatMemory) (i x j y : ℕ) (survey : Surveys known kind 2 w) (is : w ≡ saw (saw v i x) j y) (near : i < 2) (other : j < 2) (apart : i ≢ j) where
+  seen : AllByRecursion (λ p. p.0 < 2 → Shows kind p.1 (slice_index_or survey.contents p.0 [])) ((j, y) ∷ (i, x) ∷ v.seen)
+  seen = subst (λ (a : SeatMemory). AllByRecursion (λ p. p.0 < 2 → Shows kind p.1 (slice_index_or survey.contents p.0 [])) a.seen) is survey.seen
 
   left : (f : Entry → ℕ) → total f v.pushed ≡ total f v.popped + total (total f) survey.contents
   left f = omega (arith, survey.left f, ap (λ (a : SeatMemory). total f a.pushed) is, ap (λ (a : SeatMemory). total f a.popped) is)
@@ -70,15 +72,15 @@ module _ (known : ℕ → ℕ → Type 0) (in_time : (node time : ℕ) → known
   bounded : (s : ℕ) → s ≤ x → s ≤ y → Bounds s survey.contents
   bounded s a b k l =
       let wide = survey.width in
-      let s₁ = seen.1.0 near in
-      let s₀ = seen.0 other in
+      let s₁ = shown_face kind x (slice_index_or survey.contents i []) (seen.1.0 near) in
+      let s₀ = shown_face kind y (slice_index_or survey.contents j []) (seen.0 other) in
       both i j k (λ n. s ≤ face (slice_index_or survey.contents n [])) near other apart (omega arith) (omega arith) (omega arith)
 
   -- entries whose first is the least of the heap with the lesser word
-  pub is_lowest : (p : List Entry) (heap s : ℕ) (before : List (ℕ × ℕ)) (last : Option LastTake) → TookLeast heap s p before last → s ≡ min x y → 0 < length p → AreKnown known p → (d : Entry) → IsLeft d (books v) → face p ≤ d.key
+  pub is_lowest : (p : List Entry) (heap s : ℕ) (before : List (ℕ × ℕ)) (last : Option LastTake) → TookLeast kind heap s p before last → s ≡ min x y → 0 < length p → AreKnown known p → (d : Entry) → IsLeft d (books v) → IsBelow kind s p d
   is_lowest p heap s before last t word some knows d more =
-      let low = face_out p t.content t.least.0 t.least.1 some (λ e there. in_time e.node e.key (knows e there)) in
-      bounds_all (face p) survey.contents (bounded (face p) (omega (arith, t.word_is)) (omega (arith, t.word_is))) d (omega (arith, left (only d)))
+      below_out kind s p t.content t.least.0 d t.least.1 t.word_is some (λ e there. in_time e.node e.key (knows e there))
+      (bounds_all s survey.contents (bounded s (omega arith) (omega arith)) d (omega (arith, left (only d))))
 
   pub is_least : (e : Entry) → e.key ≤ x → e.key ≤ y → (d : Entry) → IsLeft d (books v) → e.key ≤ d.key
   is_least e a b d more = bounds_all e.key survey.contents (bounded e.key a b) d (omega (arith, left (only d)))
@@ -106,6 +108,7 @@ module _ (known : ℕ → ℕ → Type 0) (in_time : (node time : ℕ) → known
 -- entries that came from the heap with the lesser word of two that were looked at
 module _
     (known : ℕ → ℕ → Type 0)
+    (kind : HeapKind)
     (in_time : (node time : ℕ) → known node time → time ≤ HORIZON)
     (most heaps : ℕ)
     (before after : List Entry)
@@ -115,18 +118,19 @@ module _
     (is : w ≡ saw (saw v i x) j y)
     (heap : picked.0 ≡ lesser i (Some x) j (Some y))
     (word : picked.1 ≡ min x y)
-    (p : PopsSome known most before after (books w) (books b) (λ out. TookLeast picked.0 picked.1 out w.seen b.last_take) b.last_take) where
-  took_lesser : TookLesser i j p.out v.seen b.last_take
+    (p : PopsSome known most before after (books w) (books b) (λ out. TookLeast kind picked.0 picked.1 out w.seen b.last_take) b.last_take) where
+  took_lesser : TookLesser kind i j p.out v.seen b.last_take
   took_lesser = record {
     x = x;
     y = y;
-    took = subst (λ (k : ℕ). TookLeast k (min x y) p.out ((j, y) ∷ (i, x) ∷ v.seen) b.last_take) heap
-        (subst (λ (n : ℕ). TookLeast picked.0 n p.out ((j, y) ∷ (i, x) ∷ v.seen) b.last_take) word
-        (subst (λ (a : SeatMemory). TookLeast picked.0 picked.1 p.out a.seen b.last_take) is p.took));
+    took = subst (λ (k : ℕ). TookLeast kind k (min x y) p.out ((j, y) ∷ (i, x) ∷ v.seen) b.last_take) heap
+        (subst (λ (n : ℕ). TookLeast kind picked.0 n p.out ((j, y) ∷ (i, x) ∷ v.seen) b.last_take) word
+        (subst (λ (a : SeatMemory). TookLeast kind picked.0 picked.1 p.out a.seen b.last_take) is p.took));
   }
 
-  pub pops_lesser : i < heaps → j < heaps → i ≢ j → (v.shares ≡ SHARES → Surveys known heaps w)
-      → (pops : PopsSome known most before after (books v) (books b) (λ out. TookLesser i j out v.seen b.last_take) b.last_take) × IsLowest heaps pops.out (books v)
+  pub pops_lesser : i < heaps → j < heaps → i ≢ j → (v.shares ≡ SHARES → Surveys known kind heaps w)
+      → (pops : PopsSome known most before after (books v) (books b) (λ out. TookLesser kind i j out v.seen b.last_take) b.last_take) × IsLowest kind heaps (min pops.took.x pops.took.y) pops.out (books v)
+  unfolding took_lesser
   pops_lesser near other apart survey = (
     record {
       out = p.out;
@@ -139,7 +143,8 @@ module _
       enough = p.enough;
       left = subst (λ (a : SeatMemory). a.shares ≡ SHARES → AreLeft p.out (books a)) is p.left;
     },
-    λ whole two. is_lowest known in_time v w i x j y (subst (λ (h : ℕ). Surveys known h w) two (survey whole)) is
+    λ whole two d more. subst (λ (n : ℕ). IsBelow kind n p.out d) word
+        (is_lowest known kind in_time v w i x j y (subst (λ (h : ℕ). Surveys known kind h w) two (survey whole)) is
         (subst (λ (h : ℕ). i < h) two near) (subst (λ (h : ℕ). j < h) two other) apart
-        p.out picked.0 picked.1 w.seen b.last_take p.took word p.some p.known_all,
+        p.out picked.0 picked.1 w.seen b.last_take p.took word p.some p.known_all d more),
   )

@@ -10,12 +10,14 @@ use Rattle.ea_pool.specs.declared.account.LastTake.{LastTake}
 use Rattle.ea_limits.specs.declared.TheConstants.{HORIZON}
 use Rattle.ea_pool.specs.declared.words.TheConstants.{EMPTY}
 use Rattle.ea_pool.specs.Entries.{only, times, SameEntries, ComesFirst, IsLeastOf, IsAscending, AreTakenOut, face}
+use Rattle.ea_pool.specs.Kinds.{HeapKind, Least, Buckets, Shows, Gives, GivesOne, IsBelow}
 use Rattle.ea_pool.specs.States.{take_at}
 use Rattle.ea_pool.specs.Tries.{TookAll}
 use Rattle.ea_pool.specs.Pools.{AreInTime}
 use Rattle.ea_pool.specs.Batches.{GoesIn, AreFirst}
 use Rattle.ea_pool.proofs.Weights.{only-same, only-one}
 use Rattle.ea_pool.proofs.Gathered.{no_weight}
+use Rattle.ea_pool.proofs.Shown.{shown_face, shown_empty, given_parts}
 use Rattle.ea_pool.proofs.HeapOrder.{comes_before, least_of_part}
 
 -- the last one of a batch goes in
@@ -60,27 +62,37 @@ one_more_out out heap rest rest' x h least same =
       least = least_still x out rest rest' few (least_of_part x rest rest' few least) h.least;
     }
 
+-- nothing is out yet
+pub none_out_yet : (kind : HeapKind) (heap : List Entry) → Gives kind [] heap heap
+none_out_yet Least heap = record { parts = λ f. refl; ascending = tt; least = tt }
+none_out_yet Buckets heap = λ f. refl
+
+-- and one comes out behind others
+pub one_more_given : (kind : HeapKind) (out heap rest rest' : List Entry) (x : Entry) → Gives kind out heap rest → GivesOne kind x rest rest' → Gives kind (out ++ x ∷ []) heap rest'
+one_more_given Least out heap rest rest' x h one = one_more_out out heap rest rest' x h one.0 one.1
+one_more_given Buckets out heap rest rest' x h one = λ f. omega (arith, h f, one f, total-append f out rest, total-append f (out ++ x ∷ []) rest', total-append f out (x ∷ []))
+
 -- what is in a heap after a batch went in was in the heap or in the batch
 pub in_time_after : (before after heap heap' : List Entry) → GoesIn before after heap heap' → AreInTime (before ++ heap) → AreInTime heap'
 in_time_after before after heap heap' h low e there =
     low e (omega (arith, h.added (only e), total-append (only e) h.went heap, total-append (only e) before heap, ap (times e) h.split, total-append (only e) after h.went))
 
 -- and what is left after some came out was there
-pub in_time_left : (out heap heap' : List Entry) → AreTakenOut out heap heap' → AreInTime heap → AreInTime heap'
-in_time_left out heap heap' h low e there = low e (omega (arith, h.parts (only e), total-append (only e) out heap'))
+pub in_time_left : (kind : HeapKind) (out heap heap' : List Entry) → Gives kind out heap heap' → AreInTime heap → AreInTime heap'
+in_time_left kind out heap heap' h low e there = low e (omega (arith, given_parts kind out heap heap' h (only e), total-append (only e) out heap'))
 
 -- of a heap with entries some come out where some are asked for
-pub comes_some : (most : ℕ) (out heap rest : List Entry) → AreFirst most out heap rest → 0 < most → face heap < EMPTY → 0 < length out
-comes_some most (e ∷ out) heap rest h asked low = omega arith
-comes_some most [] heap rest h asked low = ⊎_elim
+pub comes_some : (kind : HeapKind) (most word : ℕ) (out heap rest : List Entry) → AreFirst kind most out heap rest → 0 < most → Shows kind word heap → word < EMPTY → 0 < length out
+comes_some kind most word (e ∷ out) heap rest h asked shown low = omega arith
+comes_some kind most word [] heap rest h asked shown low = ⊎_elim
     (λ (all : 0 ≡ most). absurd (omega arith))
-    (λ (none : rest ≡ []). let empty : heap ≡ [] = no_weight heap (λ f. h.taken.parts f ∙ ap (total f) none) in absurd (omega (arith, ap face empty)))
+    (λ (none : rest ≡ []). let empty : heap ≡ [] = no_weight heap (λ f. given_parts kind [] heap rest h.taken f ∙ ap (total f) none) in absurd (omega (arith, shown_empty kind word heap shown empty)))
     h.enough
 
-pub comes_enough : (most : ℕ) (out heap rest : List Entry) (last : Option LastTake) (k : ℕ) (seen : List (ℕ × ℕ)) → last ≡ Some (take_at k heap seen) → AreFirst most out heap rest → (length out ≡ most) ⊎ TookAll out last
-comes_enough most out heap rest last k seen is h = ⊎_elim
+pub comes_enough : (kind : HeapKind) (most : ℕ) (out heap rest : List Entry) (last : Option LastTake) (k : ℕ) (seen : List (ℕ × ℕ)) → last ≡ Some (take_at k heap seen) → AreFirst kind most out heap rest → (length out ≡ most) ⊎ TookAll out last
+comes_enough kind most out heap rest last k seen is h = ⊎_elim
     (λ (all : length out ≡ most). inl all)
-    (λ (none : rest ≡ []). inr (subst (TookAll out) (sym is) (λ f. omega (arith, h.taken.parts f, total-append f out rest, ap (total f) none))))
+    (λ (none : rest ≡ []). inr (subst (TookAll out) (sym is) (λ f. omega (arith, given_parts kind out heap rest h.taken f, total-append f out rest, ap (total f) none))))
     h.enough
 
 head_first : (e d : Entry) (out content rest : List Entry) → AreTakenOut (e ∷ out) content rest → 0 < times d content → e.key ≤ d.key
@@ -100,3 +112,9 @@ face_out (e ∷ out) content rest h some low =
     let there = low e (omega (arith, only-same e)) in
     let least = face_at_least e.key content (λ d there. head_first e d out content rest h there) (omega arith) in
     omega arith
+
+-- with the word of the heap that they came out of, what came out is no later than all that this word is at most
+pub below_out : (kind : HeapKind) (word : ℕ) (out content rest : List Entry) (d : Entry) → Gives kind out content rest → Shows kind word content → 0 < length out → ((e : Entry) → 0 < times e out → e.key ≤ HORIZON)
+    → word ≤ d.key → IsBelow kind word out d
+below_out Least word out content rest d h shown some low late = omega (arith, face_out out content rest h some low, shown)
+below_out Buckets word out content rest d h shown some low late = late

@@ -16,11 +16,13 @@ use Rattle.ea_pool.specs.declared.account.Held.{Held}
 use Rattle.ea_pool.specs.declared.account.SeatMemory.{SeatMemory}
 use Rattle.ea_limits.specs.declared.TheConstants.{SHARES}
 use Rattle.ea_pool.specs.declared.words.TheConstants.{OUT, EMPTY}
-use Rattle.ea_pool.specs.Entries.{only, times, SameEntries, IsKnown, AreKnown, face}
+use Rattle.ea_pool.specs.Entries.{only, times, SameEntries, IsKnown, AreKnown}
+use Rattle.ea_pool.specs.Kinds.{HeapKind, Shows}
 use Rattle.ea_pool.specs.States.{seat_state, first_state, nobody, content_of, count_of, holds_heap, held_at, IsInside, saw, forgot, took, gave, pushed, popped, left_of, newcomer, joined}
 use Rattle.ea_pool.specs.Core.{Core, at_home, Fits, AreWords, IsLawful}
 use Rattle.ea_pool.specs.Events.{opening}
 use Rattle.ea_pool.specs.Plays.{Surveys}
+use Rattle.ea_pool.proofs.Shown.{shown_low, shown_none}
 
 abbrev pub Homes : Type 0
 Homes = List (maybe.Option (List Entry))
@@ -40,23 +42,19 @@ home_weight f homes = total (λ h. total f (at_home h)) homes
 not_all : (views : List SeatMemory) (id j : ℕ) (v b : SeatMemory) → total (λ a. a.shares) views ≡ SHARES → j ≢ id → get_elem? views id ≡ maybe.some v → get_elem? views j ≡ maybe.some b → 0 < v.shares → b.shares ≡ SHARES → ⊥
 not_all views id j v b all apart me them live whole = omega (arith, terms_le (λ (a : SeatMemory). a.shares) views id j v b apart me them, all)
 
-pub face_low : (es : List Entry) → face es ≤ EMPTY
-face_low [] = omega arith
-face_low (e ∷ es) = let h = face_low es in omega arith
+fits_low : (kind : HeapKind) (word holders : ℕ) (h : maybe.Option (List Entry)) → Fits kind word holders h → word ≤ OUT
+fits_low kind word holders maybe.none f = omega (arith, f.0)
+fits_low kind word holders (maybe.some es) f = omega (arith, shown_low kind word es f.0)
 
-fits_low : (word holders : ℕ) (h : maybe.Option (List Entry)) → Fits word holders h → word ≤ OUT
-fits_low word holders maybe.none f = omega (arith, f.0)
-fits_low word holders (maybe.some es) f = omega (arith, f.0, face_low es)
-
-module _ (known : ℕ → ℕ → Type 0) where
+module _ (known : ℕ → ℕ → Type 0) (kind : HeapKind) where
   -- one seat's account, the words and the heaps at home change together
-  changed : (s : Core) (o : IsLawful known s) (id : ℕ) (v w : SeatMemory) (words : List ℕ) (homes : Homes) → get_elem? s.seats id ≡ maybe.some v → 0 < v.shares → w.shares ≡ v.shares
+  changed : (s : Core) (o : IsLawful known kind s) (id : ℕ) (v w : SeatMemory) (words : List ℕ) (homes : Homes) → get_elem? s.seats id ≡ maybe.some v → 0 < v.shares → w.shares ≡ v.shares
       → length words ≡ length homes → length homes ≡ length s.homes → IsInside (length homes) w.held
-      → ((k : ℕ) (home : maybe.Option (List Entry)) → get_elem? homes k ≡ maybe.some home → Fits (get_or words k 0) (total (holds_heap k) (set s.seats id w)) home)
+      → ((k : ℕ) (home : maybe.Option (List Entry)) → get_elem? homes k ≡ maybe.some home → Fits kind (get_or words k 0) (total (holds_heap k) (set s.seats id w)) home)
       → ((f : Entry → ℕ) → total f w.pushed + (total f v.popped + (home_weight f s.homes + total f (content_of v.held))) ≡ total f v.pushed + (total f w.popped + (home_weight f homes + total f (content_of w.held))))
       → ((e : Entry) → times e v.pushed ≡ 0 → 0 < times e w.pushed → IsKnown known e)
       → (v.shares ≡ SHARES → AreWords words w.seen)
-      → IsLawful known (board words homes (set s.seats id w))
+      → IsLawful known kind (board words homes (set s.seats id w))
   changed s o id v w words homes me live shares width long here fits balance new seen =
       let views : List SeatMemory = set s.seats id w in
       let balanced : (f : Entry → ℕ) → total (λ a. total f a.pushed) views ≡ total (λ a. total f a.popped) views + (home_weight f homes + total (λ a. total f (content_of a.held)) views) = λ f. omega (
@@ -89,11 +87,11 @@ module _ (known : ℕ → ℕ → Type 0) where
   same_holders views id v w k me same = omega (arith, total-set (holds_heap k) views id v w me)
 
   -- no word and no heap changes
-  unmoved : (s : Core) (o : IsLawful known s) (id : ℕ) (v w : SeatMemory) → get_elem? s.seats id ≡ maybe.some v → 0 < v.shares → w.shares ≡ v.shares → w.pushed ≡ v.pushed → w.popped ≡ v.popped → w.held ≡ v.held
-      → (v.shares ≡ SHARES → AreWords s.words w.seen) → IsLawful known (board s.words s.homes (set s.seats id w))
+  unmoved : (s : Core) (o : IsLawful known kind s) (id : ℕ) (v w : SeatMemory) → get_elem? s.seats id ≡ maybe.some v → 0 < v.shares → w.shares ≡ v.shares → w.pushed ≡ v.pushed → w.popped ≡ v.popped → w.held ≡ v.held
+      → (v.shares ≡ SHARES → AreWords s.words w.seen) → IsLawful known kind (board s.words s.homes (set s.seats id w))
   unmoved s o id v w me live shares a b c seen =
       changed s o id v w s.words s.homes me live shares o.one_word_per_heap refl (subst (IsInside (length s.homes)) (sym c) (o.held_inside id v me))
-      (λ k home at. subst (λ (n : ℕ). Fits (get_or s.words k 0) n home) (same_holders s.seats id v w k me (ap (count_of k) c)) (o.fits k home at))
+      (λ k home at. subst (λ (n : ℕ). Fits kind (get_or s.words k 0) n home) (same_holders s.seats id v w k me (ap (count_of k) c)) (o.fits k home at))
       (λ f. omega (arith, ap (total f) a, ap (total f) b, ap (λ (h : Option Held). total f (content_of h)) c)) (λ e none some. absurd (omega (arith, ap (times e) a))) seen
 
   pub there : (homes : Homes) (k : ℕ) → k < length homes → (h : maybe.Option (List Entry)) × (get_elem? homes k ≡ maybe.some h)
@@ -102,37 +100,37 @@ module _ (known : ℕ → ℕ → Type 0) where
   there (h ∷ hs) (suc k) l = there hs k (omega arith)
 
   -- the word and the home of the heap k change, and one seat's account
-  fits_changed : (s : Core) (o : IsLawful known s) (id k n : ℕ) (v w : SeatMemory) (h : maybe.Option (List Entry)) → k < length s.homes → get_elem? s.seats id ≡ maybe.some v
-      → ((r : ℕ) → r ≢ k → holds_heap r w ≡ holds_heap r v) → Fits n (total (holds_heap k) (set s.seats id w)) h
-      → (r : ℕ) (home : maybe.Option (List Entry)) → get_elem? (set s.homes k h) r ≡ maybe.some home → Fits (get_or (set s.words k n) r 0) (total (holds_heap r) (set s.seats id w)) home
+  fits_changed : (s : Core) (o : IsLawful known kind s) (id k n : ℕ) (v w : SeatMemory) (h : maybe.Option (List Entry)) → k < length s.homes → get_elem? s.seats id ≡ maybe.some v
+      → ((r : ℕ) → r ≢ k → holds_heap r w ≡ holds_heap r v) → Fits kind n (total (holds_heap k) (set s.seats id w)) h
+      → (r : ℕ) (home : maybe.Option (List Entry)) → get_elem? (set s.homes k h) r ≡ maybe.some home → Fits kind (get_or (set s.words k n) r 0) (total (holds_heap r) (set s.seats id w)) home
   fits_changed s o id k n v w h near me others here r home at = ⊎_elim
       (λ (t : (r ≡ k) × (h ≡ home)).
       let word : get_or (set s.words k n) k 0 ≡ n = get_or-set_same s.words k n 0 (omega (arith, o.one_word_per_heap)) in
-      subst (λ (y : maybe.Option (List Entry)). Fits (get_or (set s.words k n) r 0) (total (holds_heap r) (set s.seats id w)) y) t.1
-      (subst (λ (q : ℕ). Fits (get_or (set s.words k n) q 0) (total (holds_heap q) (set s.seats id w)) h) (sym t.0)
-      (subst (λ (x : ℕ). Fits x (total (holds_heap k) (set s.seats id w)) h) (sym word) here)))
+      subst (λ (y : maybe.Option (List Entry)). Fits kind (get_or (set s.words k n) r 0) (total (holds_heap r) (set s.seats id w)) y) t.1
+      (subst (λ (q : ℕ). Fits kind (get_or (set s.words k n) q 0) (total (holds_heap q) (set s.seats id w)) h) (sym t.0)
+      (subst (λ (x : ℕ). Fits kind x (total (holds_heap k) (set s.seats id w)) h) (sym word) here)))
       (λ (t : (r ≢ k) × (get_elem? s.homes r ≡ maybe.some home)).
       let ne = t.0 in
       let apart : r + 1 ≢ k + 1 = λ e. ne (omega arith) in
       let word : get_or (set s.words k n) r 0 ≡ get_or s.words r 0 = get_or-set_other s.words k r n 0 ne in
-      subst (λ (x : ℕ). Fits x (total (holds_heap r) (set s.seats id w)) home) (sym word)
-      (subst (λ (x : ℕ). Fits (get_or s.words r 0) x home) (same_holders s.seats id v w r me (others r ne)) (o.fits r home t.1)))
+      subst (λ (x : ℕ). Fits kind x (total (holds_heap r) (set s.seats id w)) home) (sym word)
+      (subst (λ (x : ℕ). Fits kind (get_or s.words r 0) x home) (same_holders s.seats id v w r me (others r ne)) (o.fits r home t.1)))
       (at_set s.homes k r h home at)
 
   -- where no seat holds the heap k, it is at home
-  pub unheld_home : (s : Core) (o : IsLawful known s) (k : ℕ) (h : maybe.Option (List Entry)) → get_elem? s.homes k ≡ maybe.some h → total (holds_heap k) s.seats ≡ 0
-      → (es : List Entry) × (h ≡ maybe.some es) × (get_or s.words k 0 ≡ face es)
+  pub unheld_home : (s : Core) (o : IsLawful known kind s) (k : ℕ) (h : maybe.Option (List Entry)) → get_elem? s.homes k ≡ maybe.some h → total (holds_heap k) s.seats ≡ 0
+      → (es : List Entry) × (h ≡ maybe.some es) × Shows kind (get_or s.words k 0) es
   unheld_home s o k maybe.none at none = let f = o.fits k maybe.none at in absurd (omega (arith, f.1))
   unheld_home s o k (maybe.some es) at none = (es, refl, (o.fits k (maybe.some es) at).0)
 
   -- a heap whose word is not OUT is at home
-  pub taken_home : (s : Core) (o : IsLawful known s) (k : ℕ) (h : maybe.Option (List Entry)) → get_elem? s.homes k ≡ maybe.some h → get_or s.words k 0 ≢ OUT
-      → (es : List Entry) × (h ≡ maybe.some es) × (get_or s.words k 0 ≡ face es) × (total (holds_heap k) s.seats ≡ 0)
+  pub taken_home : (s : Core) (o : IsLawful known kind s) (k : ℕ) (h : maybe.Option (List Entry)) → get_elem? s.homes k ≡ maybe.some h → get_or s.words k 0 ≢ OUT
+      → (es : List Entry) × (h ≡ maybe.some es) × Shows kind (get_or s.words k 0) es × (total (holds_heap k) s.seats ≡ 0)
   taken_home s o k maybe.none at here = absurd (here (o.fits k maybe.none at).0)
   taken_home s o k (maybe.some es) at here = let f = o.fits k (maybe.some es) at in (es, refl, f.0, f.1)
 
   -- and one that a seat holds is out
-  out_home : (s : Core) (o : IsLawful known s) (k : ℕ) (h : maybe.Option (List Entry)) → get_elem? s.homes k ≡ maybe.some h → 0 < total (holds_heap k) s.seats → (h ≡ maybe.none) × (total (holds_heap k) s.seats ≡ 1)
+  out_home : (s : Core) (o : IsLawful known kind s) (k : ℕ) (h : maybe.Option (List Entry)) → get_elem? s.homes k ≡ maybe.some h → 0 < total (holds_heap k) s.seats → (h ≡ maybe.none) × (total (holds_heap k) s.seats ≡ 1)
   out_home s o k maybe.none at some = (refl, (o.fits k maybe.none at).1)
   out_home s o k (maybe.some es) at some = let f = o.fits k (maybe.some es) at in absurd (omega (arith, f.1))
 
@@ -141,35 +139,35 @@ module _ (known : ℕ → ℕ → Type 0) where
   content_at (h ∷ hs) zero es e = ap at_home (some-injective h (maybe.some es) e)
   content_at (h ∷ hs) (suc k) es e = content_at hs k es e
 
-  seen_contents : (s : Core) (o : IsLawful known s) → ((k : ℕ) → total (holds_heap k) s.seats ≡ 0) → (pairs : List (ℕ × ℕ)) → AreWords s.words pairs
-      → AllByRecursion (λ p. p.0 < length s.homes → face (slice_index_or (map at_home s.homes) p.0 []) ≡ p.1) pairs
+  seen_contents : (s : Core) (o : IsLawful known kind s) → ((k : ℕ) → total (holds_heap k) s.seats ≡ 0) → (pairs : List (ℕ × ℕ)) → AreWords s.words pairs
+      → AllByRecursion (λ p. p.0 < length s.homes → Shows kind p.1 (slice_index_or (map at_home s.homes) p.0 [])) pairs
   seen_contents s o none [] h = tt
   seen_contents s o none (p ∷ ps) h = (
     (λ inside. let t = there s.homes p.0 inside in let c = unheld_home s o p.0 t.0 t.1 (none p.0) in
-        ap face (content_at s.homes p.0 c.0 (t.1 ∙ ap maybe.some c.1)) ∙ (sym c.2 ∙ h.0)),
+        subst (λ (es : List Entry). Shows kind p.1 es) (sym (content_at s.homes p.0 c.0 (t.1 ∙ ap maybe.some c.1))) (subst (λ (n : ℕ). Shows kind n c.0) h.0 c.2)),
     seen_contents s o none ps h.1,
   )
 
   -- where a seat that holds nothing has all shares, no heap is out
-  pub unheld_all : (s : Core) (o : IsLawful known s) (id : ℕ) (a : SeatMemory) → get_elem? s.seats id ≡ maybe.some a → a.shares ≡ SHARES → a.held ≡ None → (k : ℕ) → total (holds_heap k) s.seats ≡ 0
+  pub unheld_all : (s : Core) (o : IsLawful known kind s) (id : ℕ) (a : SeatMemory) → get_elem? s.seats id ≡ maybe.some a → a.shares ≡ SHARES → a.held ≡ None → (k : ℕ) → total (holds_heap k) s.seats ≡ 0
   unheld_all s o id a me whole rests k = total_alone (holds_heap k) (λ (b : SeatMemory). b.shares) s.seats id a me (omega (arith, o.shares_add_up)) (λ j b at none. ap (holds_heap k) (o.live j b at none)) ∙ ap (count_of k) rests
 
   -- what a seat with all shares pushed is what it popped and what the heaps have, at home or held
-  pub balance_whole : (s : Core) (o : IsLawful known s) (id : ℕ) (a : SeatMemory) → get_elem? s.seats id ≡ maybe.some a → a.shares ≡ SHARES → (f : Entry → ℕ)
+  pub balance_whole : (s : Core) (o : IsLawful known kind s) (id : ℕ) (a : SeatMemory) → get_elem? s.seats id ≡ maybe.some a → a.shares ≡ SHARES → (f : Entry → ℕ)
       → total f a.pushed ≡ total f a.popped + (home_weight f s.homes + total f (content_of a.held))
   balance_whole s o id a me whole f =
       let alone : (f : SeatMemory → ℕ) → f nobody ≡ 0 → total f s.seats ≡ f a = λ f z. total_alone f (λ (b : SeatMemory). b.shares) s.seats id a me (omega (arith, o.shares_add_up)) (λ j b at none. ap f (o.live j b at none) ∙ z) in
       omega (arith, o.balanced f, alone (λ b. total f b.pushed) refl, alone (λ b. total f b.popped) refl, alone (λ b. total f (content_of b.held)) refl)
 
   -- and where it holds nothing, what the heaps at home have
-  pub balance_alone : (s : Core) (o : IsLawful known s) (id : ℕ) (a : SeatMemory) → get_elem? s.seats id ≡ maybe.some a → a.shares ≡ SHARES → a.held ≡ None → (f : Entry → ℕ)
+  pub balance_alone : (s : Core) (o : IsLawful known kind s) (id : ℕ) (a : SeatMemory) → get_elem? s.seats id ≡ maybe.some a → a.shares ≡ SHARES → a.held ≡ None → (f : Entry → ℕ)
       → total f a.pushed ≡ total f a.popped + total (total f) (map at_home s.homes)
   balance_alone s o id a me whole rests f =
       omega (arith, balance_whole s o id a me whole f, ap (λ (h : Option Held). total f (content_of h)) rests, total-map (total f) at_home s.homes)
 
   -- what a seat with all shares knows
-  pub surveys : (s : Core) (o : IsLawful known s) (id : ℕ) (a : SeatMemory) → get_elem? s.seats id ≡ maybe.some a → a.shares ≡ SHARES → a.held ≡ None → (pairs : List (ℕ × ℕ)) → AreWords s.words pairs
-      → Surveys known (length s.homes) (seat_state a.shares a.pushed a.popped a.held pairs a.last_take)
+  pub surveys : (s : Core) (o : IsLawful known kind s) (id : ℕ) (a : SeatMemory) → get_elem? s.seats id ≡ maybe.some a → a.shares ≡ SHARES → a.held ≡ None → (pairs : List (ℕ × ℕ)) → AreWords s.words pairs
+      → Surveys known kind (length s.homes) (seat_state a.shares a.pushed a.popped a.held pairs a.last_take)
   surveys s o id a me whole rests pairs words =
       let alone : (f : SeatMemory → ℕ) → f nobody ≡ 0 → total f s.seats ≡ f a = λ f z. total_alone f (λ (b : SeatMemory). b.shares) s.seats id a me (omega (arith, o.shares_add_up)) (λ j b at none. ap f (o.live j b at none) ∙ z) in
       let unheld = unheld_all s o id a me whole rests in
@@ -182,21 +180,21 @@ module _ (known : ℕ → ℕ → Type 0) where
       }
 
   -- a heap's word is at most OUT
-  pub word_low : (s : Core) (o : IsLawful known s) (k : ℕ) → k < length s.homes → get_or s.words k 0 ≤ OUT
-  word_low s o k inside = let t = there s.homes k inside in fits_low _ _ t.0 (o.fits k t.0 t.1)
+  pub word_low : (s : Core) (o : IsLawful known kind s) (k : ℕ) → k < length s.homes → get_or s.words k 0 ≤ OUT
+  word_low s o k inside = let t = there s.homes k inside in fits_low kind _ _ t.0 (o.fits k t.0 t.1)
 
   -- the entries of a heap are known
-  pub known_in : (s : Core) (o : IsLawful known s) (k : ℕ) (es : List Entry) → get_elem? s.homes k ≡ maybe.some (maybe.some es) → AreKnown known es
+  pub known_in : (s : Core) (o : IsLawful known kind s) (k : ℕ) (es : List Entry) → get_elem? s.homes k ≡ maybe.some (maybe.some es) → AreKnown known es
   known_in s o k es at e some = o.known_all e (omega (arith, o.balanced (only e), term_le (λ h. total (only e) (at_home h)) s.homes k (maybe.some es) at))
 
   -- a seat looks at heap k
-  pub load_lawful : (s : Core) (o : IsLawful known s) (id k : ℕ) (v : SeatMemory) → get_elem? s.seats id ≡ maybe.some v → 0 < v.shares
-      → IsLawful known (board s.words s.homes (set s.seats id (saw v k (get_or s.words k 0))))
+  pub load_lawful : (s : Core) (o : IsLawful known kind s) (id k : ℕ) (v : SeatMemory) → get_elem? s.seats id ≡ maybe.some v → 0 < v.shares
+      → IsLawful known kind (board s.words s.homes (set s.seats id (saw v k (get_or s.words k 0))))
   load_lawful s o id k v me live = unmoved s o id v (saw v k (get_or s.words k 0)) me live refl refl refl refl (λ whole. (refl, o.fresh id v me whole))
 
   -- it takes the heap k, which is at home
-  pub take_lawful : (s : Core) (o : IsLawful known s) (id k : ℕ) (v : SeatMemory) (es : List Entry) → get_elem? s.seats id ≡ maybe.some v → 0 < v.shares → v.held ≡ None → get_elem? s.homes k ≡ maybe.some (maybe.some es)
-      → IsLawful known (board (set s.words k OUT) (set s.homes k maybe.none) (set s.seats id (took v k es)))
+  pub take_lawful : (s : Core) (o : IsLawful known kind s) (id k : ℕ) (v : SeatMemory) (es : List Entry) → get_elem? s.seats id ≡ maybe.some v → 0 < v.shares → v.held ≡ None → get_elem? s.homes k ≡ maybe.some (maybe.some es)
+      → IsLawful known kind (board (set s.words k OUT) (set s.homes k maybe.none) (set s.seats id (took v k es)))
   take_lawful s o id k v es me live rests at =
       let w : SeatMemory = took v k es in
       let one : holds_heap k w ≡ 1 = ap (λ b. cond b 1 0) (eq-eqb k k refl) in
@@ -212,32 +210,32 @@ module _ (known : ℕ → ℕ → Type 0) where
       (λ _. tt)
 
   -- or fails to
-  pub miss_lawful : (s : Core) (o : IsLawful known s) (id : ℕ) (v : SeatMemory) → get_elem? s.seats id ≡ maybe.some v → 0 < v.shares → IsLawful known (board s.words s.homes (set s.seats id (forgot v)))
+  pub miss_lawful : (s : Core) (o : IsLawful known kind s) (id : ℕ) (v : SeatMemory) → get_elem? s.seats id ≡ maybe.some v → 0 < v.shares → IsLawful known kind (board s.words s.homes (set s.seats id (forgot v)))
   miss_lawful s o id v me live = unmoved s o id v (forgot v) me live refl refl refl refl (λ _. tt)
 
   -- a heap that a seat holds is one of the pool's
-  held_inside_at : (s : Core) (o : IsLawful known s) (id k : ℕ) (v : SeatMemory) (es : List Entry) → get_elem? s.seats id ≡ maybe.some v → v.held ≡ Some (held_at k es) → k < length s.homes
+  held_inside_at : (s : Core) (o : IsLawful known kind s) (id k : ℕ) (v : SeatMemory) (es : List Entry) → get_elem? s.seats id ≡ maybe.some v → v.held ≡ Some (held_at k es) → k < length s.homes
   held_inside_at s o id k v es me holds = subst (IsInside (length s.homes)) holds (o.held_inside id v me)
 
-  -- The seat that holds the heap k puts it back with the entries es'
-  puts_back : (s : Core) (o : IsLawful known s) (id k : ℕ) (v w : SeatMemory) (es es' : List Entry) → get_elem? s.seats id ≡ maybe.some v → 0 < v.shares → v.held ≡ Some (held_at k es)
+  -- The seat that holds the heap k puts it back with the entries es', under a word of them
+  puts_back : (s : Core) (o : IsLawful known kind s) (id k word : ℕ) (v w : SeatMemory) (es es' : List Entry) → Shows kind word es' → get_elem? s.seats id ≡ maybe.some v → 0 < v.shares → v.held ≡ Some (held_at k es)
       → w.shares ≡ v.shares → w.held ≡ None → w.seen ≡ []
       → ((f : Entry → ℕ) → total f w.pushed + (total f v.popped + total f es) ≡ total f v.pushed + (total f w.popped + total f es'))
       → ((e : Entry) → times e v.pushed ≡ 0 → 0 < times e w.pushed → IsKnown known e)
-      → IsLawful known (board (set s.words k (face es')) (set s.homes k (maybe.some es')) (set s.seats id w))
-  puts_back s o id k v w es es' me live holds shares none blank balance new =
+      → IsLawful known kind (board (set s.words k word) (set s.homes k (maybe.some es')) (set s.seats id w))
+  puts_back s o id k word v w es es' shown me live holds shares none blank balance new =
       let near = held_inside_at s o id k v es me holds in
       let mine : holds_heap k v ≡ 1 = ap (count_of k) holds ∙ ap (λ b. cond b 1 0) (eq-eqb k k refl) in
       let t = there s.homes k near in
       let out = out_home s o k t.0 t.1 (omega (arith, term_le (holds_heap k) s.seats id v me)) in
       let at : get_elem? s.homes k ≡ maybe.some maybe.none = t.1 ∙ ap maybe.some out.0 in
-      changed s o id v w (set s.words k (face es')) (set s.homes k (maybe.some es')) me live shares
-      (length-set s.words k (face es') ∙ (o.one_word_per_heap ∙ sym (length-set s.homes k (maybe.some es'))))
+      changed s o id v w (set s.words k word) (set s.homes k (maybe.some es')) me live shares
+      (length-set s.words k word ∙ (o.one_word_per_heap ∙ sym (length-set s.homes k (maybe.some es'))))
       (length-set s.homes k (maybe.some es'))
       (subst (IsInside (length (set s.homes k (maybe.some es')))) (sym none) tt)
-      (fits_changed s o id k (face es') v w (maybe.some es') near me
+      (fits_changed s o id k word v w (maybe.some es') near me
       (λ r ne. ap (count_of r) none ∙ sym (ap (count_of r) holds ∙ ap (λ b. cond b 1 0) (ne_eqb k r (λ e. ne (sym e)))))
-      (refl, omega (arith, total-set (holds_heap k) s.seats id v w me, out.1, ap (count_of k) none)))
+      (shown, omega (arith, total-set (holds_heap k) s.seats id v w me, out.1, ap (count_of k) none)))
       (λ f. omega (
         arith,
         balance f,
@@ -246,33 +244,33 @@ module _ (known : ℕ → ℕ → Type 0) where
         ap (λ (h : Option Held). total f (content_of h)) none,
       ))
       new
-      (λ _. subst (λ (l : List (ℕ × ℕ)). AreWords (set s.words k (face es')) l) (sym blank) tt)
+      (λ _. subst (λ (l : List (ℕ × ℕ)). AreWords (set s.words k word) l) (sym blank) tt)
 
-  pub push_lawful : (s : Core) (o : IsLawful known s) (id k : ℕ) (v : SeatMemory) (es es' added : List Entry) → get_elem? s.seats id ≡ maybe.some v → 0 < v.shares → v.held ≡ Some (held_at k es) → SameEntries es' (added ++ es) → AreKnown known added
-      → IsLawful known (board (set s.words k (face es')) (set s.homes k (maybe.some es')) (set s.seats id (pushed v added)))
-  push_lawful s o id k v es es' added me live holds same may =
-      puts_back s o id k v (pushed v added) es es' me live holds refl refl refl
+  pub push_lawful : (s : Core) (o : IsLawful known kind s) (id k word : ℕ) (v : SeatMemory) (es es' added : List Entry) → Shows kind word es' → get_elem? s.seats id ≡ maybe.some v → 0 < v.shares → v.held ≡ Some (held_at k es) → SameEntries es' (added ++ es) → AreKnown known added
+      → IsLawful known kind (board (set s.words k word) (set s.homes k (maybe.some es')) (set s.seats id (pushed v added)))
+  push_lawful s o id k word v es es' added shown me live holds same may =
+      puts_back s o id k word v (pushed v added) es es' shown me live holds refl refl refl
       (λ f. omega (arith, same f, total-append f added es, total-append f added v.pushed))
       (λ x none some. may x (omega (arith, total-append (only x) added v.pushed)))
 
-  pub pop_lawful : (s : Core) (o : IsLawful known s) (id k : ℕ) (v : SeatMemory) (es es' gone : List Entry) → get_elem? s.seats id ≡ maybe.some v → 0 < v.shares → v.held ≡ Some (held_at k es) → SameEntries es (gone ++ es')
-      → IsLawful known (board (set s.words k (face es')) (set s.homes k (maybe.some es')) (set s.seats id (popped v gone)))
-  pop_lawful s o id k v es es' gone me live holds same =
-      puts_back s o id k v (popped v gone) es es' me live holds refl refl refl (λ f. omega (arith, same f, total-append f gone es', total-append f gone v.popped)) (λ x none some. absurd (omega arith))
+  pub pop_lawful : (s : Core) (o : IsLawful known kind s) (id k word : ℕ) (v : SeatMemory) (es es' gone : List Entry) → Shows kind word es' → get_elem? s.seats id ≡ maybe.some v → 0 < v.shares → v.held ≡ Some (held_at k es) → SameEntries es (gone ++ es')
+      → IsLawful known kind (board (set s.words k word) (set s.homes k (maybe.some es')) (set s.seats id (popped v gone)))
+  pop_lawful s o id k word v es es' gone shown me live holds same =
+      puts_back s o id k word v (popped v gone) es es' shown me live holds refl refl refl (λ f. omega (arith, same f, total-append f gone es', total-append f gone v.popped)) (λ x none some. absurd (omega arith))
 
-  pub back_lawful : (s : Core) (o : IsLawful known s) (id k : ℕ) (v : SeatMemory) (es : List Entry) → get_elem? s.seats id ≡ maybe.some v → 0 < v.shares → v.held ≡ Some (held_at k es)
-      → IsLawful known (board (set s.words k (face es)) (set s.homes k (maybe.some es)) (set s.seats id (gave v)))
-  back_lawful s o id k v es me live holds =
-      puts_back s o id k v (gave v) es es me live holds refl refl refl (λ f. omega arith) (λ x none some. absurd (omega arith))
+  pub back_lawful : (s : Core) (o : IsLawful known kind s) (id k word : ℕ) (v : SeatMemory) (es : List Entry) → Shows kind word es → get_elem? s.seats id ≡ maybe.some v → 0 < v.shares → v.held ≡ Some (held_at k es)
+      → IsLawful known kind (board (set s.words k word) (set s.homes k (maybe.some es)) (set s.seats id (gave v)))
+  back_lawful s o id k word v es shown me live holds =
+      puts_back s o id k word v (gave v) es es shown me live holds refl refl refl (λ f. omega arith) (λ x none some. absurd (omega arith))
 
   -- a seat is added that holds nothing
-  pub split_lawful : (s : Core) (o : IsLawful known s) (id : ℕ) (v : SeatMemory) → get_elem? s.seats id ≡ maybe.some v → 2 ≤ v.shares → IsLawful known (board s.words s.homes (set s.seats id (left_of v) ++ newcomer v ∷ []))
+  pub split_lawful : (s : Core) (o : IsLawful known kind s) (id : ℕ) (v : SeatMemory) → get_elem? s.seats id ≡ maybe.some v → 2 ≤ v.shares → IsLawful known kind (board s.words s.homes (set s.seats id (left_of v) ++ newcomer v ∷ []))
   split_lawful s o id v me many =
       let views : List SeatMemory = set s.seats id (left_of v) in
       let added : (f : SeatMemory → ℕ) → total f (views ++ newcomer v ∷ []) + f v ≡ total f s.seats + f (left_of v) + f (newcomer v) = λ f. omega (arith, total-append f views (newcomer v ∷ []), total-set f s.seats id v (left_of v) me) in
       record {
         one_word_per_heap = o.one_word_per_heap;
-        fits = λ k home at. subst (λ (n : ℕ). Fits (get_or s.words k 0) n home) (omega (arith, added (holds_heap k))) (o.fits k home at);
+        fits = λ k home at. subst (λ (n : ℕ). Fits kind (get_or s.words k 0) n home) (omega (arith, added (holds_heap k))) (o.fits k home at);
         held_inside = λ j a at. ⊎_elim
             (λ (at' : get_elem? views j ≡ maybe.some a). ⊎_elim (λ (t : (j ≡ id) × (left_of v ≡ a)). subst (λ (b : SeatMemory). IsInside (length s.homes) b.held) t.1 (o.held_inside id v me)) (λ (t : (j ≢ id) × (get_elem? s.seats j ≡ maybe.some a)). o.held_inside j a t.1) (at_set s.seats id j (left_of v) a at'))
             (λ (e : newcomer v ≡ a). subst (λ (b : SeatMemory). IsInside (length s.homes) b.held) e tt) (at_snoc views (newcomer v) a j at);
@@ -288,15 +286,15 @@ module _ (known : ℕ → ℕ → Type 0) where
             (λ (e : newcomer v ≡ a). subst (λ (b : SeatMemory). AreWords s.words b.seen) e tt) (at_snoc views (newcomer v) a j at);
       }
 
-  pub join_lawful : (s : Core) (o : IsLawful known s) (id : ℕ) (v : SeatMemory) (other : ℕ) (w : SeatMemory) → get_elem? s.seats id ≡ maybe.some v → 0 < v.shares → w.held ≡ None → get_elem? (set s.seats id (joined v w)) other ≡ maybe.some w
-      → IsLawful known (board s.words s.homes (set (set s.seats id (joined v w)) other nobody))
+  pub join_lawful : (s : Core) (o : IsLawful known kind s) (id : ℕ) (v : SeatMemory) (other : ℕ) (w : SeatMemory) → get_elem? s.seats id ≡ maybe.some v → 0 < v.shares → w.held ≡ None → get_elem? (set s.seats id (joined v w)) other ≡ maybe.some w
+      → IsLawful known kind (board s.words s.homes (set (set s.seats id (joined v w)) other nobody))
   join_lawful s o id v other w me live rests them =
       let mid : List SeatMemory = set s.seats id (joined v w) in
       let views : List SeatMemory = set mid other nobody in
       let merged : (f : SeatMemory → ℕ) → total f views + (f v + f w) ≡ total f s.seats + (f (joined v w) + f nobody) = λ f. omega (arith, total-set f s.seats id v (joined v w) me, total-set f mid other w nobody them) in
       record {
         one_word_per_heap = o.one_word_per_heap;
-        fits = λ k home at. subst (λ (n : ℕ). Fits (get_or s.words k 0) n home) (omega (arith, merged (holds_heap k), ap (count_of k) rests)) (o.fits k home at);
+        fits = λ k home at. subst (λ (n : ℕ). Fits kind (get_or s.words k 0) n home) (omega (arith, merged (holds_heap k), ap (count_of k) rests)) (o.fits k home at);
         held_inside = λ j a at. ⊎_elim (λ (t : (j ≡ other) × (nobody ≡ a)). subst (λ (b : SeatMemory). IsInside (length s.homes) b.held) t.1 tt)
             (λ (t : (j ≢ other) × (get_elem? mid j ≡ maybe.some a)). ⊎_elim (λ (u : (j ≡ id) × (joined v w ≡ a)). subst (λ (b : SeatMemory). IsInside (length s.homes) b.held) u.1 (o.held_inside id v me)) (λ (u : (j ≢ id) × (get_elem? s.seats j ≡ maybe.some a)). o.held_inside j a u.1) (at_set s.seats id j (joined v w) a t.1))
             (at_set mid other j nobody a at);
@@ -346,10 +344,10 @@ module _ (known : ℕ → ℕ → Type 0) where
   one_seat zero a at = some-injective first_state a at
   one_seat (suc j) a at = absurd (some-ne-none a (sym at))
 
-  pub opening_lawful : (n : ℕ) → IsLawful known (opening n)
+  pub opening_lawful : (n : ℕ) → IsLawful known kind (opening n)
   opening_lawful n = record {
     one_word_per_heap = length-replicate n EMPTY ∙ sym (length-empty_homes n);
-    fits = λ k home at. let t = opened_home n k home at in subst (λ (h : maybe.Option (List Entry)). Fits (get_or (replicate n EMPTY) k 0) 0 h) (sym t.0) (get_or-replicate n k EMPTY 0 t.1, refl);
+    fits = λ k home at. let t = opened_home n k home at in subst (λ (h : maybe.Option (List Entry)). Fits kind (get_or (replicate n EMPTY) k 0) 0 h) (sym t.0) (subst (λ (x : ℕ). Shows kind x []) (sym (get_or-replicate n k EMPTY 0 t.1)) (shown_none kind), refl);
     held_inside = λ j a at. subst (λ (b : SeatMemory). IsInside (length (empty_homes n)) b.held) (one_seat j a at) tt;
     balanced = λ f. omega (arith, opened_weight f n);
     known_all = λ e some. absurd (omega (arith, opened_weight (only e) n));

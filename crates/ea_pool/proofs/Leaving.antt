@@ -1,6 +1,6 @@
 -- What is left in a closed pool, heap by heap.
 use Rattle.std.proofs.Common.{◌≡◌, ℕ, ◌+◌, ◌<◌, ◌≤◌, Bool, true, false, cond, ltb, ltb-true, ltb-false, List, [], ◌∷◌, ◌++◌, length, get_or, set, take, sym, refl, ap, ◌∙◌, arith, subst, append-nil, append_assoc, Option, Some, None, MatchOption}
-use Rattle.std.proofs.lemmas.List.{take_more}
+use Rattle.std.proofs.lemmas.List.{set-get_or, take_more}
 use mathlib.Core.Option.{some}
 use Rattle.std.specs.Prelude.{IfSome}
 use Rattle.std.specs.List.{AllByRecursion}
@@ -87,3 +87,24 @@ module _ (heaps : List (List Entry)) (place key : ℕ) (h h' : List Entry) (near
       let same : Some key ≡ Some e.key = sym least ∙ (ap least_key here ∙ found) in
       let one : key ≡ e.key = cc in
       subst (λ (k : ℕ). AllByRecursion (λ d. k ≤ d.key) (gathered heaps)) one low
+
+-- one heap changes
+pub weighs_changed : (f : Entry → ℕ) (heaps : List (List Entry)) (place : ℕ) (h h' : List Entry) → place < length heaps → h ≡ get_or heaps place h
+    → total f (gathered (set heaps place h')) + total f h ≡ total f (gathered heaps) + total f h'
+weighs_changed f heaps place h h' near is = omega (
+  arith,
+  total_gathered f heaps,
+  total_gathered f (set heaps place h'),
+  total-set (total f) heaps place h h' (at_value heaps place h near ∙ ap some (sym is)),
+)
+
+-- a heap with no entry is looked at, and those before had none
+pub still_none : (heaps heaps₀ : List (List Entry)) (place : ℕ) (h h' : List Entry) → place < length heaps → h ≡ get_or heaps place h → h ≡ [] → h' ≡ [] → heaps ≡ heaps₀ → gathered (take place heaps) ≡ []
+    → (set heaps place h' ≡ heaps₀) × (gathered (take (place + 1) (set heaps place h')) ≡ [])
+still_none heaps heaps₀ place h h' near is none none' same before =
+    let here : content heaps place ≡ [] = content_is heaps place h near is ∙ none in
+    let still : set heaps place h' ≡ heaps = ap (set heaps place) (none' ∙ sym here) ∙ set-get_or heaps place [] in (
+      still ∙ same,
+      ap (λ (hs : List (List Entry)). gathered (take (place + 1) hs)) still
+          ∙ (ap gathered (take_more heaps place [] near) ∙ (gathered_snoc (take place heaps) (content heaps place) ∙ (ap (λ (l : List Entry). l ++ content heaps place) before ∙ here))),
+    )

@@ -1,4 +1,5 @@
 pub mod Weights
+pub mod Shown
 pub mod HeapOrder
 pub mod Lawful
 pub mod Runs

@@ -11,6 +11,7 @@ use Rattle.ea_pool.specs.declared.account.Held.{Held}
 use Rattle.ea_pool.specs.declared.account.SeatMemory.{SeatMemory}
 use Rattle.ea_pool.specs.declared.words.TheConstants.{OUT}
 use Rattle.ea_pool.specs.Entries.{SameEntries, AreKnown}
+use Rattle.ea_pool.specs.Kinds.{HeapKind, Shows}
 use Rattle.ea_pool.specs.States.{nobody, content_of, IfHeld, forgot, pushed, popped, gave, joined}
 use Rattle.ea_pool.specs.Core.{Core, at_home, IsLawful}
 use Rattle.ea_pool.specs.Events.{Event, load, take, give_pushed, give_popped, give_back, split, join, opening, state_of, home_of, with_state, with_taken, with_home, after, IsLive, MayCome, after_all, MayRun, IsReached}
@@ -19,64 +20,64 @@ use Rattle.ea_pool.proofs.Lawful.{there, taken_home, load_lawful, take_lawful, m
 live_at : (seats : List SeatMemory) (id : ℕ) → 0 < (get_or seats id nobody).shares → get_elem? seats id ≡ maybe.some (get_or seats id nobody)
 live_at seats id h = at_weighed (λ (a : SeatMemory). a.shares) seats id nobody refl h
 
-module _ (known : ℕ → ℕ → Type 0) where
+module _ (known : ℕ → ℕ → Type 0) (kind : HeapKind) where
   -- a heap whose word is not OUT is at home
-  pub home_at : (core : Core) (o : IsLawful known core) (heap : ℕ) → heap < length core.words → slice_index core.words heap ≢ OUT → get_elem? core.homes heap ≡ maybe.some (maybe.some (home_of core heap))
+  pub home_at : (core : Core) (o : IsLawful known kind core) (heap : ℕ) → heap < length core.words → slice_index core.words heap ≢ OUT → get_elem? core.homes heap ≡ maybe.some (maybe.some (home_of core heap))
   home_at core o heap near in_place =
-      let t = there known core.homes heap (omega (arith, o.one_word_per_heap)) in
-      let c = taken_home known core o heap t.0 t.1 in_place in
+      let t = there known kind core.homes heap (omega (arith, o.one_word_per_heap)) in
+      let c = taken_home known kind core o heap t.0 t.1 in_place in
       let at : get_elem? core.homes heap ≡ maybe.some (maybe.some c.0) = t.1 ∙ ap maybe.some c.1 in
       let same : home_of core heap ≡ c.0 = ap at_home (value_at core.homes heap (maybe.some c.0) maybe.none at) in
       at ∙ ap (λ (es : List Entry). maybe.some (maybe.some es)) (sym same)
 
-  take_event : (core : Core) (id heap seen : ℕ) → IsLawful known core → MayCome known core (take id heap seen) → (b : Bool) → eqb (slice_index core.words heap) seen ≡ b → IsLawful known (after core (take id heap seen))
+  take_event : (core : Core) (id heap seen : ℕ) → IsLawful known kind core → MayCome known kind core (take id heap seen) → (b : Bool) → eqb (slice_index core.words heap) seen ≡ b → IsLawful known kind (after core (take id heap seen))
   take_event core id heap seen o may true e =
       let hit : slice_index core.words heap ≡ seen = eqb-true _ _ e in
-      rw e (take_lawful known core o id heap (state_of core id) (home_of core heap) (live_at core.seats id may.0) may.0 may.3 (home_at core o heap may.1 (λ out. may.2 (sym hit ∙ out))))
-  take_event core id heap seen o may false e = rw e (miss_lawful known core o id (state_of core id) (live_at core.seats id may.0) may.0)
+      rw e (take_lawful known kind core o id heap (state_of core id) (home_of core heap) (live_at core.seats id may.0) may.0 may.3 (home_at core o heap may.1 (λ out. may.2 (sym hit ∙ out))))
+  take_event core id heap seen o may false e = rw e (miss_lawful known kind core o id (state_of core id) (live_at core.seats id may.0) may.0)
 
-  push_event : (core : Core) (id : ℕ) (added content : List Entry) (held : Option Held) → IsLawful known core → IsLive core id → (state_of core id).held ≡ held → IfHeld held (λ es. SameEntries content (added ++ es)) → AreKnown known added
-      → IsLawful known (with_home core id content (pushed (state_of core id) added) held)
-  push_event core id added content None o live is same may = absurd same
-  push_event core id added content (Some h) o live is same may = push_lawful known core o id h.heap (state_of core id) h.content content added (live_at core.seats id live) live is same may
+  push_event : (core : Core) (id word : ℕ) (added content : List Entry) (held : Option Held) → IsLawful known kind core → IsLive core id → (state_of core id).held ≡ held → Shows kind word content → IfHeld held (λ es. SameEntries content (added ++ es)) → AreKnown known added
+      → IsLawful known kind (with_home core id word content (pushed (state_of core id) added) held)
+  push_event core id word added content None o live is shown same may = absurd same
+  push_event core id word added content (Some h) o live is shown same may = push_lawful known kind core o id h.heap word (state_of core id) h.content content added shown (live_at core.seats id live) live is same may
 
-  pop_event : (core : Core) (id : ℕ) (gone content : List Entry) (held : Option Held) → IsLawful known core → IsLive core id → (state_of core id).held ≡ held → IfHeld held (λ es. SameEntries es (gone ++ content))
-      → IsLawful known (with_home core id content (popped (state_of core id) gone) held)
-  pop_event core id gone content None o live is same = absurd same
-  pop_event core id gone content (Some h) o live is same = pop_lawful known core o id h.heap (state_of core id) h.content content gone (live_at core.seats id live) live is same
+  pop_event : (core : Core) (id word : ℕ) (gone content : List Entry) (held : Option Held) → IsLawful known kind core → IsLive core id → (state_of core id).held ≡ held → Shows kind word content → IfHeld held (λ es. SameEntries es (gone ++ content))
+      → IsLawful known kind (with_home core id word content (popped (state_of core id) gone) held)
+  pop_event core id word gone content None o live is shown same = absurd same
+  pop_event core id word gone content (Some h) o live is shown same = pop_lawful known kind core o id h.heap word (state_of core id) h.content content gone shown (live_at core.seats id live) live is same
 
-  back_event : (core : Core) (id : ℕ) (held : Option Held) → IsLawful known core → IsLive core id → (state_of core id).held ≡ held → IfHeld held (λ es. Unit {0})
-      → IsLawful known (with_home core id (content_of held) (gave (state_of core id)) held)
-  back_event core id None o live is some = absurd some
-  back_event core id (Some h) o live is some = back_lawful known core o id h.heap (state_of core id) h.content (live_at core.seats id live) live is
+  back_event : (core : Core) (id word : ℕ) (held : Option Held) → IsLawful known kind core → IsLive core id → (state_of core id).held ≡ held → IfHeld held (λ es. Shows kind word es)
+      → IsLawful known kind (with_home core id word (content_of held) (gave (state_of core id)) held)
+  back_event core id word None o live is some = absurd some
+  back_event core id word (Some h) o live is some = back_lawful known kind core o id h.heap word (state_of core id) h.content some (live_at core.seats id live) live is
 
-  step_lawful : (core : Core) (event : Event) → IsLawful known core → MayCome known core event → IsLawful known (after core event)
-  step_lawful core (load id heap) o may = load_lawful known core o id heap (state_of core id) (live_at core.seats id may.0) may.0
+  step_lawful : (core : Core) (event : Event) → IsLawful known kind core → MayCome known kind core event → IsLawful known kind (after core event)
+  step_lawful core (load id heap) o may = load_lawful known kind core o id heap (state_of core id) (live_at core.seats id may.0) may.0
   step_lawful core (take id heap seen) o may = take_event core id heap seen o may (eqb (slice_index core.words heap) seen) refl
-  step_lawful core (give_pushed id added content) o may = push_event core id added content (state_of core id).held o may.0 refl may.1 may.2
-  step_lawful core (give_popped id gone content) o may = pop_event core id gone content (state_of core id).held o may.0 refl may.1
-  step_lawful core (give_back id) o may = back_event core id (state_of core id).held o may.0 refl may.1
-  step_lawful core (split id) o may = split_lawful known core o id (state_of core id) (live_at core.seats id (omega arith)) may
+  step_lawful core (give_pushed id word added content) o may = push_event core id word added content (state_of core id).held o may.0 refl may.1 may.2 may.3
+  step_lawful core (give_popped id word gone content) o may = pop_event core id word gone content (state_of core id).held o may.0 refl may.1 may.2
+  step_lawful core (give_back id word) o may = back_event core id word (state_of core id).held o may.0 refl may.1
+  step_lawful core (split id) o may = split_lawful known kind core o id (state_of core id) (live_at core.seats id (omega arith)) may
   step_lawful core (join id other) o may =
       let both = joined (state_of core id) (state_of core other) in
-      join_lawful known core o id (state_of core id) other (state_of core other) (live_at core.seats id may.0) may.0 may.3 (set_else core.seats id other both may.2 ∙ live_at core.seats other may.1)
+      join_lawful known kind core o id (state_of core id) other (state_of core other) (live_at core.seats id may.0) may.0 may.3 (set_else core.seats id other both may.2 ∙ live_at core.seats other may.1)
 
-  pub every_run : (heaps : ℕ) (events : List Event) → MayRun known (opening heaps) events → IsLawful known (after_all (opening heaps) events)
-  every_run heaps events may = runs.kept_by_run after (MayCome known) (IsLawful known) step_lawful (opening heaps) events (opening_lawful known heaps) may
+  pub every_run : (heaps : ℕ) (events : List Event) → MayRun known kind (opening heaps) events → IsLawful known kind (after_all (opening heaps) events)
+  every_run heaps events may = runs.kept_by_run after (MayCome known kind) (IsLawful known kind) step_lawful (opening heaps) events (opening_lawful known kind heaps) may
 
   -- what a run leads to is lawful
-  pub reached_lawful : (heaps : ℕ) (core : Core) → IsReached known heaps core → IsLawful known core
-  reached_lawful heaps core h = runs.kept_where_reached after (MayCome known) (IsLawful known) step_lawful (opening heaps) core (opening_lawful known heaps) h
+  pub reached_lawful : (heaps : ℕ) (core : Core) → IsReached known kind heaps core → IsLawful known kind core
+  reached_lawful heaps core h = runs.kept_where_reached after (MayCome known kind) (IsLawful known kind) step_lawful (opening heaps) core (opening_lawful known kind heaps) h
 
-  pub opening_reached : (heaps : ℕ) → IsReached known heaps (opening heaps)
-  opening_reached heaps = runs.reached_first after (MayCome known) (opening heaps)
+  pub opening_reached : (heaps : ℕ) → IsReached known kind heaps (opening heaps)
+  opening_reached heaps = runs.reached_first after (MayCome known kind) (opening heaps)
 
   -- and the run goes on by each event that may come
-  pub reached_next : (heaps : ℕ) (core : Core) (event : Event) → IsReached known heaps core → MayCome known core event → IsReached known heaps (after core event)
-  reached_next heaps core event h may = runs.reached_next after (MayCome known) (opening heaps) core event h may
+  pub reached_next : (heaps : ℕ) (core : Core) (event : Event) → IsReached known kind heaps core → MayCome known kind core event → IsReached known kind heaps (after core event)
+  reached_next heaps core event h may = runs.reached_next after (MayCome known kind) (opening heaps) core event h may
 
   -- a take, by whether it hits
-  pub reached_take : (heaps : ℕ) (core : Core) (id heap seen : ℕ) → IsReached known heaps core → MayCome known core (take id heap seen) → (b : Bool) → eqb (slice_index core.words heap) seen ≡ b
-      → IsReached known heaps (cond b (with_taken core id heap) (with_state core id (forgot (state_of core id))))
+  pub reached_take : (heaps : ℕ) (core : Core) (id heap seen : ℕ) → IsReached known kind heaps core → MayCome known kind core (take id heap seen) → (b : Bool) → eqb (slice_index core.words heap) seen ≡ b
+      → IsReached known kind heaps (cond b (with_taken core id heap) (with_state core id (forgot (state_of core id))))
   reached_take heaps core id heap seen h may b e =
-      subst (λ (b : Bool). IsReached known heaps (cond b (with_taken core id heap) (with_state core id (forgot (state_of core id))))) e (reached_next heaps core (take id heap seen) h may)
+      subst (λ (b : Bool). IsReached known kind heaps (cond b (with_taken core id heap) (with_state core id (forgot (state_of core id))))) e (reached_next heaps core (take id heap seen) h may)

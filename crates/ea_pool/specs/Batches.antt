@@ -8,7 +8,8 @@ use Rattle.ea_pool.specs.declared.reply.PushAllRefused.TheVariants as refused
 use Rattle.ea_pool.specs.declared.reply.PoppedSome.{PoppedSome}
 use Rattle.ea_pool.specs.declared.reply.PoppedSome.TheVariants as reply
 use Rattle.ea_limits.specs.declared.TheConstants.{SHARES}
-use Rattle.ea_pool.specs.Entries.{SameEntries, AreKnown, AreTakenOut, face}
+use Rattle.ea_pool.specs.Entries.{SameEntries, AreKnown}
+use Rattle.ea_pool.specs.Kinds.{HeapKind, Gives, IsBelow}
 use Rattle.ea_pool.specs.Pools.{PushesAll, PopsAll, IsLeft, AreLeft}
 use Rattle.ea_pool.specs.Tries.{TookAll}
 
@@ -18,15 +19,15 @@ pub record GoesIn (before after heap heap' : List Entry) : Type 0 where
   pub split : before ≡ after ++ went
   pub added : SameEntries heap' (went ++ heap)
 
--- the least entries came out of a heap, as many as were asked for, or all
-pub record AreFirst (most : ℕ) (out heap heap' : List Entry) : Type 0 where
-  pub taken : AreTakenOut out heap heap'
+-- entries came out of a heap of this kind, as many as were asked for, or all
+pub record AreFirst (kind : HeapKind) (most : ℕ) (out heap heap' : List Entry) : Type 0 where
+  pub taken : Gives kind out heap heap'
   pub few : length out ≤ most
   pub enough : (length out ≡ most) ⊎ (heap' ≡ [])
 
 -- and they stand at the batch's end
-abbrev pub ComesOut : ℕ → List Entry → List Entry → List Entry → List Entry → Type 0
-ComesOut most before after heap heap' = (out : List Entry) × (after ≡ before ++ out) × AreFirst most out heap heap'
+abbrev pub ComesOut : HeapKind → ℕ → List Entry → List Entry → List Entry → List Entry → Type 0
+ComesOut kind most before after heap heap' = (out : List Entry) × (after ≡ before ++ out) × AreFirst kind most out heap heap'
 
 -- What is left in a batch after a push, and the account: those that are no longer there were pushed
 abbrev pub PushesFrom : List Entry → List Entry → Account → Account → Type 0
@@ -46,9 +47,10 @@ pub record PopsSome (known : ℕ → ℕ → Type 0) (most : ℕ) (before after 
   -- a seat with all shares pops what was left
   pub left : a.shares ≡ SHARES → AreLeft out a
 
--- of two heaps, what a seat with all shares pops first has the least key of all that is left
-abbrev pub IsLowest : ℕ → List Entry → Account → Type 0
-IsLowest heaps out a = a.shares ≡ SHARES → heaps ≡ 2 → (d : Entry) → IsLeft d a → face out ≤ d.key
+-- of two heaps, what a seat with all shares pops first has the least key of all that is left; or with buckets, no key that is left
+-- is below the word under which it popped
+abbrev pub IsLowest : HeapKind → ℕ → ℕ → List Entry → Account → Type 0
+IsLowest kind heaps word out a = a.shares ≡ SHARES → heaps ≡ 2 → (d : Entry) → IsLeft d a → IsBelow kind word out d
 
 -- P where all went in, Q where the pool was busy, and R where memory was refused
 abbrev pub MatchPushed : Result (Unit {0}) PushAllRefused → Type 0 → Type 0 → Type 0 → Type 0

@@ -8,7 +8,8 @@ use Rattle.ea_pool.specs.declared.entry.Entry.{Entry}
 use Rattle.ea_pool.specs.declared.account.SeatMemory.{SeatMemory}
 use Rattle.ea_limits.specs.declared.TheConstants.{SHARES}
 use Rattle.ea_pool.specs.declared.words.TheConstants.{OUT}
-use Rattle.ea_pool.specs.Entries.{times, IsKnown, face}
+use Rattle.ea_pool.specs.Entries.{times, IsKnown}
+use Rattle.ea_pool.specs.Kinds.{HeapKind, Shows}
 use Rattle.ea_pool.specs.States.{nobody, content_of, holds_heap, IsInside}
 
 -- one word per heap, the content of each heap that is at home, and the seats by number
@@ -22,19 +23,19 @@ abbrev pub at_home : maybe.Option (List Entry) → List Entry
 at_home maybe.none = []
 at_home (maybe.some es) = es
 
--- The word of a heap, the number of seats that hold it, and what is at home. It is at home under its least key, or one seat has it
-abbrev pub Fits : ℕ → ℕ → maybe.Option (List Entry) → Type 0
-Fits word holders maybe.none = (word ≡ OUT) × (holders ≡ 1)
-Fits word holders (maybe.some es) = (word ≡ face es) × (holders ≡ 0)
+-- The word of a heap, the number of seats that hold it, and what is at home. It is at home under a word of its kind, or one seat has it
+abbrev pub Fits : HeapKind → ℕ → ℕ → maybe.Option (List Entry) → Type 0
+Fits kind word holders maybe.none = (word ≡ OUT) × (holders ≡ 1)
+Fits kind word holders (maybe.some es) = Shows kind word es × (holders ≡ 0)
 
 -- each pair of a heap and a value has the heap's word
 abbrev pub AreWords : List ℕ → List (ℕ × ℕ) → Type 0
 AreWords words pairs = AllByRecursion (λ p. slice_index words p.0 ≡ p.1) pairs
 
 -- Nothing is lost or made up: what was pushed is what was popped and what the heaps have, and a heap is at home under its word or out with one seat
-pub record IsLawful (known : ℕ → ℕ → Type 0) (core : Core) : Type 0 where
+pub record IsLawful (known : ℕ → ℕ → Type 0) (kind : HeapKind) (core : Core) : Type 0 where
   pub one_word_per_heap : length core.words ≡ length core.homes
-  pub fits : (k : ℕ) (home : maybe.Option (List Entry)) → get_elem? core.homes k ≡ maybe.some home → Fits (slice_index core.words k) (total (holds_heap k) core.seats) home
+  pub fits : (k : ℕ) (home : maybe.Option (List Entry)) → get_elem? core.homes k ≡ maybe.some home → Fits kind (slice_index core.words k) (total (holds_heap k) core.seats) home
   pub held_inside : (j : ℕ) (a : SeatMemory) → get_elem? core.seats j ≡ maybe.some a → IsInside (length core.homes) a.held
   -- what was pushed is what was popped and what the heaps have, at home or held
   pub balanced : (f : Entry → ℕ) → total (λ a. total f a.pushed) core.seats ≡ total (λ a. total f a.popped) core.seats + (total (λ h. total f (at_home h)) core.homes + total (λ a. total f (content_of a.held)) core.seats)

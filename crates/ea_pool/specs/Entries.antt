@@ -52,9 +52,6 @@ pub record AreTakenOut (entries content rest : List Entry) : Type 0 where
   pub ascending : IsAscending entries
   pub least : AllByRecursion (λ e. IsLeastOf e rest) entries
 
-abbrev pub AreLeastOf : List Entry → List Entry → Type 0
-AreLeastOf entries content = (rest : List Entry) × AreTakenOut entries content rest
-
 -- no key is below this entry's
 abbrev pub HasLeastKey : Entry → List Entry → Type 0
 HasLeastKey x ys = AllByRecursion (λ y. x.key ≤ y.key) ys

@@ -6,17 +6,18 @@ use Rattle.ea_pool.specs.declared.entry.Entry.{Entry}
 use Rattle.ea_pool.specs.declared.account.Held.{Held}
 use Rattle.ea_pool.specs.declared.account.SeatMemory.{SeatMemory}
 use Rattle.ea_pool.specs.declared.words.TheConstants.{EMPTY, OUT}
-use Rattle.ea_pool.specs.Entries.{SameEntries, AreKnown, face}
+use Rattle.ea_pool.specs.Entries.{SameEntries, AreKnown}
+use Rattle.ea_pool.specs.Kinds.{HeapKind, Shows}
 use Rattle.ea_pool.specs.States.{first_state, nobody, content_of, IfHeld, saw, forgot, took, pushed, popped, gave, left_of, newcomer, joined}
 use Rattle.ea_pool.specs.Core.{Core, at_home, IsLawful}
 
--- The seat that steps comes first. A take names the heap and the value that was seen; a give-back names the entries that went in or came out and the heap's new content, in whatever order the heap keeps it
+-- The seat that steps comes first. A take names the heap and the value that was seen; a give-back names the heap's word, the entries that went in or came out, and the heap's new content, in whatever order the heap keeps it
 pub data Event : Type 0 where
   load : ℕ → ℕ → Event
   take : ℕ → ℕ → ℕ → Event
-  give_pushed : ℕ → List Entry → List Entry → Event
-  give_popped : ℕ → List Entry → List Entry → Event
-  give_back : ℕ → Event
+  give_pushed : ℕ → ℕ → List Entry → List Entry → Event
+  give_popped : ℕ → ℕ → List Entry → List Entry → Event
+  give_back : ℕ → ℕ → Event
   split : ℕ → Event
   join : ℕ → ℕ → Event
 
@@ -41,11 +42,11 @@ with_taken core id heap = record {
   seats = slice_set core.seats id (took (state_of core id) heap (home_of core heap));
 }
 
--- the heap that is held comes home with this content
-abbrev pub with_home : Core → ℕ → List Entry → SeatMemory → Option Held → Core
-with_home core id content seat None = core
-with_home core id content seat (Some held) = record {
-  words = slice_set core.words held.heap (face content);
+-- the heap that is held comes home under this word with this content
+abbrev pub with_home : Core → ℕ → ℕ → List Entry → SeatMemory → Option Held → Core
+with_home core id word content seat None = core
+with_home core id word content seat (Some held) = record {
+  words = slice_set core.words held.heap word;
   homes = slice_set core.homes held.heap (maybe.some content);
   seats = slice_set core.seats id seat;
 }
@@ -53,9 +54,9 @@ with_home core id content seat (Some held) = record {
 abbrev pub after : Core → Event → Core
 after core (load id heap) = with_state core id (saw (state_of core id) heap (slice_index core.words heap))
 after core (take id heap seen) = if slice_index core.words heap == seen then with_taken core id heap else with_state core id (forgot (state_of core id))
-after core (give_pushed id entries content) = with_home core id content (pushed (state_of core id) entries) (state_of core id).held
-after core (give_popped id entries content) = with_home core id content (popped (state_of core id) entries) (state_of core id).held
-after core (give_back id) = with_home core id (content_of (state_of core id).held) (gave (state_of core id)) (state_of core id).held
+after core (give_pushed id word entries content) = with_home core id word content (pushed (state_of core id) entries) (state_of core id).held
+after core (give_popped id word entries content) = with_home core id word content (popped (state_of core id) entries) (state_of core id).held
+after core (give_back id word) = with_home core id word (content_of (state_of core id).held) (gave (state_of core id)) (state_of core id).held
 after core (split id) = record { words = core.words; homes = core.homes; seats = slice_set core.seats id (left_of (state_of core id)) ++ newcomer (state_of core id) ∷ [] }
 after core (join id other) = with_state (with_state core id (joined (state_of core id) (state_of core other))) other nobody
 
@@ -63,25 +64,25 @@ after core (join id other) = with_state (with_state core id (joined (state_of co
 abbrev pub IsLive : Core → ℕ → Type 0
 IsLive core id = 0 < (state_of core id).shares
 
-abbrev pub MayCome : (ℕ → ℕ → Type 0) → Core → Event → Type 0
-MayCome known core (load id heap) = IsLive core id × (heap < length core.words)
-MayCome known core (take id heap seen) = IsLive core id × (heap < length core.words) × (seen ≢ OUT) × ((state_of core id).held ≡ None)
-MayCome known core (give_pushed id entries content) = IsLive core id × IfHeld (state_of core id).held (λ es. SameEntries content (entries ++ es)) × AreKnown known entries
-MayCome known core (give_popped id entries content) = IsLive core id × IfHeld (state_of core id).held (λ es. SameEntries es (entries ++ content))
-MayCome known core (give_back id) = IsLive core id × IfHeld (state_of core id).held (λ es. Unit {0})
-MayCome known core (split id) = 2 ≤ (state_of core id).shares
-MayCome known core (join id other) = IsLive core id × IsLive core other × (other ≢ id) × ((state_of core other).held ≡ None)
+abbrev pub MayCome : (ℕ → ℕ → Type 0) → HeapKind → Core → Event → Type 0
+MayCome known kind core (load id heap) = IsLive core id × (heap < length core.words)
+MayCome known kind core (take id heap seen) = IsLive core id × (heap < length core.words) × (seen ≢ OUT) × ((state_of core id).held ≡ None)
+MayCome known kind core (give_pushed id word entries content) = IsLive core id × Shows kind word content × IfHeld (state_of core id).held (λ es. SameEntries content (entries ++ es)) × AreKnown known entries
+MayCome known kind core (give_popped id word entries content) = IsLive core id × Shows kind word content × IfHeld (state_of core id).held (λ es. SameEntries es (entries ++ content))
+MayCome known kind core (give_back id word) = IsLive core id × IfHeld (state_of core id).held (λ es. Shows kind word es)
+MayCome known kind core (split id) = 2 ≤ (state_of core id).shares
+MayCome known kind core (join id other) = IsLive core id × IsLive core other × (other ≢ id) × ((state_of core other).held ≡ None)
 
 abbrev pub after_all : Core → List Event → Core
 after_all = runs.after_all after
 
-abbrev pub MayRun : (ℕ → ℕ → Type 0) → Core → List Event → Type 0
-MayRun known = runs.MayRun after (MayCome known)
+abbrev pub MayRun : (ℕ → ℕ → Type 0) → HeapKind → Core → List Event → Type 0
+MayRun known kind = runs.MayRun after (MayCome known kind)
 
 -- every run of a new pool, in whatever order its seats step, leaves it lawful
-abbrev pub EveryRunIsLawful : (ℕ → ℕ → Type 0) → Type 0
-EveryRunIsLawful known = (heaps : ℕ) (events : List Event) → MayRun known (opening heaps) events → IsLawful known (after_all (opening heaps) events)
+abbrev pub EveryRunIsLawful : (ℕ → ℕ → Type 0) → HeapKind → Type 0
+EveryRunIsLawful known kind = (heaps : ℕ) (events : List Event) → MayRun known kind (opening heaps) events → IsLawful known kind (after_all (opening heaps) events)
 
 -- some run of a new pool leads to this state
-abbrev pub IsReached : (ℕ → ℕ → Type 0) → ℕ → Core → Type 0
-IsReached known heaps core = runs.IsReached after (MayCome known) (opening heaps) core
+abbrev pub IsReached : (ℕ → ℕ → Type 0) → HeapKind → ℕ → Core → Type 0
+IsReached known kind heaps core = runs.IsReached after (MayCome known kind) (opening heaps) core

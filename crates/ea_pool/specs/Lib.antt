@@ -1,4 +1,5 @@
 pub mod Entries
+pub mod Kinds
 pub mod Draws
 pub mod States
 pub mod Core

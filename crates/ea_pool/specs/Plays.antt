@@ -7,7 +7,8 @@ use Rattle.ea_pool.specs.declared.entry.Entry.{Entry}
 use Rattle.ea_pool.specs.declared.account.SeatMemory.{SeatMemory}
 use Rattle.ea_limits.specs.declared.TheConstants.{SHARES}
 use Rattle.ea_pool.specs.declared.words.TheConstants.{OUT, WORDS_APART}
-use Rattle.ea_pool.specs.Entries.{times, SameEntries, InSomeOrder, AreKnown, face}
+use Rattle.ea_pool.specs.Entries.{times, SameEntries, InSomeOrder, AreKnown}
+use Rattle.ea_pool.specs.Kinds.{HeapKind, Shows}
 use Rattle.ea_pool.specs.States.{content_of, saw, forgot, took, pushed, popped, gave}
 use Rattle.ea_pool.specs.Core.{Core}
 use Rattle.ea_pool.specs.Events.{IsReached}
@@ -22,9 +23,9 @@ pub record AreSpread (all words : List ℕ) : Type 0 where
   pub each : (k : ℕ) → k < length words → slice_index all (word_place k) ≡ slice_index words k
 
 -- A run leads to the words, the heaps at home and what the seats know
-pub record IsPoolState (known : ℕ → ℕ → Type 0) (heaps : ℕ) (s : State (List Entry) SeatMemory) : Type 0 where
+pub record IsPoolState (known : ℕ → ℕ → Type 0) (kind : HeapKind) (heaps : ℕ) (s : State (List Entry) SeatMemory) : Type 0 where
   pub core : Core
-  pub reached : IsReached known heaps core
+  pub reached : IsReached known kind heaps core
   pub words : AreSpread s.words core.words
   pub homes : s.homes ≡ core.homes
   pub seats : s.views ≡ core.seats
@@ -38,23 +39,23 @@ value_of [] = []
 value_of (x ∷ xs) = x.1
 
 -- What a seat with all shares knows of the heaps, which are all at home: they have these contents
-pub record Surveys (known : ℕ → ℕ → Type 0) (heaps : ℕ) (a : SeatMemory) : Type 0 where
+pub record Surveys (known : ℕ → ℕ → Type 0) (kind : HeapKind) (heaps : ℕ) (a : SeatMemory) : Type 0 where
   pub contents : List (List Entry)
   pub width : length contents ≡ heaps
   pub left : (f : Entry → ℕ) → total f a.pushed ≡ total f a.popped + total (total f) contents
   pub known_all : AreKnown known a.pushed
-  pub seen : AllByRecursion (λ p. p.0 < heaps → face (slice_index_or contents p.0 []) ≡ p.1) a.seen
+  pub seen : AllByRecursion (λ p. p.0 < heaps → Shows kind p.1 (slice_index_or contents p.0 [])) a.seen
 
-module _ (known : ℕ → ℕ → Type 0) where
+module _ (known : ℕ → ℕ → Type 0) (kind : HeapKind) where
   abbrev pub Looked : Step (List Entry) → Place → ℕ → Place → Type 0
   Looked st m r n =
       ((k : ℕ) → st.word ≡ word_place k → k < st.slots → (n ≡ (saw m.0 k r, m.1)) × (r ≤ OUT))
       × (m.0.shares ≤ SHARES)
-      × (m.0.shares ≡ SHARES → m.0.held ≡ None → Surveys known st.slots n.0)
+      × (m.0.shares ≡ SHARES → m.0.held ≡ None → Surveys known kind st.slots n.0)
 
-  -- the seat has the heap k, whose content has this least key
+  -- the seat has the heap k, which was at home under this word
   abbrev pub Took : Place → ℕ → ℕ → Place → Type 0
-  Took m k x n = (es : List Entry) × (n ≡ (took m.0 k es, (k, es) ∷ m.1)) × (face es ≡ x) × AreKnown known es
+  Took m k x n = (es : List Entry) × (n ≡ (took m.0 k es, (k, es) ∷ m.1)) × Shows kind x es × AreKnown known es
 
   abbrev pub Taken : Step (List Entry) → Place → ℕ → Place → Type 0
   Taken st m r n =
@@ -62,6 +63,7 @@ module _ (known : ℕ → ℕ → Type 0) where
       × (r ≢ st.first → n ≡ (forgot m.0, m.1))
       × (m.0.shares ≡ SHARES → AllByRecursion (λ p. st.word ≡ word_place p.0 → r ≡ p.1) m.0.seen)
 
+module _ (known : ℕ → ℕ → Type 0) where
   -- A heap was put back without some of its entries. They come out in some order. Those that a seat with all shares takes out
   -- were pushed and not popped yet
   abbrev pub PutsPopped : Place → Place → Type 0

@@ -6,6 +6,7 @@ use Rattle.ea_pool.specs.declared.entry.Entry.{Entry}
 use Rattle.ea_pool.specs.declared.account.Account.{Account}
 use Rattle.ea_pool.specs.declared.account.SeatMemory.{SeatMemory}
 use Rattle.ea_pool.specs.Entries.{times, SameEntries, gathered}
+use Rattle.ea_pool.specs.Kinds.{HeapKind}
 use Rattle.ea_pool.specs.States.{held_at}
 use Rattle.ea_pool.specs.Core.{Core}
 use Rattle.ea_pool.specs.Events.{IsReached}
@@ -74,9 +75,9 @@ IsHeld a k P = (es : List Entry) × (a.held ≡ Some (held_at k es)) × P es
 -- AT THE END
 
 -- some run of a new pool ends with each heap at home, these entries in them, and this account of a seat
-pub record IsRunEnd (known : ℕ → ℕ → Type 0) (heaps : ℕ) (left : List Entry) (account : Account) : Type 0 where
+pub record IsRunEnd (known : ℕ → ℕ → Type 0) (kind : HeapKind) (heaps : ℕ) (left : List Entry) (account : Account) : Type 0 where
   pub core : Core
-  pub reached : IsReached known heaps core
+  pub reached : IsReached known kind heaps core
   pub contents : List (List Entry)
   pub homes : core.homes ≡ map maybe.some contents
   pub left_is : gathered contents ≡ left

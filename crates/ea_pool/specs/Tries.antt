@@ -4,7 +4,8 @@ use Rattle.ea_pool.specs.declared.entry.Entry.{Entry}
 use Rattle.ea_pool.specs.declared.account.LastTake.{LastTake}
 use Rattle.ea_pool.specs.declared.words.TheConstants.{OUT}
 use Rattle.ea_pool.specs.Draws.{try_draw}
-use Rattle.ea_pool.specs.Entries.{SameEntries, face, AreLeastOf}
+use Rattle.ea_pool.specs.Entries.{SameEntries}
+use Rattle.ea_pool.specs.Kinds.{HeapKind, Shows, Gives}
 use Rattle.ea_pool.specs.Solos.{lesser}
 use Rattle.ea_pool.specs.States.{take_at}
 
@@ -25,30 +26,30 @@ abbrev pub Missed : ℕ → ℕ → ℕ → List (ℕ × ℕ) → List (ℕ × �
 Missed heaps word zero before after = after ≡ before
 Missed heaps word (suc n) before after = (between : List (ℕ × ℕ)) × Missed heaps word n before between × MissedHeap (try_draw heaps word n) between after
 
--- this heap was taken last, after it was looked at. What had been seen before stands behind
-abbrev pub TookThere : ℕ → List (ℕ × ℕ) → Option LastTake → Type 0
-TookThere heap before last = (content : List Entry) × (last ≡ Some (take_at heap content ((heap, face content) ∷ before)))
+-- this heap was taken last under its word, after it was looked at. What had been seen before stands behind
+abbrev pub TookThere : HeapKind → ℕ → List (ℕ × ℕ) → Option LastTake → Type 0
+TookThere kind heap before last = (content : List Entry) × (word : ℕ) × Shows kind word content × (last ≡ Some (take_at heap content ((heap, word) ∷ before)))
 
 -- Some tries of a push have missed, fewer than there may be, and the next one took its heap
-pub record TookAtTry (heaps word : ℕ) (before : List (ℕ × ℕ)) (last : Option LastTake) : Type 0 where
+pub record TookAtTry (kind : HeapKind) (heaps word : ℕ) (before : List (ℕ × ℕ)) (last : Option LastTake) : Type 0 where
   pub tries : ℕ
   pub few : tries < 2 * heaps
   pub between : List (ℕ × ℕ)
   pub missed : Missed heaps word tries before between
-  pub took : TookThere (try_draw heaps word tries) between last
+  pub took : TookThere kind (try_draw heaps word tries) between last
 
--- This heap was taken last, under this word, and these entries were the least of what it had
-pub record TookLeast (heap word : ℕ) (entries : List Entry) (before : List (ℕ × ℕ)) (last : Option LastTake) : Type 0 where
+-- This heap was taken last, under this word, and gave these entries, as heaps of its kind do
+pub record TookLeast (kind : HeapKind) (heap word : ℕ) (entries : List Entry) (before : List (ℕ × ℕ)) (last : Option LastTake) : Type 0 where
   pub content : List Entry
   pub took : last ≡ Some (take_at heap content before)
-  pub word_is : face content ≡ word
-  pub least : AreLeastOf entries content
+  pub word_is : Shows kind word content
+  pub least : (rest : List Entry) × Gives kind entries content rest
 
 -- A pop looked at heap i and then at heap j, and took the one with the lesser word, of two equal words the lower number
-pub record TookLesser (i j : ℕ) (entries : List Entry) (before : List (ℕ × ℕ)) (last : Option LastTake) : Type 0 where
+pub record TookLesser (kind : HeapKind) (i j : ℕ) (entries : List Entry) (before : List (ℕ × ℕ)) (last : Option LastTake) : Type 0 where
   pub x : ℕ
   pub y : ℕ
-  pub took : TookLeast (lesser i (Some x) j (Some y)) (min x y) entries ((j, y) ∷ (i, x) ∷ before) last
+  pub took : TookLeast kind (lesser i (Some x) j (Some y)) (min x y) entries ((j, y) ∷ (i, x) ∷ before) last
 
 -- these entries were all that the heap had that was taken last
 abbrev pub TookAll : List Entry → Option LastTake → Type 0

@@ -1,6 +1,7 @@
 //! Attempts: a heap is taken, used and put back.
 ghost use Rattle.std.specs.Prelude.{◌≡◌, ◌≢◌, ◌*◌, ◌<◌, false, [], ◌∷◌, IfErr, OnOk};
 ghost use Rattle.std.specs.List.{AllByRecursion};
+ghost use Rattle.ea_pool.specs.Kinds.{Least};
 ghost use Rattle.ea_pool.specs.Pools.{Rests, books, SameBooks, Pushes, Pops, IsLeft, IsLeastLeft, NothingLeft};
 ghost use Rattle.ea_pool.specs.Replies.{handed_back, is_busy, OnBusy, UnlessBusy, MatchPopped, OnPopped};
 ghost use Rattle.ea_pool.specs.Tries.{LookedAt, WasBusy, MissedHeap, Missed, TookThere, TookAtTry, TookLeast, TookLesser};
@@ -8,6 +9,7 @@ ghost use Rattle.ea_pool.specs.Tries.{LookedAt, WasBusy, MissedHeap, Missed, Too
 use crate::SHARES;
 use crate::draws::{draw_try, pick};
 use crate::entry::Entry;
+use crate::least::LeastHeap;
 use crate::pool::Pool;
 use crate::reply::{Popped, PushRefused};
 use crate::seat::Seat;
@@ -19,7 +21,7 @@ impl<K: Known, A: Allocator> Pool<K, A> {
     // Pushes to one heap, if it is at home.
     pub(crate) fn push_at(
         &self,
-        seat: &mut Seat<A>,
+        seat: &mut Seat<LeastHeap<A>>,
         heap: usize,
         entry: Entry,
     ) -> Result<(), PushRefused>
@@ -32,7 +34,7 @@ impl<K: Known, A: Allocator> Pool<K, A> {
         ensures refused { IfErr result (λ refused.
             (handed_back refused ≡ entry) × SameBooks (books seat.old.me.0) (books seat.new.me.0)) }
         ensures missed { OnBusy result (MissedHeap heap seat.old.me.0.seen seat.new.me.0.seen) }
-        ensures took { UnlessBusy result (TookThere heap seat.old.me.0.seen seat.new.me.0.last_take) }
+        ensures took { UnlessBusy result (TookThere Least heap seat.old.me.0.seen seat.new.me.0.last_take) }
         ensures alone { seat.old.me.0.shares ≡ SHARES
             → IfErr result (λ refused. is_busy refused ≡ false) }
     {
@@ -53,7 +55,7 @@ impl<K: Known, A: Allocator> Pool<K, A> {
     }
 
     // Pops from one heap that has an entry, if its word is still what was seen.
-    pub(crate) fn pop_at(&self, seat: &mut Seat<A>, heap: usize, seen: u64) -> Popped
+    pub(crate) fn pop_at(&self, seat: &mut Seat<LeastHeap<A>>, heap: usize, seen: u64) -> Popped
         requires table { (seat.old.table_id ≡ self.now.table) × (heap < self.now.heaps) }
         requires rests { Rests seat.old.me }
         requires some { seen < EMPTY }
@@ -65,7 +67,7 @@ impl<K: Known, A: Allocator> Pool<K, A> {
             ⊥
             (SameBooks (books seat.old.me.0) (books seat.new.me.0) × (seat.new.me.0.seen ≡ [])) }
         ensures took { OnPopped result (λ entry.
-            TookLeast heap seen (entry ∷ []) seat.old.me.0.seen seat.new.me.0.last_take) }
+            TookLeast Least heap seen (entry ∷ []) seat.old.me.0.seen seat.new.me.0.last_take) }
         ensures alone { seat.old.me.0.shares ≡ SHARES → AllByRecursion
             (λ p. heap ≡ p.0 → seen ≡ p.1 → MatchPopped result (λ _. Unit {0}) ⊥ ⊥) seat.old.me.0.seen }
         ensures left { seat.old.me.0.shares ≡ SHARES
@@ -86,7 +88,7 @@ impl<K: Known, A: Allocator> Pool<K, A> {
     // Tries each heap twice, in turn, from the one that the word picks on.
     pub(crate) fn push_from(
         &self,
-        seat: &mut Seat<A>,
+        seat: &mut Seat<LeastHeap<A>>,
         word: u64,
         entry: Entry,
     ) -> Result<(), PushRefused>
@@ -101,7 +103,7 @@ impl<K: Known, A: Allocator> Pool<K, A> {
         ensures missed { OnBusy result
             (Missed self.now.heaps word (2 * self.now.heaps) seat.old.me.0.seen seat.new.me.0.seen) }
         ensures took { UnlessBusy result
-            (TookAtTry self.now.heaps word seat.old.me.0.seen seat.new.me.0.last_take) }
+            (TookAtTry Least self.now.heaps word seat.old.me.0.seen seat.new.me.0.last_take) }
         ensures alone { seat.old.me.0.shares ≡ SHARES
             → IfErr result (λ refused. is_busy refused ≡ false) }
     {
@@ -116,7 +118,7 @@ impl<K: Known, A: Allocator> Pool<K, A> {
     }
 
     // Looks at heap i and then at heap j, and pops from the one with the lesser word.
-    pub(crate) fn pop_of_two(&self, seat: &mut Seat<A>, i: usize, j: usize) -> Popped
+    pub(crate) fn pop_of_two(&self, seat: &mut Seat<LeastHeap<A>>, i: usize, j: usize) -> Popped
         requires table { seat.old.table_id ≡ self.now.table }
         requires heaps { (i < self.now.heaps) × (j < self.now.heaps) × (i ≢ j) }
         requires rests { Rests seat.old.me }
@@ -130,7 +132,7 @@ impl<K: Known, A: Allocator> Pool<K, A> {
             (LookedAt i EMPTY j EMPTY seat.old.me.0.seen seat.new.me.0.seen)
             (WasBusy i j seat.old.me.0.seen seat.new.me.0.seen) }
         ensures lesser { OnPopped result (λ entry.
-            TookLesser i j (entry ∷ []) seat.old.me.0.seen seat.new.me.0.last_take) }
+            TookLesser Least i j (entry ∷ []) seat.old.me.0.seen seat.new.me.0.last_take) }
         ensures alone { seat.old.me.0.shares ≡ SHARES → MatchPopped result (λ _. Unit {0}) (Unit {0}) ⊥ }
         ensures least { seat.old.me.0.shares ≡ SHARES → self.now.heaps ≡ 2 → MatchPopped result
             (λ entry. IsLeastLeft entry (books seat.old.me.0)) (NothingLeft (books seat.old.me.0)) ⊥ }

@@ -4,16 +4,15 @@ ghost use Rattle.arrayvec.specs.ArrayVec.{array_vec_len};
 ghost use Rattle.ea_pool.specs.Batches.{GoesIn, ComesOut};
 
 use crate::entry::Entry;
-use crate::least::LeastHeap;
+use crate::entry_heap::{EntryHeap, Slot};
 use crate::words::MOST_IN_BATCH;
 use arrayvec::ArrayVec;
-use std::alloc::Allocator;
 
 /// A list of entries that takes no memory.
 pub type Batch = ArrayVec<Entry, MOST_IN_BATCH>;
 
 // Pushes the entries of a batch, the last one first, until there is no memory: those that are left stay.
-pub(crate) fn push_all<A: Allocator>(heap: &mut LeastHeap<A>, batch: &mut Batch) -> bool
+pub(crate) fn push_all<H: EntryHeap>(heap: &mut Slot<H>, batch: &mut Batch) -> bool
     ensures went { GoesIn batch.old.items batch.new.items heap.old heap.new }
     ensures all { result ≡ true → batch.new.items ≡ [] }
     ensures some { result ≡ false → 0 < array_vec_len batch.new }
@@ -30,10 +29,10 @@ pub(crate) fn push_all<A: Allocator>(heap: &mut LeastHeap<A>, batch: &mut Batch)
     true
 }
 
-// Pops so many of the least entries, in their order, or all that there are.
-pub(crate) fn pop_some<A: Allocator>(heap: &mut LeastHeap<A>, most: usize, batch: &mut Batch)
+// Pops so many entries, or all that there are.
+pub(crate) fn pop_some<H: EntryHeap>(heap: &mut Slot<H>, most: usize, batch: &mut Batch)
     requires { array_vec_len batch.old + most ≤ MOST_IN_BATCH }
-    ensures { ComesOut most batch.old.items batch.new.items heap.old heap.new }
+    ensures { ComesOut H.kind most batch.old.items batch.new.items heap.old heap.new }
 {
     for _ in 0..most {
         let Some(entry) = heap.pop() else {

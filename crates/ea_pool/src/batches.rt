@@ -1,10 +1,11 @@
 //! Calls with several entries at once.
-ghost use Rattle.std.specs.Prelude.{◌≡◌, ◌≢◌, ◌+◌, ◌*◌, ◌<◌, ◌≤◌, true, false, [], ◌++◌};
+ghost use Rattle.std.specs.Prelude.{min, ◌≡◌, ◌≢◌, ◌+◌, ◌*◌, ◌<◌, ◌≤◌, true, false, [], ◌++◌};
 ghost use Rattle.std.specs.List.{AllByRecursion};
 ghost use Rattle.arrayvec.specs.ArrayVec.{array_vec_len};
 ghost use Rattle.ea_pool.specs.Batches.{GoesIn, ComesOut, PushesFrom, PopsSome, IsLowest, MatchPushed, MatchSome};
 ghost use Rattle.ea_pool.specs.Draws.{first_draw, second_draw};
-ghost use Rattle.ea_pool.specs.Entries.{AreKnown, face};
+ghost use Rattle.ea_pool.specs.Entries.{AreKnown};
+ghost use Rattle.ea_pool.specs.Kinds.{Shows};
 ghost use Rattle.ea_pool.specs.Pools.{Rests, books, HoldsHeap, AreInTime, SameBooks, PushesAll, NothingLeft};
 ghost use Rattle.ea_pool.specs.Seats.{account_of, heaps_of, IsSeatOf};
 ghost use Rattle.ea_pool.specs.Tries.{LookedAt, WasBusy, MissedHeap, Missed, TookThere, TookAtTry, TookLeast, TookLesser};
@@ -12,49 +13,49 @@ ghost use Rattle.ea_pool.specs.Tries.{LookedAt, WasBusy, MissedHeap, Missed, Too
 use crate::SHARES;
 use crate::batch::{Batch, pop_some, push_all};
 use crate::draws::{draw_first, draw_second, draw_try, pick};
+use crate::entry_heap::EntryHeap;
 use crate::pool::Pool;
 use crate::reply::{PoppedSome, PushAllRefused};
 use crate::seat::{PoolSeat, Seat};
-use crate::steps::word_for;
 use crate::words::{EMPTY, MOST_IN_BATCH, OUT};
 use ea_road::Known;
 use std::alloc::Allocator;
 
-impl<K: Known, A: Allocator> Pool<K, A> {
+impl<K: Known, A: Allocator, H: EntryHeap> Pool<K, A, H> {
     // Pushes entries into the heap that is held, and gives its new word.
-    fn push_all_in(&self, seat: &mut Seat<A>, heap: usize, batch: &mut Batch) -> (bool, u64)
+    fn push_all_in(&self, seat: &mut Seat<H>, heap: usize, batch: &mut Batch) -> (bool, u64)
         requires table { seat.old.table_id ≡ self.now.table }
         requires held { HoldsHeap seat.old.me heap (λ es. AreInTime (batch.old.items ++ es)) }
         ensures table { seat.new.table_id ≡ seat.old.table_id }
         ensures view { seat.new.me.0 ≡ seat.old.me.0 }
         ensures moves { HoldsHeap seat.old.me heap (λ es. HoldsHeap seat.new.me heap (λ left.
-            GoesIn batch.old.items batch.new.items es left × (result.1 ≡ face left))) }
+            GoesIn batch.old.items batch.new.items es left × Shows H.kind result.1 left)) }
         ensures all { result.0 ≡ true → batch.new.items ≡ [] }
     {
         let held = seat.slot_mut(&self.table.shared, heap);
         let all = push_all(held, batch);
-        (all, word_for(held))
+        (all, held.word())
     }
 
     // Pops entries from the heap that is held, and gives its new word.
-    fn pop_some_in(&self, seat: &mut Seat<A>, heap: usize, most: usize, batch: &mut Batch) -> u64
+    fn pop_some_in(&self, seat: &mut Seat<H>, heap: usize, most: usize, batch: &mut Batch) -> u64
         requires table { seat.old.table_id ≡ self.now.table }
         requires held { HoldsHeap seat.old.me heap (λ es. AreInTime es) }
         requires room { array_vec_len batch.old + most ≤ MOST_IN_BATCH }
         ensures table { seat.new.table_id ≡ seat.old.table_id }
         ensures view { seat.new.me.0 ≡ seat.old.me.0 }
         ensures moves { HoldsHeap seat.old.me heap (λ es. HoldsHeap seat.new.me heap (λ left.
-            ComesOut most batch.old.items batch.new.items es left × (result ≡ face left))) }
+            ComesOut H.kind most batch.old.items batch.new.items es left × Shows H.kind result left)) }
     {
         let held = seat.slot_mut(&self.table.shared, heap);
         pop_some(held, most, batch);
-        word_for(held)
+        held.word()
     }
 
     // Pushes entries to one heap, if it is at home. Those that it has no room for stay in the batch.
     fn push_all_at(
         &self,
-        seat: &mut Seat<A>,
+        seat: &mut Seat<H>,
         heap: usize,
         batch: &mut Batch,
     ) -> Result<(), PushAllRefused>
@@ -68,9 +69,9 @@ impl<K: Known, A: Allocator> Pool<K, A> {
             (SameBooks (books seat.old.me.0) (books seat.new.me.0) × (batch.new ≡ batch.old))
             (PushesFrom batch.old.items batch.new.items (books seat.old.me.0) (books seat.new.me.0)) }
         ensures tried { MatchPushed result
-            (TookThere heap seat.old.me.0.seen seat.new.me.0.last_take)
+            (TookThere H.kind heap seat.old.me.0.seen seat.new.me.0.last_take)
             (MissedHeap heap seat.old.me.0.seen seat.new.me.0.seen)
-            (TookThere heap seat.old.me.0.seen seat.new.me.0.last_take) }
+            (TookThere H.kind heap seat.old.me.0.seen seat.new.me.0.last_take) }
         ensures alone { seat.old.me.0.shares ≡ SHARES → MatchPushed result (Unit {0}) ⊥ (Unit {0}) }
     {
         let seen = self.look(seat, heap);
@@ -89,7 +90,7 @@ impl<K: Known, A: Allocator> Pool<K, A> {
     // Tries each heap twice, in turn, from the one that the word picks on.
     fn push_all_from(
         &self,
-        seat: &mut Seat<A>,
+        seat: &mut Seat<H>,
         word: u64,
         batch: &mut Batch,
     ) -> Result<(), PushAllRefused>
@@ -103,9 +104,9 @@ impl<K: Known, A: Allocator> Pool<K, A> {
             (SameBooks (books seat.old.me.0) (books seat.new.me.0) × (batch.new ≡ batch.old))
             (PushesFrom batch.old.items batch.new.items (books seat.old.me.0) (books seat.new.me.0)) }
         ensures tried { MatchPushed result
-            (TookAtTry self.now.heaps word seat.old.me.0.seen seat.new.me.0.last_take)
+            (TookAtTry H.kind self.now.heaps word seat.old.me.0.seen seat.new.me.0.last_take)
             (Missed self.now.heaps word (2 * self.now.heaps) seat.old.me.0.seen seat.new.me.0.seen)
-            (TookAtTry self.now.heaps word seat.old.me.0.seen seat.new.me.0.last_take) }
+            (TookAtTry H.kind self.now.heaps word seat.old.me.0.seen seat.new.me.0.last_take) }
         ensures alone { seat.old.me.0.shares ≡ SHARES → MatchPushed result (Unit {0}) ⊥ (Unit {0}) }
     {
         for attempt in 0..2 * self.heaps {
@@ -123,7 +124,7 @@ impl<K: Known, A: Allocator> Pool<K, A> {
     /// for is left in the batch, the first entries of it, and what is gone from it was pushed.
     pub fn push_all_as(
         &self,
-        seat: &mut PoolSeat<K, A>,
+        seat: &mut PoolSeat<K, A, H>,
         word: u64,
         batch: &mut Batch,
     ) -> Result<(), PushAllRefused>
@@ -136,9 +137,9 @@ impl<K: Known, A: Allocator> Pool<K, A> {
             (PushesFrom batch.old.items batch.new.items (account_of seat.old) (account_of seat.new)) }
         // Each of the 2H tries missed; or after others that missed, one of them took its heap.
         ensures tried { MatchPushed result
-            (TookAtTry (heaps_of self.now) word seat.old.seen seat.new.last_take)
+            (TookAtTry H.kind (heaps_of self.now) word seat.old.seen seat.new.last_take)
             (Missed (heaps_of self.now) word (2 * heaps_of self.now) seat.old.seen seat.new.seen)
-            (TookAtTry (heaps_of self.now) word seat.old.seen seat.new.last_take) }
+            (TookAtTry H.kind (heaps_of self.now) word seat.old.seen seat.new.last_take) }
         ensures alone { (account_of seat.old).shares ≡ SHARES → MatchPushed result (Unit {0}) ⊥ (Unit {0}) }
     {
         self.push_all_from(&mut seat.seat, word, batch)
@@ -147,7 +148,7 @@ impl<K: Known, A: Allocator> Pool<K, A> {
     // Pops entries from one heap that has some, if its word is still what was seen. Says whether it was.
     fn pop_some_at(
         &self,
-        seat: &mut Seat<A>,
+        seat: &mut Seat<H>,
         heap: usize,
         seen: u64,
         most: usize,
@@ -161,7 +162,7 @@ impl<K: Known, A: Allocator> Pool<K, A> {
         ensures rests { Rests seat.new.me }
         ensures popped { result ≡ true → PopsSome K.is_known most batch.old.items batch.new.items
             (books seat.old.me.0) (books seat.new.me.0)
-            (λ out. TookLeast heap seen out seat.old.me.0.seen seat.new.me.0.last_take)
+            (λ out. TookLeast H.kind heap seen out seat.old.me.0.seen seat.new.me.0.last_take)
             seat.new.me.0.last_take }
         ensures busy { result ≡ false → SameBooks (books seat.old.me.0) (books seat.new.me.0)
             × (seat.new.me.0.seen ≡ []) × (batch.new ≡ batch.old) }
@@ -179,7 +180,7 @@ impl<K: Known, A: Allocator> Pool<K, A> {
     // Looks at heap i and then at heap j, and pops from the one with the lesser word.
     fn pop_some_of_two(
         &self,
-        seat: &mut Seat<A>,
+        seat: &mut Seat<H>,
         i: usize,
         j: usize,
         most: usize,
@@ -194,9 +195,9 @@ impl<K: Known, A: Allocator> Pool<K, A> {
         ensures popped { MatchSome result
             ((pops : PopsSome K.is_known most batch.old.items batch.new.items
             (books seat.old.me.0) (books seat.new.me.0)
-            (λ out. TookLesser i j out seat.old.me.0.seen seat.new.me.0.last_take)
+            (λ out. TookLesser H.kind i j out seat.old.me.0.seen seat.new.me.0.last_take)
             seat.new.me.0.last_take)
-            × IsLowest self.now.heaps pops.out (books seat.old.me.0))
+            × IsLowest H.kind self.now.heaps (min pops.took.x pops.took.y) pops.out (books seat.old.me.0))
             (SameBooks (books seat.old.me.0) (books seat.new.me.0) × (batch.new ≡ batch.old))
             (SameBooks (books seat.old.me.0) (books seat.new.me.0) × (batch.new ≡ batch.old)) }
         ensures looked { MatchSome result (Unit {0})
@@ -227,7 +228,7 @@ impl<K: Known, A: Allocator> Pool<K, A> {
     /// After `Empty` and `Busy` nothing has changed.
     pub fn pop_some_as(
         &self,
-        seat: &mut PoolSeat<K, A>,
+        seat: &mut PoolSeat<K, A, H>,
         first: u64,
         second: u64,
         most: usize,
@@ -241,9 +242,9 @@ impl<K: Known, A: Allocator> Pool<K, A> {
             MatchSome result
             ((pops : PopsSome K.is_known most batch.old.items batch.new.items
             (account_of seat.old) (account_of seat.new)
-            (λ out. TookLesser i j out seat.old.seen seat.new.last_take)
+            (λ out. TookLesser H.kind i j out seat.old.seen seat.new.last_take)
             seat.new.last_take)
-            × IsLowest (heaps_of self.now) pops.out (account_of seat.old))
+            × IsLowest H.kind (heaps_of self.now) (min pops.took.x pops.took.y) pops.out (account_of seat.old))
             (SameBooks (account_of seat.old) (account_of seat.new) × (batch.new ≡ batch.old))
             (SameBooks (account_of seat.old) (account_of seat.new) × (batch.new ≡ batch.old)) }
         // It looked at the first draw and then at the second.

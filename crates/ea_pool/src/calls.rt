@@ -1,5 +1,6 @@
 //! What callers do with a shared pool.
 ghost use Rattle.std.specs.Prelude.{◌≡◌, ◌+◌, ◌*◌, ◌<◌, false, [], ◌∷◌, ◌++◌, IfErr, OnOk};
+ghost use Rattle.ea_pool.specs.Kinds.{Least};
 ghost use Rattle.ea_pool.specs.Pools.{SameBooks, Pushes, Pops, Opened, IsLeastLeft, NothingLeft};
 ghost use Rattle.ea_pool.specs.Draws.{first_draw, second_draw};
 ghost use Rattle.ea_pool.specs.Replies.{handed_back, is_busy, OnBusy, UnlessBusy, MatchPopped, OnPopped};
@@ -9,6 +10,7 @@ ghost use Rattle.ea_pool.specs.Tries.{LookedAt, WasBusy, Missed, TookAtTry, Took
 use crate::SHARES;
 use crate::draws::{draw_first, draw_second};
 use crate::entry::Entry;
+use crate::entry_heap::EntryHeap;
 use crate::pool::Pool;
 use crate::reply::{Popped, PushRefused};
 use crate::rules::OneShare;
@@ -40,7 +42,7 @@ impl<K: Known, A: Allocator> Pool<K, A> {
             (Missed (heaps_of self.now) word (2 * heaps_of self.now) seat.old.seen seat.new.seen) }
         // After others that missed, one of the tries took its heap: there the entry went in, or memory was refused.
         ensures took { UnlessBusy result
-            (TookAtTry (heaps_of self.now) word seat.old.seen seat.new.last_take) }
+            (TookAtTry Least (heaps_of self.now) word seat.old.seen seat.new.last_take) }
         ensures alone { (account_of seat.old).shares ≡ SHARES
             → IfErr result (λ refused. is_busy refused ≡ false) }
     {
@@ -66,7 +68,7 @@ impl<K: Known, A: Allocator> Pool<K, A> {
         // It took the one with the lesser word, and the least entry of that.
         ensures lesser { let i = first_draw (heaps_of self.now) first in
             let j = second_draw (heaps_of self.now) first second in
-            OnPopped result (λ entry. TookLesser i j (entry ∷ []) seat.old.seen seat.new.last_take) }
+            OnPopped result (λ entry. TookLesser Least i j (entry ∷ []) seat.old.seen seat.new.last_take) }
         ensures alone { (account_of seat.old).shares ≡ SHARES
             → MatchPopped result (λ _. Unit {0}) (Unit {0}) ⊥ }
         ensures least { (account_of seat.old).shares ≡ SHARES → heaps_of self.now ≡ 2
@@ -77,9 +79,11 @@ impl<K: Known, A: Allocator> Pool<K, A> {
         let j = draw_second(self.heaps, first, second);
         self.pop_of_two(&mut seat.seat, i, j)
     }
+}
 
+impl<K: Known, A: Allocator, H: EntryHeap> Pool<K, A, H> {
     /// Moves one share to a new seat, which has pushed and popped nothing. The seat needs at least two.
-    pub fn split(&self, seat: &mut PoolSeat<K, A>) -> PoolSeat<K, A>
+    pub fn split(&self, seat: &mut PoolSeat<K, A, H>) -> PoolSeat<K, A, H>
         requires seat { IsSeatOf self.now seat.old }
         requires share { 1 < (account_of seat.old).shares }
         ensures seats { IsSeatOf self.now seat.new × IsSeatOf self.now result }
@@ -94,11 +98,12 @@ impl<K: Known, A: Allocator> Pool<K, A> {
             seat: other,
             shares: 1,
             known: PhantomData,
+            memory: PhantomData,
         }
     }
 
     /// Adds the other seat's shares and its account.
-    pub fn join(&self, seat: &mut PoolSeat<K, A>, other: PoolSeat<K, A>)
+    pub fn join(&self, seat: &mut PoolSeat<K, A, H>, other: PoolSeat<K, A, H>)
         requires seats { IsSeatOf self.now seat.old × IsSeatOf self.now other }
         ensures seat { IsSeatOf self.now seat.new }
         ensures both { ((account_of seat.new).shares ≡ (account_of seat.old).shares + (account_of other).shares)
@@ -109,6 +114,7 @@ impl<K: Known, A: Allocator> Pool<K, A> {
             seat: other_seat,
             shares: other_shares,
             known: _,
+            memory: _,
         } = other;
         self.table
             .shared

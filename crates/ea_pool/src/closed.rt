@@ -4,17 +4,18 @@ ghost use Rattle.ea_pool.specs.Entries.{SameEntries, HasLeastKey};
 ghost use Rattle.ea_pool.specs.Left.{better as better_of, IsBestOf};
 
 use crate::entry::Entry;
+use crate::entry_heap::{EntryHeap, Slot};
 use crate::least::LeastHeap;
 use std::alloc::{Allocator, Global};
 use std::marker::Model;
 
 /// What is left in a pool that was closed. A contract sees the entries, in no promised order.
 #[derive(Drop)]
-pub struct ClosedPool<A: Allocator = Global> {
-    pub(crate) heaps: Vec<LeastHeap<A>, A>,
+pub struct ClosedPool<A: Allocator = Global, H: EntryHeap = LeastHeap<A>> {
+    pub(crate) heaps: Vec<Slot<H>, A>,
 }
 
-impl<A: Allocator> Model for ClosedPool<A> {
+impl<A: Allocator, H: EntryHeap> Model for ClosedPool<A, H> {
     ghost use Rattle.std.specs.Prelude.{List};
     ghost use Rattle.ea_pool.specs.declared.entry.Entry.{Entry};
     ghost use Rattle.ea_pool.specs.Entries.{gathered};
@@ -42,7 +43,7 @@ fn better(best: Option<(usize, u64)>, place: usize, key: Option<u64>) -> Option<
 }
 
 // The place and least key of the heap that has the least key of all.
-fn best_heap<A: Allocator>(heaps: &[LeastHeap<A>]) -> Option<(usize, u64)>
+fn best_heap<A: Allocator>(heaps: &[Slot<LeastHeap<A>>]) -> Option<(usize, u64)>
     ensures { IsBestOf heaps.now (length heaps.now) result }
 {
     let mut best = None;
@@ -65,5 +66,21 @@ impl<A: Allocator> ClosedPool<A> {
         };
         let heap = &mut self.heaps[place];
         heap.pop()
+    }
+}
+
+impl<A: Allocator, H: EntryHeap> ClosedPool<A, H> {
+    /// Takes one of the entries that are left, of any heap. None exactly where nothing is left; after None it stays None.
+    pub fn next_of_any(&mut self) -> Option<Entry>
+        ensures { MatchOption result ((self.old ≡ []) × (self.new ≡ []))
+            (λ entry. SameEntries self.old (entry ∷ self.new)) }
+    {
+        for place in 0..self.heaps.len() {
+            let heap = &mut self.heaps[place];
+            if let Some(entry) = heap.pop() {
+                return Some(entry);
+            }
+        }
+        None
     }
 }

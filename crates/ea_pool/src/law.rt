@@ -1,6 +1,7 @@
 // The laws of the pool.
 ghost use Rattle.std.specs.Prelude.{◌≡◌, ◌+◌, ◌*◌, ◌^◌};
 ghost use Rattle.ea_pool.specs.Events.{EveryRunIsLawful};
+ghost use Rattle.ea_pool.specs.Kinds.{HeapKind};
 
 use crate::words::{EMPTY, MOST_IN_BATCH, MOST_IN_POOL, OUT};
 use ea_limits::{MOST_HEAPS, MOST_WORKERS};
@@ -9,7 +10,7 @@ use ea_road::Known;
 /// Every run of a new pool, in whatever order its seats step, leaves its words, heaps and seats
 /// fitting each other: no entry is lost or made.
 pub fn every_run_is_lawful<K: Known>()
-    ensures { EveryRunIsLawful K.is_known }
+    ensures { (kind : HeapKind) → EveryRunIsLawful K.is_known kind }
 {}
 
 /// A pool has room for the heaps of all workers of a run.

@@ -3,7 +3,10 @@ ghost use Rattle.std.specs.Prelude.{◌≡◌, ◌<◌, [], ◌∷◌, length, L
 ghost use Rattle.std.specs.BinaryHeap.{IsHeap, heap_items};
 ghost use Rattle.ea_pool.specs.Entries.{SameEntries, IsLeastOf, times, least_key};
 
+use crate::OutOfMemory;
 use crate::entry::Entry;
+use crate::entry_heap::{EntryHeap, OpenHeap, Slot};
+use crate::words::EMPTY;
 use std::alloc::{AllocFailed, Allocator};
 use std::cmp::Reverse;
 use std::collections::BinaryHeap;
@@ -88,5 +91,43 @@ impl<A: Allocator> LeastHeap<A> {
             Some(Reverse(least)) => Some(least.key),
             None => None,
         }
+    }
+}
+
+impl<A: Allocator> EntryHeap for LeastHeap<A> {
+    ghost use Rattle.ea_pool.specs.Kinds.{Least};
+
+    ghost kind = { Least };
+
+    ghost entries = { λ h. h };
+
+    fn add_entry(&mut self, entry: Entry) -> Result<(), Entry> {
+        self.push(entry)
+    }
+
+    fn take_entry(&mut self) -> Option<Entry> {
+        self.pop()
+    }
+
+    fn word(&self) -> u64 {
+        match self.least_key() {
+            Some(key) => key,
+            None => EMPTY,
+        }
+    }
+}
+
+impl<A: Allocator> OpenHeap<A> for LeastHeap<A> {
+    fn empty(alloc: A, _width: u64) -> Result<LeastHeap<A>, OutOfMemory> {
+        Ok(LeastHeap::new(alloc))
+    }
+}
+
+impl<A: Allocator> Slot<LeastHeap<A>> {
+    /// The least key.
+    pub(crate) fn least_key(&self) -> Option<u64>
+        ensures key { result ≡ least_key self.now }
+    {
+        self.heap.least_key()
     }
 }

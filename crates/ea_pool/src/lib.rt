@@ -9,6 +9,7 @@ mod calls;
 mod closed;
 mod draws;
 mod entry;
+mod entry_heap;
 mod law;
 mod least;
 mod opening;
@@ -27,9 +28,11 @@ pub use batch::Batch;
 pub use closed::ClosedPool;
 pub use ea_limits::SHARES;
 pub use entry::Entry;
+pub use entry_heap::{EntryHeap, OpenHeap};
 pub use law::{
     a_batch_is_short, a_pool_serves_all_workers, every_run_is_lawful, words_stand_apart,
 };
+pub use least::LeastHeap;
 pub use pool::Pool;
 pub use reply::{Popped, PoppedSome, PushAllRefused, PushRefused};
 pub use seat::PoolSeat;

@@ -5,6 +5,7 @@ ghost use Rattle.ea_pool.specs.Pools.{Opened, IsRunEnd};
 ghost use Rattle.ea_pool.specs.Seats.{account_of, heaps_of, IsSeatOf};
 
 use crate::closed::ClosedPool;
+use crate::entry_heap::{EntryHeap, OpenHeap, Slot};
 use crate::least::LeastHeap;
 use crate::pool::Pool;
 use crate::seat::PoolSeat;
@@ -29,6 +30,22 @@ pub(crate) fn empty_heaps<A: Allocator + Copy>(
     Ok(row)
 }
 
+// Slots with an empty heap each.
+fn empty_slots<A: Allocator + Copy, H: OpenHeap<A>>(
+    alloc: A,
+    heaps: usize,
+    width: u64,
+) -> Result<Vec<Slot<H>, A>, OutOfMemory>
+    ensures { IfOk result (λ row. row.items ≡ replicate heaps []) }
+{
+    let mut row = Vec::with_capacity(alloc, heaps)?;
+    for _ in 0..heaps {
+        let heap = H::empty(alloc, width)?;
+        row.push(Slot::new(heap))?;
+    }
+    Ok(row)
+}
+
 impl<K: Known, A: Allocator + Copy> Pool<K, A> {
     /// A pool of this many heaps, 2 to 128, with no entry, and its first seat, which has all 64 shares.
     /// It takes the memory for `close` too, and reserves nothing for entries. Err comes only where
@@ -38,8 +55,23 @@ impl<K: Known, A: Allocator + Copy> Pool<K, A> {
         ensures pool { IfOk result (λ made. heaps_of made.0 ≡ heaps) }
         ensures seat { IfOk result (λ made. IsSeatOf made.0 made.1 × Opened SHARES (account_of made.1)) }
     {
+        Pool::open_with(alloc, heaps, 0)
+    }
+}
+
+impl<K: Known, A: Allocator + Copy, H: OpenHeap<A>> Pool<K, A, H> {
+    /// As `open`, with heaps of any kind, and a width of times for those that have windows of times.
+    pub fn open_with(
+        alloc: A,
+        heaps: usize,
+        width: u64,
+    ) -> Result<(Pool<K, A, H>, PoolSeat<K, A, H>), OutOfMemory>
+        requires { (LEAST_HEAPS ≤ heaps) × (heaps ≤ MOST_IN_POOL) }
+        ensures pool { IfOk result (λ made. heaps_of made.0 ≡ heaps) }
+        ensures seat { IfOk result (λ made. IsSeatOf made.0 made.1 × Opened SHARES (account_of made.1)) }
+    {
         let words = Vec::from_elem(alloc, EMPTY, WORDS_APART * (heaps + 1))?;
-        let slots = empty_heaps(alloc, heaps)?;
+        let slots = empty_slots(alloc, heaps, width)?;
         let spare = Vec::with_capacity(alloc, heaps)?;
         let Ok((table, seat)) = Table::new(alloc, words.as_slice(), slots, &heaps) else {
             return Err(OutOfMemory);
@@ -53,20 +85,21 @@ impl<K: Known, A: Allocator + Copy> Pool<K, A> {
             seat,
             shares: SHARES,
             known: PhantomData,
+            memory: PhantomData,
         };
         Ok((pool, seat))
     }
 }
 
-impl<K: Known, A: Allocator> Pool<K, A> {
+impl<K: Known, A: Allocator, H: EntryHeap> Pool<K, A, H> {
     /// What is left, where the seat has all 64 shares: no other seat is live. What the account has
     /// pushed is what it has popped and what is left.
-    pub fn close(self, seat: PoolSeat<K, A>) -> ClosedPool<A>
+    pub fn close(self, seat: PoolSeat<K, A, H>) -> ClosedPool<A, H>
         requires seat { IsSeatOf self seat }
         requires all { (account_of seat).shares ≡ SHARES }
         ensures left { SameEntries (account_of seat).pushed ((account_of seat).popped ++ result) }
         ensures known { AreKnown K.is_known result }
-        ensures run { IsRunEnd K.is_known (heaps_of self) result (account_of seat) }
+        ensures run { IsRunEnd K.is_known H.kind (heaps_of self) result (account_of seat) }
     {
         let Pool {
             table,
@@ -77,6 +110,7 @@ impl<K: Known, A: Allocator> Pool<K, A> {
             seat,
             shares: _,
             known: _,
+            memory: _,
         } = seat;
         let mut closed = table.close_with(seat);
         for k in 0..heaps {

@@ -1,6 +1,7 @@
 //! Heaps that threads share without a lock: each lies in a slot of a table, behind a word. They are used as those of a
 //! MultiQueue (Rihani, Sanders, Dementiev 2015): a push goes to a heap drawn at random, a pop to the better of two.
 use crate::account::SeatMemory;
+use crate::entry_heap::{EntryHeap, Slot};
 use crate::least::LeastHeap;
 use crate::rules::PoolRule;
 use atomic_table::Table;
@@ -8,17 +9,17 @@ use ea_road::Known;
 use std::alloc::{Allocator, Global};
 use std::marker::Model;
 
-/// Heaps that threads share by reference, each thread with a seat of its own. Contracts see which
-/// table it is and the number of heaps.
+/// Heaps that threads share by reference, each thread with a seat of its own. What a heap is, is a parameter: `LeastHeap`,
+/// which gives its least entry first, or `Buckets`. Contracts see which table it is and the number of heaps.
 #[derive(Drop)]
-pub struct Pool<K: Known, A: Allocator = Global> {
-    pub(crate) table: Table<LeastHeap<A>, SeatMemory, usize, PoolRule<K>, A>,
+pub struct Pool<K: Known, A: Allocator = Global, H: EntryHeap = LeastHeap<A>> {
+    pub(crate) table: Table<Slot<H>, SeatMemory, usize, PoolRule<K, H>, A>,
     pub(crate) heaps: usize,
     // Room for the heaps when the pool is closed: that takes no memory then.
-    pub(crate) spare: Vec<LeastHeap<A>, A>,
+    pub(crate) spare: Vec<Slot<H>, A>,
 }
 
-impl<K: Known, A: Allocator> Model for Pool<K, A> {
+impl<K: Known, A: Allocator, H: EntryHeap> Model for Pool<K, A, H> {
     ghost use Rattle.std.specs.Prelude.{◌≡◌, ◌+◌, ◌*◌, ◌≤◌};
     ghost use Rattle.std.specs.Vec.{vec_len, vec_capacity};
     ghost use Rattle.ea_limits.specs.declared.TheConstants.{LEAST_HEAPS};

@@ -3,41 +3,43 @@ ghost use Rattle.ea_pool.specs.Plays.{IsPoolState, Looked, Taken, GavePushed, Ga
 ghost use Rattle.ea_pool.specs.States.{first_state, nobody, left_of, newcomer, joined};
 
 use crate::account::SeatMemory;
-use crate::least::LeastHeap;
+use crate::entry_heap::{EntryHeap, Slot};
 use atomic_table::{Join, Play, Split, TableRule};
 use ea_road::Known;
-use std::alloc::Allocator;
 use std::marker::PhantomData;
 
-pub struct PoolRule<K> {
+pub struct PoolRule<K, H> {
     known: PhantomData<K>,
+    kind: PhantomData<H>,
 }
 
-impl<K: Known, A: Allocator> TableRule<LeastHeap<A>, SeatMemory, usize> for PoolRule<K> {
-    ghost holds = { λ heaps s. IsPoolState K.is_known heaps s };
+impl<K: Known, H: EntryHeap> TableRule<Slot<H>, SeatMemory, usize> for PoolRule<K, H> {
+    ghost holds = { λ heaps s. IsPoolState K.is_known H.kind heaps s };
 
     ghost first = { λ _. first_state };
 }
 
-pub struct Look<K> {
+pub struct Look<K, H> {
     known: PhantomData<K>,
+    kind: PhantomData<H>,
 }
 
-impl<K: Known, A: Allocator> Play<LeastHeap<A>, SeatMemory> for Look<K> {
-    ghost then = { Looked K.is_known };
+impl<K: Known, H: EntryHeap> Play<Slot<H>, SeatMemory> for Look<K, H> {
+    ghost then = { Looked K.is_known H.kind };
 }
 
-pub struct Take<K> {
+pub struct Take<K, H> {
     known: PhantomData<K>,
+    kind: PhantomData<H>,
 }
 
-impl<K: Known, A: Allocator> Play<LeastHeap<A>, SeatMemory> for Take<K> {
-    ghost then = { Taken K.is_known };
+impl<K: Known, H: EntryHeap> Play<Slot<H>, SeatMemory> for Take<K, H> {
+    ghost then = { Taken K.is_known H.kind };
 }
 
 pub struct GivePushed;
 
-impl<A: Allocator> Play<LeastHeap<A>, SeatMemory> for GivePushed {
+impl<H: EntryHeap> Play<Slot<H>, SeatMemory> for GivePushed {
     ghost then = { GavePushed };
 }
 
@@ -45,13 +47,13 @@ pub struct GivePopped<K> {
     known: PhantomData<K>,
 }
 
-impl<K: Known, A: Allocator> Play<LeastHeap<A>, SeatMemory> for GivePopped<K> {
+impl<K: Known, H: EntryHeap> Play<Slot<H>, SeatMemory> for GivePopped<K> {
     ghost then = { GavePopped K.is_known };
 }
 
 pub struct GiveBack;
 
-impl<A: Allocator> Play<LeastHeap<A>, SeatMemory> for GiveBack {
+impl<H: EntryHeap> Play<Slot<H>, SeatMemory> for GiveBack {
     ghost then = { GaveBack };
 }
 

@@ -3,22 +3,24 @@ ghost use Rattle.std.specs.Prelude.{◌≡◌};
 ghost use Rattle.ea_pool.specs.Seats.{account_of};
 
 use crate::account::SeatMemory;
+use crate::entry_heap::{EntryHeap, Slot};
 use crate::least::LeastHeap;
 use std::alloc::{Allocator, Global};
 use std::marker::{Model, PhantomData};
 
-pub(crate) type Seat<A> = atomic_table::Seat<LeastHeap<A>, SeatMemory>;
+pub(crate) type Seat<H> = atomic_table::Seat<Slot<H>, SeatMemory>;
 
 /// The right to step on one pool. Contracts see which table it is, the seat's account (its shares, and what it has pushed and
 /// popped), the words that it saw last, and the heap that it took last.
 #[derive(Drop)]
-pub struct PoolSeat<K, A: Allocator = Global> {
-    pub(crate) seat: Seat<A>,
+pub struct PoolSeat<K, A: Allocator = Global, H: EntryHeap = LeastHeap<A>> {
+    pub(crate) seat: Seat<H>,
     pub(crate) shares: u32,
     pub(crate) known: PhantomData<K>,
+    pub(crate) memory: PhantomData<A>,
 }
 
-impl<K, A: Allocator> Model for PoolSeat<K, A> {
+impl<K, A: Allocator, H: EntryHeap> Model for PoolSeat<K, A, H> {
     ghost use Rattle.std.specs.Prelude.{◌≡◌, ◌≤◌};
     ghost use Rattle.ea_limits.specs.declared.TheConstants.{SHARES};
     ghost use Rattle.ea_pool.specs.Pools.{books, Rests};
@@ -36,7 +38,7 @@ impl<K, A: Allocator> Model for PoolSeat<K, A> {
     ghost invariant = { λ s. Rests s.seat.me × (s.shares ≡ s.seat.me.0.shares) × (s.shares ≤ SHARES) };
 }
 
-impl<K, A: Allocator> PoolSeat<K, A> {
+impl<K, A: Allocator, H: EntryHeap> PoolSeat<K, A, H> {
     /// How many of the pool's 64 shares the seat has, at least 1.
     pub fn shares(&self) -> u32
         ensures { result ≡ (account_of self.now).shares }

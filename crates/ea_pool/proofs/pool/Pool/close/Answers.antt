@@ -45,19 +45,19 @@ returns g c =
     record {
       left = λ f. omega (
         arith,
-        closes known key c.seat.inside.seat.id me words items whole rests.1 ended f,
+        closes known g.H.EntryHeap.kind key c.seat.inside.seat.id me words items whole rests.1 ended f,
         ap (λ (a : Account). total f a.pushed) same,
         ap (λ (a : Account). total f a.popped) same,
         total-append f c.args.seat.account.popped (gathered c.loop-k.row.items),
         total_gathered f c.loop-k.row.items,
         ap (total (total f)) all,
       );
-      known = λ e some. left_known known key c.seat.inside.seat.id me words items whole rests.1 ended e
+      known = λ e some. left_known known g.H.EntryHeap.kind key c.seat.inside.seat.id me words items whole rests.1 ended e
           (omega (arith, some, total_gathered (only e) c.loop-k.row.items, ap (total (times e)) all));
       run =
-          let ends = run_end known key c.seat.inside.seat.id me words items whole rests.1 ended in
+          let ends = run_end known g.H.EntryHeap.kind key c.seat.inside.seat.id me words items whole rests.1 ended in
           let heaps : key ≡ c.args.self.heaps = c.self.invariant.2 ∙ ap (λ p. p.heaps) c.self.view_is in
-          subst (λ (n : ℕ). IsRunEnd known n (gathered c.loop-k.row.items) c.args.seat.account) heaps
-          (subst (λ (a : Account). IsRunEnd known key (gathered c.loop-k.row.items) a) same
-          (subst (λ (row : List (List Entry)). IsRunEnd known key (gathered row) (books me)) (sym all) ends));
+          subst (λ (n : ℕ). IsRunEnd known g.H.EntryHeap.kind n (gathered c.loop-k.row.items) c.args.seat.account) heaps
+          (subst (λ (a : Account). IsRunEnd known g.H.EntryHeap.kind key (gathered c.loop-k.row.items) a) same
+          (subst (λ (row : List (List Entry)). IsRunEnd known g.H.EntryHeap.kind key (gathered row) (books me)) (sym all) ends));
     }

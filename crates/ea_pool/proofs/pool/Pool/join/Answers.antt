@@ -3,4 +3,4 @@ use Rattle.ea_pool.proofs.Moves.{joins}
 use Rattle.ea_pool.proofs.pool.Pool.join.Goals as goal
 
 pub join_seat-requires : goal.join_seat-requires
-join_seat-requires g c = (search rules, search rules, search rules, search rules, joins _ _ _ _ _ _ (search rules) (search rules) (search rules))
+join_seat-requires g c = (search rules, search rules, search rules, search rules, joins _ _ _ _ _ _ _ (search rules) (search rules) (search rules))

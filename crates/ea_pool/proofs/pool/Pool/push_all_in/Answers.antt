@@ -5,8 +5,8 @@ use Rattle.ea_pool.specs.Pools.{AreInTime}
 use Rattle.ea_pool.proofs.Batching.{in_time_after}
 use Rattle.ea_pool.proofs.pool.Pool.push_all_in.Goals as goal
 
-pub word_for-requires : goal.word_for-requires
-word_for-requires g c =
+pub word-requires : goal.word-requires
+word-requires g c =
     let held = c.requires.held in
     let same = ap (λ (l : List (ℕ × List Entry)). value_of l) (sym held.1 ∙ c.slot_mut-held.ensures.value) in
     in_time_after c.args.batch.now.items c.push_all-all.new.batch.items c.slot_mut-held.result.now c.push_all-all.new.heap c.push_all-all.ensures.went

@@ -5,7 +5,7 @@ use Rattle.ea_pool.specs.declared.entry.Entry.{Entry}
 use Rattle.ea_pool.specs.Entries.{SameEntries, HasLeastKey, gathered}
 use Rattle.ea_pool.specs.Left.{IsBestOf}
 use Rattle.ea_pool.proofs.Leaving.{takes_one, takes_least}
-use Rattle.ea_pool.proofs.closed.ClosedPool.next.Goals as goal
+use Rattle.ea_pool.proofs.closed.ClosedPool+A.next.Goals as goal
 
 pub returns-clause-taken : goal.returns-clause-taken
 returns-clause-taken g c =
