@@ -25,7 +25,7 @@ all_weaker : (P Q : Entry → Type 0) (xs : List Entry) → ((x : Entry) → P x
 all_weaker P Q [] f h = tt
 all_weaker P Q (x ∷ xs) f h = (f x h.0, all_weaker P Q xs f h.1)
 
-gathered_snoc : (all : List (List Entry)) (es : List Entry) → gathered (all ++ es ∷ []) ≡ gathered all ++ es
+pub gathered_snoc : (all : List (List Entry)) (es : List Entry) → gathered (all ++ es ∷ []) ≡ gathered all ++ es
 gathered_snoc [] es = append-nil es
 gathered_snoc (x ∷ xs) es = ap (λ (l : List Entry). x ++ l) (gathered_snoc xs es) ∙ sym (append_assoc x (gathered xs) es)
 

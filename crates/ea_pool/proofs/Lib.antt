@@ -12,3 +12,4 @@ pub mod SoloPops
 pub mod Ranks
 pub mod Leaving
 pub mod Batching
+pub mod Windowed

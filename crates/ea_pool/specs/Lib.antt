@@ -11,4 +11,5 @@ pub mod Seats
 pub mod Tries
 pub mod Solos
 pub mod Left
+pub mod Windows
 pub mod Batches

@@ -5,6 +5,7 @@ mod account;
 mod attempts;
 mod batch;
 mod batches;
+mod buckets;
 mod calls;
 mod closed;
 mod draws;
@@ -21,10 +22,12 @@ mod solo;
 mod steps;
 #[cfg(test)]
 mod tests;
+mod window;
 mod words;
 
 pub use account::{Account, Held, LastTake, SeatMemory};
 pub use batch::Batch;
+pub use buckets::Buckets;
 pub use closed::ClosedPool;
 pub use ea_limits::SHARES;
 pub use entry::Entry;

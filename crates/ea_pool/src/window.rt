@@ -1,0 +1,103 @@
+//! Entries in no order, with a time that none of them comes before.
+ghost use Rattle.std.specs.Prelude.{◌≡◌, ◌≤◌, [], ◌∷◌, ◌++◌, List, true, false, MatchOption};
+ghost use Rattle.ea_pool.specs.Entries.{face};
+ghost use Rattle.ea_pool.specs.declared.entry.Entry.{Entry as Inside};
+ghost use Rattle.ea_pool.specs.declared.words.TheConstants.{EMPTY};
+
+use crate::entry::Entry;
+use crate::words::EMPTY;
+use ea_road::HORIZON;
+use std::alloc::Allocator;
+use std::marker::Model;
+
+/// A list of entries, the newest last.
+#[derive(Drop)]
+pub(crate) struct Window<A: Allocator> {
+    entries: Vec<Entry, A>,
+    /// No key is below it since the list was last empty.
+    floor: u64,
+}
+
+impl<A: Allocator> Model for Window<A> {
+    ghost use Rattle.std.specs.Prelude.{◌≤◌, List};
+    ghost use Rattle.ea_pool.specs.declared.entry.Entry.{Entry};
+    ghost use Rattle.ea_pool.specs.Entries.{face};
+
+    ghost Value = { List Entry };
+
+    ghost view = { λ w. w.entries.items };
+
+    ghost invariant = { λ w. w.floor ≤ face w.entries.items };
+}
+
+impl<A: Allocator> Window<A> {
+    /// No entry, and no memory taken.
+    pub(crate) fn new(alloc: A) -> Window<A>
+        ensures { result ≡ [] }
+    {
+        Window {
+            entries: Vec::new(alloc),
+            floor: EMPTY,
+        }
+    }
+
+    /// How many entries there are.
+    pub(crate) fn len(&self) -> usize {
+        self.entries.len()
+    }
+
+    /// Whether there is none.
+    pub(crate) fn is_empty(&self) -> bool
+        ensures none { result ≡ true → self.now ≡ [] }
+        ensures some { result ≡ false → self.now ≡ [] → ⊥ }
+    {
+        self.entries.is_empty()
+    }
+
+    /// A time that no key is below, and EMPTY exactly where there is no entry.
+    pub(crate) fn floor(&self) -> u64
+        ensures low { result ≤ face self.now }
+        ensures none { self.now ≡ [] → result ≡ EMPTY }
+        ensures some { result ≡ EMPTY → self.now ≡ [] }
+    {
+        if self.entries.is_empty() {
+            EMPTY
+        } else {
+            self.floor.min(HORIZON)
+        }
+    }
+
+    /// Puts an entry at the end. False where there is no memory: then nothing has changed.
+    pub(crate) fn push(&mut self, entry: Entry) -> bool
+        ensures pushed { result ≡ true → self.new ≡ self.old ++ entry ∷ [] }
+        ensures refused { result ≡ false → self.new ≡ self.old }
+    {
+        let floor = self.floor.min(entry.key);
+        match self.entries.push(entry) {
+            Ok(()) => {
+                self.floor = floor;
+                true
+            }
+            Err(_) => false,
+        }
+    }
+
+    /// The entry at the end.
+    pub(crate) fn last(&self) -> Option<Entry>
+        ensures { MatchOption result (self.now ≡ []) (λ entry. (before : List Inside) × (self.now ≡ before ++ entry ∷ [])) }
+    {
+        self.entries.last().copied()
+    }
+
+    /// Takes the entry at the end.
+    pub(crate) fn pop(&mut self) -> Option<Entry>
+        ensures { MatchOption result ((self.old ≡ []) × (self.new ≡ []))
+            (λ entry. self.old ≡ self.new ++ entry ∷ []) }
+    {
+        let entry = self.entries.pop();
+        if self.entries.is_empty() {
+            self.floor = EMPTY;
+        }
+        entry
+    }
+}
