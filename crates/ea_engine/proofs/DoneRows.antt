@@ -25,7 +25,7 @@ use Rattle.std.proofs.lemmas.List.{take_all}
 use Rattle.ea_engine.proofs.BoundLemmas.{IsReachedBy-more}
 use Rattle.ea_engine.proofs.RowedLemmas.{nothing_after}
 
-all_done-at : {K R T : Type 0} (ends : List (WorkerEnd K R T)) (k : ℕ) (d : Place K R T) (end : WorkerEnd K R T) → k < length ends → get_or (all_done ends) k d ≡ place.Done (get_or ends k end)
+all_done-at : {K R T E : Type 0} (ends : List (WorkerEnd K R T E)) (k : ℕ) (d : Place K R T E) (end : WorkerEnd K R T E) → k < length ends → get_or (all_done ends) k d ≡ place.Done (get_or ends k end)
 all_done-at [] k d end lt = absurd (omega (arith, lt))
 all_done-at (e ∷ ends) zero d end lt = refl
 all_done-at (e ∷ ends) (suc k) d end lt = all_done-at ends k d end (omega (arith, lt))
@@ -46,17 +46,17 @@ pub some_of : {X : Type 0} (xs : List X) → 0 < length xs → X
 some_of [] lt = absurd (omega (arith, lt))
 some_of (x ∷ xs) lt = x
 
-module _ {K R T : Type 0} (problem : Problem) (tables : Tables)
+module _ {K R T E : Type 0} (problem : Problem) (tables : Tables)
     (stream : R → Stream) (shows : T → Turn → Flow → T → Type 0) (pace : Pace) (batch_few : pace.batch ≤ MOST_BATCH) where
-  abbrev Runs : Place K R T → Place K R T → Type 0
+  abbrev Runs : Place K R T E → Place K R T E → Type 0
   Runs = IsRun problem tables stream shows pace
 
-  abbrev place_of : Seats K → R → T → Place K R T
+  abbrev place_of : Seats K E → R → T → Place K R T E
   place_of seats rng tracer =
       place.Ready (record { means = record { label_seat = seats.label_seat; pool_seat = seats.pool_seat; rng = rng }; tracer = tracer })
 
   -- a worker that began with fresh seats
-  end_of_fresh : (seats : Seats K) (rng : R) (tracer : T) (p : Place K R T) → AreFresh tables seats → Runs (place_of seats rng tracer) p
+  end_of_fresh : (seats : Seats K E) (rng : R) (tracer : T) (p : Place K R T E) → AreFresh tables seats → Runs (place_of seats rng tracer) p
       → IsEndPlace problem tables p
   end_of_fresh seats rng tracer (place.Ready r) fresh run = absurd run
   end_of_fresh seats rng tracer place.Running fresh run = absurd run
@@ -77,14 +77,14 @@ module _ {K R T : Type 0} (problem : Problem) (tables : Tables)
         pool_share = w.progress.pool_shares ∙ fresh.pool_share;
       }
 
-  pub record First (seats : Seats K) (seeded : ℕ) (waiting : List ℕ) (p : Place K R T) : Type 0 where
-    pub end : WorkerEnd K R T
+  pub record First (seats : Seats K E) (seeded : ℕ) (waiting : List ℕ) (p : Place K R T E) : Type 0 where
+    pub end : WorkerEnd K R T E
     pub is : p ≡ place.Done end
     pub first : IsFirstEnd problem tables seeded waiting end
     pub label_shares : end.label_seat.history.shares ≡ seats.label_seat.history.shares
     pub pool_shares : end.pool_seat.account.shares ≡ seats.pool_seat.account.shares
 
-  end_of_first : (seats : Seats K) (rng : R) (tracer : T) (seeded : ℕ) (waiting : List ℕ) (p : Place K R T) → IsSeeded problem tables seeded waiting seats → Runs (place_of seats rng tracer) p → First seats seeded waiting p
+  end_of_first : (seats : Seats K E) (rng : R) (tracer : T) (seeded : ℕ) (waiting : List ℕ) (p : Place K R T E) → IsSeeded problem tables seeded waiting seats → Runs (place_of seats rng tracer) p → First seats seeded waiting p
   end_of_first seats rng tracer seeded waiting (place.Ready r) began run = absurd run
   end_of_first seats rng tracer seeded waiting place.Running began run = absurd run
   end_of_first seats rng tracer seeded waiting (place.Done end) began run =
@@ -115,14 +115,14 @@ module _ {K R T : Type 0} (problem : Problem) (tables : Tables)
       }
 
   -- the whole row
-  module _ (main : Seats K) (fresh : List (Seats K)) (rngs : List R) (tracers : List T) (row row' : List (Place K R T)) (rng : R) (tracer : T)
+  module _ (main : Seats K E) (fresh : List (Seats K E)) (rngs : List R) (tracers : List T) (row row' : List (Place K R T E)) (rng : R) (tracer : T)
       (seated : IsSeatedRow (main ∷ fresh) rngs tracers row) (ran : IsRunRow problem tables stream shows pace row row')
       (length_is : length row ≡ suc (length fresh)) (length'_is : length row' ≡ length row)
       (all_fresh : All (AreFresh tables) fresh) where
-    runs_at : (k : ℕ) (d : Place K R T) → k < length row → Runs (place_of (get_or (main ∷ fresh) k main) (get_or rngs k rng) (get_or tracers k tracer)) (get_or row' k d)
+    runs_at : (k : ℕ) (d : Place K R T E) → k < length row → Runs (place_of (get_or (main ∷ fresh) k main) (get_or rngs k rng) (get_or tracers k tracer)) (get_or row' k d)
     runs_at k d lt = subst (λ p. Runs p (get_or row' k d)) (seated k main rng tracer d lt) (ran k d lt)
 
-    others_done : (p' : Place K R T) (others : List (Place K R T)) → row' ≡ p' ∷ others → All (IsEndPlace problem tables) others
+    others_done : (p' : Place K R T E) (others : List (Place K R T E)) → row' ≡ p' ∷ others → All (IsEndPlace problem tables) others
     others_done p' others e k d lt =
         let inside : suc k < length row = omega (arith, ap length e, lt) in
         let at : get_or row' (suc k) d ≡ get_or others k d = ap (λ ps. get_or ps (suc k) d) e in
@@ -134,7 +134,7 @@ module _ {K R T : Type 0} (problem : Problem) (tables : Tables)
         → IsDoneRow problem tables seeded waiting row'
     done_row seeded waiting began label_shares pool_shares = go row' refl
       where
-        go : (ps : List (Place K R T)) → row' ≡ ps → IsDoneRow problem tables seeded waiting row'
+        go : (ps : List (Place K R T E)) → row' ≡ ps → IsDoneRow problem tables seeded waiting row'
         go [] e = absurd (omega (arith, ap length e))
         go (p ∷ others) e =
             let here : Runs (place_of main (get_or rngs 0 rng) (get_or tracers 0 tracer)) p = subst (λ ps. Runs (place_of main (get_or rngs 0 rng) (get_or tracers 0 tracer)) (get_or ps 0 p)) e (runs_at 0 p (omega arith)) in
@@ -149,7 +149,7 @@ module _ {K R T : Type 0} (problem : Problem) (tables : Tables)
               pool_shares = omega (arith, first.pool_shares, pool_shares, ap length e);
             }
 
-  pub seated_done : (rngs : List R) (tracers : List T) (row row' : List (Place K R T)) (rng : R) (tracer : T) (seeded : ℕ) (waiting : List ℕ)
+  pub seated_done : (rngs : List R) (tracers : List T) (row row' : List (Place K R T E)) (rng : R) (tracer : T) (seeded : ℕ) (waiting : List ℕ)
       → AreSeated problem tables seeded waiting rngs tracers row
       → IsRunRow problem tables stream shows pace row row' → length row' ≡ length row
       → IsDoneRow problem tables seeded waiting row'
@@ -157,7 +157,7 @@ module _ {K R T : Type 0} (problem : Problem) (tables : Tables)
       done_row a.main a.fresh rngs tracers row row' rng tracer a.seated ran (omega (arith, a.length_is)) same a.all_fresh seeded waiting a.seeds a.label_shares a.pool_shares
 
   -- so the workers may start
-  pub ready_row : (callable : T → Type 0) (rngs : List R) (tracers : List T) (row : List (Place K R T)) (rng : R) (tracer : T) (seeded : ℕ) (waiting : List ℕ)
+  pub ready_row : (callable : T → Type 0) (rngs : List R) (tracers : List T) (row : List (Place K R T E)) (rng : R) (tracer : T) (seeded : ℕ) (waiting : List ℕ)
       → AreSeated problem tables seeded waiting rngs tracers row → All callable tracers → length row ≤ length tracers
       → IsReadyRow tables callable row
   ready_row callable rngs tracers row rng tracer seeded waiting a may few k d lt =
@@ -172,13 +172,13 @@ module _ {K R T : Type 0} (problem : Problem) (tables : Tables)
       fits (suc j) lower = (a.all_fresh j a.main (omega (arith, lower))).fit
 
   -- what each worker reports
-  report_of : (p : Place K R T) (end : WorkerEnd K R T) (r : R) (t : T) (seats : Seats K) → p ≡ place.Done end → Runs (place_of seats r t) p
+  report_of : (p : Place K R T E) (end : WorkerEnd K R T E) (r : R) (t : T) (seats : Seats K E) → p ≡ place.Done end → Runs (place_of seats r t) p
       → IsReport shows pace (stream r) (stream end.rng) t end.tracer end.counters
   report_of p end r t seats done run =
       let w = (subst (λ q. Runs (place_of seats r t) q) done run).1 in
       record { turns = w.turns; lawful = w.lawful; shown = w.shown; counted = w.counted; words_are = w.progress.words_are }
 
-  pub reports_of_row : (rngs : List R) (tracers : List T) (row row' : List (Place K R T)) (ends : List (WorkerEnd K R T)) (seeded : ℕ) (waiting : List ℕ) (end : WorkerEnd K R T)
+  pub reports_of_row : (rngs : List R) (tracers : List T) (row row' : List (Place K R T E)) (ends : List (WorkerEnd K R T E)) (seeded : ℕ) (waiting : List ℕ) (end : WorkerEnd K R T E)
       → AreSeated problem tables seeded waiting rngs tracers row
       → IsRunRow problem tables stream shows pace row row' → length row ≡ length rngs → length ends ≡ length rngs
       → row' ≡ all_done ends
@@ -186,21 +186,21 @@ module _ {K R T : Type 0} (problem : Problem) (tables : Tables)
   reports_of_row rngs tracers row row' ends seeded waiting end a ran len count done k c r t lt =
       let inside : k < length row = omega (arith, lt, len) in
       let among : k < length ends = omega (arith, lt, count) in
-      let d : Place K R T = place.Running in
+      let d : Place K R T E = place.Running in
       let run = subst (λ p. Runs p (get_or row' k d)) (a.seated k a.main r t d inside) (ran k d inside) in
       let at : get_or row' k d ≡ place.Done (get_or ends k end) = ap (λ ps. get_or ps k d) done ∙ all_done-at ends k d end among in
-      rw (get_or-map (λ (e : WorkerEnd K R T). e.rng) ends k end r among, get_or-map (λ (e : WorkerEnd K R T). e.tracer) ends k end t among, get_or-map (λ (e : WorkerEnd K R T). e.counters) ends k end c among)
+      rw (get_or-map (λ (e : WorkerEnd K R T E). e.rng) ends k end r among, get_or-map (λ (e : WorkerEnd K R T E). e.tracer) ends k end t among, get_or-map (λ (e : WorkerEnd K R T E). e.counters) ends k end c among)
       (report_of (get_or row' k d) (get_or ends k end) (get_or rngs k r) (get_or tracers k t) (get_or (a.main ∷ a.fresh) k a.main) at run)
 
   -- what a worker tells that runs alone
-  pub lone_of_row : (rngs : List R) (tracers : List T) (row row' : List (Place K R T)) (ends : List (WorkerEnd K R T)) (rng : R) (tracer : T) (seeded : ℕ) (waiting : List ℕ)
+  pub lone_of_row : (rngs : List R) (tracers : List T) (row row' : List (Place K R T E)) (ends : List (WorkerEnd K R T E)) (rng : R) (tracer : T) (seeded : ℕ) (waiting : List ℕ)
       → AreSeated problem tables seeded waiting rngs tracers row
       → IsRunRow problem tables stream shows pace row row' → length row ≡ 1 → row' ≡ all_done ends → length ends ≡ 1
       → (busy_by_all (map (λ end. end.counters) ends) ≡ 0) × (pace.batch ≡ 1 → tables.pool.heaps ≡ 2 → 0 < empty_by_all (map (λ end. end.counters) ends) → seeded + sum_by (λ end. end.counters.pushed) ends ≡ sum_by (λ end. end.counters.popped) ends)
   lone_of_row rngs tracers row row' [] rng tracer seeded waiting a ran len done one = absurd (omega (arith, one))
   lone_of_row rngs tracers row row' (end ∷ other ∷ ends) rng tracer seeded waiting a ran len done one = absurd (omega (arith, one))
   lone_of_row rngs tracers row row' (end ∷ []) rng tracer seeded waiting a ran len done one =
-      let d : Place K R T = place.Running in
+      let d : Place K R T E = place.Running in
       let inside : 0 < length row = omega (arith, len) in
       let run = subst (λ p. Runs p (get_or row' 0 d)) (a.seated 0 a.main rng tracer d inside) (ran 0 d inside) in
       let w = (subst (λ q. Runs (place_of a.main (get_or rngs 0 rng) (get_or tracers 0 tracer)) q) (ap (λ ps. get_or ps 0 d) done) run).1 in

@@ -9,7 +9,7 @@ use Rattle.ea_engine.specs.Rows.{IsSeated, IsSeatedRow}
 get_or-append_at : {X : Type 0} (xs : List X) (y d : X) (n : ℕ) → length xs ≡ n → get_or (xs ++ y ∷ []) n d ≡ y
 get_or-append_at xs y d n e = rw (sym e) (get_or-append_seam xs y [] d)
 
-pub IsSeatedRow-push : {K R T : Type 0} (ss : List (Seats K)) (rs : List R) (ts : List T) (row : List (Place K R T)) (s : Seats K) (r : R) (t : T) (p : Place K R T)
+pub IsSeatedRow-push : {K R T E : Type 0} (ss : List (Seats K E)) (rs : List R) (ts : List T) (row : List (Place K R T E)) (s : Seats K E) (r : R) (t : T) (p : Place K R T E)
     → length ss ≡ length row → length rs ≡ length row → length ts ≡ length row → IsSeatedRow ss rs ts row → IsSeated s r t p → IsSeatedRow (ss ++ s ∷ []) (rs ++ r ∷ []) (ts ++ t ∷ []) (row ++ p ∷ [])
 IsSeatedRow-push ss rs ts row s r t p ls lr lt before here k s0 r0 t0 d less =
     let P : ℕ → Type 0 = λ j. IsSeated (get_or (ss ++ s ∷ []) j s0) (get_or (rs ++ r ∷ []) j r0) (get_or (ts ++ t ∷ []) j t0) (get_or (row ++ p ∷ []) j d) in

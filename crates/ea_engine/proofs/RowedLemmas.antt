@@ -22,19 +22,19 @@ use Rattle.ea_engine.proofs.BoundLemmas.{IsReachedBy-more}
 pub sum_push : {X : Type 0} (f : X → ℕ) (xs : List X) (x : X) → sum_by f (xs ++ x ∷ []) ≡ sum_by f xs + f x
 sum_push {X} f xs x = fold-append (λ (n : ℕ) (y : X). n + f y) 0 xs (x ∷ [])
 
-pub sum_of_ends : {K R T : Type 0} (f : Counters → ℕ) (counters : List Counters) (ends : List (WorkerEnd K R T)) → counters ≡ map (λ end. end.counters) ends → sum_by f counters ≡ sum_by (λ end. f end.counters) ends
-sum_of_ends {K} {R} {T} f counters ends is = ap (sum_by f) is ∙ fold-map (λ (n : ℕ) (c : Counters). n + f c) (λ (end : WorkerEnd K R T). end.counters) 0 ends
+pub sum_of_ends : {K R T E : Type 0} (f : Counters → ℕ) (counters : List Counters) (ends : List (WorkerEnd K R T E)) → counters ≡ map (λ end. end.counters) ends → sum_by f counters ≡ sum_by (λ end. f end.counters) ends
+sum_of_ends {K} {R} {T} {E} f counters ends is = ap (sum_by f) is ∙ fold-map (λ (n : ℕ) (c : Counters). n + f c) (λ (end : WorkerEnd K R T E). end.counters) 0 ends
 
-pub all_done-push : {K R T : Type 0} (ends : List (WorkerEnd K R T)) (end : WorkerEnd K R T) → all_done (ends ++ end ∷ []) ≡ all_done ends ++ place.Done end ∷ []
+pub all_done-push : {K R T E : Type 0} (ends : List (WorkerEnd K R T E)) (end : WorkerEnd K R T E) → all_done (ends ++ end ∷ []) ≡ all_done ends ++ place.Done end ∷ []
 all_done-push [] end = refl
 all_done-push (e ∷ ends) end = ap (λ ps. place.Done e ∷ ps) (all_done-push ends end)
 
-pub all_done-more : {K R T : Type 0} (row : List (Place K R T)) (ends : List (WorkerEnd K R T)) (end : WorkerEnd K R T) (p : Place K R T) (rest after : List (Place K R T))
+pub all_done-more : {K R T E : Type 0} (row : List (Place K R T E)) (ends : List (WorkerEnd K R T E)) (end : WorkerEnd K R T E) (p : Place K R T E) (rest after : List (Place K R T E))
     → row ≡ all_done ends ++ rest → rest ≡ p ∷ after → p ≡ place.Done end → row ≡ all_done (ends ++ end ∷ []) ++ after
 all_done-more row ends end p rest after e f h =
     e ∙ ap (λ ps. all_done ends ++ ps) (f ∙ ap (λ q. q ∷ after) h) ∙ sym (ap (λ ps. ps ++ after) (all_done-push ends end) ∙ append_assoc (all_done ends) (place.Done end ∷ []) after)
 
-pub all_done-length : {K R T : Type 0} (ends : List (WorkerEnd K R T)) → length (all_done ends) ≡ length ends
+pub all_done-length : {K R T E : Type 0} (ends : List (WorkerEnd K R T E)) → length (all_done ends) ≡ length ends
 all_done-length [] = refl
 all_done-length (e ∷ ends) = ap suc (all_done-length ends)
 
@@ -53,28 +53,28 @@ waits_first waiting zero hand after some is lt = omega (arith, is, lt)
 waits_first waiting (suc back) hand after some is lt = omega (arith, some (omega arith))
 
 -- the first place of a row and those after it
-pub split_first : {K R T : Type 0} (row : List (Place K R T)) (first end : WorkerEnd K R T) (p : Place K R T) (others rest : List (Place K R T))
+pub split_first : {K R T E : Type 0} (row : List (Place K R T E)) (first end : WorkerEnd K R T E) (p : Place K R T E) (others rest : List (Place K R T E))
     → row ≡ place.Done first ∷ others → row ≡ p ∷ rest → p ≡ place.Done end → (first ≡ end) × (others ≡ rest)
 split_first row first end p others rest e f h = (cc, cc)
 
-module _ {K R T : Type 0} (problem : Problem) (tables : Tables) where
+module _ {K R T E : Type 0} (problem : Problem) (tables : Tables) where
   -- the place of a worker that is done
-  done_by_end : (p : Place K R T) → IsEndPlace problem tables p → IsDonePlace p
+  done_by_end : (p : Place K R T E) → IsEndPlace problem tables p → IsDonePlace p
   done_by_end (place.Ready r) h = h
   done_by_end place.Running h = h
   done_by_end (place.Done e) h = tt
 
-  pub first_done : (p : Place K R T) (rest after : List (Place K R T)) → All (IsEndPlace problem tables) rest → rest ≡ p ∷ after → IsDonePlace p
+  pub first_done : (p : Place K R T E) (rest after : List (Place K R T E)) → All (IsEndPlace problem tables) rest → rest ≡ p ∷ after → IsDonePlace p
   first_done p rest after all e = done_by_end p (All-head (IsEndPlace problem tables) p after (rw e at all))
 
-  pub first_end : (p : Place K R T) (end : WorkerEnd K R T) (rest after : List (Place K R T)) → All (IsEndPlace problem tables) rest → rest ≡ p ∷ after → p ≡ place.Done end
+  pub first_end : (p : Place K R T E) (end : WorkerEnd K R T E) (rest after : List (Place K R T E)) → All (IsEndPlace problem tables) rest → rest ≡ p ∷ after → p ≡ place.Done end
       → IsEnd problem tables end
   first_end p end rest after all e h =
       let here = All-head (IsEndPlace problem tables) p after (rw e at all) in
       subst (λ q. IsEndPlace problem tables q) h here
 
   -- one more worker
-  pub gathered_more : (seeded back : ℕ) (ends : List (WorkerEnd K R T)) (end : WorkerEnd K R T) (g h : Gathering K R T)
+  pub gathered_more : (seeded back : ℕ) (ends : List (WorkerEnd K R T E)) (end : WorkerEnd K R T E) (g h : Gathering K R T E)
       → AreGathered problem tables seeded back ends g
       → AreSeatsOf tables h.seats.label_seat h.seats.pool_seat
       → IsGathered problem h.seats.label_seat.history h.seats.pool_seat.account h.todo.waiting
@@ -89,13 +89,13 @@ module _ {K R T : Type 0} (problem : Problem) (tables : Tables) where
         gathered = gathered;
         nodes = nodes;
         offered = λ source among. IsReachedBy-more g.seats.label_seat.history.bounds h.seats.label_seat.history.bounds j.bounds source.node source.departure (a.offered source among);
-        counters_are = more.counters ∙ ap (λ xs. xs ++ end.counters ∷ []) a.counters_are ∙ sym (map-append (λ (e : WorkerEnd K R T). e.counters) ends (end ∷ []));
-        rngs_are = more.rngs ∙ ap (λ xs. xs ++ end.rng ∷ []) a.rngs_are ∙ sym (map-append (λ (e : WorkerEnd K R T). e.rng) ends (end ∷ []));
-        tracers_are = more.tracers ∙ ap (λ xs. xs ++ end.tracer ∷ []) a.tracers_are ∙ sym (map-append (λ (e : WorkerEnd K R T). e.tracer) ends (end ∷ []));
-        pushed_is = omega (arith, a.pushed_is, j.pushed, sum_push (λ (e : WorkerEnd K R T). e.counters.pushed) ends end);
+        counters_are = more.counters ∙ ap (λ xs. xs ++ end.counters ∷ []) a.counters_are ∙ sym (map-append (λ (e : WorkerEnd K R T E). e.counters) ends (end ∷ []));
+        rngs_are = more.rngs ∙ ap (λ xs. xs ++ end.rng ∷ []) a.rngs_are ∙ sym (map-append (λ (e : WorkerEnd K R T E). e.rng) ends (end ∷ []));
+        tracers_are = more.tracers ∙ ap (λ xs. xs ++ end.tracer ∷ []) a.tracers_are ∙ sym (map-append (λ (e : WorkerEnd K R T E). e.tracer) ends (end ∷ []));
+        pushed_is = omega (arith, a.pushed_is, j.pushed, sum_push (λ (e : WorkerEnd K R T E). e.counters.pushed) ends end);
         pushed_few = omega (arith, a.pushed_few, j.pushed, low, count);
-        popped_is = omega (arith, a.popped_is, j.popped, sum_push (λ (e : WorkerEnd K R T). e.counters.popped) ends end);
-        returned_is = omega (arith, a.returned_is, j.returned, sum_push (λ (e : WorkerEnd K R T). e.counters.returned) ends end);
+        popped_is = omega (arith, a.popped_is, j.popped, sum_push (λ (e : WorkerEnd K R T E). e.counters.popped) ends end);
+        returned_is = omega (arith, a.returned_is, j.returned, sum_push (λ (e : WorkerEnd K R T E). e.counters.returned) ends end);
         returned_few = omega (arith, a.returned_few, j.returned, small, count);
         few = omega (arith, a.few, j.few, j.returned);
         some = λ more. j.some (waits_or (length g.todo.waiting) g.returned end.counters.returned h.returned a.some j.returned more);

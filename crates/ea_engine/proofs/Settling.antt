@@ -84,7 +84,7 @@ gathered_same problem r s a b waiting bounds lowerings pushed popped h = record 
 }
 
 -- what was pushed, and then pushed
-pub pushed_then : {K : Type 0} (a b c : Seats K) (n m k : ℕ) → HasPushed n a b → HasPushed m b c → k ≡ n + m → HasPushed k a c
+pub pushed_then : {K E : Type 0} (a b c : Seats K E) (n m k : ℕ) → HasPushed n a b → HasPushed m b c → k ≡ n + m → HasPushed k a c
 pushed_then a b c n m k p q is = record {
   pushed_is = omega (arith, p.pushed_is, q.pushed_is, is);
   popped_is = q.popped_is ∙ p.popped_is;

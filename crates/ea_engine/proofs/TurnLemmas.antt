@@ -12,6 +12,7 @@ use Rattle.ea_pool.specs.Batches.{IsLowest, MatchSome, PopsSome}
 use Rattle.ea_pool.specs.declared.account.LastTake.{LastTake}
 use Rattle.ea_pool.specs.declared.reply.PoppedSome.TheVariants as reply
 use Rattle.ea_pool.specs.Entries.{only, times, AreKnown, IsAscending, IsLeastOf, face}
+use Rattle.ea_pool.specs.Kinds.{HeapKind, Least, Buckets, Gives}
 use Rattle.ea_pool.proofs.Weights.{only-same}
 use Rattle.ea_engine.specs.Problems.{Problem}
 use Rattle.ea_engine.specs.declared.turn.TurnEnd.{TurnEnd}
@@ -30,8 +31,8 @@ use Rattle.ea_limits.specs.declared.TheConstants.{SHARES}
 use Rattle.ea_pool.specs.Pools.{SameBooks, IsLeastLeft}
 use Rattle.ea_engine.specs.Turns.{is_busy, is_idle, is_refused, IsShaped, visited_as}
 use Rattle.ea_engine.specs.Closed.{entry_at, IsClosedAs, IsFreshAs}
-use Rattle.ea_engine.specs.Holds.{IsVisit, Took}
-use Rattle.ea_engine.specs.Worked.{Kit, kit, Progress, IsTurn, IsBrokenAs, IsLeftAs, IsLoneAs, IsPoppingAs}
+use Rattle.ea_engine.specs.Holds.{IsVisit, Took, AreInOrder}
+use Rattle.ea_engine.specs.Worked.{Kit, kit, Progress, IsTurn, IsBrokenAs, IsLeftAs, IsFirstLeft, IsLoneAs, IsPoppingAs}
 use Rattle.ea_engine.proofs.ProgressLemmas.{Progress-idle, Progress-took, Progress-then, Progress-beside}
 
 visited_as-idle : (k : TurnKind) (x y : ℕ) → is_idle k ≡ true → visited_as k x y ≡ []
@@ -103,13 +104,13 @@ IsPoppingAs-visited Refused key node pops e is few = few
 IsPoppingAs-visited Cut key node pops e is few = few
 
 -- a turn that popped an entry shows what the pop tells of this entry
-IsLoneAs-popped : (k : TurnKind) (heaps key node : ℕ) (a : Account) (e : Entry) → visited_as k key node ≡ e ∷ [] → (heaps ≡ 2 → IsLeastLeft e a) → IsLoneAs heaps a k (entry_at key node)
-IsLoneAs-popped Empty heaps key node a e is left = absurd (nil≢cons e [] is)
-IsLoneAs-popped Busy heaps key node a e is left = nil≢cons e [] is
-IsLoneAs-popped Stale heaps key node a e is left = subst (λ x. heaps ≡ 2 → IsLeastLeft x a) (sym (head_is (entry_at key node) e is)) left
-IsLoneAs-popped Scanned heaps key node a e is left = subst (λ x. heaps ≡ 2 → IsLeastLeft x a) (sym (head_is (entry_at key node) e is)) left
-IsLoneAs-popped Refused heaps key node a e is left = subst (λ x. heaps ≡ 2 → IsLeastLeft x a) (sym (head_is (entry_at key node) e is)) left
-IsLoneAs-popped Cut heaps key node a e is left = subst (λ x. heaps ≡ 2 → IsLeastLeft x a) (sym (head_is (entry_at key node) e is)) left
+IsLoneAs-popped : (kind : HeapKind) (k : TurnKind) (heaps key node : ℕ) (a : Account) (e : Entry) → visited_as k key node ≡ e ∷ [] → (heaps ≡ 2 → IsFirstLeft kind e a) → IsLoneAs kind heaps a k (entry_at key node)
+IsLoneAs-popped kind Empty heaps key node a e is left = absurd (nil≢cons e [] is)
+IsLoneAs-popped kind Busy heaps key node a e is left = nil≢cons e [] is
+IsLoneAs-popped kind Stale heaps key node a e is left = subst (λ x. heaps ≡ 2 → IsFirstLeft kind x a) (sym (head_is (entry_at key node) e is)) left
+IsLoneAs-popped kind Scanned heaps key node a e is left = subst (λ x. heaps ≡ 2 → IsFirstLeft kind x a) (sym (head_is (entry_at key node) e is)) left
+IsLoneAs-popped kind Refused heaps key node a e is left = subst (λ x. heaps ≡ 2 → IsFirstLeft kind x a) (sym (head_is (entry_at key node) e is)) left
+IsLoneAs-popped kind Cut heaps key node a e is left = subst (λ x. heaps ≡ 2 → IsFirstLeft kind x a) (sym (head_is (entry_at key node) e is)) left
 
 -- nor is it busy
 not_busy_visited : (k : TurnKind) (key node : ℕ) (e : Entry) → visited_as k key node ≡ e ∷ [] → is_busy k ≡ false
@@ -121,37 +122,43 @@ not_busy_visited Refused key node e is = refl
 not_busy_visited Cut key node e is = refl
 
 -- a seat with all shares isn't busy
-not_busy_lone : (k : TurnKind) (heaps : ℕ) (a : Account) (e : Entry) → IsLoneAs heaps a k e → is_busy k ≡ false
-not_busy_lone Empty heaps a e lone = refl
-not_busy_lone Busy heaps a e lone = absurd lone
-not_busy_lone Stale heaps a e lone = refl
-not_busy_lone Scanned heaps a e lone = refl
-not_busy_lone Refused heaps a e lone = refl
-not_busy_lone Cut heaps a e lone = refl
+not_busy_lone : (kind : HeapKind) (k : TurnKind) (heaps : ℕ) (a : Account) (e : Entry) → IsLoneAs kind heaps a k e → is_busy k ≡ false
+not_busy_lone kind Empty heaps a e lone = refl
+not_busy_lone kind Busy heaps a e lone = absurd lone
+not_busy_lone kind Stale heaps a e lone = refl
+not_busy_lone kind Scanned heaps a e lone = refl
+not_busy_lone kind Refused heaps a e lone = refl
+not_busy_lone kind Cut heaps a e lone = refl
 
 -- what a pop brought is turned round
-pub took_by : (known : ℕ → ℕ → Type 0) (reply : PoppedSome) (heaps most i j : ℕ) (old mid new : ArrayVec Entry) (a b : Account) (seen : List (ℕ × ℕ)) (last : Option LastTake)
+-- what heaps give stands in their order
+in_order : (kind : HeapKind) (out content rest : List Entry) → Gives kind out content rest → AreInOrder kind out
+in_order Least out content rest h = h.ascending
+in_order Buckets out content rest h = tt
+
+pub took_by : (known : ℕ → ℕ → Type 0) (kind : HeapKind) (reply : PoppedSome) (heaps most i j : ℕ) (old mid new : ArrayVec Entry) (a b : Account) (seen : List (ℕ × ℕ)) (last : Option LastTake)
     → old.items ≡ []
-    → MatchSome reply ((pops : PopsSome known most old.items mid.items a b (λ out. TookLesser i j out seen last) last) × IsLowest heaps pops.out a) (SameBooks a b × (mid ≡ old)) (SameBooks a b × (mid ≡ old))
+    → MatchSome reply ((pops : PopsSome known most old.items mid.items a b (λ out. TookLesser kind i j out seen last) last) × IsLowest kind heaps (min pops.took.x pops.took.y) pops.out a) (SameBooks a b × (mid ≡ old)) (SameBooks a b × (mid ≡ old))
     → new.items ≡ reverse mid.items
-    → MatchSome reply (Took known heaps most new.items a b) (SameBooks a b × (new.items ≡ [])) (SameBooks a b × (new.items ≡ []))
-took_by known reply.Entries heaps most i j old mid new a b seen last none h turned = record {
+    → MatchSome reply (Took known kind heaps most new.items a b) (SameBooks a b × (new.items ≡ [])) (SameBooks a b × (new.items ≡ []))
+took_by known kind reply.Entries heaps most i j old mid new a b seen last none h turned = record {
   out = h.0.out;
   turned = turned ∙ ap reverse (h.0.brought ∙ ap (λ xs. xs ++ h.0.out) none);
   some = h.0.some;
   few = h.0.few;
   popped = h.0.popped;
   known_all = h.0.known_all;
-  ascending = h.0.took.took.least.1.ascending;
+  ascending = in_order kind h.0.out h.0.took.took.content h.0.took.took.least.0 h.0.took.took.least.1;
   left = h.0.left;
+  word = min h.0.took.x h.0.took.y;
   lowest = h.1;
 }
-took_by known reply.Empty heaps most i j old mid new a b seen last none h turned = (h.0, turned ∙ ap reverse (ap (λ (v : ArrayVec Entry). v.items) h.1 ∙ none))
-took_by known reply.Busy heaps most i j old mid new a b seen last none h turned = (h.0, turned ∙ ap reverse (ap (λ (v : ArrayVec Entry). v.items) h.1 ∙ none))
+took_by known kind reply.Empty heaps most i j old mid new a b seen last none h turned = (h.0, turned ∙ ap reverse (ap (λ (v : ArrayVec Entry). v.items) h.1 ∙ none))
+took_by known kind reply.Busy heaps most i j old mid new a b seen last none h turned = (h.0, turned ∙ ap reverse (ap (λ (v : ArrayVec Entry). v.items) h.1 ∙ none))
 
 -- there is one to be visited
-pub took_some : (known : ℕ → ℕ → Type 0) (heaps most : ℕ) (taken : List Entry) (a b : Account) → Took known heaps most taken a b → 0 < length taken
-took_some known heaps most taken a b t = omega (arith, t.some, ap length t.turned, length-reverse t.out)
+pub took_some : (known : ℕ → ℕ → Type 0) (kind : HeapKind) (heaps most : ℕ) (taken : List Entry) (a b : Account) → Took known kind heaps most taken a b → 0 < length taken
+took_some known kind heaps most taken a b t = omega (arith, t.some, ap length t.turned, length-reverse t.out)
 
 -- the first one of what a pop brought is visited first
 pub out_is : (taken out rest : List Entry) (e : Entry) → taken ≡ reverse out → taken ≡ rest ++ e ∷ [] → out ≡ e ∷ reverse rest
@@ -163,16 +170,19 @@ face_above e [] least low = low
 face_above e (x ∷ es) least low = omega (arith, least.0.0, face_above e es least.1 low)
 
 -- so it is the least that a seat with all shares has left
-least_out : (known : ℕ → ℕ → Type 0) (heaps most : ℕ) (taken rest : List Entry) (a b : Account) (e : Entry) (t : Took known heaps most taken a b)
-    → taken ≡ rest ++ e ∷ [] → e.key ≤ EMPTY → a.shares ≡ SHARES → heaps ≡ 2 → IsLeastLeft e a
-least_out known heaps most taken rest a b e t next low whole two =
+least_out : (known : ℕ → ℕ → Type 0) (kind : HeapKind) (heaps most : ℕ) (taken rest : List Entry) (a b : Account) (e : Entry) (t : Took known kind heaps most taken a b)
+    → taken ≡ rest ++ e ∷ [] → e.key ≤ EMPTY → a.shares ≡ SHARES → heaps ≡ 2 → IsFirstLeft kind e a
+least_out known Buckets heaps most taken rest a b e t next low whole two =
+    let is = out_is taken t.out rest e t.turned next in
+    omega (arith, t.left whole e, ap (times e) is, only-same e)
+least_out known Least heaps most taken rest a b e t next low whole two =
     let is = out_is taken t.out rest e t.turned next in
     let ascending : IsAscending (e ∷ reverse rest) = subst IsAscending is t.ascending in (
       omega (arith, t.left whole e, ap (times e) is, only-same e),
       λ d there. omega (arith, t.lowest whole two d there, ap face is, face_above e (reverse rest) ascending.0 low),
     )
 
-module _ (problem : Problem) (batch heaps : ℕ) where
+module _ (problem : Problem) where
   IsClosedAs-idle : (bs : List Bound) (hand : List Entry) (k : TurnKind) (e : Entry) → is_idle k ≡ true → IsClosedAs problem bs hand k e
   IsClosedAs-idle bs hand Empty e i = tt
   IsClosedAs-idle bs hand Busy e i = tt
@@ -189,11 +199,12 @@ module _ (problem : Problem) (batch heaps : ℕ) where
   IsFreshAs-idle bs Refused e i = absurd (false≢true i)
   IsFreshAs-idle bs Cut e i = absurd (false≢true i)
 
+module _ {kind : HeapKind} (problem : Problem) (batch heaps : ℕ) where
   pub IsTurn-idle : (r : SeatRecord) (a b : Account) (w u : Stream) (taken taken' fresh : List Entry) (n : ℕ) (end : TurnEnd)
       → SameBooks a b → taken ≡ [] → taken' ≡ [] → length fresh < batch → u ≡ after_words 2 w
       → end.turn.number ≡ n → is_idle end.turn.kind ≡ true → IsShaped end.turn → end.turn.lowered ≡ 0 → end.broken ≡ None → end.pops ≡ 1 → end.pushes ≡ 0
-      → (a.shares ≡ SHARES → IsLoneAs heaps a end.turn.kind (entry_at end.turn.key end.turn.node))
-      → IsTurn problem batch heaps (kit r a w taken fresh) (kit r b u taken' fresh) n end
+      → (a.shares ≡ SHARES → IsLoneAs kind heaps a end.turn.kind (entry_at end.turn.key end.turn.node))
+      → IsTurn problem kind batch heaps (kit r a w taken fresh) (kit r b u taken' fresh) n end
   IsTurn-idle r a b w u taken taken' fresh n end books none none' few d number idle shaped lowered broken pops pushes lone = record {
     number_is = number;
     shaped = shaped;
@@ -207,14 +218,14 @@ module _ (problem : Problem) (batch heaps : ℕ) where
     fresh_few = IsLeftAs-idle end.turn.kind batch (length fresh) idle few;
     progress = rw (lowered, pops, pushes, visited_as-idle end.turn.kind end.turn.key end.turn.node idle)
         (Progress-idle r a b w u taken taken' fresh books none none' d);
-    closed = IsClosedAs-idle r.bounds (option_to_list end.broken) end.turn.kind _ idle;
-    fresh = IsFreshAs-idle r.bounds end.turn.kind _ idle;
-    never_busy = λ whole. not_busy_lone end.turn.kind heaps a _ (lone whole);
+    closed = IsClosedAs-idle problem r.bounds (option_to_list end.broken) end.turn.kind _ idle;
+    fresh = IsFreshAs-idle problem r.bounds end.turn.kind _ idle;
+    never_busy = λ whole. not_busy_lone kind end.turn.kind heaps a _ (lone whole);
     lone = λ nothing. lone;
   }
 
   -- a turn that visited one of the entries that were taken
-  pub IsTurn-visited : (from to : Kit) (n : ℕ) (end : TurnEnd) → IsVisit problem batch from to n end → length from.taken < batch → IsTurn problem batch heaps from to n end
+  pub IsTurn-visited : (from to : Kit) (n : ℕ) (end : TurnEnd) → IsVisit problem batch from to n end → length from.taken < batch → IsTurn problem kind batch heaps from to n end
   IsTurn-visited from to n end v few =
       let size : length from.taken ≡ length to.taken + 1 = omega (arith, ap length v.next, length-append to.taken (v.entry ∷ [])) in
       record {
@@ -237,9 +248,9 @@ module _ (problem : Problem) (batch heaps : ℕ) where
 
   -- a turn that popped entries and visited one of them
   pub IsTurn-popped : (known : ℕ → ℕ → Type 0) (r : SeatRecord) (a b : Account) (w u : Stream) (taken taken' fresh : List Entry) (to : Kit) (n : ℕ) (end : TurnEnd)
-      → taken ≡ [] → (t : Took known heaps batch taken' a b) → u ≡ after_words 2 w → ((node time : ℕ) → known node time → time ≤ EMPTY)
+      → taken ≡ [] → (t : Took known kind heaps batch taken' a b) → u ≡ after_words 2 w → ((node time : ℕ) → known node time → time ≤ EMPTY)
       → (v : IsVisit problem batch (kit r b u taken' fresh) to n end)
-      → IsTurn problem batch heaps (kit r a w taken fresh) to n (record { turn = end.turn; broken = end.broken; pops = 1; pushes = end.pushes })
+      → IsTurn problem kind batch heaps (kit r a w taken fresh) to n (record { turn = end.turn; broken = end.broken; pops = 1; pushes = end.pushes })
   IsTurn-popped known r a b w u taken taken' fresh to n end none t d within v =
       let is = out_is taken' t.out to.taken v.entry t.turned v.next in
       let size : length taken' ≡ length to.taken + 1 = omega (arith, ap length v.next, length-append to.taken (v.entry ∷ [])) in
@@ -261,7 +272,7 @@ module _ (problem : Problem) (batch heaps : ℕ) where
         closed = v.closed;
         fresh = v.fresh;
         never_busy = λ whole. not_busy_visited end.turn.kind end.turn.key end.turn.node v.entry v.visited;
-        lone = λ nothing whole. IsLoneAs-popped end.turn.kind heaps end.turn.key end.turn.node a v.entry v.visited (least_out known heaps batch taken' to.taken a b v.entry t v.next low whole);
+        lone = λ nothing whole. IsLoneAs-popped kind end.turn.kind heaps end.turn.key end.turn.node a v.entry v.visited (least_out known kind heaps batch taken' to.taken a b v.entry t v.next low whole);
       }
     where
       appended : (xs : List Entry) → xs ≡ xs ++ []
@@ -273,10 +284,10 @@ module _ (problem : Problem) (batch heaps : ℕ) where
 
   -- a turn at whose end fresh entries were pushed
   pub IsTurn-pushed : (from : Kit) (s : SeatRecord) (b c : Account) (v z : Stream) (taken fresh fresh' : List Entry) (n : ℕ) (end : TurnEnd)
-      → IsTurn problem batch heaps from (kit s b v taken fresh) n end
+      → IsTurn problem kind batch heaps from (kit s b v taken fresh) n end
       → Progress (kit s b v [] fresh) (kit s c z [] fresh') [] 1 0
       → is_refused end.turn.kind ≡ false → 0 < length fresh → length fresh' ≤ length fresh
-      → IsTurn problem batch heaps from (kit s c z taken fresh') n (record { turn = end.turn; broken = end.broken; pops = end.pops; pushes = end.pushes + 1 })
+      → IsTurn problem kind batch heaps from (kit s c z taken fresh') n (record { turn = end.turn; broken = end.broken; pops = end.pops; pushes = end.pushes + 1 })
   IsTurn-pushed from s b c v z taken fresh fresh' n end t p not some few = record {
     number_is = t.number_is;
     shaped = t.shaped;

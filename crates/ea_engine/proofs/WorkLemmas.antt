@@ -28,10 +28,11 @@ use Rattle.ea_lists.proofs.Totals.{total-append}
 use Rattle.ea_pool.specs.declared.account.Account.{Account}
 use Rattle.ea_limits.specs.declared.TheConstants.{SHARES}
 use Rattle.ea_pool.specs.Entries.{only}
+use Rattle.ea_pool.specs.Kinds.{HeapKind, Least, Buckets}
 use Rattle.ea_pool.specs.Pools.{NothingLeft, IsLeft}
 use Rattle.ea_engine.specs.Turns.{Told, IsShaped, IsShapedAs, IsWorkDone, is_ended, idle_run, ends_worker, is_empty, is_busy, is_idle, is_leave, is_refused, counted, closed_by, CountsTurns, count_kind, lowered_in_all, visited_as, visited_in, visited_in_all, visited_count, IsRoomy}
 use Rattle.ea_engine.specs.Closed.{entry_at, entry_of, IsClosedAs, IsClosedTurn, IsFreshAs, IsFreshTurn}
-use Rattle.ea_engine.specs.Worked.{Kit, Progress, IsTurn, IsWork, IsBrokenAs, IsLeftAs, IsInside, IsLoneAs, IsPoppingAs, AreInside}
+use Rattle.ea_engine.specs.Worked.{Kit, Progress, IsTurn, IsWork, IsBrokenAs, IsLeftAs, IsInside, IsFirstLeft, IsLoneAs, IsPoppingAs, AreInside}
 use Rattle.ea_engine.proofs.Multisets.{same_length}
 use Rattle.ea_engine.proofs.ProgressLemmas.{Progress-none, Progress-then}
 use Rattle.ea_engine.proofs.BoundLemmas.{IsStale-more, IsScanned-more, IsCut-more}
@@ -148,24 +149,29 @@ still a b words bare bare' p nothing f = omega (
 none_left : (a : Account) (e : Entry) → NothingLeft a → IsLeft e a → ⊥
 none_left a e nothing left = omega (arith, left, nothing (only e))
 
+-- whatever heaps are, what comes first was left
+left_first : (kind : HeapKind) (e : Entry) (a : Account) → IsFirstLeft kind e a → IsLeft e a
+left_first Least e a h = h.0
+left_first Buckets e a h = h
+
 -- where a turn found two heaps empty, this one or one before it, nothing is left
-nothing_left : (k : TurnKind) (heaps n key node before : ℕ) (a b : Kit) (words : ℕ) → IsShapedAs k node key n → IsBare a → (is_refused k ≡ false → IsBare b) → Progress a b (visited_as k key node) words n
-    → heaps ≡ 2 → IsLoneAs heaps a.account k (entry_at key node) → (0 < before → NothingLeft a.account) → 0 < before + cond (is_empty k) 1 0 → NothingLeft b.account
-nothing_left Empty heaps n key node before a b words shaped bare bare' p two lone known some = still a b words bare (bare' refl) (subst (λ m. Progress a b [] words m) shaped.2 p) (lone two)
-nothing_left Busy heaps n key node before a b words shaped bare bare' p two lone known some = absurd lone
-nothing_left Stale heaps n key node before a b words shaped bare bare' p two lone known some = absurd (none_left a.account _ (known (omega (arith, some))) (lone two).0)
-nothing_left Scanned heaps n key node before a b words shaped bare bare' p two lone known some = absurd (none_left a.account _ (known (omega (arith, some))) (lone two).0)
-nothing_left Refused heaps n key node before a b words shaped bare bare' p two lone known some = absurd (none_left a.account _ (known (omega (arith, some))) (lone two).0)
-nothing_left Cut heaps n key node before a b words shaped bare bare' p two lone known some = absurd (none_left a.account _ (known (omega (arith, some))) (lone two).0)
+nothing_left : (kind : HeapKind) (k : TurnKind) (heaps n key node before : ℕ) (a b : Kit) (words : ℕ) → IsShapedAs k node key n → IsBare a → (is_refused k ≡ false → IsBare b) → Progress a b (visited_as k key node) words n
+    → heaps ≡ 2 → IsLoneAs kind heaps a.account k (entry_at key node) → (0 < before → NothingLeft a.account) → 0 < before + cond (is_empty k) 1 0 → NothingLeft b.account
+nothing_left kind Empty heaps n key node before a b words shaped bare bare' p two lone known some = still a b words bare (bare' refl) (subst (λ m. Progress a b [] words m) shaped.2 p) (lone two)
+nothing_left kind Busy heaps n key node before a b words shaped bare bare' p two lone known some = absurd lone
+nothing_left kind Stale heaps n key node before a b words shaped bare bare' p two lone known some = absurd (none_left a.account _ (known (omega (arith, some))) (left_first kind (entry_at key node) _ (lone two)))
+nothing_left kind Scanned heaps n key node before a b words shaped bare bare' p two lone known some = absurd (none_left a.account _ (known (omega (arith, some))) (left_first kind (entry_at key node) _ (lone two)))
+nothing_left kind Refused heaps n key node before a b words shaped bare bare' p two lone known some = absurd (none_left a.account _ (known (omega (arith, some))) (left_first kind (entry_at key node) _ (lone two)))
+nothing_left kind Cut heaps n key node before a b words shaped bare bare' p two lone known some = absurd (none_left a.account _ (known (omega (arith, some))) (left_first kind (entry_at key node) _ (lone two)))
 
 -- where nothing is left, a turn finds two heaps empty
-empty_again : (k : TurnKind) (heaps key node : ℕ) (a : Account) → heaps ≡ 2 → IsLoneAs heaps a k (entry_at key node) → NothingLeft a → is_empty k ≡ true
-empty_again Empty heaps key node a two lone nothing = refl
-empty_again Busy heaps key node a two lone nothing = absurd lone
-empty_again Stale heaps key node a two lone nothing = absurd (none_left a _ nothing (lone two).0)
-empty_again Scanned heaps key node a two lone nothing = absurd (none_left a _ nothing (lone two).0)
-empty_again Refused heaps key node a two lone nothing = absurd (none_left a _ nothing (lone two).0)
-empty_again Cut heaps key node a two lone nothing = absurd (none_left a _ nothing (lone two).0)
+empty_again : (kind : HeapKind) (k : TurnKind) (heaps key node : ℕ) (a : Account) → heaps ≡ 2 → IsLoneAs kind heaps a k (entry_at key node) → NothingLeft a → is_empty k ≡ true
+empty_again kind Empty heaps key node a two lone nothing = refl
+empty_again kind Busy heaps key node a two lone nothing = absurd lone
+empty_again kind Stale heaps key node a two lone nothing = absurd (none_left a _ nothing (left_first kind (entry_at key node) _ (lone two)))
+empty_again kind Scanned heaps key node a two lone nothing = absurd (none_left a _ nothing (left_first kind (entry_at key node) _ (lone two)))
+empty_again kind Refused heaps key node a two lone nothing = absurd (none_left a _ nothing (left_first kind (entry_at key node) _ (lone two)))
+empty_again kind Cut heaps key node a two lone nothing = absurd (none_left a _ nothing (left_first kind (entry_at key node) _ (lone two)))
 
 module _ (problem : Problem) where
   pub IsClosedAs-more : (bs cs : List Bound) (hand hand' : List Entry) (k : TurnKind) (e : Entry) → ((b : Bound) → Contains bs b → Contains cs b) → ((x : Entry) → Contains hand x → Contains hand' x)
@@ -270,10 +276,10 @@ module _ (problem : Problem) where
     ]
 
     -- one more turn
-    module _ (from mid to : Kit) (pace : Pace) (tracer tracer' tracer'' : T) (counters counters' : Counters) (broken : Option Entry) (number idle idle' : ℕ) (ended' : Bool) (end : TurnEnd) (flow : Flow)
+    module _ {kind : HeapKind} (from mid to : Kit) (pace : Pace) (tracer tracer' tracer'' : T) (counters counters' : Counters) (broken : Option Entry) (number idle idle' : ℕ) (ended' : Bool) (end : TurnEnd) (flow : Flow)
         (h : SoFar from mid pace tracer tracer' counters broken number idle false)
         (low : idle < pace.patience) (more : number < pace.turns)
-        (one : IsTurn problem pace.batch heaps mid to number end)
+        (one : IsTurn problem kind pace.batch heaps mid to number end)
         (pushes : end.pushes ≤ end.turn.lowered + 1)
         (told : shows tracer' end.turn flow tracer'')
         (counts : counters' ≡ counted counters end)
@@ -306,7 +312,7 @@ module _ (problem : Problem) where
         fresh = one_left end.turn.kind pace.batch (length to.fresh) is one.fresh_few ∙ ap (λ b. cond b 1 0) not;
       }
 
-      lone : pace.batch ≡ 1 → from.account.shares ≡ SHARES → IsLoneAs heaps mid.account end.turn.kind (entry_at end.turn.key end.turn.node)
+      lone : pace.batch ≡ 1 → from.account.shares ≡ SHARES → IsLoneAs kind heaps mid.account end.turn.kind (entry_at end.turn.key end.turn.node)
       lone is whole = one.lone (none mid.taken (bare is).taken) (h.progress.pool_shares ∙ whole)
 
       pub SoFar-more : SoFar from to pace tracer tracer'' counters' end.broken (number + 1) idle' ended'
@@ -364,8 +370,8 @@ module _ (problem : Problem) where
         never_busy = λ whole. omega (arith, count_push is_busy h.turns (end.turn, flow), h.never_busy whole, ap (λ b. cond {A = ℕ} b 1 0) (one.never_busy (h.progress.pool_shares ∙ whole)));
         stays_empty = λ is whole two. index_push (λ i t. 0 < count_kind is_empty (take i (h.turns ++ (end.turn, flow) ∷ [])) → is_empty t.0.kind ≡ true) h.turns (end.turn, flow)
             (λ i d lt some. h.stays_empty is whole two i d lt (rw (take-append-le i h.turns ((end.turn, flow) ∷ []) (omega arith)) at some))
-            (λ some. empty_again end.turn.kind heaps end.turn.key end.turn.node mid.account two (lone is whole) (h.empty_so_far is whole two (rw (take-append_seam h.turns ((end.turn, flow) ∷ [])) at some)));
-        empty_so_far = λ is whole two some. nothing_left end.turn.kind heaps end.turn.lowered end.turn.key end.turn.node (count_kind is_empty h.turns) mid to _ one.shaped (bare is) (bare_after is) one.progress two (lone is whole) (h.empty_so_far is whole two)
+            (λ some. empty_again kind end.turn.kind heaps end.turn.key end.turn.node mid.account two (lone is whole) (h.empty_so_far is whole two (rw (take-append_seam h.turns ((end.turn, flow) ∷ [])) at some)));
+        empty_so_far = λ is whole two some. nothing_left kind end.turn.kind heaps end.turn.lowered end.turn.key end.turn.node (count_kind is_empty h.turns) mid to _ one.shaped (bare is) (bare_after is) one.progress two (lone is whole) (h.empty_so_far is whole two)
             (omega (arith, some, count_push is_empty h.turns (end.turn, flow)));
       }
 

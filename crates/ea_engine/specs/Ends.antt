@@ -11,7 +11,7 @@ use Rattle.ea_engine.specs.Seated.{Tables, AreSeatsOf}
 use Rattle.ea_engine.specs.Worked.{IsInside, back_of, hand_size}
 
 -- Seats that were just split off: one share each, and nothing done.
-pub record AreFresh {K : Type 0} (tables : Tables) (seats : Seats K) : Type 0 where
+pub record AreFresh {K E : Type 0} (tables : Tables) (seats : Seats K E) : Type 0 where
   pub fit : AreSeatsOf tables seats.label_seat seats.pool_seat
   pub lowerings : seats.label_seat.history.lowerings ≡ []
   pub pushed : seats.pool_seat.account.pushed ≡ []
@@ -19,9 +19,9 @@ pub record AreFresh {K : Type 0} (tables : Tables) (seats : Seats K) : Type 0 wh
   pub label_share : seats.label_seat.history.shares ≡ 1
   pub pool_share : seats.pool_seat.account.shares ≡ 1
 
-module _ {K R T : Type 0} (problem : Problem) (tables : Tables) where
+module _ {K R T E : Type 0} (problem : Problem) (tables : Tables) where
   -- What a worker leaves that began with fresh seats.
-  pub record IsEnd (end : WorkerEnd K R T) : Type 0 where
+  pub record IsEnd (end : WorkerEnd K R T E) : Type 0 where
     pub fit : AreSeatsOf tables end.label_seat end.pool_seat
     pub closed : IsClosedAccount problem end.label_seat.history end.pool_seat.account (back_of end.hand) end.hand.fresh.items
     pub inside : IsInside problem.network end.hand
@@ -33,7 +33,7 @@ module _ {K R T : Type 0} (problem : Problem) (tables : Tables) where
     pub label_share : end.label_seat.history.shares ≡ 1
     pub pool_share : end.pool_seat.account.shares ≡ 1
 
-  abbrev pub IsEndPlace : Place K R T → Type 0
+  abbrev pub IsEndPlace : Place K R T E → Type 0
   IsEndPlace (place.Ready r) = ⊥
   IsEndPlace place.Running = ⊥
   IsEndPlace (place.Done end) = IsEnd end

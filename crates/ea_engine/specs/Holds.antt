@@ -7,6 +7,7 @@ use Rattle.ea_pool.specs.declared.entry.Entry.{Entry}
 use Rattle.ea_pool.specs.declared.account.Account.{Account}
 use Rattle.ea_pool.specs.Batches.{IsLowest}
 use Rattle.ea_pool.specs.Entries.{AreKnown, IsAscending}
+use Rattle.ea_pool.specs.Kinds.{HeapKind, Least, Buckets}
 use Rattle.ea_pool.specs.Pools.{AreLeft, PopsAll}
 use Rattle.ea_engine.specs.declared.turn.TurnEnd.{TurnEnd}
 use Rattle.ea_engine.specs.Problems.{Problem}
@@ -14,18 +15,25 @@ use Rattle.ea_engine.specs.Closed.{IsClosedTurn, IsFreshTurn}
 use Rattle.ea_engine.specs.Turns.{IsShaped, visited_in}
 use Rattle.ea_engine.specs.Worked.{Kit, Progress, IsBrokenAs, IsLeftAs}
 
--- A pop from so many heaps brought known entries, at least one and at most so many, which stand with the least one last. A
--- seat with all shares pops what was left, and of two heaps the least of it.
-pub record Took (known : ℕ → ℕ → Type 0) (heaps most : ℕ) (taken : List Entry) (before after : Account) : Type 0 where
+-- heaps that give the least entry first give entries in ascending order
+abbrev pub AreInOrder : HeapKind → List Entry → Type 0
+AreInOrder Least entries = IsAscending entries
+AreInOrder Buckets entries = Unit {0}
+
+-- A pop from so many heaps of a kind brought known entries, at least one and at most so many, which stand with the first one
+-- last. A seat with all shares pops what was left, and of two heaps the least of it; or with buckets, under a word that no key
+-- that is left is below.
+pub record Took (known : ℕ → ℕ → Type 0) (kind : HeapKind) (heaps most : ℕ) (taken : List Entry) (before after : Account) : Type 0 where
   pub out : List Entry
   pub turned : taken ≡ reverse out
   pub some : 0 < length out
   pub few : length out ≤ most
   pub popped : PopsAll before out after
   pub known_all : AreKnown known out
-  pub ascending : IsAscending out
+  pub ascending : AreInOrder kind out
   pub left : before.shares ≡ SHARES → AreLeft out before
-  pub lowest : IsLowest heaps out before
+  pub word : ℕ
+  pub lowest : IsLowest kind heaps word out before
 
 -- The last one of the taken entries was visited, with batches of so many.
 pub record IsVisit (problem : Problem) (batch : ℕ) (from to : Kit) (number : ℕ) (end : TurnEnd) : Type 0 where

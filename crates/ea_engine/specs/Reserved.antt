@@ -20,7 +20,7 @@ pub record AreUnfilled {R T : Type 0} (workers : ℕ) (results : Results R T) : 
 
 -- New tables for so many nodes and of so many heaps with their first seats, an empty worklist, with room for walks where
 -- they are asked for, and room for so many workers.
-pub record AreArrays {K R T : Type 0} (nodes heaps workers : ℕ) (walks : Bool) (arrays : Arrays K R T) : Type 0 where
+pub record AreArrays {K R T E : Type 0} (nodes heaps workers : ℕ) (walks : Bool) (arrays : Arrays K R T E) : Type 0 where
   pub nodes_are : arrays.labels.nodes ≡ nodes
   pub heaps_are : heaps_of arrays.pool ≡ heaps
   pub fit : AreSeatsOf (tables arrays.labels arrays.pool) arrays.seats.label_seat arrays.seats.pool_seat

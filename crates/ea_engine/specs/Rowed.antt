@@ -15,27 +15,27 @@ use Rattle.ea_engine.specs.Seated.{Tables, AreSeatsOf}
 use Rattle.ea_engine.specs.Worked.{IsInside, hand_size}
 
 -- Workers that are done stand at each place.
-abbrev pub all_done : {K R T : Type 0} → List (WorkerEnd K R T) → List (Place K R T)
+abbrev pub all_done : {K R T E : Type 0} → List (WorkerEnd K R T E) → List (Place K R T E)
 all_done [] = []
 all_done (end ∷ ends) = place.Done end ∷ all_done ends
 
-abbrev pub IsDonePlace : {K R T : Type 0} → Place K R T → Type 0
+abbrev pub IsDonePlace : {K R T E : Type 0} → Place K R T E → Type 0
 IsDonePlace (place.Ready r) = ⊥
 IsDonePlace place.Running = ⊥
 IsDonePlace (place.Done end) = Unit {0}
 
-module _ {K : Type 0} (problem : Problem) (tables : Tables) where
+module _ {K E : Type 0} (problem : Problem) (tables : Tables) where
   -- The seats that the seeds used, before the workers start: the pool took so many entries.
-  pub record IsSeeded (seeded : ℕ) (waiting : List ℕ) (seats : Seats K) : Type 0 where
+  pub record IsSeeded (seeded : ℕ) (waiting : List ℕ) (seats : Seats K E) : Type 0 where
     pub fit : AreSeatsOf tables seats.label_seat seats.pool_seat
     pub gathered : IsGathered problem seats.label_seat.history seats.pool_seat.account waiting
     pub offered : AreOffered problem.query.sources seats.label_seat.history
     pub pushed : length seats.pool_seat.account.pushed ≡ seeded
     pub popped : seats.pool_seat.account.popped ≡ []
 
-module _ {K R T : Type 0} (problem : Problem) (tables : Tables) where
+module _ {K R T E : Type 0} (problem : Problem) (tables : Tables) where
   -- What the first worker leaves, which began with the seats that the seeds used.
-  pub record IsFirstEnd (seeded : ℕ) (waiting : List ℕ) (end : WorkerEnd K R T) : Type 0 where
+  pub record IsFirstEnd (seeded : ℕ) (waiting : List ℕ) (end : WorkerEnd K R T E) : Type 0 where
     pub fit : AreSeatsOf tables end.label_seat end.pool_seat
     pub handed : IsHanded problem end.label_seat.history end.pool_seat.account end.hand waiting
     pub inside : IsInside problem.network end.hand
@@ -47,9 +47,9 @@ module _ {K R T : Type 0} (problem : Problem) (tables : Tables) where
     pub returned_few : hand_size end.hand ≤ 2 * MOST_BATCH
 
   -- The row before the workers start: the first one has the seats that the seeds used, the others fresh ones.
-  pub record AreSeated (seeded : ℕ) (waiting : List ℕ) (rngs : List R) (tracers : List T) (row : List (Place K R T)) : Type 0 where
-    pub main : Seats K
-    pub fresh : List (Seats K)
+  pub record AreSeated (seeded : ℕ) (waiting : List ℕ) (rngs : List R) (tracers : List T) (row : List (Place K R T E)) : Type 0 where
+    pub main : Seats K E
+    pub fresh : List (Seats K E)
     pub seated : IsSeatedRow (main ∷ fresh) rngs tracers row
     pub length_is : length row ≡ 1 + length fresh
     pub seeds : IsSeeded problem tables seeded waiting main
@@ -58,9 +58,9 @@ module _ {K R T : Type 0} (problem : Problem) (tables : Tables) where
     pub pool_shares : main.pool_seat.account.shares + length fresh ≡ 64
 
   -- Each worker is done: the first one, and those that began with fresh seats.
-  pub record IsDoneRow (seeded : ℕ) (waiting : List ℕ) (row : List (Place K R T)) : Type 0 where
-    pub first : WorkerEnd K R T
-    pub others : List (Place K R T)
+  pub record IsDoneRow (seeded : ℕ) (waiting : List ℕ) (row : List (Place K R T E)) : Type 0 where
+    pub first : WorkerEnd K R T E
+    pub others : List (Place K R T E)
     pub row_is : row ≡ place.Done first ∷ others
     pub first_end : IsFirstEnd seeded waiting first
     pub other_ends : All (IsEndPlace problem tables) others
@@ -68,7 +68,7 @@ module _ {K R T : Type 0} (problem : Problem) (tables : Tables) where
     pub pool_shares : first.pool_seat.account.shares + length others ≡ 64
 
   -- What is gathered of some workers, the first among them, where the pool took so many seeds and handed so many back.
-  pub record AreGathered (seeded back : ℕ) (ends : List (WorkerEnd K R T)) (gathering : Gathering K R T) : Type 0 where
+  pub record AreGathered (seeded back : ℕ) (ends : List (WorkerEnd K R T E)) (gathering : Gathering K R T E) : Type 0 where
     pub fit : AreSeatsOf tables gathering.seats.label_seat gathering.seats.pool_seat
     pub gathered : IsGathered problem gathering.seats.label_seat.history gathering.seats.pool_seat.account gathering.todo.waiting
     pub nodes : gathering.todo.nodes ≡ problem.network.nodes
@@ -85,7 +85,7 @@ module _ {K R T : Type 0} (problem : Problem) (tables : Tables) where
     pub some : 0 < gathering.returned → 0 < length gathering.todo.waiting
 
   -- What is gathered of all workers of a row.
-  pub record IsGatheredRow (seeded back : ℕ) (row : List (Place K R T)) (gathering : Gathering K R T) : Type 0 where
-    pub ends : List (WorkerEnd K R T)
+  pub record IsGatheredRow (seeded back : ℕ) (row : List (Place K R T E)) (gathering : Gathering K R T E) : Type 0 where
+    pub ends : List (WorkerEnd K R T E)
     pub row_is : row ≡ all_done ends
     pub all : AreGathered seeded back ends gathering

@@ -23,11 +23,11 @@ pub record AreSeatsOf (tables : Tables) (label_seat : labels.SeatView) (pool_sea
   pub pool : pools.IsSeatOf tables.pool pool_seat
 
 -- what a worker has while it runs, and when it is done
-abbrev pub kit_of : {K R : Type 0} → (R → Stream) → Means K R → List Entry → List Entry → Kit
+abbrev pub kit_of : {K R E : Type 0} → (R → Stream) → Means K R E → List Entry → List Entry → Kit
 kit_of stream means taken fresh = kit means.label_seat.history means.pool_seat.account (stream means.rng) taken fresh
 
-abbrev pub kit_with : {K R : Type 0} → (R → Stream) → Means K R → Lists → Kit
+abbrev pub kit_with : {K R E : Type 0} → (R → Stream) → Means K R E → Lists → Kit
 kit_with stream means lists = kit_of stream means lists.taken.items lists.fresh.items
 
-abbrev pub kit_left : {K R T : Type 0} → (R → Stream) → WorkerEnd K R T → Kit
+abbrev pub kit_left : {K R T E : Type 0} → (R → Stream) → WorkerEnd K R T E → Kit
 kit_left stream end = kit end.label_seat.history end.pool_seat.account (stream end.rng) end.hand.taken.items end.hand.fresh.items

@@ -15,7 +15,7 @@ back_by Pushed = 0
 back_by HandedBack = 1
 
 -- So many entries more were pushed, none was popped, and no share was given.
-pub record HasPushed {K : Type 0} (pushed : ℕ) (before after : Seats K) : Type 0 where
+pub record HasPushed {K E : Type 0} (pushed : ℕ) (before after : Seats K E) : Type 0 where
   pub pushed_is : length after.pool_seat.account.pushed ≡ length before.pool_seat.account.pushed + pushed
   pub popped_is : after.pool_seat.account.popped ≡ before.pool_seat.account.popped
   pub label_shares : after.label_seat.history.shares ≡ before.label_seat.history.shares

@@ -3,7 +3,7 @@ use Rattle.std.specs.Prelude.{◌≡◌, ℕ, ◌+◌}
 use Rattle.ea_engine.specs.declared.means.Seats.{Seats}
 
 -- So many shares of each were given, and nothing else has changed.
-pub record HasGiven {K : Type 0} (count : ℕ) (before after : Seats K) : Type 0 where
+pub record HasGiven {K E : Type 0} (count : ℕ) (before after : Seats K E) : Type 0 where
   pub bounds : after.label_seat.history.bounds ≡ before.label_seat.history.bounds
   pub lowerings : after.label_seat.history.lowerings ≡ before.label_seat.history.lowerings
   pub pushed : after.pool_seat.account.pushed ≡ before.pool_seat.account.pushed

@@ -21,7 +21,8 @@ use Rattle.ea_labels.specs.declared.record.Lowering.{Lowering}
 use Rattle.ea_labels.specs.declared.record.SeatRecord.{SeatRecord}
 use Rattle.ea_pool.specs.declared.account.Account.{Account}
 use Rattle.ea_limits.specs.declared.TheConstants.{SHARES}
-use Rattle.ea_pool.specs.Pools.{NothingLeft, IsLeastLeft}
+use Rattle.ea_pool.specs.Kinds.{HeapKind, Least, Buckets}
+use Rattle.ea_pool.specs.Pools.{NothingLeft, IsLeft, IsLeastLeft}
 use Rattle.ea_engine.specs.Problems.{Problem}
 use Rattle.ea_engine.specs.Turns.{Told, IsTurnList, IsShaped, is_busy, StaysEmpty, AreCounters, visited_in, visited_in_all, lowered_in_all}
 use Rattle.ea_engine.specs.Closed.{entry_at, entry_of, IsClosedTurn, IsFreshTurn}
@@ -89,15 +90,20 @@ IsLeftAs Scanned batch fresh = fresh < batch
 IsLeftAs Refused batch fresh = (0 < fresh) × (fresh ≤ batch)
 IsLeftAs Cut batch fresh = fresh < batch
 
+-- an entry that was left, with the least key where heaps give their least entry first
+abbrev pub IsFirstLeft : HeapKind → Entry → Account → Type 0
+IsFirstLeft Least entry account = IsLeastLeft entry account
+IsFirstLeft Buckets entry account = IsLeft entry account
+
 -- Of a seat with all shares, and its account before a turn: no turn is busy; of two heaps, one that found both empty shows
--- that nothing is left, and one that popped an entry, that this was left, and with the least key.
-abbrev pub IsLoneAs : ℕ → Account → TurnKind → Entry → Type 0
-IsLoneAs heaps account Empty entry = heaps ≡ 2 → NothingLeft account
-IsLoneAs heaps account Busy entry = ⊥
-IsLoneAs heaps account Stale entry = heaps ≡ 2 → IsLeastLeft entry account
-IsLoneAs heaps account Scanned entry = heaps ≡ 2 → IsLeastLeft entry account
-IsLoneAs heaps account Refused entry = heaps ≡ 2 → IsLeastLeft entry account
-IsLoneAs heaps account Cut entry = heaps ≡ 2 → IsLeastLeft entry account
+-- that nothing is left, and one that popped an entry, that this was left, and with the least key, as heaps of the kind give it.
+abbrev pub IsLoneAs : HeapKind → ℕ → Account → TurnKind → Entry → Type 0
+IsLoneAs kind heaps account Empty entry = heaps ≡ 2 → NothingLeft account
+IsLoneAs kind heaps account Busy entry = ⊥
+IsLoneAs kind heaps account Stale entry = heaps ≡ 2 → IsFirstLeft kind entry account
+IsLoneAs kind heaps account Scanned entry = heaps ≡ 2 → IsFirstLeft kind entry account
+IsLoneAs kind heaps account Refused entry = heaps ≡ 2 → IsFirstLeft kind entry account
+IsLoneAs kind heaps account Cut entry = heaps ≡ 2 → IsFirstLeft kind entry account
 
 -- only a turn that pops is idle
 abbrev pub IsPoppingAs : TurnKind → ℕ → Type 0
@@ -109,8 +115,8 @@ IsPoppingAs Refused pops = pops ≤ 1
 IsPoppingAs Cut pops = pops ≤ 1
 
 module _ (problem : Problem) where
-  -- One turn with batches of so many entries on a pool of so many heaps.
-  pub record IsTurn (batch heaps : ℕ) (from to : Kit) (number : ℕ) (end : TurnEnd) : Type 0 where
+  -- One turn with batches of so many entries on a pool of so many heaps of a kind.
+  pub record IsTurn (kind : HeapKind) (batch heaps : ℕ) (from to : Kit) (number : ℕ) (end : TurnEnd) : Type 0 where
     pub number_is : end.turn.number ≡ number
     pub shaped : IsShaped end.turn
     pub few : end.turn.lowered ≤ 2 ^ 28
@@ -126,7 +132,7 @@ module _ (problem : Problem) where
     pub fresh : IsFreshTurn problem.query.target from.labels.bounds end.turn
     -- a seat with all shares is never busy, and learns more by a pop
     pub never_busy : from.account.shares ≡ SHARES → is_busy end.turn.kind ≡ false
-    pub lone : from.taken ≡ [] → from.account.shares ≡ SHARES → IsLoneAs heaps from.account end.turn.kind (entry_at end.turn.key end.turn.node)
+    pub lone : from.taken ≡ [] → from.account.shares ≡ SHARES → IsLoneAs kind heaps from.account end.turn.kind (entry_at end.turn.key end.turn.node)
 
   module _ {T : Type 0} (shows : T → Turn → Flow → T → Type 0) where
     -- The worker showed the turns of one lawful turn list to its tracer, each once and in order. The pool has so many heaps.

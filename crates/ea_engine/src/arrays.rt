@@ -9,21 +9,21 @@ use crate::row::Place;
 use crate::settings::Settings;
 use ea_finish::Open;
 use ea_labels::Labels;
-use ea_pool::Pool;
+use ea_pool::{EntryHeap, LeastHeap, OpenHeap, Pool};
 use ea_road::Known;
 use rand_core::Rng;
 use std::alloc::{AllocError, Global};
 
 /// The tables with their first seats, the worklist, and room for the row of workers and what they leave.
 #[derive(Drop)]
-pub struct Arrays<K: Known, R, T> {
+pub struct Arrays<K: Known, R, T, E: EntryHeap = LeastHeap<Global>> {
     pub labels: Labels<K>,
-    pub pool: Pool<K>,
-    pub seats: Seats<K>,
+    pub pool: Pool<K, Global, E>,
+    pub seats: Seats<K, E>,
     pub todo: Open,
     /// Room for the seats of the other workers.
-    pub others: Vec<Seats<K>>,
-    pub row: Vec<Place<K, R, T>>,
+    pub others: Vec<Seats<K, E>>,
+    pub row: Vec<Place<K, R, T, E>>,
     pub results: Results<R, T>,
 }
 
@@ -54,14 +54,16 @@ impl<R: Drop, T: Drop> Results<R, T> {
     }
 }
 
-impl<K: Known, R: Drop, T: Drop> Arrays<K, R, T> {
-    /// The arrays for a network of so many nodes, with those for walks where these are asked for.
+impl<K: Known, E: OpenHeap<Global>, R: Drop, T: Drop> Arrays<K, R, T, E> {
+    /// The arrays for a network of so many nodes, with those for walks where these are asked for. Heaps that have windows of
+    /// times have windows of about this width.
     pub fn reserve(
         alloc: Global,
         nodes: u32,
+        width: u64,
         settings: Settings,
         walks: bool,
-    ) -> Result<Arrays<K, R, T>, AllocError>
+    ) -> Result<Arrays<K, R, T, E>, AllocError>
         requires { AreSettings settings }
         ensures { IfOk result (λ arrays.
             AreArrays nodes (settings.workers * settings.heaps) settings.workers walks arrays) }
@@ -69,7 +71,7 @@ impl<K: Known, R: Drop, T: Drop> Arrays<K, R, T> {
         let workers = settings.workers as usize;
         let todo = open_list(alloc, nodes, walks)?;
         let (labels, label_seat) = Labels::open(alloc, nodes)?;
-        let (pool, pool_seat) = Pool::open(alloc, workers * settings.heaps as usize)?;
+        let (pool, pool_seat) = Pool::open_with(alloc, workers * settings.heaps as usize, width)?;
         let others = Vec::with_capacity(alloc, workers)?;
         let row = Vec::with_capacity(alloc, workers)?;
         let results = Results::reserve(alloc, workers)?;

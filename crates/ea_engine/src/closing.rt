@@ -13,7 +13,7 @@ use crate::means::Seats;
 use crate::problem::Posed;
 use ea_finish::Open;
 use ea_labels::Labels;
-use ea_pool::Pool;
+use ea_pool::{EntryHeap, Pool};
 use ea_road::Known;
 use std::alloc::Global;
 
@@ -27,10 +27,10 @@ pub struct Settled {
 }
 
 /// Closes both tables, and lets the node of each entry wait that is left.
-pub fn settle<K: Known + Posed>(
+pub fn settle<K: Known + Posed, E: EntryHeap>(
     labels: Labels<K>,
-    pool: Pool<K>,
-    seats: Seats<K>,
+    pool: Pool<K, Global, E>,
+    seats: Seats<K, E>,
     mut todo: Open,
 ) -> Settled
     requires posed { IsPosed K.is_known K.problem }

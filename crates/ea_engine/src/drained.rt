@@ -3,11 +3,11 @@ ghost use Rattle.std.specs.Prelude.{◌≡◌, ℕ, ◌<◌, ◌≤◌, ◌+◌,
 ghost use Rattle.ea_pool.specs.declared.entry.Entry.{Entry};
 
 use ea_finish::Open;
-use ea_pool::ClosedPool;
+use ea_pool::{ClosedPool, EntryHeap};
 use std::alloc::Global;
 
 /// Lets the node of each entry that is left wait, and tells how many are left.
-pub fn drain(mut closed: ClosedPool, todo: &mut Open) -> u128
+pub fn drain<E: EntryHeap>(mut closed: ClosedPool<Global, E>, todo: &mut Open) -> u128
     requires nodes { (entry : Entry) → Contains closed entry → (0 < entry.node) × (entry.node ≤ todo.old.nodes) }
     requires few { length closed < 2 ^ 128 }
     ensures drained { (entry : Entry) → Contains closed entry → Contains todo.new.waiting entry.node }
@@ -19,7 +19,7 @@ pub fn drain(mut closed: ClosedPool, todo: &mut Open) -> u128
     ensures some { 0 < length todo.old.waiting + length closed → 0 < length todo.new.waiting }
 {
     let mut drained = 0u128;
-    while let Some(entry) = closed.next() {
+    while let Some(entry) = closed.next_of_any() {
         todo.add(entry.node);
         drained += 1;
     }

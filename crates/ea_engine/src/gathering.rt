@@ -23,15 +23,15 @@ use crate::turn::Hand;
 use crate::work_loop::WorkerEnd;
 use ea_finish::Open;
 use ea_labels::Labels;
-use ea_pool::{Batch, Entry, Pool};
+use ea_pool::{Batch, Entry, EntryHeap, LeastHeap, Pool};
 use ea_road::Known;
 use std::alloc::Global;
 
 /// What is gathered of the workers that are done: their seats joined to one of each kind, the nodes of what they hand
 /// back, how many entries they hand back, and what they leave to the caller.
 #[derive(Drop)]
-pub struct Gathering<K: Known, R, F> {
-    pub seats: Seats<K>,
+pub struct Gathering<K: Known, R, F, E: EntryHeap = LeastHeap<Global>> {
+    pub seats: Seats<K, E>,
     pub todo: Open,
     pub returned: u128,
     pub results: Results<R, F>,
@@ -91,11 +91,11 @@ pub fn keep_hand(todo: &mut Open, hand: &Hand)
 }
 
 /// Adds what one worker leaves that began with fresh seats.
-pub fn join_end<K: Known + Posed, R: Drop, F: Drop>(
+pub fn join_end<K: Known + Posed, E: EntryHeap, R: Drop, F: Drop>(
     labels: &Labels<K>,
-    pool: &Pool<K>,
-    gathering: &mut Gathering<K, R, F>,
-    end: WorkerEnd<K, R, F>,
+    pool: &Pool<K, Global, E>,
+    gathering: &mut Gathering<K, R, F, E>,
+    end: WorkerEnd<K, R, F, E>,
 )
     requires fit { AreSeatsOf (tables labels.now pool.now)
         gathering.old.seats.label_seat gathering.old.seats.pool_seat }
@@ -134,14 +134,14 @@ pub fn join_end<K: Known + Posed, R: Drop, F: Drop>(
 }
 
 /// Begins with what the first worker leaves.
-pub fn begin_gathering<K: Known + Posed, R: Drop, F: Drop>(
+pub fn begin_gathering<K: Known + Posed, E: EntryHeap, R: Drop, F: Drop>(
     labels: &Labels<K>,
-    pool: &Pool<K>,
-    end: WorkerEnd<K, R, F>,
+    pool: &Pool<K, Global, E>,
+    end: WorkerEnd<K, R, F, E>,
     seeds: Seeds,
     mut todo: Open,
     mut results: Results<R, F>,
-) -> Gathering<K, R, F>
+) -> Gathering<K, R, F, E>
     requires end { IsFirstEnd K.problem (tables labels.now pool.now) seeds.seeded todo.waiting end }
     requires nodes { todo.nodes ≡ K.problem.network.nodes }
     requires few { length todo.waiting ≤ seeds.returned }
@@ -180,7 +180,9 @@ pub fn begin_gathering<K: Known + Posed, R: Drop, F: Drop>(
 }
 
 /// What the worker left that stood at a place.
-fn end_at<K: Known, R: Drop, F: Drop>(place: Place<K, R, F>) -> WorkerEnd<K, R, F>
+fn end_at<K: Known, E: EntryHeap, R: Drop, F: Drop>(
+    place: Place<K, R, F, E>,
+) -> WorkerEnd<K, R, F, E>
     requires done { IsDonePlace place }
     ensures end { place ≡ Place.Done result }
 {
@@ -191,14 +193,14 @@ fn end_at<K: Known, R: Drop, F: Drop>(place: Place<K, R, F>) -> WorkerEnd<K, R, 
 }
 
 /// Gathers what all workers of a row leave.
-pub fn gather_row<K: Known + Posed, R: Drop, F: Drop>(
+pub fn gather_row<K: Known + Posed, E: EntryHeap, R: Drop, F: Drop>(
     labels: &Labels<K>,
-    pool: &Pool<K>,
-    row: Vec<Place<K, R, F>>,
+    pool: &Pool<K, Global, E>,
+    row: Vec<Place<K, R, F, E>>,
     seeds: Seeds,
     todo: Open,
     results: Results<R, F>,
-) -> Gathering<K, R, F>
+) -> Gathering<K, R, F, E>
     requires row { IsDoneRow K.problem (tables labels.now pool.now)
         seeds.seeded todo.waiting row.items }
     requires few_workers { vec_len row ≤ MOST_WORKERS }

@@ -9,6 +9,7 @@ ghost use Rattle.ea_engine.specs.Opened.{FinishMayBegin, NothingOpenIsLost};
 
 use crate::ground::Ground;
 use crate::problem::Posed;
+use ea_pool::EntryHeap;
 use ea_road::{Known, TravelTimes};
 use std::alloc::Global;
 
@@ -32,7 +33,7 @@ pub fn times_are_fifo<T: TravelTimes>(times: &T)
 
 /// What workers read is the ground of the problem that `K` names, where the label table has a place for each node. That a
 /// network is one and that travel times are first in, first out comes with their types.
-pub fn ground_is_laid<K: Known + Posed, T: TravelTimes>(ground: &Ground<'_, K, T>)
+pub fn ground_is_laid<K: Known + Posed, E: EntryHeap, T: TravelTimes>(ground: &Ground<'_, K, T, E>)
     requires problem { IsProblem ground.now.network.now (T.classes ground.now.times.now)
         ground.now.query.now }
     requires named { IsNamed K.is_known K.problem ground.now.network.now

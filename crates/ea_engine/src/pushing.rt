@@ -6,15 +6,15 @@ ghost use Rattle.ea_pool.specs.Entries.{AreKnown};
 ghost use Rattle.ea_pool.specs.Seats.{account_of, IsSeatOf};
 ghost use Rattle.ea_engine.specs.Worked.{kit, Progress};
 
-use ea_pool::{Batch, Pool, PoolSeat};
+use ea_pool::{Batch, EntryHeap, Pool, PoolSeat};
 use ea_road::Known;
 use rand_core::Rng;
 use std::alloc::Global;
 
 /// Draws a word and pushes all fresh entries into one heap. What the pool doesn't take stays. Says whether it took all.
-pub fn push_fresh<K: Known, R: Rng>(
-    pool: &Pool<K>,
-    pool_seat: &mut PoolSeat<K>,
+pub fn push_fresh<K: Known, E: EntryHeap, R: Rng>(
+    pool: &Pool<K, Global, E>,
+    pool_seat: &mut PoolSeat<K, Global, E>,
     rng: &mut R,
     fresh: &mut Batch,
 ) -> bool

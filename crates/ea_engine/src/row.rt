@@ -12,6 +12,7 @@ use crate::problem::Posed;
 use crate::settings::Pace;
 use crate::turn::{Flow, Turn};
 use crate::work_loop::{WorkerEnd, work};
+use ea_pool::{EntryHeap, LeastHeap};
 use ea_road::{Known, TravelTimes};
 use rand_core::Rng;
 use std::alloc::Global;
@@ -20,27 +21,28 @@ use std::{mem, thread};
 
 /// What a worker needs to start.
 #[derive(Drop)]
-pub struct Ready<K: Known, R, F> {
-    pub means: Means<K, R>,
+pub struct Ready<K: Known, R, F, E: EntryHeap = LeastHeap<Global>> {
+    pub means: Means<K, R, E>,
     pub tracer: F,
 }
 
 /// The place of a worker in the row.
 #[derive(Drop)]
-pub enum Place<K: Known, R, F> {
-    Ready(Ready<K, R, F>),
+pub enum Place<K: Known, R, F, E: EntryHeap = LeastHeap<Global>> {
+    Ready(Ready<K, R, F, E>),
     Running,
-    Done(WorkerEnd<K, R, F>),
+    Done(WorkerEnd<K, R, F, E>),
 }
 
 /// Runs the worker of a place.
 pub fn run_place<
     K: Known + Posed,
+    E: EntryHeap,
     T: TravelTimes,
     R: Rng + Drop,
     G: Gate,
     F: FnMut(Turn) -> Flow + Drop,
->(ground: &Ground<'_, K, T>, worker: u32, pace: Pace, gate: &G, place: &mut Place<K, R, F>)
+>(ground: &Ground<'_, K, T, E>, worker: u32, pace: Pace, gate: &G, place: &mut Place<K, R, F, E>)
     requires ground { IsGround K.is_known K.problem T.answers T.classes ground.now }
     requires ready { IsReady (tables_of ground.now) F.IsAlwaysCallable place.old }
     requires pace { IsPace pace }
@@ -56,18 +58,19 @@ pub fn run_place<
 pub fn run_workers<
     H: Threads + Sync,
     K: Known + Posed,
+    E: EntryHeap + Send + Sync,
     T: TravelTimes + Sync,
     R: Rng + Send + Drop,
     G: Gate,
     F: FnMut(Turn) -> Flow + Send + Drop,
->(rt: &H, ground: &Ground<'_, K, T>, pace: Pace, gate: &G, row: &mut [Place<K, R, F>])
+>(rt: &H, ground: &Ground<'_, K, T, E>, pace: Pace, gate: &G, row: &mut [Place<K, R, F, E>])
     requires ground { IsGround K.is_known K.problem T.answers T.classes ground.now }
     requires ready { IsReadyRow (tables_of ground.now) F.IsAlwaysCallable row.old }
     requires few { length row.old ≤ MOST_WORKERS }
     requires pace { IsPace pace }
     ensures run { IsRunRow K.problem (tables_of ground.now) R.stream F.step pace row.old row.new }
 {
-    let run_one = |start: usize, part: &mut [Place<K, R, F>]|
+    let run_one = |start: usize, part: &mut [Place<K, R, F, E>]|
         requires { (length part.now ≡ 1) × (start < 2 ^ 32) × IsPace pace
             × IsGround K.is_known K.problem T.answers T.classes ground.now
             × AllFrom (λ _ place. IsReady (tables_of ground.now) F.IsAlwaysCallable place) start part.now }

@@ -15,6 +15,7 @@ use crate::ran::Ran;
 use crate::turn::{Flow, Turn};
 use crate::workers::{Begun, run};
 use ea_finish::{Finished, finish_in_order};
+use ea_pool::{Buckets, LeastHeap, OpenHeap};
 use ea_road::{Known, Network, Query, TravelTimes};
 use rand_core::Rng;
 use std::alloc::{AllocError, Global};
@@ -27,8 +28,50 @@ pub struct Ended<R, F> {
     pub ran: Ran<R, F>,
 }
 
-/// Runs the workers and the finishing pass, with the arrays for walks where these are asked for. What is open then is
-/// finished in about the order of labels.
+/// Runs the workers with heaps of a kind and the finishing pass, with the arrays for walks where these are asked for. What is
+/// open then is finished in about the order of labels.
+fn run_with<
+    K: Known + Posed,
+    E: OpenHeap<Global> + Send + Sync,
+    H: Threads + Sync,
+    T: TravelTimes + Sync,
+    R: Rng + Send + Drop,
+    G: Gate,
+    F: FnMut(Turn) -> Flow + Send + Drop,
+>(
+    alloc: Global,
+    rt: &H,
+    network: &Network,
+    times: &T,
+    query: &Query,
+    crew: Crew<R, G, F>,
+    walks: bool,
+) -> Result<Ended<R, F>, AllocError>
+    requires problem { IsProblem network.now (T.classes times.now) query.now }
+    requires named { IsNamed K.is_known K.problem network.now (T.answers times.now) query.now }
+    requires crew { IsCrew F.IsAlwaysCallable crew }
+    ensures finished { IfOk result (λ ended. IsFinished network.now (T.answers times.now) query.now
+        ended.finished.table.items ended.finished.todo) }
+    ensures walks { IfOk result (λ ended. ended.finished.todo.walks ≡ walks) }
+    ensures run { IfOk result (λ ended.
+        IsRunOf R.stream F.step query.now.sources crew.entry ended.ran) }
+{
+    times_are_fifo(times);
+    let width = network.mean_weight() / 2;
+    let arrays = Arrays::<K, R, F, E>::reserve(
+        alloc,
+        network.nodes(),
+        width,
+        crew.settings,
+        walks,
+    )?;
+    let Begun { table, todo, ran } = run(rt, network, times, query, arrays, crew);
+    let finished = finish_in_order(alloc, network, times, query, table, todo);
+    Ok(Ended { finished, ran })
+}
+
+/// Runs the workers and the finishing pass. Where entries are taken one at a time, heaps give the least entry first; batches
+/// are taken from buckets of times, whose windows are as wide as half an arc's weight.
 pub fn run_named<
     K: Known + Posed,
     H: Threads + Sync,
@@ -54,9 +97,10 @@ pub fn run_named<
     ensures run { IfOk result (λ ended.
         IsRunOf R.stream F.step query.now.sources crew.entry ended.ran) }
 {
-    times_are_fifo(times);
-    let arrays = Arrays::<K, R, F>::reserve(alloc, network.nodes(), crew.settings, walks)?;
-    let Begun { table, todo, ran } = run(rt, network, times, query, arrays, crew);
-    let finished = finish_in_order(alloc, network, times, query, table, todo);
-    Ok(Ended { finished, ran })
+    if crew.settings.batch == 1 {
+        return run_with::<K, LeastHeap<Global>, H, T, R, G, F>(
+            alloc, rt, network, times, query, crew, walks,
+        );
+    }
+    run_with::<K, Buckets<Global>, H, T, R, G, F>(alloc, rt, network, times, query, crew, walks)
 }

@@ -14,7 +14,7 @@ use crate::means::Means;
 use crate::problem::Posed;
 use crate::pushing::push_fresh;
 use ea_labels::Offered;
-use ea_pool::{Batch, Entry};
+use ea_pool::{Batch, Entry, EntryHeap};
 use ea_road::{Arc, HORIZON, Known, Leaving, TravelTimes};
 use rand_core::Rng;
 use std::alloc::Global;
@@ -40,9 +40,9 @@ pub struct ScanEnd {
 }
 
 /// Follows one arc from a popped entry. Where it lowers the head and a batch is fresh then, it is pushed.
-pub fn follow<K: Known + Posed, T: TravelTimes, R: Rng>(
-    ground: &Ground<'_, K, T>,
-    means: &mut Means<K, R>,
+pub fn follow<K: Known + Posed, E: EntryHeap, T: TravelTimes, R: Rng>(
+    ground: &Ground<'_, K, T, E>,
+    means: &mut Means<K, R, E>,
     fresh: &mut Batch,
     batch: usize,
     entry: Entry,
@@ -92,9 +92,9 @@ pub fn follow<K: Known + Posed, T: TravelTimes, R: Rng>(
 }
 
 /// Scans a popped entry: follows each arc from its node, until the pool refuses a push.
-pub fn scan_entry<K: Known + Posed, T: TravelTimes, R: Rng>(
-    ground: &Ground<'_, K, T>,
-    means: &mut Means<K, R>,
+pub fn scan_entry<K: Known + Posed, E: EntryHeap, T: TravelTimes, R: Rng>(
+    ground: &Ground<'_, K, T, E>,
+    means: &mut Means<K, R, E>,
     fresh: &mut Batch,
     batch: usize,
     entry: Entry,

@@ -9,17 +9,17 @@ ghost use Rattle.ea_engine.specs.Splits.{HasGiven};
 use crate::means::{Means, Seats};
 use crate::row::{Place, Ready};
 use ea_labels::Labels;
-use ea_pool::Pool;
+use ea_pool::{EntryHeap, Pool};
 use ea_road::Known;
 use std::alloc::Global;
 
 /// Splits off seats of one share each for so many workers.
-pub fn split_seats<K: Known>(
+pub fn split_seats<K: Known, E: EntryHeap>(
     labels: &Labels<K>,
-    pool: &Pool<K>,
-    seats: &mut Seats<K>,
+    pool: &Pool<K, Global, E>,
+    seats: &mut Seats<K, E>,
     count: usize,
-    others: &mut Vec<Seats<K>>,
+    others: &mut Vec<Seats<K, E>>,
 )
     requires fit { AreSeatsOf (tables labels.now pool.now) seats.old.label_seat seats.old.pool_seat }
     requires label_shares { count < seats.old.label_seat.history.shares }
@@ -42,11 +42,11 @@ pub fn split_seats<K: Known>(
 }
 
 /// Makes the row: each worker with its seats, its generator and its tracer.
-pub fn seat_row<K: Known, R: Drop, F: Drop>(
-    seats: Vec<Seats<K>>,
+pub fn seat_row<K: Known, E: EntryHeap, R: Drop, F: Drop>(
+    seats: Vec<Seats<K, E>>,
     rngs: Vec<R>,
     tracers: Vec<F>,
-    row: &mut Vec<Place<K, R, F>>,
+    row: &mut Vec<Place<K, R, F, E>>,
 )
     requires none { row.old.items ≡ [] }
     requires room { vec_len rngs ≤ vec_capacity row.old }
@@ -69,7 +69,11 @@ pub fn seat_row<K: Known, R: Drop, F: Drop>(
 }
 
 /// The place of a worker that may start.
-fn ready_place<K: Known, R, F>(seats: Seats<K>, rng: R, tracer: F) -> Place<K, R, F>
+fn ready_place<K: Known, E: EntryHeap, R, F>(
+    seats: Seats<K, E>,
+    rng: R,
+    tracer: F,
+) -> Place<K, R, F, E>
     ensures { IsSeated seats rng tracer result }
 {
     let Seats {

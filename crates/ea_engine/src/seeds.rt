@@ -14,7 +14,7 @@ use crate::means::Seats;
 use crate::problem::Posed;
 use ea_finish::Open;
 use ea_labels::Offered;
-use ea_pool::Entry;
+use ea_pool::{Entry, EntryHeap};
 use ea_road::{Known, Source, TravelTimes};
 use std::alloc::Global;
 
@@ -37,9 +37,9 @@ pub struct Seeds {
 }
 
 /// Offers a source, and pushes its entry where its label was lowered. An entry that is handed back waits.
-pub fn seed<K: Known + Posed, T: TravelTimes>(
-    ground: &Ground<'_, K, T>,
-    seats: &mut Seats<K>,
+pub fn seed<K: Known + Posed, E: EntryHeap, T: TravelTimes>(
+    ground: &Ground<'_, K, T, E>,
+    seats: &mut Seats<K, E>,
     todo: &mut Open,
     word: u64,
     source: Source,
@@ -85,9 +85,9 @@ pub fn seed<K: Known + Posed, T: TravelTimes>(
 
 /// Offers all sources in their order. The entries of those whose labels are lowered are pushed with the words 0, 1, 2, ..
 /// in turn.
-pub fn seed_all<K: Known + Posed, T: TravelTimes>(
-    ground: &Ground<'_, K, T>,
-    seats: &mut Seats<K>,
+pub fn seed_all<K: Known + Posed, E: EntryHeap, T: TravelTimes>(
+    ground: &Ground<'_, K, T, E>,
+    seats: &mut Seats<K, E>,
     todo: &mut Open,
 ) -> Seeds
     requires ground { IsGround K.is_known K.problem T.answers T.classes ground.now }

@@ -20,7 +20,7 @@ use crate::problem::Posed;
 use crate::scan::scan_entry;
 use crate::turn::{Flow, Turn, TurnEnd, TurnKind};
 use ea_labels::{LabelSeat, Labels};
-use ea_pool::{Batch, Entry};
+use ea_pool::{Batch, Entry, EntryHeap};
 use ea_road::{Known, TravelTimes};
 use rand_core::Rng;
 use std::alloc::Global;
@@ -121,10 +121,10 @@ fn visited_turn(number: u64, kind: TurnKind, entry: Entry) -> TurnEnd
 
 /// Reads the label of a popped entry, and scans the entry if the label isn't below its key and its key isn't above the
 /// target's label.
-pub fn visit<K: Known + Posed, T: TravelTimes, R: Rng>(
-    ground: &Ground<'_, K, T>,
+pub fn visit<K: Known + Posed, E: EntryHeap, T: TravelTimes, R: Rng>(
+    ground: &Ground<'_, K, T, E>,
     target: Option<u32>,
-    means: &mut Means<K, R>,
+    means: &mut Means<K, R, E>,
     fresh: &mut Batch,
     batch: usize,
     number: u64,

@@ -22,7 +22,7 @@ use crate::problem::Posed;
 use crate::pushing::push_fresh;
 use crate::step::{idle_turn, visit};
 use crate::turn::{Lists, TurnEnd, TurnKind};
-use ea_pool::{Batch, Pool, PoolSeat, PoppedSome};
+use ea_pool::{Batch, EntryHeap, Pool, PoolSeat, PoppedSome};
 use ea_road::{Known, TravelTimes};
 use rand_core::Rng;
 use std::alloc::Global;
@@ -41,9 +41,9 @@ impl Lists {
 }
 
 // Draws two words and pops by them, so many entries at most. The least one stands last then.
-fn pop_drawn<K: Known, R: Rng>(
-    pool: &Pool<K>,
-    pool_seat: &mut PoolSeat<K>,
+fn pop_drawn<K: Known, E: EntryHeap, R: Rng>(
+    pool: &Pool<K, Global, E>,
+    pool_seat: &mut PoolSeat<K, Global, E>,
     rng: &mut R,
     most: usize,
     taken: &mut Batch,
@@ -53,7 +53,7 @@ fn pop_drawn<K: Known, R: Rng>(
     requires most { (0 < most) × (most ≤ MOST_BATCH) }
     ensures pool_seat { IsSeatOf pool.now pool_seat.new }
     ensures popped { MatchSome result
-        (Took K.is_known (heaps_of pool.now) most taken.new.items
+        (Took K.is_known E.kind (heaps_of pool.now) most taken.new.items
         (account_of pool_seat.old) (account_of pool_seat.new))
         (SameBooks (account_of pool_seat.old) (account_of pool_seat.new) × (taken.new.items ≡ []))
         (SameBooks (account_of pool_seat.old) (account_of pool_seat.new) × (taken.new.items ≡ [])) }
@@ -75,10 +75,10 @@ fn pop_drawn<K: Known, R: Rng>(
 }
 
 // Visits the least of the taken entries.
-fn visit_taken<K: Known + Posed, T: TravelTimes, R: Rng>(
-    ground: &Ground<'_, K, T>,
+fn visit_taken<K: Known + Posed, E: EntryHeap, T: TravelTimes, R: Rng>(
+    ground: &Ground<'_, K, T, E>,
     target: Option<u32>,
-    means: &mut Means<K, R>,
+    means: &mut Means<K, R, E>,
     lists: &mut Lists,
     batch: usize,
     number: u64,
@@ -110,10 +110,10 @@ fn visit_taken<K: Known + Posed, T: TravelTimes, R: Rng>(
 }
 
 // Pops entries and visits the least of them.
-fn pop_and_visit<K: Known + Posed, T: TravelTimes, R: Rng>(
-    ground: &Ground<'_, K, T>,
+fn pop_and_visit<K: Known + Posed, E: EntryHeap, T: TravelTimes, R: Rng>(
+    ground: &Ground<'_, K, T, E>,
     target: Option<u32>,
-    means: &mut Means<K, R>,
+    means: &mut Means<K, R, E>,
     lists: &mut Lists,
     batch: usize,
     number: u64,
@@ -127,7 +127,7 @@ fn pop_and_visit<K: Known + Posed, T: TravelTimes, R: Rng>(
     ensures seats { AreSeatsOf (tables_of ground.now) means.new.label_seat means.new.pool_seat }
     ensures taken { AreKnown K.is_known lists.new.taken.items }
     ensures fresh { AreKnown K.is_known lists.new.fresh.items }
-    ensures turn { IsTurn K.problem batch (tables_of ground.now).pool.heaps
+    ensures turn { IsTurn K.problem E.kind batch (tables_of ground.now).pool.heaps
         (kit_with R.stream means.old lists.old) (kit_with R.stream means.new lists.new) number result }
     ensures pushes { result.pushes ≤ result.turn.lowered }
     ensures saw { SawAs result.turn.kind
@@ -153,10 +153,10 @@ fn pop_and_visit<K: Known + Posed, T: TravelTimes, R: Rng>(
 }
 
 // Visits the least entry that is taken, after a pop where none is.
-fn visit_next<K: Known + Posed, T: TravelTimes, R: Rng>(
-    ground: &Ground<'_, K, T>,
+fn visit_next<K: Known + Posed, E: EntryHeap, T: TravelTimes, R: Rng>(
+    ground: &Ground<'_, K, T, E>,
     target: Option<u32>,
-    means: &mut Means<K, R>,
+    means: &mut Means<K, R, E>,
     lists: &mut Lists,
     batch: usize,
     number: u64,
@@ -170,7 +170,7 @@ fn visit_next<K: Known + Posed, T: TravelTimes, R: Rng>(
     ensures seats { AreSeatsOf (tables_of ground.now) means.new.label_seat means.new.pool_seat }
     ensures taken { AreKnown K.is_known lists.new.taken.items }
     ensures fresh { AreKnown K.is_known lists.new.fresh.items }
-    ensures turn { IsTurn K.problem batch (tables_of ground.now).pool.heaps
+    ensures turn { IsTurn K.problem E.kind batch (tables_of ground.now).pool.heaps
         (kit_with R.stream means.old lists.old) (kit_with R.stream means.new lists.new) number result }
     ensures pushes { result.pushes ≤ result.turn.lowered }
 {
@@ -189,10 +189,10 @@ fn is_due(kind: TurnKind, lists: &Lists) -> bool
 
 /// One turn of a worker with batches of so many entries. Where no entry is taken at its end, the fresh ones are pushed,
 /// unless a push was refused before.
-pub fn take_turn<K: Known + Posed, T: TravelTimes, R: Rng>(
-    ground: &Ground<'_, K, T>,
+pub fn take_turn<K: Known + Posed, E: EntryHeap, T: TravelTimes, R: Rng>(
+    ground: &Ground<'_, K, T, E>,
     target: Option<u32>,
-    means: &mut Means<K, R>,
+    means: &mut Means<K, R, E>,
     lists: &mut Lists,
     batch: usize,
     number: u64,
@@ -206,7 +206,7 @@ pub fn take_turn<K: Known + Posed, T: TravelTimes, R: Rng>(
     ensures seats { AreSeatsOf (tables_of ground.now) means.new.label_seat means.new.pool_seat }
     ensures taken { AreKnown K.is_known lists.new.taken.items }
     ensures fresh { AreKnown K.is_known lists.new.fresh.items }
-    ensures turn { IsTurn K.problem batch (tables_of ground.now).pool.heaps
+    ensures turn { IsTurn K.problem E.kind batch (tables_of ground.now).pool.heaps
         (kit_with R.stream means.old lists.old) (kit_with R.stream means.new lists.new) number result }
     ensures pushes { result.pushes ≤ result.turn.lowered + 1 }
 {

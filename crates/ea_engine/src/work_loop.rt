@@ -15,7 +15,7 @@ use crate::settings::Pace;
 use crate::taking::take_turn;
 use crate::turn::{Flow, Hand, Lists, Turn, TurnKind};
 use ea_labels::LabelSeat;
-use ea_pool::PoolSeat;
+use ea_pool::{EntryHeap, LeastHeap, PoolSeat};
 use ea_road::{Known, TravelTimes};
 use rand_core::Rng;
 use std::alloc::Global;
@@ -23,11 +23,11 @@ use std::hint;
 
 /// What a worker leaves.
 #[derive(Drop)]
-pub struct WorkerEnd<K: Known, R, F> {
+pub struct WorkerEnd<K: Known, R, F, E: EntryHeap = LeastHeap<Global>> {
     /// Its seat of the label table.
     pub label_seat: LabelSeat<K>,
     /// Its seat of the pool.
-    pub pool_seat: PoolSeat<K>,
+    pub pool_seat: PoolSeat<K, Global, E>,
     /// The entries that it hands back.
     pub hand: Hand,
     /// What it counted.
@@ -63,14 +63,21 @@ fn pause(idle: u32) {
 }
 
 /// Runs a worker: its turns, until one ends it, its pace has no more, or so many in a row found nothing as it has patience. Workers count from 0.
-pub fn work<K: Known + Posed, T: TravelTimes, R: Rng, G: Gate, F: FnMut(Turn) -> Flow>(
-    ground: &Ground<'_, K, T>,
-    mut means: Means<K, R>,
+pub fn work<
+    K: Known + Posed,
+    E: EntryHeap,
+    T: TravelTimes,
+    R: Rng,
+    G: Gate,
+    F: FnMut(Turn) -> Flow,
+>(
+    ground: &Ground<'_, K, T, E>,
+    mut means: Means<K, R, E>,
     worker: u32,
     pace: Pace,
     gate: &G,
     mut tracer: F,
-) -> WorkerEnd<K, R, F>
+) -> WorkerEnd<K, R, F, E>
     requires ground { IsGround K.is_known K.problem T.answers T.classes ground.now }
     requires seats { AreSeatsOf (tables_of ground.now) means.label_seat means.pool_seat }
     requires tracer { F.IsAlwaysCallable tracer }

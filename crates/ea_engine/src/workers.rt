@@ -27,20 +27,21 @@ use crate::seeds::seed_all;
 use crate::turn::{Flow, Turn};
 use ea_finish::Open;
 use ea_labels::Labels;
-use ea_pool::Pool;
+use ea_pool::{EntryHeap, Pool};
 use ea_road::{Known, Network, Query, TravelTimes};
 use rand_core::Rng;
+use std::alloc::Global;
 use std::thread::Threads;
 
 /// Seats the workers: the first one gets the seats that the seeds used, each other one a share of both.
-pub fn seat_workers<K: Known + Posed, R: Drop, F: Drop>(
+pub fn seat_workers<K: Known + Posed, E: EntryHeap + Send + Sync, R: Drop, F: Drop>(
     labels: &Labels<K>,
-    pool: &Pool<K>,
-    mut seats: Seats<K>,
-    mut others: Vec<Seats<K>>,
+    pool: &Pool<K, Global, E>,
+    mut seats: Seats<K, E>,
+    mut others: Vec<Seats<K, E>>,
     rngs: Vec<R>,
     tracers: Vec<F>,
-    row: &mut Vec<Place<K, R, F>>,
+    row: &mut Vec<Place<K, R, F, E>>,
 )
     requires fit { AreSeatsOf (tables labels.now pool.now) seats.label_seat seats.pool_seat }
     requires label_shares { seats.label_seat.history.shares ≡ LABEL_SHARES }
@@ -60,7 +61,7 @@ pub fn seat_workers<K: Known + Posed, R: Drop, F: Drop>(
 }
 
 /// Puts a pair of seats before the others, for which there is room.
-fn put_first<K: Known>(seats: &mut Vec<Seats<K>>, first: Seats<K>)
+fn put_first<K: Known, E: EntryHeap>(seats: &mut Vec<Seats<K, E>>, first: Seats<K, E>)
     requires room { vec_len seats.old < vec_capacity seats.old }
     ensures first { seats.new.items ≡ first ∷ seats.old.items }
 {
@@ -82,6 +83,7 @@ pub struct Begun<R, F> {
 pub fn run<
     H: Threads + Sync,
     K: Known + Posed,
+    E: EntryHeap + Send + Sync,
     T: TravelTimes + Sync,
     R: Rng + Send + Drop,
     G: Gate,
@@ -91,7 +93,7 @@ pub fn run<
     network: &Network,
     times: &T,
     query: &Query,
-    arrays: Arrays<K, R, F>,
+    arrays: Arrays<K, R, F, E>,
     crew: Crew<R, G, F>,
 ) -> Begun<R, F>
     requires problem { IsProblem network.now (T.classes times.now) query.now }

@@ -9,6 +9,7 @@ ghost use Rattle.ea_pool.specs.Tries.{LookedAt, WasBusy, MissedHeap, Missed, Too
 use crate::SHARES;
 use crate::draws::{draw_try, pick};
 use crate::entry::Entry;
+use crate::entry_heap::EntryHeap;
 use crate::least::LeastHeap;
 use crate::pool::Pool;
 use crate::reply::{Popped, PushRefused};
@@ -17,11 +18,11 @@ use crate::words::{EMPTY, OUT};
 use ea_road::Known;
 use std::alloc::Allocator;
 
-impl<K: Known, A: Allocator> Pool<K, A> {
+impl<K: Known, A: Allocator, H: EntryHeap> Pool<K, A, H> {
     // Pushes to one heap, if it is at home.
     pub(crate) fn push_at(
         &self,
-        seat: &mut Seat<LeastHeap<A>>,
+        seat: &mut Seat<H>,
         heap: usize,
         entry: Entry,
     ) -> Result<(), PushRefused>
@@ -34,7 +35,7 @@ impl<K: Known, A: Allocator> Pool<K, A> {
         ensures refused { IfErr result (λ refused.
             (handed_back refused ≡ entry) × SameBooks (books seat.old.me.0) (books seat.new.me.0)) }
         ensures missed { OnBusy result (MissedHeap heap seat.old.me.0.seen seat.new.me.0.seen) }
-        ensures took { UnlessBusy result (TookThere Least heap seat.old.me.0.seen seat.new.me.0.last_take) }
+        ensures took { UnlessBusy result (TookThere H.kind heap seat.old.me.0.seen seat.new.me.0.last_take) }
         ensures alone { seat.old.me.0.shares ≡ SHARES
             → IfErr result (λ refused. is_busy refused ≡ false) }
     {
@@ -54,6 +55,40 @@ impl<K: Known, A: Allocator> Pool<K, A> {
         }
     }
 
+    // Tries each heap twice, in turn, from the one that the word picks on.
+    pub(crate) fn push_from(
+        &self,
+        seat: &mut Seat<H>,
+        word: u64,
+        entry: Entry,
+    ) -> Result<(), PushRefused>
+        requires table { seat.old.table_id ≡ self.now.table }
+        requires rests { Rests seat.old.me }
+        requires known { K.is_known entry.node entry.key }
+        ensures table { seat.new.table_id ≡ seat.old.table_id }
+        ensures rests { Rests seat.new.me }
+        ensures pushed { OnOk result (Pushes (books seat.old.me.0) entry (books seat.new.me.0)) }
+        ensures refused { IfErr result (λ refused.
+            (handed_back refused ≡ entry) × SameBooks (books seat.old.me.0) (books seat.new.me.0)) }
+        ensures missed { OnBusy result
+            (Missed self.now.heaps word (2 * self.now.heaps) seat.old.me.0.seen seat.new.me.0.seen) }
+        ensures took { UnlessBusy result
+            (TookAtTry H.kind self.now.heaps word seat.old.me.0.seen seat.new.me.0.last_take) }
+        ensures alone { seat.old.me.0.shares ≡ SHARES
+            → IfErr result (λ refused. is_busy refused ≡ false) }
+    {
+        for attempt in 0..2 * self.heaps {
+            let heap = draw_try(self.heaps, word, attempt);
+            match self.push_at(seat, heap, entry) {
+                Err(PushRefused::Busy(_)) => {}
+                answer => return answer,
+            }
+        }
+        Err(PushRefused::Busy(entry))
+    }
+}
+
+impl<K: Known, A: Allocator> Pool<K, A> {
     // Pops from one heap that has an entry, if its word is still what was seen.
     pub(crate) fn pop_at(&self, seat: &mut Seat<LeastHeap<A>>, heap: usize, seen: u64) -> Popped
         requires table { (seat.old.table_id ≡ self.now.table) × (heap < self.now.heaps) }
@@ -83,38 +118,6 @@ impl<K: Known, A: Allocator> Pool<K, A> {
             }
             (None, _) => unreachable!(),
         }
-    }
-
-    // Tries each heap twice, in turn, from the one that the word picks on.
-    pub(crate) fn push_from(
-        &self,
-        seat: &mut Seat<LeastHeap<A>>,
-        word: u64,
-        entry: Entry,
-    ) -> Result<(), PushRefused>
-        requires table { seat.old.table_id ≡ self.now.table }
-        requires rests { Rests seat.old.me }
-        requires known { K.is_known entry.node entry.key }
-        ensures table { seat.new.table_id ≡ seat.old.table_id }
-        ensures rests { Rests seat.new.me }
-        ensures pushed { OnOk result (Pushes (books seat.old.me.0) entry (books seat.new.me.0)) }
-        ensures refused { IfErr result (λ refused.
-            (handed_back refused ≡ entry) × SameBooks (books seat.old.me.0) (books seat.new.me.0)) }
-        ensures missed { OnBusy result
-            (Missed self.now.heaps word (2 * self.now.heaps) seat.old.me.0.seen seat.new.me.0.seen) }
-        ensures took { UnlessBusy result
-            (TookAtTry Least self.now.heaps word seat.old.me.0.seen seat.new.me.0.last_take) }
-        ensures alone { seat.old.me.0.shares ≡ SHARES
-            → IfErr result (λ refused. is_busy refused ≡ false) }
-    {
-        for attempt in 0..2 * self.heaps {
-            let heap = draw_try(self.heaps, word, attempt);
-            match self.push_at(seat, heap, entry) {
-                Err(PushRefused::Busy(_)) => {}
-                answer => return answer,
-            }
-        }
-        Err(PushRefused::Busy(entry))
     }
 
     // Looks at heap i and then at heap j, and pops from the one with the lesser word.

@@ -21,34 +21,6 @@ use std::alloc::Allocator;
 use std::marker::PhantomData;
 
 impl<K: Known, A: Allocator> Pool<K, A> {
-    /// Pushes to the first heap that it can take, of each heap twice in turn from `word mod H` on.
-    /// The entry has to be known, so its key is at most HORIZON.
-    /// After `Busy` and `OutOfMemory` the pool's entries are as if the call had not been made, and the
-    /// same entry comes back.
-    pub fn push_as(
-        &self,
-        seat: &mut PoolSeat<K, A>,
-        word: u64,
-        entry: Entry,
-    ) -> Result<(), PushRefused>
-        requires seat { IsSeatOf self.now seat.old }
-        requires known { K.is_known entry.node entry.key }
-        ensures seat { IsSeatOf self.now seat.new }
-        ensures pushed { OnOk result (Pushes (account_of seat.old) entry (account_of seat.new)) }
-        ensures refused { IfErr result (λ refused.
-            (handed_back refused ≡ entry) × SameBooks (account_of seat.old) (account_of seat.new)) }
-        // Each of the 2H tries, in turn, found its heap out or failed to take it.
-        ensures missed { OnBusy result
-            (Missed (heaps_of self.now) word (2 * heaps_of self.now) seat.old.seen seat.new.seen) }
-        // After others that missed, one of the tries took its heap: there the entry went in, or memory was refused.
-        ensures took { UnlessBusy result
-            (TookAtTry Least (heaps_of self.now) word seat.old.seen seat.new.last_take) }
-        ensures alone { (account_of seat.old).shares ≡ SHARES
-            → IfErr result (λ refused. is_busy refused ≡ false) }
-    {
-        self.push_from(&mut seat.seat, word, entry)
-    }
-
     /// Looks at the two heaps that the words pick, and pops the least entry of the one with the smaller
     /// least key; of two with equal keys, of the lower number. `Empty` where both had no entry, and
     /// `Busy` where one was out or was taken meanwhile: then nothing has changed.
@@ -82,6 +54,34 @@ impl<K: Known, A: Allocator> Pool<K, A> {
 }
 
 impl<K: Known, A: Allocator, H: EntryHeap> Pool<K, A, H> {
+    /// Pushes to the first heap that it can take, of each heap twice in turn from `word mod H` on.
+    /// The entry has to be known, so its key is at most HORIZON.
+    /// After `Busy` and `OutOfMemory` the pool's entries are as if the call had not been made, and the
+    /// same entry comes back.
+    pub fn push_as(
+        &self,
+        seat: &mut PoolSeat<K, A, H>,
+        word: u64,
+        entry: Entry,
+    ) -> Result<(), PushRefused>
+        requires seat { IsSeatOf self.now seat.old }
+        requires known { K.is_known entry.node entry.key }
+        ensures seat { IsSeatOf self.now seat.new }
+        ensures pushed { OnOk result (Pushes (account_of seat.old) entry (account_of seat.new)) }
+        ensures refused { IfErr result (λ refused.
+            (handed_back refused ≡ entry) × SameBooks (account_of seat.old) (account_of seat.new)) }
+        // Each of the 2H tries, in turn, found its heap out or failed to take it.
+        ensures missed { OnBusy result
+            (Missed (heaps_of self.now) word (2 * heaps_of self.now) seat.old.seen seat.new.seen) }
+        // After others that missed, one of the tries took its heap: there the entry went in, or memory was refused.
+        ensures took { UnlessBusy result
+            (TookAtTry H.kind (heaps_of self.now) word seat.old.seen seat.new.last_take) }
+        ensures alone { (account_of seat.old).shares ≡ SHARES
+            → IfErr result (λ refused. is_busy refused ≡ false) }
+    {
+        self.push_from(&mut seat.seat, word, entry)
+    }
+
     /// Moves one share to a new seat, which has pushed and popped nothing. The seat needs at least two.
     pub fn split(&self, seat: &mut PoolSeat<K, A, H>) -> PoolSeat<K, A, H>
         requires seat { IsSeatOf self.now seat.old }

@@ -5,7 +5,7 @@ use Rattle.ea_lists.specs.Totals.{total}
 use Rattle.ea_engine.proofs.drained.drain.Given as goal
 
 abbrev pub invariant-loop-entry : goal.invariant-loop-entry
-invariant-loop-entry l = record {
+invariant-loop-entry g l = record {
   left : (entry : Entry) → Contains l.closed entry → Contains l.fn.closed entry;
   done : (entry : Entry) → Contains l.fn.closed entry → Contains l.closed entry ⊎ Contains l.todo.waiting entry.node;
   kept : (node : ℕ) → Contains l.fn.todo.waiting node → Contains l.todo.waiting node;
@@ -17,4 +17,4 @@ invariant-loop-entry l = record {
 }
 
 abbrev pub decreases-loop-entry : goal.decreases-loop-entry
-decreases-loop-entry l = total (λ _. 1) l.closed
+decreases-loop-entry g l = total (λ _. 1) l.closed

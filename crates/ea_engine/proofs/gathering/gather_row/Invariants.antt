@@ -11,7 +11,7 @@ abbrev pub invariant-loop-place : goal.invariant-loop-place
 invariant-loop-place g l = record {
   can_next : (goal.iterator-loop-place g).can_next l.place-iterator;
   is_finite : (goal.iterator-loop-place g).is_finite l.place-iterator;
-  ends : List (WorkerEnd _ _ _);
+  ends : List (WorkerEnd _ _ _ _);
   gathered : AreGathered g.K.Posed.problem (tables l.labels l.pool) l.fn.seeds.seeded l.fn.seeds.returned ends l.gathering;
   row_is : l.fn.row.items ≡ all_done ends ++ into_iter_items l.place-iterator;
   rest : All (IsEndPlace g.K.Posed.problem (tables l.labels l.pool)) (into_iter_items l.place-iterator);

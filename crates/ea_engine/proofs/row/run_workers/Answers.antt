@@ -15,9 +15,11 @@ for_each_chunk_mut-requires-clause-accepts g c = λ κs outlives start p chunk.
       ),
       (
         record { owned = c.type_bounds.send-K.owned; leaving = λ k. Quiet-if (k (of_param 0)) _ _ (λ x w. tt) (λ x w. tt) },
-        record { owned = c.type_bounds.send-R.owned; leaving = λ k. Quiet-if (k (of_param 2)) _ _ (λ x w. tt) (λ x w. tt) },
-        record { owned = c.type_bounds.send-F.owned; leaving = λ k. Quiet-if (k (of_param 4)) _ _ (λ x w. tt) (λ x w. tt) },
+        record { owned = c.type_bounds.send-E.owned; leaving = λ k. Quiet-if (k (of_param 1)) _ _ (λ x w. tt) (λ x w. tt) },
+        record { owned = c.type_bounds.send-R.owned; leaving = λ k. Quiet-if (k (of_param 3)) _ _ (λ x w. tt) (λ x w. tt) },
+        record { owned = c.type_bounds.send-F.owned; leaving = λ k. Quiet-if (k (of_param 5)) _ _ (λ x w. tt) (λ x w. tt) },
         record { shared = c.type_bounds.sync-K.shared },
+        record { shared = c.type_bounds.sync-E.shared },
         record { shared = c.type_bounds.sync-T.shared },
         record { shared = c.type_bounds.sync-G.shared },
       ),

@@ -9,7 +9,7 @@ abbrev pub invariant-loop-rng : goal.invariant-loop-rng
 invariant-loop-rng g l = record {
   can_next : (goal.iterator-loop-rng g).can_next l.rng-iterator;
   is_finite : (goal.iterator-loop-rng g).is_finite l.rng-iterator;
-  ss : List (Seats g.row.K.Denot);
+  ss : List (Seats g.row.K.Denot g.row.E.Denot);
   rs : List g.row.R.Denot;
   ts : List g.row.F.Denot;
   seats_are : l.fn.seats.items ≡ ss ++ into_iter_items l.seats;

@@ -29,7 +29,7 @@ returns-in-Busy-clause-turn g c =
 pub visit_taken-end-requires-clause-taken : goal.visit_taken-end-requires-clause-taken
 visit_taken-end-requires-clause-taken g c κs outlives =
     let t = c.in-Entries.ensures.popped in
-    (took_some g.K.Known.is_known _ _ _ _ _ t, known_turned g.K.Known.is_known _ t.out t.turned t.known_all)
+    (took_some g.K.Known.is_known _ _ _ _ _ _ t, known_turned g.K.Known.is_known _ t.out t.turned t.known_all)
 
 pub returns-in-Entries-clause-turn : goal.returns-in-Entries-clause-turn
 returns-in-Entries-clause-turn g c =

@@ -21,5 +21,5 @@ returns-clause-looked g c =
 
 pub returns-clause-popped : goal.returns-clause-popped
 returns-clause-popped g c =
-    took_by _ _ _ _ _ _ _ _ (with_items c.pop_some_as-popped.new.batch c.reverse.new.self) _ _ _ _ c.requires.none c.pop_some_as-popped.ensures.popped
+    took_by _ _ _ _ _ _ _ _ _ (with_items c.pop_some_as-popped.new.batch c.reverse.new.self) _ _ _ _ c.requires.none c.pop_some_as-popped.ensures.popped
     (turned_back c.pop_some_as-popped.new.batch.items c.reverse.new.self (c.reverse.ensures.after ∙ ap reverse c.deref_mut.ensures.value))

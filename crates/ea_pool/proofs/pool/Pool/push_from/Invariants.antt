@@ -2,7 +2,7 @@ use Rattle.std.proofs.Common.{◌≡◌}
 use Rattle.ea_limits.specs.declared.TheConstants.{SHARES}
 use Rattle.ea_pool.specs.Pools.{books, SameBooks, Rests}
 use Rattle.ea_pool.specs.Tries.{Missed}
-use Rattle.ea_pool.proofs.attempts.Pool+K+A.push_from.Given as goal
+use Rattle.ea_pool.proofs.pool.Pool.push_from.Given as goal
 
 -- each attempt so far was refused, and with all shares none is
 abbrev pub invariant-loop-attempt : goal.invariant-loop-attempt
