@@ -1,5 +1,5 @@
 //! A run up to its least arrivals, where the problem and the known pairs are named.
-ghost use Rattle.std.specs.Prelude.{◌≡◌, ℕ, ◌↔◌, IfOk};
+ghost use Rattle.std.specs.Prelude.{◌≡◌, ℕ, ◌↔◌, true, IfOk};
 ghost use Rattle.ea_road.specs.Arrivals.{Reaches};
 ghost use Rattle.ea_road.specs.Queries.{IsProblem};
 ghost use Rattle.ea_finish.specs.Underway.{IsFinished};
@@ -12,6 +12,7 @@ use crate::gate::Gate;
 use crate::law::times_are_fifo;
 use crate::problem::Posed;
 use crate::ran::Ran;
+use crate::settings::Settings;
 use crate::turn::{Flow, Turn};
 use crate::workers::{Begun, run};
 use ea_finish::{Finished, finish_in_order};
@@ -70,8 +71,16 @@ fn run_with<
     Ok(Ended { finished, ran })
 }
 
-/// Runs the workers and the finishing pass. Where entries are taken one at a time, heaps give the least entry first; batches
-/// are taken from buckets of times, whose windows are as wide as half an arc's weight.
+/// Whether heaps are to give their least entry first: where entries are taken one at a time, or by one worker alone.
+fn takes_least(settings: Settings) -> bool
+    ensures one { settings.batch ≡ 1 → result ≡ true }
+    ensures alone { settings.workers ≡ 1 → result ≡ true }
+{
+    settings.batch == 1 || settings.workers == 1
+}
+
+/// Runs the workers and the finishing pass. Where entries are taken one at a time, or by one worker alone, heaps give the least
+/// entry first; several workers take batches from buckets of times, whose windows are as wide as half an arc's weight.
 pub fn run_named<
     K: Known + Posed,
     H: Threads + Sync,
@@ -97,7 +106,7 @@ pub fn run_named<
     ensures run { IfOk result (λ ended.
         IsRunOf R.stream F.step query.now.sources crew.entry ended.ran) }
 {
-    if crew.settings.batch == 1 {
+    if takes_least(crew.settings) {
         return run_with::<K, LeastHeap<Global>, H, T, R, G, F>(
             alloc, rt, network, times, query, crew, walks,
         );
