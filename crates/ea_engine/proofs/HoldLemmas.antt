@@ -1,5 +1,5 @@
 -- What a worker holds is known, and what a push leaves of it.
-use Rattle.std.proofs.Common.{◌≡◌, ℕ, zero, suc, ◌+◌, ◌<◌, ◌≤◌, Bool, true, false, cond, List, [], ◌∷◌, ◌++◌, length, refl, sym, ◌∙◌, ap, subst, arith, Result, Ok, Err, length-append}
+use Rattle.std.proofs.Common.{◌≡◌, ℕ, zero, suc, ◌+◌, ◌<◌, ◌≤◌, Bool, true, false, cond, List, [], ◌∷◌, ◌++◌, length, get_or, refl, sym, ◌∙◌, ap, subst, arith, Result, Ok, Err, length-append}
 use Rattle.std.specs.Prelude.{Contains, reverse}
 use Rattle.std.proofs.lemmas.Bool.Decides.{nat_tests}
 use Rattle.rand_core.specs.Stream.{Stream, next_u64}
@@ -7,6 +7,8 @@ use Rattle.arrayvec.specs.ArrayVec.{ArrayVec, array_vec_len}
 use Rattle.ea_lists.specs.Totals.{total}
 use Rattle.ea_lists.proofs.Totals.{total-append}
 use Rattle.ea_labels.specs.declared.record.SeatRecord.{SeatRecord}
+use Rattle.ea_road.specs.Roads.{Roads, IsNode}
+use Rattle.ea_road.proofs.Lists.{any_default}
 use Rattle.ea_pool.specs.declared.entry.Entry.{Entry}
 use Rattle.ea_pool.specs.declared.account.Account.{Account}
 use Rattle.ea_pool.specs.declared.reply.PushAllRefused.{PushAllRefused}
@@ -46,6 +48,12 @@ module _ (known : ℕ → ℕ → Type 0) where
 
   pub known_inside : (problem : Problem) (es : List Entry) → IsPosed known problem → AreKnown known es → AreInside problem.network es
   known_inside problem es posed all e inside = node_of known problem posed e.node e.key (all e (times-Contains e es inside))
+
+  pub known_at : (problem : Problem) (nodes : ℕ) (es : List Entry) (place : ℕ) (default : Entry) → nodes ≡ problem.network.nodes → IsPosed known problem → AreKnown known es → place < length es
+      → IsNode nodes (get_or es place default).node
+  known_at problem nodes es place default is posed all inside =
+      subst (λ n. IsNode n (get_or es place default).node) (sym is)
+      (known_inside problem es posed all (get_or es place default) (place, inside, any_default es place (get_or es place default) default inside))
 
   -- what a push leaves is known
   pub known_left : (e : PushAllRefused) (before after : ArrayVec Entry) (a b : Account)

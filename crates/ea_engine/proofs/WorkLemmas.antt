@@ -1,5 +1,5 @@
 -- A worker's turns so far: what the loop of `work` keeps.
-use Rattle.std.proofs.Common.{◌≡◌, ℕ, ◌+◌, ◌*◌, ◌^◌, ◌<◌, ◌≤◌, Bool, true, false, ◌||◌, cond, List, [], ◌∷◌, ◌++◌, map, length, get_or, take, refl, sym, ◌∙◌, ap, arith, length-append, append_assoc, zero-add, below_more, subst, None, Some, Option, inl, inr, ◌⊎◌}
+use Rattle.std.proofs.Common.{◌≡◌, ℕ, ◌+◌, ◌*◌, ◌^◌, ◌<◌, ◌≤◌, Bool, true, false, ◌||◌, cond, List, [], ◌∷◌, ◌++◌, map, length, get_or, take, refl, sym, ◌∙◌, ap, arith, length-append, append_assoc, append-nil, zero-add, below_more, subst, None, Some, Option, inl, inr, ◌⊎◌}
 use Rattle.std.specs.Prelude.{Contains, IsSome, IfSome}
 use Rattle.std.specs.Option.{option_to_list}
 use Rattle.std.specs.List.{FoldsTo}
@@ -25,6 +25,8 @@ use Rattle.ea_engine.specs.declared.counters.Counters.{Counters}
 use Rattle.ea_labels.specs.declared.record.Bound.{Bound}
 use Rattle.ea_lists.specs.Totals.{total}
 use Rattle.ea_lists.proofs.Totals.{total-append}
+use Rattle.rand_core.specs.Stream.{Stream}
+use Rattle.ea_labels.specs.declared.record.SeatRecord.{SeatRecord}
 use Rattle.ea_pool.specs.declared.account.Account.{Account}
 use Rattle.ea_limits.specs.declared.TheConstants.{SHARES}
 use Rattle.ea_pool.specs.Entries.{only}
@@ -32,9 +34,10 @@ use Rattle.ea_pool.specs.Kinds.{HeapKind, Least, Buckets}
 use Rattle.ea_pool.specs.Pools.{NothingLeft, IsLeft}
 use Rattle.ea_engine.specs.Turns.{Told, IsShaped, IsShapedAs, IsWorkDone, is_ended, idle_run, ends_worker, is_empty, is_busy, is_idle, is_leave, is_refused, counted, closed_by, CountsTurns, count_kind, lowered_in_all, visited_as, visited_in, visited_in_all, visited_count, IsRoomy}
 use Rattle.ea_engine.specs.Closed.{entry_at, entry_of, IsClosedAs, IsClosedTurn, IsFreshAs, IsFreshTurn}
-use Rattle.ea_engine.specs.Worked.{Kit, Progress, IsTurn, IsWork, IsBrokenAs, IsLeftAs, IsInside, IsFirstLeft, IsLoneAs, IsPoppingAs, AreInside}
+use Rattle.ea_engine.specs.Holds.{IsVisit}
+use Rattle.ea_engine.specs.Worked.{Kit, kit, OnlySaw, Progress, IsTurn, IsWork, IsBrokenAs, IsLeftAs, IsInside, IsFirstLeft, IsLoneAs, IsPoppingAs, AreInside}
 use Rattle.ea_engine.proofs.Multisets.{same_length}
-use Rattle.ea_engine.proofs.ProgressLemmas.{Progress-none, Progress-then}
+use Rattle.ea_engine.proofs.ProgressLemmas.{Progress-none, Progress-saw, Progress-then}
 use Rattle.ea_engine.proofs.BoundLemmas.{IsStale-more, IsScanned-more, IsCut-more}
 use Rattle.ea_engine.proofs.CounterLemmas.{index_push, count_push, visited_count_push, lowered_push, CountsTurns-push, pops_push, pushes_push, AreCounters-closed, IsRoomy-few}
 
@@ -102,10 +105,6 @@ popping_idle Stale pops e = omega arith
 popping_idle Scanned pops e = omega arith
 popping_idle Refused pops e = omega arith
 popping_idle Cut pops e = omega arith
-
-append-nil : {X : Type 0} (xs : List X) → xs ++ [] ≡ xs
-append-nil [] = refl
-append-nil (x ∷ xs) = ap (λ ys. x ∷ ys) (append-nil xs)
 
 visited_push : (ts : List Told) (t : Told) → visited_in_all (ts ++ t ∷ []) ≡ visited_in t.0 ++ visited_in_all ts
 visited_push [] t = sym (append-nil (visited_in t.0))
@@ -193,6 +192,29 @@ module _ (problem : Problem) where
   IsFreshAs-less bs cs Refused e stays h =
       (λ stale. h.0 (IsStale-more bs cs stays e stale), λ cut. h.1 (IsCut-more bs cs stays problem.query.target e cut))
   IsFreshAs-less bs cs Cut e stays h = λ stale. h (IsStale-more bs cs stays e stale)
+
+  -- a visit before which labels were seen
+  pub IsVisit-saw : (batch : ℕ) (r s : SeatRecord) (a : Account) (w : Stream) (taken fresh : List Entry) (to : Kit) (n : ℕ) (end : TurnEnd)
+      → OnlySaw r s → IsVisit problem batch (kit s a w taken fresh) to n end → IsVisit problem batch (kit r a w taken fresh) to n end
+  IsVisit-saw batch r s a w taken fresh to n end saw v = record {
+    entry = v.entry;
+    next = v.next;
+    visited = v.visited;
+    number_is = v.number_is;
+    shaped = v.shaped;
+    few = v.few;
+    broken_is = v.broken_is;
+    broken_visited = v.broken_visited;
+    broken_inside = v.broken_inside;
+    pops = v.pops;
+    pushes = v.pushes;
+    one_push_each = v.one_push_each;
+    fresh_few = v.fresh_few;
+    progress = Progress-then (kit r a w taken fresh) (kit s a w taken fresh) to [] (visited_in end.turn) (visited_in end.turn) 0 end.pushes end.pushes 0 end.turn.lowered end.turn.lowered
+        (Progress-saw r s a w taken fresh saw) v.progress (sym (append-nil (visited_in end.turn))) (sym (zero-add end.pushes)) (sym (zero-add end.turn.lowered));
+    closed = v.closed;
+    fresh = IsFreshAs-less r.bounds s.bounds end.turn.kind _ saw.bounds_stay v.fresh;
+  }
 
   module _ {T : Type 0} (shows : T → Turn → Flow → T → Type 0) (heaps : ℕ) where
     pub record SoFar (from to : Kit) (pace : Pace) (tracer tracer' : T) (counters : Counters) (broken : Option Entry) (number idle : ℕ) (ended : Bool) : Type 0 where

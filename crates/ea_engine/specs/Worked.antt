@@ -39,6 +39,12 @@ pub record Kit : Type 0 where
 abbrev pub kit : SeatRecord → Account → Stream → List Entry → List Entry → Kit
 kit r a s taken fresh = record { labels = r; account = a; words = s; taken = taken; fresh = fresh }
 
+-- A seat of the labels saw some of them and lowered none.
+pub record OnlySaw (from to : SeatRecord) : Type 0 where
+  pub lowerings_are : to.lowerings ≡ from.lowerings
+  pub bounds_stay : (b : Bound) → Contains from.bounds b → Contains to.bounds b
+  pub shares_are : to.shares ≡ from.shares
+
 -- From `from` to `to` the worker visited these entries, drew so many words and lowered so many labels. Each entry that it
 -- popped it visited or has taken, and the entry of each label that it lowered it pushed or has fresh.
 pub record Progress (from to : Kit) (visited : List Entry) (words lowered : ℕ) : Type 0 where

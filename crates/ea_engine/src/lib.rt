@@ -2,6 +2,7 @@
 //! they leave. Whatever the schedule, the answer is that of one thread.
 #![tactic(auto)]
 
+mod ahead;
 mod arrays;
 mod closing;
 mod counters;

@@ -16,6 +16,7 @@ ghost use Rattle.ea_engine.specs.Turns.{is_refused};
 ghost use Rattle.ea_engine.specs.Words.{after_words};
 ghost use Rattle.ea_engine.specs.Worked.{IsTurn};
 
+use crate::ahead::read_ahead;
 use crate::ground::Ground;
 use crate::means::Means;
 use crate::problem::Posed;
@@ -109,6 +110,31 @@ fn visit_taken<K: Known + Posed, E: EntryHeap, T: TravelTimes, R: Rng>(
     )
 }
 
+// Visits the least of entries that were just taken. What their visits will read is read ahead.
+fn visit_first<K: Known + Posed, T: TravelTimes, R: Rng>(
+    ground: &Ground<'_, K, T>,
+    target: Option<u32>,
+    means: &mut Means<K, R>,
+    lists: &mut Lists,
+    batch: usize,
+    number: u64,
+) -> TurnEnd
+    requires ground { IsGround K.is_known K.problem T.answers T.classes ground.now }
+    requires target { target ≡ K.problem.query.target }
+    requires seats { AreSeatsOf (tables_of ground.now) means.old.label_seat means.old.pool_seat }
+    requires taken { (0 < array_vec_len lists.old.taken) × AreKnown K.is_known lists.old.taken.items }
+    requires fresh { AreKnown K.is_known lists.old.fresh.items }
+    requires room { (array_vec_len lists.old.fresh < batch) × (batch ≤ MOST_BATCH) }
+    ensures seats { AreSeatsOf (tables_of ground.now) means.new.label_seat means.new.pool_seat }
+    ensures taken { AreKnown K.is_known lists.new.taken.items }
+    ensures fresh { AreKnown K.is_known lists.new.fresh.items }
+    ensures visit { IsVisit K.problem batch (kit_with R.stream means.old lists.old)
+        (kit_with R.stream means.new lists.new) number result }
+{
+    read_ahead(ground, &mut means.label_seat, &lists.taken);
+    visit_taken(ground, target, means, lists, batch, number)
+}
+
 // Pops entries and visits the least of them.
 fn pop_and_visit<K: Known + Posed, E: EntryHeap, T: TravelTimes, R: Rng>(
     ground: &Ground<'_, K, T, E>,
@@ -145,7 +171,7 @@ fn pop_and_visit<K: Known + Posed, E: EntryHeap, T: TravelTimes, R: Rng>(
         PoppedSome::Empty => idle_turn(number, TurnKind::Empty),
         PoppedSome::Busy => idle_turn(number, TurnKind::Busy),
         PoppedSome::Entries => {
-            let mut end = visit_taken(ground, target, means, lists, batch, number);
+            let mut end = visit_first(ground, target, means, lists, batch, number);
             end.pops = 1;
             end
         }

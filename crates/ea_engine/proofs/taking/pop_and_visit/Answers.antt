@@ -26,8 +26,8 @@ returns-in-Busy-clause-turn g c =
     t.number (ap is_idle t.kind) t.shaped t.lowered t.broken t.pops t.pushes
     (λ whole. rw t.kind (c.in-Busy.ensures.alone whole))
 
-pub visit_taken-end-requires-clause-taken : goal.visit_taken-end-requires-clause-taken
-visit_taken-end-requires-clause-taken g c κs outlives =
+pub visit_first-end-requires-clause-taken : goal.visit_first-end-requires-clause-taken
+visit_first-end-requires-clause-taken g c κs outlives =
     let t = c.in-Entries.ensures.popped in
     (took_some g.K.Known.is_known _ _ _ _ _ _ t, known_turned g.K.Known.is_known _ t.out t.turned t.known_all)
 
@@ -35,10 +35,10 @@ pub returns-in-Entries-clause-turn : goal.returns-in-Entries-clause-turn
 returns-in-Entries-clause-turn g c =
     IsTurn-popped _ _ _ g.K.Known.is_known _ _ _ _ _ _ _ _ _ _ _
     c.requires.taken c.in-Entries.ensures.popped c.in-Entries.ensures.words
-    (λ node time known. omega (arith, g.K.Known.within node time known)) c.visit_taken-end.ensures.visit
+    (λ node time known. omega (arith, g.K.Known.within node time known)) c.visit_first-end.ensures.visit
 
 pub returns-in-Entries-clause-pushes : goal.returns-in-Entries-clause-pushes
-returns-in-Entries-clause-pushes g c = c.visit_taken-end.ensures.visit.pushes
+returns-in-Entries-clause-pushes g c = c.visit_first-end.ensures.visit.pushes
 
 pub returns-in-Empty-clause-saw : goal.returns-in-Empty-clause-saw
 returns-in-Empty-clause-saw g c = rw c.idle_turn.ensures.kind c.in-Empty.ensures.looked
@@ -47,4 +47,4 @@ pub returns-in-Busy-clause-saw : goal.returns-in-Busy-clause-saw
 returns-in-Busy-clause-saw g c = rw c.idle_turn-in-Busy.ensures.kind c.in-Busy.ensures.looked
 
 pub returns-in-Entries-clause-saw : goal.returns-in-Entries-clause-saw
-returns-in-Entries-clause-saw g c = SawAs-visited c.visit_taken-end.result.turn.kind _ _ _ _ _ _ _ c.visit_taken-end.ensures.visit.visited
+returns-in-Entries-clause-saw g c = SawAs-visited c.visit_first-end.result.turn.kind _ _ _ _ _ _ _ c.visit_first-end.ensures.visit.visited

@@ -1,0 +1,78 @@
+//! Reads of memory ahead of the visits that need it. The loads of each loop don't wait for one another, so that many of them
+//! are under way at once. Nothing rests on what they give.
+ghost use Rattle.std.specs.Prelude.{◌≡◌};
+ghost use Rattle.ea_pool.specs.Entries.{AreKnown};
+ghost use Rattle.ea_road.specs.Roads.{IsNode};
+ghost use Rattle.ea_engine.specs.Grounds.{IsGround};
+ghost use Rattle.ea_engine.specs.Worked.{OnlySaw};
+
+use crate::ground::Ground;
+use crate::problem::Posed;
+use ea_labels::LabelSeat;
+use ea_pool::Entry;
+use ea_road::{Known, TravelTimes};
+
+/// Fewer entries are not worth it.
+const FEW: usize = 4;
+
+// Reads the labels of entries' nodes, and where their arcs begin.
+fn read_places<K: Known + Posed, T: TravelTimes>(
+    ground: &Ground<'_, K, T>,
+    seat: &mut LabelSeat<K>,
+    entries: &[Entry],
+) -> usize
+    requires ground { IsGround K.is_known K.problem T.answers T.classes ground.now }
+    requires seat { seat.old.table ≡ ground.now.labels.now.table }
+    requires known { AreKnown K.is_known entries.now }
+    ensures seat { seat.new.table ≡ seat.old.table }
+    ensures saw { OnlySaw seat.old.history seat.new.history }
+{
+    let mut places = 0;
+    for entry in entries {
+        ground.labels.read(seat, entry.node);
+        places ^= ground.network.leaving(entry.node).arcs.len();
+    }
+    places
+}
+
+// Reads the labels of the heads of the arcs from a node.
+fn read_heads<K: Known + Posed, T: TravelTimes>(
+    ground: &Ground<'_, K, T>,
+    seat: &mut LabelSeat<K>,
+    node: u32,
+)
+    requires ground { IsGround K.is_known K.problem T.answers T.classes ground.now }
+    requires seat { seat.old.table ≡ ground.now.labels.now.table }
+    requires node { IsNode K.problem.network.nodes node }
+    ensures seat { seat.new.table ≡ seat.old.table }
+    ensures saw { OnlySaw seat.old.history seat.new.history }
+{
+    for arc in ground.network.leaving(node).arcs {
+        ground.labels.read(seat, arc.head);
+    }
+}
+
+/// Reads what the visits of these entries will read, where they are several: their labels, where their arcs begin, and the
+/// labels of the arcs' heads.
+pub fn read_ahead<K: Known + Posed, T: TravelTimes>(
+    ground: &Ground<'_, K, T>,
+    seat: &mut LabelSeat<K>,
+    entries: &[Entry],
+)
+    requires ground { IsGround K.is_known K.problem T.answers T.classes ground.now }
+    requires seat { seat.old.table ≡ ground.now.labels.now.table }
+    requires known { AreKnown K.is_known entries.now }
+    ensures seat { seat.new.table ≡ seat.old.table }
+    ensures saw { OnlySaw seat.old.history seat.new.history }
+{
+    if entries.len() < FEW {
+        return;
+    }
+    // No node has so many arcs. The places are looked at so that no load of one is left out.
+    if read_places(ground, seat, entries) == usize::MAX {
+        return;
+    }
+    for entry in entries {
+        read_heads(ground, seat, entry.node);
+    }
+}
