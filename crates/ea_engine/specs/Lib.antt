@@ -22,3 +22,4 @@ pub mod Reserved
 pub mod Splits
 pub mod Grown
 pub mod Runs
+pub mod Homes

@@ -35,6 +35,20 @@ fn read_places<K: Known + Posed, T: TravelTimes>(
     places
 }
 
+// Reads the first arcs from entries' nodes.
+fn read_arcs<K: Known + Posed, T: TravelTimes>(ground: &Ground<'_, K, T>, entries: &[Entry]) -> u32
+    requires ground { IsGround K.is_known K.problem T.answers T.classes ground.now }
+    requires known { AreKnown K.is_known entries.now }
+{
+    let mut heads = 0;
+    for entry in entries {
+        if let Some(arc) = ground.network.leaving(entry.node).arcs.first() {
+            heads ^= arc.head;
+        }
+    }
+    heads
+}
+
 // Reads the labels of the heads of the arcs from a node.
 fn read_heads<K: Known + Posed, T: TravelTimes>(
     ground: &Ground<'_, K, T>,
@@ -68,8 +82,8 @@ pub fn read_ahead<K: Known + Posed, T: TravelTimes>(
     if entries.len() < FEW {
         return;
     }
-    // No node has so many arcs. The places are looked at so that no load of one is left out.
-    if read_places(ground, seat, entries) == usize::MAX {
+    // No node has so many arcs, or so great a number. What was read is looked at so that no load is left out.
+    if read_places(ground, seat, entries) == usize::MAX || read_arcs(ground, entries) == u32::MAX {
         return;
     }
     for entry in entries {

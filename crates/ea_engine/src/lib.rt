@@ -5,12 +5,14 @@
 mod ahead;
 mod arrays;
 mod closing;
+mod company;
 mod counters;
 mod crew;
 mod drained;
 mod gate;
 mod gathering;
 mod ground;
+mod homing;
 mod law;
 mod means;
 mod problem;
@@ -31,6 +33,7 @@ mod turn;
 mod work_loop;
 mod workers;
 
+pub use company::{Company, Member};
 pub use counters::Counters;
 pub use crew::Crew;
 pub use ea_finish::{
@@ -39,6 +42,7 @@ pub use ea_finish::{
 };
 pub use gate::{Gate, NoGate};
 pub use ground::Ground;
+pub use homing::Homing;
 pub use law::{finish_may_begin, ground_is_laid, nothing_open_is_lost, times_are_fifo};
 pub use means::Means;
 pub use problem::Posed;

@@ -38,10 +38,10 @@ abbrev pub with_workers : App → App
 with_workers app = with_rule (with_rule (with_rule app
     (valued (codes "workers"))) (valued (codes "heaps"))) (valued (codes "seed"))
 
--- How many problems are searched at once, for how many turns the workers go, and what a report shows.
+-- How many problems are searched at once, by how many entries at once and for how many turns the workers go, and what a report shows.
 abbrev pub with_report : App → App
-with_report app = with_rule (with_rule (with_rule (with_rule app
-    (valued (codes "at-once"))) (valued (codes "turns"))) (flag (codes "walks"))) (flag (codes "stats"))
+with_report app = with_rule (with_rule (with_rule (with_rule (with_rule app
+    (valued (codes "at-once"))) (valued (codes "batch"))) (valued (codes "turns"))) (flag (codes "walks"))) (flag (codes "stats"))
 
 unfoldable pub run_app : App
 run_app = with_explain (with_output (with_rule (with_report (with_workers (with_departures (with_rule (with_rule (new_app (codes "run"))

@@ -1,6 +1,6 @@
 -- The limits of options, and what those are that aren't given.
 use Rattle.std.specs.Prelude.{ℕ, ◌≤◌, IfSome, unwrap_or}
-use Rattle.ea_limits.specs.declared.TheConstants.{HORIZON, LEAST_HEAPS, MOST_AT_ONCE, MOST_HEAPS, MOST_TURNS, MOST_WORKERS}
+use Rattle.ea_limits.specs.declared.TheConstants.{HORIZON, LEAST_HEAPS, MOST_AT_ONCE, MOST_BATCH, MOST_HEAPS, MOST_TURNS, MOST_WORKERS}
 use Rattle.ea_words.specs.declared.options.RunOptions.{RunOptions}
 use Rattle.ea_words.specs.declared.options.Command.{Command}
 use Rattle.ea_words.specs.declared.options.Command.TheVariants.{Stored, Run, Pairs, Rank, Check, Explain, Formats}
@@ -12,6 +12,7 @@ IsUpTo most n = (1 ≤ n) × (n ≤ most)
 pub record AreOptions (options : RunOptions) : Type 0 where
   pub workers : IfSome options.workers (IsUpTo MOST_WORKERS)
   pub at_once : IfSome options.at_once (IsUpTo MOST_AT_ONCE)
+  pub batch : IfSome options.batch (IsUpTo MOST_BATCH)
   pub two_heaps : LEAST_HEAPS ≤ options.heaps
   pub heaps : options.heaps ≤ MOST_HEAPS
   pub turns : options.turns ≤ MOST_TURNS

@@ -2,7 +2,7 @@
 -- the others, with the defaults and limits of each option.
 use Rattle.std.specs.Prelude.{ℕ, ◌+◌, Bool, true, false, nat_le, List, codes, Option, Some, None, option_and_then, option_map, if◌then◌else◌}
 use Rattle.std.specs.Str.{bytes_eq}
-use Rattle.ea_limits.specs.declared.TheConstants.{HORIZON, LEAST_HEAPS, MOST_AT_ONCE, MOST_HEAPS, MOST_TURNS, MOST_WORKERS}
+use Rattle.ea_limits.specs.declared.TheConstants.{HORIZON, LEAST_HEAPS, MOST_AT_ONCE, MOST_BATCH, MOST_HEAPS, MOST_TURNS, MOST_WORKERS}
 use Rattle.clap.specs.Words.{App, Row, Text, first_of, matches_of}
 use Rattle.ea_words.specs.declared.meaning.Names.{Names}
 use Rattle.ea_words.specs.declared.options.RunOptions.{RunOptions}
@@ -20,6 +20,7 @@ unfoldable pub options_of : List Row → Option RunOptions
 options_of rows = do
   workers ← chosen_of (codes "workers") 1 MOST_WORKERS rows
   at_once ← chosen_of (codes "at-once") 1 MOST_AT_ONCE rows
+  batch ← chosen_of (codes "batch") 1 MOST_BATCH rows
   heaps ← option_of (codes "heaps") 2 LEAST_HEAPS MOST_HEAPS rows
   turns ← option_of (codes "turns") 1000000 0 MOST_TURNS rows
   seed ← option_of (codes "seed") 1 0 18446744073709551615 rows
@@ -31,6 +32,7 @@ options_of rows = do
     stats = is_given (codes "stats") rows;
     workers = workers;
     at_once = at_once;
+    batch = batch;
     heaps = heaps;
     turns = turns;
     seed = seed;

@@ -156,7 +156,8 @@ pub(crate) fn with_workers<'a>(
     Ok(command)
 }
 
-/// The options that say how many problems are searched at once, for how many turns the workers go, and what a report shows.
+/// The options that say how many problems are searched at once, by how many entries at once and for how many turns the workers
+/// go, and what a report shows.
 pub(crate) fn with_report<'a>(
     alloc: Global,
     command: Command<'a>,
@@ -172,6 +173,15 @@ pub(crate) fn with_report<'a>(
             "at-once",
             "N",
             "Problems that are searched at once, each by one thread: 1 to 16 [default: as many as there are processors; 1 with --workers or --stats]",
+        ),
+    )?;
+    let command = with_arg(
+        command,
+        valued(
+            alloc,
+            "batch",
+            "K",
+            "Entries that a worker takes from a heap, or gives to one, at once: 1 to 64 [default: 1 with one worker, else 32]",
         ),
     )?;
     let command = with_arg(

@@ -5,7 +5,9 @@ ghost use Rattle.ea_words.specs.Bad.{IsBad};
 use crate::commands::{check_command, pairs_command, rank_command, run_command};
 use crate::values::{number_of_text, text_of};
 use clap::ArgMatches;
-use ea_limits::{HORIZON, LEAST_HEAPS, MOST_AT_ONCE, MOST_HEAPS, MOST_TURNS, MOST_WORKERS};
+use ea_limits::{
+    HORIZON, LEAST_HEAPS, MOST_AT_ONCE, MOST_BATCH, MOST_HEAPS, MOST_TURNS, MOST_WORKERS,
+};
 use std::alloc::Global;
 use std::convert::AsStr;
 
@@ -47,6 +49,7 @@ fn first_bad<'a>(matches: &ArgMatches<'a>) -> Option<BadValue<'a>>
     for (option, least, most) in [
         ("workers", 1, u64::from(MOST_WORKERS)),
         ("at-once", 1, u64::from(MOST_AT_ONCE)),
+        ("batch", 1, u64::from(MOST_BATCH)),
         ("heaps", u64::from(LEAST_HEAPS), u64::from(MOST_HEAPS)),
         ("turns", 0, MOST_TURNS),
         ("seed", 0, u64::MAX),

@@ -17,7 +17,9 @@ use crate::options::{Command, RunOptions};
 use crate::values::{chosen_number, has_flag, option_number, text_of};
 use clap::error::ErrorKind;
 use clap::{ArgMatches, Error};
-use ea_limits::{HORIZON, LEAST_HEAPS, MOST_AT_ONCE, MOST_HEAPS, MOST_TURNS, MOST_WORKERS};
+use ea_limits::{
+    HORIZON, LEAST_HEAPS, MOST_AT_ONCE, MOST_BATCH, MOST_HEAPS, MOST_TURNS, MOST_WORKERS,
+};
 use std::alloc::Global;
 use std::convert::AsStr;
 
@@ -29,6 +31,7 @@ fn options_in(matches: &ArgMatches<'_>) -> Option<RunOptions>
 {
     let workers = chosen_number(matches, "workers", 1, u64::from(MOST_WORKERS))?;
     let at_once = chosen_number(matches, "at-once", 1, u64::from(MOST_AT_ONCE))?;
+    let batch = chosen_number(matches, "batch", 1, u64::from(MOST_BATCH))?;
     let most_heaps = u64::from(MOST_HEAPS);
     let heaps = option_number(matches, "heaps", 2, u64::from(LEAST_HEAPS), most_heaps)?;
     let turns = option_number(matches, "turns", 1_000_000, 0, MOST_TURNS)?;
@@ -41,6 +44,7 @@ fn options_in(matches: &ArgMatches<'_>) -> Option<RunOptions>
         stats: has_flag(matches, "stats"),
         workers,
         at_once,
+        batch,
         heaps,
         turns,
         seed,

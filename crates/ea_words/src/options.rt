@@ -15,6 +15,8 @@ pub struct RunOptions {
     pub workers: Option<u64>,
     /// How many problems are searched at once: 1 to 16; none leaves it to the program.
     pub at_once: Option<u64>,
+    /// How many entries a worker takes from a heap, or gives to one, at once: 1 to 64; none leaves it to the program.
+    pub batch: Option<u64>,
     /// How many heaps the queue has for each worker: 2 to 8.
     pub heaps: u64,
     /// How many turns a worker takes at most: 0 to 1,000,000,000.

@@ -40,6 +40,8 @@ fn a_run(rt: HostRuntime) {
         "03",
         "--at-once",
         "16",
+        "--batch",
+        "64",
     ];
     let Some(
         Command::Run {
@@ -63,6 +65,7 @@ fn a_run(rt: HostRuntime) {
                 stats: false,
                 workers: Some(3),
                 at_once: Some(16),
+                batch: Some(64),
                 heaps: 2,
                 turns: 1_000_000,
                 seed: 1,
@@ -138,6 +141,7 @@ fn a_rank(rt: HostRuntime) {
                 stats: false,
                 workers: Some(16),
                 at_once: None,
+                batch: None,
                 heaps: 8,
                 turns: 1_000_000,
                 seed: 0,
@@ -182,6 +186,7 @@ fn a_check(rt: HostRuntime) {
                 stats: false,
                 workers: None,
                 at_once: None,
+                batch: None,
                 heaps: 2,
                 turns: 1_000_000,
                 seed: 1,
@@ -241,7 +246,14 @@ fn names_that_are_missing(rt: HostRuntime) {
 
 #[test]
 fn words_that_rank_and_check_dont_have(rt: HostRuntime) {
-    for option in ["--walks", "--stats", "--joint", "--turns", "--at-once"] {
+    for option in [
+        "--walks",
+        "--stats",
+        "--joint",
+        "--turns",
+        "--at-once",
+        "--batch",
+    ] {
         assert!(rt;
             says(&rt, ["rank", "g", "s", option].as_slice(), false, option),
             "{option}"
@@ -252,6 +264,7 @@ fn words_that_rank_and_check_dont_have(rt: HostRuntime) {
         "--stats",
         "--workers",
         "--at-once",
+        "--batch",
         "--heaps",
         "--turns",
         "--seed",
@@ -268,6 +281,8 @@ fn options_out_of_their_limits(rt: HostRuntime) {
     assert!(rt; is_bad(&rt, ["run", "g", "s", "--workers", "17"].as_slice()));
     assert!(rt; is_bad(&rt, ["run", "g", "s", "--at-once", "17"].as_slice()));
     assert!(rt; is_bad(&rt, ["pairs", "g", "s", "--at-once", "0"].as_slice()));
+    assert!(rt; is_bad(&rt, ["run", "g", "s", "--batch", "65"].as_slice()));
+    assert!(rt; is_bad(&rt, ["pairs", "g", "s", "--batch", "0"].as_slice()));
     assert!(rt; is_bad(&rt, ["run", "g", "s", "--heaps", "1"].as_slice()));
     assert!(rt; is_bad(&rt, ["run", "g", "s", "--gap", "x"].as_slice()));
     assert!(rt; is_bad(&rt, ["run", "g", "s", "--gap", ""].as_slice()));

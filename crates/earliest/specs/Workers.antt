@@ -1,8 +1,27 @@
 -- How options set up the workers of a run.
+use Rattle.std.specs.Prelude.{ℕ, ◌==◌, if◌then◌else◌, unwrap_or}
 use Rattle.ea_engine.specs.declared.settings.Settings.{Settings}
 use Rattle.ea_words.specs.Limits.{counted_workers}
 use Rattle.ea_words.specs.declared.options.RunOptions.{RunOptions}
 
--- How many workers, heaps for each, and turns. Batches have one entry, and a worker ends after 32 idle turns in a row.
+-- How many entries a worker of so many takes from a heap, or gives to one, at once, where that isn't asked for.
+abbrev pub batch_of : ℕ → ℕ
+batch_of workers = if workers == 1 then 1 else 32
+
+-- After how many idle turns in a row it ends.
+abbrev pub patience_of : ℕ → ℕ
+patience_of workers = if workers == 1 then 32 else 65536
+
+-- So many workers, with the heaps, turns and batches that are asked for.
+abbrev pub settings_with : RunOptions → ℕ → Settings
+settings_with options workers = record {
+  workers = workers;
+  heaps = options.heaps;
+  turns = options.turns;
+  batch = unwrap_or options.batch (batch_of workers);
+  patience = patience_of workers;
+}
+
+-- The workers of statistics.
 abbrev pub settings_by : RunOptions → Settings
-settings_by options = record { workers = counted_workers options; heaps = options.heaps; turns = options.turns; batch = 1; patience = 32 }
+settings_by options = settings_with options (counted_workers options)

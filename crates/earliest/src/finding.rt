@@ -1,26 +1,37 @@
 //! The answer of a problem, by workers or by the search of one thread.
 ghost use Rattle.std.specs.Prelude.{◌≡◌, ◌≤◌, ℕ, All, IfOk, IfSome, length, replicate, true, vec_len};
-ghost use Rattle.ea_limits.specs.declared.TheConstants.{MOST_STARTS};
+ghost use Rattle.ea_limits.specs.declared.TheConstants.{MOST_STARTS, MOST_WORKERS};
 ghost use Rattle.ea_road.specs.Queries.{IsProblem};
 ghost use Rattle.ea_engine.specs.Limits.{AreSettings};
 ghost use Rattle.ea_engine.specs.Tallies.{IsTally};
-ghost use Rattle.ea_words.specs.Limits.{AreOptions};
+ghost use Rattle.ea_words.specs.Limits.{AreOptions, counted_workers};
 ghost use Rattle.earliest.specs.Counted.{AreBalanced, AreSmall, IsTotal, totals_by};
 ghost use Rattle.ea_ranking.specs.Generators.{generators_from};
 ghost use Rattle.earliest.specs.Solved.{AnswersOn, ArrivesOn, Serves};
-ghost use Rattle.earliest.specs.Workers.{settings_by};
+ghost use Rattle.earliest.specs.Workers.{settings_with};
 
 use crate::totals::work_of;
-use ea_engine::{Answer, Counters, Crew, Flow, NoGate, Settings, Turn, solve, solve_arrivals};
+use ea_engine::{
+    Answer, Company, Counters, Crew, Flow, Homing, NoGate, Settings, Turn, solve, solve_arrivals,
+};
 use ea_files::Road;
 use ea_finish::Search;
+use ea_limits::{MOST_TURNS, MOST_WORKERS};
 use ea_report::Totals;
 use ea_road::Query;
 use ea_words::RunOptions;
-use rand_core::SeedableRng;
+use rand_core::{Rng, SeedableRng};
 use rand_xoshiro::Xoshiro256PlusPlus;
 use std::alloc::{AllocError, Global};
-use std::thread::Threads;
+use std::thread::{Threads, available_parallelism};
+
+/// A problem on a road, and whether its walks are asked for.
+#[derive(Clone, Copy)]
+struct Asked<'a> {
+    road: &'a Road,
+    query: &'a Query,
+    walks: bool,
+}
 
 /// An answer, and the totals of finding it.
 #[derive(Drop)]
@@ -29,18 +40,62 @@ pub(crate) struct Found {
     pub totals: Totals,
 }
 
-/// The settings of a run.
-fn settings_of(options: &RunOptions) -> Settings
+/// Workers are not worth starting on fewer nodes.
+const FEW_NODES: u32 = 10_000;
+
+/// Several workers are quicker than the search of one thread from so many nodes on, where no walks are asked for.
+const MANY_NODES: u32 = 500_000;
+
+/// How many workers search a problem. With statistics it is those that are counted. Else those that are asked for, and where the
+/// program may choose, one for each processor where that is quicker; one is the search of one thread.
+pub(crate) fn workers_of<H: Threads>(rt: &H, road: &Road, options: &RunOptions) -> u32
     requires { AreOptions options.now }
-    ensures settings { AreSettings result }
-    ensures asked { result ≡ settings_by options.now }
+    ensures some { (1 ≤ result) × (result ≤ MOST_WORKERS) }
+    ensures counted { options.now.stats ≡ true → result ≡ counted_workers options.now }
 {
+    if options.stats {
+        return options.counted_workers() as u32;
+    }
+    let nodes = road.network.nodes();
+    match options.workers {
+        Some(workers) if nodes >= FEW_NODES => workers as u32,
+        None if nodes >= MANY_NODES && !options.walks => match available_parallelism(rt) {
+            Ok(processors) => processors.get().min(MOST_WORKERS as usize) as u32,
+            Err(_) => 1,
+        },
+        _ => 1,
+    }
+}
+
+/// The budget of turns where none is asked for.
+const TURNS: u64 = 1_000_000;
+
+/// After how many idle turns in a row a worker among several ends, at most: where nothing is left they notice it long before.
+const PATIENCE: u32 = 65_536;
+
+/// How many entries a worker among several takes from a heap, or gives to one, at once.
+const BATCH: u64 = 32;
+
+/// The settings of so many workers. Turns are counted where statistics are asked for, or where not the default is.
+fn settings_of(options: &RunOptions, workers: u32) -> Settings
+    requires options { AreOptions options.now }
+    requires workers { (1 ≤ workers) × (workers ≤ MOST_WORKERS) }
+    ensures settings { AreSettings result }
+    ensures workers { result.workers ≡ workers }
+    ensures asked { options.now.stats ≡ true → result ≡ settings_with options.now workers }
+{
+    let is_alone = workers == 1;
+    let is_counted = options.stats || options.turns != TURNS;
     Settings {
-        workers: options.counted_workers() as u32,
+        workers,
         heaps: options.heaps as u32,
-        turns: options.turns,
-        batch: 1,
-        patience: 32,
+        turns: if is_counted {
+            options.turns
+        } else {
+            MOST_TURNS
+        },
+        batch: options.batch.unwrap_or(if is_alone { 1 } else { BATCH }) as u32,
+        patience: if is_alone { 32 } else { PATIENCE },
     }
 }
 
@@ -52,6 +107,24 @@ fn generators(alloc: Global, seed: u64, workers: u32) -> Result<Vec<Xoshiro256Pl
     let mut rngs = Vec::with_capacity(alloc, workers as usize)?;
     for i in 0..workers {
         rngs.push(Xoshiro256PlusPlus::seed_from_u64(seed.wrapping_add(u64::from(i))))?;
+    }
+    Ok(rngs)
+}
+
+/// Such generators, each of which keeps its worker mostly at its own heaps.
+fn homing_generators(
+    alloc: Global,
+    seed: u64,
+    settings: Settings,
+) -> Result<Vec<Homing<Xoshiro256PlusPlus>>, AllocError>
+    requires settings { AreSettings settings }
+    ensures one_each { IfOk result (λ rngs. vec_len rngs ≡ settings.workers) }
+{
+    let workers = settings.workers;
+    let mut rngs = Vec::with_capacity(alloc, workers as usize)?;
+    for i in 0..workers {
+        let below = Xoshiro256PlusPlus::seed_from_u64(seed.wrapping_add(u64::from(i)));
+        rngs.push(Homing::new(below, i, workers, settings.heaps))?;
     }
     Ok(rngs)
 }
@@ -102,13 +175,13 @@ fn totals_of(
 }
 
 /// The answer of a problem with walks.
-fn find_walks<H: Threads + Sync, T: FnMut(Turn) -> Flow + Send + Drop>(
+fn find_walks<H: Threads + Sync, R: Rng + Send + Drop, T: FnMut(Turn) -> Flow + Send + Drop>(
     alloc: Global,
     rt: &H,
     road: &Road,
     query: &Query,
     settings: Settings,
-    rngs: Vec<Xoshiro256PlusPlus>,
+    rngs: Vec<R>,
     tracers: Vec<T>,
 ) -> Result<Found, AllocError>
     requires problem { IsProblem road.now.network (length road.now.times.list.items) query.now }
@@ -147,13 +220,13 @@ fn find_walks<H: Threads + Sync, T: FnMut(Turn) -> Flow + Send + Drop>(
 }
 
 /// The answer of a problem without walks.
-fn find_arrivals<H: Threads + Sync, T: FnMut(Turn) -> Flow + Send + Drop>(
+fn find_arrivals<H: Threads + Sync, R: Rng + Send + Drop, T: FnMut(Turn) -> Flow + Send + Drop>(
     alloc: Global,
     rt: &H,
     road: &Road,
     query: &Query,
     settings: Settings,
-    rngs: Vec<Xoshiro256PlusPlus>,
+    rngs: Vec<R>,
     tracers: Vec<T>,
 ) -> Result<Found, AllocError>
     requires problem { IsProblem road.now.network (length road.now.times.list.items) query.now }
@@ -191,57 +264,78 @@ fn find_arrivals<H: Threads + Sync, T: FnMut(Turn) -> Flow + Send + Drop>(
     })
 }
 
-/// The answer of a problem, where each worker's tracer is a copy of this.
-fn find_by<H: Threads + Sync, T: FnMut(Turn) -> Flow + Send + Drop + Copy>(
+/// The answer of a problem by workers of these settings and generators, where each one's tracer is a copy of this.
+fn find_by<H: Threads + Sync, R: Rng + Send + Drop, T: FnMut(Turn) -> Flow + Send + Drop + Copy>(
     alloc: Global,
     rt: &H,
-    road: &Road,
-    query: &Query,
-    options: &RunOptions,
+    asked: Asked<'_>,
+    settings: Settings,
+    rngs: Vec<R>,
     tracer: T,
 ) -> Result<Found, AllocError>
-    requires problem { IsProblem road.now.network (length road.now.times.list.items) query.now }
-    requires few { length query.now.sources ≤ MOST_STARTS }
-    requires options { AreOptions options.now }
+    requires problem { IsProblem asked.road.now.network (length asked.road.now.times.list.items) asked.query.now }
+    requires few { length asked.query.now.sources ≤ MOST_STARTS }
+    requires settings { AreSettings settings }
+    requires workers { vec_len rngs ≡ settings.workers }
     requires tracer { T.IsAlwaysCallable tracer }
-    ensures arrivals { IfOk result (λ found. ArrivesOn road.now query.now found.answer) }
-    ensures walks { IfOk result (λ found. options.now.walks ≡ true → AnswersOn road.now query.now found.answer) }
-    ensures counted { IfOk result (λ found.
-        IsTotal (settings_by options.now) query.now found.totals) }
+    ensures arrivals { IfOk result (λ found. ArrivesOn asked.entry.road.now asked.entry.query.now found.answer) }
+    ensures walks { IfOk result (λ found. asked.entry.walks ≡ true → AnswersOn asked.entry.road.now asked.entry.query.now found.answer) }
+    ensures counted { IfOk result (λ found. IsTotal settings asked.entry.query.now found.totals) }
     ensures balanced { IfOk result (λ found. AreBalanced found.totals) }
     ensures small { IfOk result (λ found. AreSmall 1 found.totals) }
 {
-    let settings = settings_of(options);
-    let rngs = generators(alloc, options.seed, settings.workers)?;
+    let Asked { road, query, walks } = asked;
     let tracers = copies(alloc, tracer, settings.workers)?;
-    if options.walks {
+    if walks {
         find_walks(alloc, rt, road, query, settings, rngs, tracers)
     } else {
         find_arrivals(alloc, rt, road, query, settings, rngs, tracers)
     }
 }
 
-/// The answer of a problem, with walks where the options ask for them, by workers.
+/// The answer of a problem, with walks where the options ask for them, by so many workers.
 pub(crate) fn find<H: Threads + Sync>(
     alloc: Global,
     rt: &H,
     road: &Road,
     query: &Query,
     options: &RunOptions,
+    workers: u32,
 ) -> Result<Found, AllocError>
     requires problem { IsProblem road.now.network (length road.now.times.list.items) query.now }
     requires few { length query.now.sources ≤ MOST_STARTS }
     requires options { AreOptions options.now }
+    requires workers { (1 ≤ workers) × (workers ≤ MOST_WORKERS) }
     ensures arrivals { IfOk result (λ found. ArrivesOn road.now query.now found.answer) }
     ensures walks { IfOk result (λ found. options.now.walks ≡ true → AnswersOn road.now query.now found.answer) }
     ensures counted { IfOk result (λ found. options.now.stats ≡ true
-        → IsTotal (settings_by options.now) query.now found.totals) }
+        → IsTotal (settings_with options.now workers) query.now found.totals) }
     ensures balanced { IfOk result (λ found. AreBalanced found.totals) }
     ensures small { IfOk result (λ found. AreSmall 1 found.totals) }
 {
-    find_by(alloc, rt, road, query, options, |_turn: Turn| -> Flow {
-        Flow::Go
-    })
+    let settings = settings_of(options, workers);
+    let asked = Asked {
+        road,
+        query,
+        walks: options.walks,
+    };
+    if workers == 1 {
+        let rngs = generators(alloc, options.seed, workers)?;
+        return find_by(alloc, rt, asked, settings, rngs, |_turn: Turn| -> Flow {
+            Flow::Go
+        });
+    }
+    let rngs = homing_generators(alloc, options.seed, settings)?;
+    let company = Company::new();
+    let mut member = company.member();
+    find_by(
+        alloc,
+        rt,
+        asked,
+        settings,
+        rngs,
+        move |turn: Turn| -> Flow { member.after(turn) },
+    )
 }
 
 /// Arrays for searches of one thread on a road.

@@ -16,7 +16,7 @@ ghost use Rattle.earliest.specs.Solved.{AnswersOn, ArrivesOn, Serves};
 ghost use Rattle.earliest.specs.Workers.{settings_by};
 
 use crate::ahead::{report_ahead, threads_at_once};
-use crate::finding::{find, search};
+use crate::finding::{Found, find, search, workers_of};
 use crate::totals::{add_totals, no_totals};
 use ea_engine::Answer;
 use ea_files::Road;
@@ -108,47 +108,38 @@ impl Progress {
 }
 
 impl Progress {
-    /// Finds the answer of a problem by workers and writes its report.
-    fn report_by_workers<H: Threads + Sync, W: ByteOut>(
+    /// Writes the report of a problem that workers have answered, and adds its totals.
+    fn write_found<W: ByteOut>(
         &mut self,
         alloc: Global,
-        rt: &H,
         road: &Road,
         query: &Query,
-        options: &RunOptions,
+        found: &Found,
+        walks: bool,
         out: &mut W,
     ) -> Result<(), AnswerFault>
         requires problem { IsProblem road.now.network (length road.now.times.list.items) query.now }
         requires few { (length query.now.sources ≤ MOST_STARTS) × (road.now.network.nodes ≤ MOST_NODES) }
-        requires options { AreOptions options.now }
+        requires arrivals { ArrivesOn road.now query.now found.now.answer }
+        requires canonical { walks ≡ true → AnswersOn road.now query.now found.now.answer }
         requires room { self.old.written ≤ MOST_STARTS * 2 ^ 90 }
-        requires small { (problems : ℕ) × (problems < MOST_STARTS) × AreSmall problems self.old.totals }
-        requires balanced { AreBalanced self.old.totals }
-        ensures ok { OnOk result (IsSent
-            options.now.walks road.now.network (times_on road.now) query.now
+        requires small { ((problems : ℕ) × (problems < MOST_STARTS) × AreSmall problems self.old.totals)
+            × AreSmall 1 found.now.totals }
+        requires balanced { AreBalanced self.old.totals × AreBalanced found.now.totals }
+        ensures ok { OnOk result (IsSent walks road.now.network (times_on road.now) query.now
             (W.seen out.old) (W.seen out.new) self.old.written self.new.written) }
-        ensures err { IfErr result (IsStoppedBy
-            options.now.walks road.now.network (times_on road.now) query.now
+        ensures err { IfErr result (IsStoppedBy walks road.now.network (times_on road.now) query.now
             (W.seen out.old) (W.seen out.new) self.old.written) }
         ensures bound { OnOk result (self.new.written ≤ self.old.written + 2 ^ 90) }
-        ensures counted { OnOk result (options.now.stats ≡ true →
-            (more : Totals) × IsTotal (settings_by options.now) query.now more
-            × (self.new.totals ≡ plus self.old.totals more)) }
+        ensures totals { OnOk result (self.new.totals ≡ plus self.old.totals found.now.totals) }
         ensures balanced { OnOk result (AreBalanced self.new.totals) }
         ensures small { OnOk result ((problems : ℕ) →
             AreSmall problems self.old.totals → AreSmall (problems + 1) self.new.totals) }
         ensures search { self.new.search ≡ self.old.search }
     {
-        match find(alloc, rt, road, query, options) {
-            Ok(found) => {
-                self.write(alloc, road, query, &found.answer, options.walks, out)?;
-                add_totals(&mut self.totals, &found.totals);
-                Ok(())
-            }
-            Err(_) => Err(AnswerFault::OutOfMemory {
-                written: self.written,
-            }),
-        }
+        self.write(alloc, road, query, &found.answer, walks, out)?;
+        add_totals(&mut self.totals, &found.totals);
+        Ok(())
     }
 
     /// Finds the answer of a problem by one thread, on the arrays of the last search, and writes its report.
@@ -185,7 +176,7 @@ impl Progress {
     }
 
     /// Finds the answer of a problem and writes its report. One worker is the search of one thread where nothing is to be
-    /// counted, and where workers aren't asked for it is one.
+    /// counted.
     fn report<H: Threads + Sync, W: ByteOut>(
         &mut self,
         alloc: Global,
@@ -217,10 +208,16 @@ impl Progress {
             AreSmall problems self.old.totals → AreSmall (problems + 1) self.new.totals) }
         ensures search { IfSome self.new.search (Serves road.now.network options.now.walks) }
     {
-        if options.workers.unwrap_or(1) == 1 && !options.stats {
+        let workers = workers_of(rt, road, options);
+        if workers == 1 && !options.stats {
             return self.report_alone(alloc, road, query, options.walks, out);
         }
-        self.report_by_workers(alloc, rt, road, query, options, out)
+        match find(alloc, rt, road, query, options, workers) {
+            Ok(found) => self.write_found(alloc, road, query, &found, options.walks, out),
+            Err(_) => Err(AnswerFault::OutOfMemory {
+                written: self.written,
+            }),
+        }
     }
 }
 

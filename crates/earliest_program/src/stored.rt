@@ -17,6 +17,7 @@ const DEFAULTS: RunOptions = RunOptions {
     stats: false,
     workers: None,
     at_once: None,
+    batch: None,
     heaps: 2,
     turns: 1_000_000,
     seed: 1,

@@ -12,6 +12,7 @@ pub const DEFAULTS: RunOptions = RunOptions {
     stats: false,
     workers: Some(4),
     at_once: None,
+    batch: None,
     heaps: 2,
     turns: 1_000_000,
     seed: 1,

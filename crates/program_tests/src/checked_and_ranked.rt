@@ -29,6 +29,7 @@ fn options_from(depart: u64, gap: u64) -> RunOptions
         stats: false,
         workers: Some(1),
         at_once: None,
+        batch: None,
         heaps: 2,
         turns: 100,
         seed: 1,

@@ -20,6 +20,7 @@ pub fn walks_by(many: bool) -> RunOptions
         stats: false,
         workers: Some(if many { 2 } else { 1 }),
         at_once: None,
+        batch: None,
         heaps: 2,
         turns: 100,
         seed: 1,

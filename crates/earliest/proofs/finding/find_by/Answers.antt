@@ -3,7 +3,7 @@ use Rattle.earliest.proofs.Copied.{copy_at}
 use Rattle.earliest.proofs.finding.find_by.Goals as goal
 
 pub find_walks-requires-clause-tracers : goal.find_walks-requires-clause-tracers
-find_walks-requires-clause-tracers g c κs within k d lt = subst (goal.T-IsAlwaysCallable g) (sym (copy_at c.args.tracer c.settings_of-settings.result.workers c.in_ok-tracers.tracers.items c.in_ok-tracers.ensures k d lt)) c.requires.tracer
+find_walks-requires-clause-tracers g c κs within k d lt = subst (goal.T-IsAlwaysCallable g) (sym (copy_at c.args.tracer c.args.settings.workers c.in_ok-tracers.tracers.items c.in_ok-tracers.ensures k d lt)) c.requires.tracer
 
 pub find_arrivals-requires-clause-tracers : goal.find_arrivals-requires-clause-tracers
-find_arrivals-requires-clause-tracers g c κs within k d lt = subst (goal.T-IsAlwaysCallable g) (sym (copy_at c.args.tracer c.settings_of-settings.result.workers c.in_ok-tracers.tracers.items c.in_ok-tracers.ensures k d lt)) c.requires.tracer
+find_arrivals-requires-clause-tracers g c κs within k d lt = subst (goal.T-IsAlwaysCallable g) (sym (copy_at c.args.tracer c.args.settings.workers c.in_ok-tracers.tracers.items c.in_ok-tracers.ensures k d lt)) c.requires.tracer
