@@ -6,7 +6,10 @@ use std::sync::atomic::{AtomicBool, AtomicUsize};
 use std::thread::yield_now;
 
 /// After how many turns in a row that found nothing a worker counts as idle.
-const IDLE_AFTER: u32 = 24;
+const IDLE_AFTER: u32 = 16;
+
+/// After how many more such turns while none is active it leaves: an entry that is left somewhere is found before.
+const QUIET_AFTER: u32 = 32;
 
 /// After how many turns in a row that found nothing a worker lets others run.
 const YIELDS_AFTER: u32 = 64;
@@ -34,6 +37,8 @@ pub struct Member<'a> {
     is_active: bool,
     /// How many turns in a row found nothing.
     idle: u32,
+    /// How many of the last ones were while no worker was active.
+    quiet: u32,
     /// How many looks in a row found that all others were idle.
     alone: u32,
 }
@@ -53,6 +58,7 @@ impl Company {
             company: self,
             is_active: false,
             idle: 0,
+            quiet: 0,
             alone: 0,
         }
     }
@@ -95,7 +101,12 @@ impl Member<'_> {
             return Flow::Go;
         }
         self.rest();
-        if self.company.active.load(SeqCst) == 0 {
+        if self.company.active.load(SeqCst) > 0 {
+            self.quiet = 0;
+        } else {
+            self.quiet = self.quiet.saturating_add(1);
+        }
+        if self.quiet > QUIET_AFTER {
             return Flow::Leave;
         }
         if self.idle > YIELDS_AFTER {
@@ -106,6 +117,7 @@ impl Member<'_> {
 
     fn found_entry(&mut self, number: u64) -> Flow {
         self.idle = 0;
+        self.quiet = 0;
         self.rise();
         if number % LOOKS_EVERY > 0 {
             return Flow::Go;

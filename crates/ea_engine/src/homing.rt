@@ -7,6 +7,9 @@ ghost use Rattle.ea_limits.specs.declared.TheConstants.{LEAST_HEAPS, MOST_HEAPS,
 use rand_core::utils::NextWord;
 use rand_core::{Rng, utils};
 
+/// Words below this are passed on: every fourth one. A remainder would pass on words of a few heaps alone.
+const RANDOM: u64 = 1 << 62;
+
 /// How many words are kept.
 const WORDS: usize = 8;
 
@@ -57,7 +60,7 @@ impl<R: NextWord<u64>> NextWord<u64> for Homing<R> {
     #[tactic(auto, unfolding(crate::specs::Homes::homing_step))]
     fn next_word(&mut self) -> u64 {
         let word = self.below.next_word();
-        if word % 4 == 0 {
+        if word < RANDOM {
             return word;
         }
         let own = self.words[self.place % WORDS];

@@ -132,7 +132,7 @@ pub(crate) fn with_workers<'a>(
             alloc,
             "workers",
             "P",
-            "Threads that search one problem together: 1 to 16 [default: 1; 4 with --stats and for rank]",
+            "Threads that search one problem together: 1 to 16 [default: 4 with --stats and for rank, else what is quickest]",
         ),
     )?;
     let command = with_arg(

@@ -7,6 +7,8 @@ mod asked;
 #[cfg(test)]
 mod batched;
 #[cfg(test)]
+mod company;
+#[cfg(test)]
 mod constant;
 #[cfg(test)]
 mod counted;
@@ -18,6 +20,8 @@ mod gated;
 mod given;
 #[cfg(test)]
 mod heaps;
+#[cfg(test)]
+mod homed;
 #[cfg(test)]
 mod in_turn;
 #[cfg(test)]

@@ -1,0 +1,58 @@
+//! Words that keep a worker at its own heaps.
+use crate::constant::Constant;
+use ea_engine::Homing;
+use rand_core::Rng;
+
+/// Whether two words in a row draw two different heaps of a worker's own, as a pop draws them.
+fn draws_its_own(first: u64, second: u64, worker: u32, workers: u32, heaps: u32) -> bool {
+    let own = u64::from(heaps);
+    let all = u64::from(workers.max(1)) * own;
+    if all < 2 {
+        return false;
+    }
+    let from = u64::from(worker) * own;
+    let i = first % all;
+    let j = (i + 1 + second % (all - 1)) % all;
+    i != j && from <= i && i < from + own && from <= j && j < from + own
+}
+
+#[test]
+fn words_draw_the_heaps_of_their_worker(rt: HostRuntime) {
+    for workers in 1..17u32 {
+        for worker in 0..workers {
+            for heaps in [2u32, 4, 8] {
+                let mut words = Homing::new(Constant(u64::MAX), worker, workers, heaps);
+                for _ in 0..20 {
+                    let first = words.next_u64();
+                    let second = words.next_u64();
+                    assert!(rt; draws_its_own(first, second, worker, workers, heaps));
+                }
+            }
+        }
+    }
+}
+
+#[test]
+fn every_own_heap_is_drawn(rt: HostRuntime) {
+    for heaps in [2u32, 4, 8] {
+        let mut words = Homing::new(Constant(u64::MAX), 1, 3, heaps);
+        let mut drawn = [false; 8];
+        for _ in 0..heaps {
+            let heap = words.next_u64() % u64::from(3 * heaps);
+            let place = heap.saturating_sub(u64::from(heaps)) as usize;
+            if place < 8 {
+                drawn[place] = true;
+            }
+        }
+        for place in 0..heaps as usize {
+            assert!(rt; place < 8 && drawn[place]);
+        }
+    }
+}
+
+#[test]
+fn words_of_the_generator_below_come_through(rt: HostRuntime) {
+    let mut words = Homing::new(Constant(12), 0, 2, 2);
+    assert!(rt; words.next_u64() == 12);
+    assert!(rt; words.next_u32() == 12);
+}
