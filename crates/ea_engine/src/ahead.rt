@@ -9,15 +9,15 @@ ghost use Rattle.ea_engine.specs.Worked.{OnlySaw};
 use crate::ground::Ground;
 use crate::problem::Posed;
 use ea_labels::LabelSeat;
-use ea_pool::Entry;
+use ea_pool::{Entry, EntryHeap};
 use ea_road::{Known, TravelTimes};
 
 /// Fewer entries are not worth it.
 const FEW: usize = 4;
 
 // Reads the labels of entries' nodes, and where their arcs begin.
-fn read_places<K: Known + Posed, T: TravelTimes>(
-    ground: &Ground<'_, K, T>,
+fn read_places<K: Known + Posed, E: EntryHeap, T: TravelTimes>(
+    ground: &Ground<'_, K, T, E>,
     seat: &mut LabelSeat<K>,
     entries: &[Entry],
 ) -> usize
@@ -36,7 +36,7 @@ fn read_places<K: Known + Posed, T: TravelTimes>(
 }
 
 // Reads the first arcs from entries' nodes.
-fn read_arcs<K: Known + Posed, T: TravelTimes>(ground: &Ground<'_, K, T>, entries: &[Entry]) -> u32
+fn read_arcs<K: Known + Posed, E: EntryHeap, T: TravelTimes>(ground: &Ground<'_, K, T, E>, entries: &[Entry]) -> u32
     requires ground { IsGround K.is_known K.problem T.answers T.classes ground.now }
     requires known { AreKnown K.is_known entries.now }
 {
@@ -50,8 +50,8 @@ fn read_arcs<K: Known + Posed, T: TravelTimes>(ground: &Ground<'_, K, T>, entrie
 }
 
 // Reads the labels of the heads of the arcs from a node.
-fn read_heads<K: Known + Posed, T: TravelTimes>(
-    ground: &Ground<'_, K, T>,
+fn read_heads<K: Known + Posed, E: EntryHeap, T: TravelTimes>(
+    ground: &Ground<'_, K, T, E>,
     seat: &mut LabelSeat<K>,
     node: u32,
 )
@@ -68,8 +68,8 @@ fn read_heads<K: Known + Posed, T: TravelTimes>(
 
 /// Reads what the visits of these entries will read, where they are several: their labels, where their arcs begin, and the
 /// labels of the arcs' heads.
-pub fn read_ahead<K: Known + Posed, T: TravelTimes>(
-    ground: &Ground<'_, K, T>,
+pub fn read_ahead<K: Known + Posed, E: EntryHeap, T: TravelTimes>(
+    ground: &Ground<'_, K, T, E>,
     seat: &mut LabelSeat<K>,
     entries: &[Entry],
 )

@@ -111,10 +111,10 @@ fn visit_taken<K: Known + Posed, E: EntryHeap, T: TravelTimes, R: Rng>(
 }
 
 // Visits the least of entries that were just taken. What their visits will read is read ahead.
-fn visit_first<K: Known + Posed, T: TravelTimes, R: Rng>(
-    ground: &Ground<'_, K, T>,
+fn visit_first<K: Known + Posed, E: EntryHeap, T: TravelTimes, R: Rng>(
+    ground: &Ground<'_, K, T, E>,
     target: Option<u32>,
-    means: &mut Means<K, R>,
+    means: &mut Means<K, R, E>,
     lists: &mut Lists,
     batch: usize,
     number: u64,
