@@ -1,5 +1,5 @@
 -- From the row before the workers run to the row in which they are done.
-use Rattle.std.proofs.Common.{◌≡◌, ℕ, zero, suc, ◌+◌, ◌<◌, ◌≤◌, List, [], ◌∷◌, ◌++◌, map, length, get_or, take, drop, length-drop, All, refl, sym, ◌∙◌, ap, arith, subst, length-append}
+use Rattle.std.proofs.Common.{◌≡◌, ℕ, zero, suc, ◌+◌, ◌<◌, ◌≤◌, List, [], ◌∷◌, ◌++◌, map, length, get_or, take, drop, length-drop, All, refl, sym, ◌∙◌, ap, arith, subst}
 use Rattle.std.specs.Prelude.{sum_by}
 use Rattle.rand_core.specs.Stream.{Stream}
 use Rattle.ea_engine.specs.Problems.{Problem}

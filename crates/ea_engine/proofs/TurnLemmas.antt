@@ -1,17 +1,16 @@
 -- Turns that found nothing, turns that visited an entry, and what is pushed at a turn's end.
 use Rattle.std.proofs.Common.{◌≡◌, ℕ, ◌+◌, ◌*◌, ◌<◌, ◌≤◌, true, false, List, [], ◌∷◌, ◌++◌, length, refl, sym, ◌∙◌, ap, subst, arith, None, Option, min, length-append}
-use Rattle.std.specs.Prelude.{Contains, reverse}
+use Rattle.std.specs.Prelude.{reverse}
 use Rattle.std.specs.Option.{option_to_list}
 use Rattle.std.proofs.lemmas.Bool.{false≢true}
 use Rattle.std.proofs.lemmas.List.{reverse-reverse, reverse-append, length-reverse}
 use Rattle.rand_core.specs.Stream.{Stream, next_u64}
-use Rattle.ea_lists.proofs.Totals.{total-append}
 use Rattle.ea_pool.specs.declared.entry.Entry.{Entry}
 use Rattle.arrayvec.specs.ArrayVec.{ArrayVec}
 use Rattle.ea_pool.specs.Batches.{IsLowest, MatchSome, PopsSome}
 use Rattle.ea_pool.specs.declared.account.LastTake.{LastTake}
 use Rattle.ea_pool.specs.declared.reply.PoppedSome.TheVariants as reply
-use Rattle.ea_pool.specs.Entries.{only, times, AreKnown, IsAscending, IsLeastOf, face}
+use Rattle.ea_pool.specs.Entries.{times, IsAscending, IsLeastOf, face}
 use Rattle.ea_pool.specs.Kinds.{HeapKind, Least, Buckets, Gives}
 use Rattle.ea_pool.proofs.Weights.{only-same}
 use Rattle.ea_engine.specs.Problems.{Problem}
@@ -28,7 +27,7 @@ use Rattle.ea_labels.specs.declared.record.Bound.{Bound}
 use Rattle.ea_labels.specs.declared.record.SeatRecord.{SeatRecord}
 use Rattle.ea_pool.specs.declared.account.Account.{Account}
 use Rattle.ea_limits.specs.declared.TheConstants.{SHARES}
-use Rattle.ea_pool.specs.Pools.{SameBooks, IsLeastLeft}
+use Rattle.ea_pool.specs.Pools.{SameBooks}
 use Rattle.ea_engine.specs.Turns.{is_busy, is_idle, is_refused, IsShaped, visited_as}
 use Rattle.ea_engine.specs.Closed.{entry_at, IsClosedAs, IsFreshAs}
 use Rattle.ea_engine.specs.Holds.{IsVisit, Took, AreInOrder}
@@ -138,7 +137,7 @@ in_order Buckets out content rest h = tt
 
 pub took_by : (known : ℕ → ℕ → Type 0) (kind : HeapKind) (reply : PoppedSome) (heaps most i j : ℕ) (old mid new : ArrayVec Entry) (a b : Account) (seen : List (ℕ × ℕ)) (last : Option LastTake)
     → old.items ≡ []
-    → MatchSome reply ((pops : PopsSome known most old.items mid.items a b (λ out. TookLesser kind i j out seen last) last) × IsLowest kind heaps (min pops.took.x pops.took.y) pops.out a) (SameBooks a b × (mid ≡ old)) (SameBooks a b × (mid ≡ old))
+    → MatchSome reply ((pops : PopsSome known kind most old.items mid.items a b (λ out. TookLesser kind i j out seen last) last) × IsLowest kind heaps (min pops.took.x pops.took.y) pops.out a) (SameBooks a b × (mid ≡ old)) (SameBooks a b × (mid ≡ old))
     → new.items ≡ reverse mid.items
     → MatchSome reply (Took known kind heaps most new.items a b) (SameBooks a b × (new.items ≡ [])) (SameBooks a b × (new.items ≡ []))
 took_by known kind reply.Entries heaps most i j old mid new a b seen last none h turned = record {

@@ -35,7 +35,7 @@ use Rattle.ea_pool.specs.Pools.{NothingLeft, IsLeft}
 use Rattle.ea_engine.specs.Turns.{Told, IsShaped, IsShapedAs, IsWorkDone, is_ended, idle_run, ends_worker, is_empty, is_busy, is_idle, is_leave, is_refused, counted, closed_by, CountsTurns, count_kind, lowered_in_all, visited_as, visited_in, visited_in_all, visited_count, IsRoomy}
 use Rattle.ea_engine.specs.Closed.{entry_at, entry_of, IsClosedAs, IsClosedTurn, IsFreshAs, IsFreshTurn}
 use Rattle.ea_engine.specs.Holds.{IsVisit}
-use Rattle.ea_engine.specs.Worked.{Kit, kit, OnlySaw, Progress, IsTurn, IsWork, IsBrokenAs, IsLeftAs, IsInside, IsFirstLeft, IsLoneAs, IsPoppingAs, AreInside}
+use Rattle.ea_engine.specs.Worked.{Kit, kit, OnlySaw, Progress, IsTurn, IsWork, IsBrokenAs, IsLeftAs, IsFirstLeft, IsLoneAs, IsPoppingAs, AreInside}
 use Rattle.ea_engine.proofs.Multisets.{same_length}
 use Rattle.ea_engine.proofs.ProgressLemmas.{Progress-none, Progress-saw, Progress-then}
 use Rattle.ea_engine.proofs.BoundLemmas.{IsStale-more, IsScanned-more, IsCut-more}

@@ -12,7 +12,7 @@ use Rattle.ea_limits.specs.declared.TheConstants.{HORIZON}
 use Rattle.ea_pool.specs.declared.words.TheConstants.{EMPTY}
 use Rattle.ea_pool.specs.declared.account.LastTake.{LastTake}
 use Rattle.ea_pool.specs.Entries.{only, times, IsKnown, AreKnown, face}
-use Rattle.ea_pool.specs.Kinds.{HeapKind, Least, Shows, IsBelow}
+use Rattle.ea_pool.specs.Kinds.{HeapKind, Shows, IsBelow}
 use Rattle.ea_pool.specs.States.{saw}
 use Rattle.ea_pool.specs.Plays.{Surveys}
 use Rattle.ea_limits.specs.declared.TheConstants.{SHARES}
@@ -118,7 +118,7 @@ module _
     (is : w ≡ saw (saw v i x) j y)
     (heap : picked.0 ≡ lesser i (Some x) j (Some y))
     (word : picked.1 ≡ min x y)
-    (p : PopsSome known most before after (books w) (books b) (λ out. TookLeast kind picked.0 picked.1 out w.seen b.last_take) b.last_take) where
+    (p : PopsSome known kind most before after (books w) (books b) (λ out. TookLeast kind picked.0 picked.1 out w.seen b.last_take) b.last_take) where
   took_lesser : TookLesser kind i j p.out v.seen b.last_take
   took_lesser = record {
     x = x;
@@ -129,7 +129,7 @@ module _
   }
 
   pub pops_lesser : i < heaps → j < heaps → i ≢ j → (v.shares ≡ SHARES → Surveys known kind heaps w)
-      → (pops : PopsSome known most before after (books v) (books b) (λ out. TookLesser kind i j out v.seen b.last_take) b.last_take) × IsLowest kind heaps (min pops.took.x pops.took.y) pops.out (books v)
+      → (pops : PopsSome known kind most before after (books v) (books b) (λ out. TookLesser kind i j out v.seen b.last_take) b.last_take) × IsLowest kind heaps (min pops.took.x pops.took.y) pops.out (books v)
   unfolding took_lesser
   pops_lesser near other apart survey = (
     record {

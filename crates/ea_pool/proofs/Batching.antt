@@ -1,5 +1,5 @@
 -- A batch goes into a heap entry by entry, and comes out so.
-use Rattle.std.proofs.Common.{◌≡◌, ℕ, ◌+◌, ◌<◌, ◌≤◌, List, [], ◌∷◌, ◌++◌, length, sym, refl, ap, ◌∙◌, arith, subst, append_assoc, length-append, Option, Some, ◌⊎◌, ⊎_elim, inl, inr}
+use Rattle.std.proofs.Common.{Bool, true, false, ◌≡◌, ℕ, ◌<◌, ◌≤◌, List, [], ◌∷◌, ◌++◌, length, sym, refl, ap, ◌∙◌, arith, subst, append_assoc, Option, Some, ◌⊎◌, ⊎_elim, inl, inr}
 use mathlib.Core.Logic.{dite}
 use native.Mathlib.Decide.{dec_lt}
 use Rattle.std.specs.List.{AllByRecursion}
@@ -10,14 +10,14 @@ use Rattle.ea_pool.specs.declared.account.LastTake.{LastTake}
 use Rattle.ea_limits.specs.declared.TheConstants.{HORIZON}
 use Rattle.ea_pool.specs.declared.words.TheConstants.{EMPTY}
 use Rattle.ea_pool.specs.Entries.{only, times, SameEntries, ComesFirst, IsLeastOf, IsAscending, AreTakenOut, face}
-use Rattle.ea_pool.specs.Kinds.{HeapKind, Least, Buckets, Shows, Gives, GivesOne, IsBelow}
+use Rattle.ea_pool.specs.Kinds.{HeapKind, Least, Buckets, Shows, Gives, GivesOne, IsEnough, IsSpentAs, IsBelow}
 use Rattle.ea_pool.specs.States.{take_at}
 use Rattle.ea_pool.specs.Tries.{TookAll}
 use Rattle.ea_pool.specs.Pools.{AreInTime}
-use Rattle.ea_pool.specs.Batches.{GoesIn, AreFirst}
+use Rattle.ea_pool.specs.Batches.{GoesIn, AreFirst, TookEnough}
 use Rattle.ea_pool.proofs.Weights.{only-same, only-one}
 use Rattle.ea_pool.proofs.Gathered.{no_weight}
-use Rattle.ea_pool.proofs.Shown.{shown_face, shown_empty, given_parts}
+use Rattle.ea_pool.proofs.Shown.{shown_empty, given_parts}
 use Rattle.ea_pool.proofs.HeapOrder.{comes_before, least_of_part}
 
 -- the last one of a batch goes in
@@ -81,18 +81,37 @@ in_time_after before after heap heap' h low e there =
 pub in_time_left : (kind : HeapKind) (out heap heap' : List Entry) → Gives kind out heap heap' → AreInTime heap → AreInTime heap'
 in_time_left kind out heap heap' h low e there = low e (omega (arith, given_parts kind out heap heap' h (only e), total-append (only e) out heap'))
 
+-- where none came out, none was asked for, or there is none
+all_or_none : (kind : HeapKind) (most : ℕ) (rest : List Entry) → IsEnough kind most [] rest → (0 ≡ most) ⊎ (rest ≡ [])
+all_or_none Least most rest h = h
+all_or_none Buckets most rest h = ⊎_elim inl (λ (t : (rest ≡ []) ⊎ (0 < 0)). ⊎_elim inr (λ (some : 0 < 0). absurd (omega arith)) t) h
+
+-- enough came out: so many, or all, or all that is given at once
+pub asked_enough : (kind : HeapKind) (most : ℕ) (out rest : List Entry) → length out ≡ most → IsEnough kind most out rest
+asked_enough Least most out rest h = inl h
+asked_enough Buckets most out rest h = inl h
+
+pub none_enough : (kind : HeapKind) (most : ℕ) (out rest : List Entry) → rest ≡ [] → IsEnough kind most out rest
+none_enough Least most out rest h = inr h
+none_enough Buckets most out rest h = inr (inl h)
+
+pub spent_enough : (kind : HeapKind) (most : ℕ) (out rest : List Entry) (spent : Bool) → IsSpentAs kind spent → spent ≡ true → 0 < length out → IsEnough kind most out rest
+spent_enough Least most out rest spent is not some = let e : true ≡ false = sym not ∙ is in cc
+spent_enough Buckets most out rest spent is not some = inr (inr some)
+
 -- of a heap with entries some come out where some are asked for
 pub comes_some : (kind : HeapKind) (most word : ℕ) (out heap rest : List Entry) → AreFirst kind most out heap rest → 0 < most → Shows kind word heap → word < EMPTY → 0 < length out
 comes_some kind most word (e ∷ out) heap rest h asked shown low = omega arith
 comes_some kind most word [] heap rest h asked shown low = ⊎_elim
     (λ (all : 0 ≡ most). absurd (omega arith))
     (λ (none : rest ≡ []). let empty : heap ≡ [] = no_weight heap (λ f. given_parts kind [] heap rest h.taken f ∙ ap (total f) none) in absurd (omega (arith, shown_empty kind word heap shown empty)))
-    h.enough
+    (all_or_none kind most rest h.enough)
 
-pub comes_enough : (kind : HeapKind) (most : ℕ) (out heap rest : List Entry) (last : Option LastTake) (k : ℕ) (seen : List (ℕ × ℕ)) → last ≡ Some (take_at k heap seen) → AreFirst kind most out heap rest → (length out ≡ most) ⊎ TookAll out last
-comes_enough kind most out heap rest last k seen is h = ⊎_elim
+pub comes_enough : (kind : HeapKind) (most : ℕ) (out heap rest : List Entry) (last : Option LastTake) (k : ℕ) (seen : List (ℕ × ℕ)) → last ≡ Some (take_at k heap seen) → AreFirst kind most out heap rest → TookEnough kind most out last
+comes_enough Buckets most out heap rest last k seen is h = tt
+comes_enough Least most out heap rest last k seen is h = ⊎_elim
     (λ (all : length out ≡ most). inl all)
-    (λ (none : rest ≡ []). inr (subst (TookAll out) (sym is) (λ f. omega (arith, given_parts kind out heap rest h.taken f, total-append f out rest, ap (total f) none))))
+    (λ (none : rest ≡ []). inr (subst (TookAll out) (sym is) (λ f. omega (arith, h.taken.parts f, total-append f out rest, ap (total f) none))))
     h.enough
 
 head_first : (e d : Entry) (out content rest : List Entry) → AreTakenOut (e ∷ out) content rest → 0 < times d content → e.key ≤ d.key

@@ -25,7 +25,7 @@ use Rattle.ea_pool.specs.Core.{Core, at_home, AreWords, IsLawful}
 use Rattle.ea_pool.specs.Events.{load, take, give_pushed, give_popped, give_back, split, join, opening, state_of, home_of, with_taken, with_home, with_state, after, MayCome, IsReached}
 use Rattle.ea_pool.specs.Pools.{books, AreLeft, IsRunEnd}
 use Rattle.ea_pool.specs.Plays.{word_place, AreSpread, IsPoolState, Place, value_of, Surveys, Looked, Took, Taken, PutsPushed, PutsPopped, GavePushed, GavePopped, GaveBack}
-use Rattle.ea_pool.proofs.Weights.{only-same, added_same}
+use Rattle.ea_pool.proofs.Weights.{added_same}
 use Rattle.ea_pool.proofs.Lawful.{Homes, board, empty_homes, unheld_all, balance_alone, balance_whole, surveys, word_low, known_in, unheld_home}
 use Rattle.ea_pool.proofs.Runs.{home_at, reached_lawful, reached_next, reached_take, opening_reached}
 

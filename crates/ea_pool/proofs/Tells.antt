@@ -1,5 +1,5 @@
 -- What the steps of one attempt give together.
-use Rattle.std.proofs.Common.{◌≡◌, ℕ, ◌+◌, ◌<◌, ◌≤◌, Bool, true, List, [], ◌∷◌, ◌++◌, sym, refl, ap, ◌∙◌, arith, subst, Option, Some, slice_index_or}
+use Rattle.std.proofs.Common.{◌≡◌, ℕ, ◌<◌, ◌≤◌, Bool, true, List, [], ◌∷◌, ◌++◌, sym, refl, ap, ◌∙◌, arith, subst, Option, Some, slice_index_or}
 use Rattle.std.specs.Prelude.{Result, Ok, MatchOption, MatchResult}
 use Rattle.std.specs.List.{AllByRecursion}
 use mathlib.Core.Logic.{dite}
@@ -21,7 +21,7 @@ use Rattle.ea_pool.specs.Batches.{GoesIn, ComesOut, PushesFrom, PopsSome}
 use Rattle.ea_pool.proofs.Weights.{only-same, one_entry, known_one}
 use Rattle.ea_pool.proofs.HeapOrder.{face_is, least_of_part}
 use Rattle.ea_pool.proofs.Batching.{comes_some, comes_enough}
-use Rattle.ea_pool.proofs.Shown.{shown_low, shown_empty, given_parts}
+use Rattle.ea_pool.proofs.Shown.{shown_low, given_parts}
 use Rattle.ea_pool.proofs.Moves.{told_pushed, told_popped}
 
 module _ (known : ℕ → ℕ → Type 0) (kind : HeapKind) where
@@ -85,7 +85,7 @@ module _ (known : ℕ → ℕ → Type 0) (kind : HeapKind) where
       pub rests_popped : 0 < m.0.shares → Rests m₃
       rests_popped = rests_then m m₁ m₂ m₃ k seen comes.0 moves.2.0 t view moves.2.1 (given_parts kind comes.0 t.0 moves.2.0 comes.2.taken) done
 
-      pub pops_some : 0 < most → seen < EMPTY → PopsSome known most before after (books m.0) (books m₃.0) (λ out. TookLeast kind k seen out m.0.seen m₃.0.last_take) m₃.0.last_take
+      pub pops_some : 0 < most → seen < EMPTY → PopsSome known kind most before after (books m.0) (books m₃.0) (λ out. TookLeast kind k seen out m.0.seen m₃.0.last_take) m₃.0.last_take
       pops_some asked low =
           let last = took_then m m₁ m₂ m₃ k seen comes.0 moves.2.0 t view moves.2.1 (given_parts kind comes.0 t.0 moves.2.0 comes.2.taken) done in
           record {

@@ -1,5 +1,5 @@
 -- Several entries at once, and what calls with a batch of them do.
-use Rattle.std.specs.Prelude.{◌≡◌, ◌⊎◌, ℕ, ◌<◌, ◌≤◌, List, [], ◌++◌, length, Option, Result, Ok, Err}
+use Rattle.std.specs.Prelude.{◌≡◌, ◌⊎◌, ℕ, ◌<◌, ◌≤◌, List, ◌++◌, length, Option, Result, Ok, Err}
 use Rattle.ea_pool.specs.declared.entry.Entry.{Entry}
 use Rattle.ea_pool.specs.declared.account.Account.{Account}
 use Rattle.ea_pool.specs.declared.account.LastTake.{LastTake}
@@ -9,7 +9,7 @@ use Rattle.ea_pool.specs.declared.reply.PoppedSome.{PoppedSome}
 use Rattle.ea_pool.specs.declared.reply.PoppedSome.TheVariants as reply
 use Rattle.ea_limits.specs.declared.TheConstants.{SHARES}
 use Rattle.ea_pool.specs.Entries.{SameEntries, AreKnown}
-use Rattle.ea_pool.specs.Kinds.{HeapKind, Gives, IsBelow}
+use Rattle.ea_pool.specs.Kinds.{HeapKind, Least, Buckets, Gives, IsEnough, IsBelow}
 use Rattle.ea_pool.specs.Pools.{PushesAll, PopsAll, IsLeft, AreLeft}
 use Rattle.ea_pool.specs.Tries.{TookAll}
 
@@ -19,11 +19,11 @@ pub record GoesIn (before after heap heap' : List Entry) : Type 0 where
   pub split : before ≡ after ++ went
   pub added : SameEntries heap' (went ++ heap)
 
--- entries came out of a heap of this kind, as many as were asked for, or all
+-- entries came out of a heap of this kind, as many as were asked for, or all, or with buckets all of a window
 pub record AreFirst (kind : HeapKind) (most : ℕ) (out heap heap' : List Entry) : Type 0 where
   pub taken : Gives kind out heap heap'
   pub few : length out ≤ most
-  pub enough : (length out ≡ most) ⊎ (heap' ≡ [])
+  pub enough : IsEnough kind most out heap'
 
 -- and they stand at the batch's end
 abbrev pub ComesOut : HeapKind → ℕ → List Entry → List Entry → List Entry → List Entry → Type 0
@@ -33,9 +33,14 @@ ComesOut kind most before after heap heap' = (out : List Entry) × (after ≡ be
 abbrev pub PushesFrom : List Entry → List Entry → Account → Account → Type 0
 PushesFrom before after a b = (went : List Entry) × (before ≡ after ++ went) × PushesAll a went b
 
+-- as many as were asked for, or all that the heap had that was taken last; with buckets, any
+abbrev pub TookEnough : HeapKind → ℕ → List Entry → Option LastTake → Type 0
+TookEnough Least most out last = (length out ≡ most) ⊎ TookAll out last
+TookEnough Buckets most out last = Unit {0}
+
 -- What a pop of at most so many brought into a batch, and the account: known entries, at least one, taken from a heap of which
--- P holds, as many as were asked for or all that it had
-pub record PopsSome (known : ℕ → ℕ → Type 0) (most : ℕ) (before after : List Entry) (a b : Account) (P : List Entry → Type 0) (last : Option LastTake) : Type 0 where
+-- P holds, as many as were asked for or all that it had, where heaps give the least entry first
+pub record PopsSome (known : ℕ → ℕ → Type 0) (kind : HeapKind) (most : ℕ) (before after : List Entry) (a b : Account) (P : List Entry → Type 0) (last : Option LastTake) : Type 0 where
   pub out : List Entry
   pub brought : after ≡ before ++ out
   pub some : 0 < length out
@@ -43,7 +48,7 @@ pub record PopsSome (known : ℕ → ℕ → Type 0) (most : ℕ) (before after 
   pub known_all : AreKnown known out
   pub took : P out
   pub few : length out ≤ most
-  pub enough : (length out ≡ most) ⊎ TookAll out last
+  pub enough : TookEnough kind most out last
   -- a seat with all shares pops what was left
   pub left : a.shares ≡ SHARES → AreLeft out a
 

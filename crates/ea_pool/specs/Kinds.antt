@@ -1,5 +1,5 @@
 -- The two kinds of heap, and what each promises of its words and of the entries that it gives.
-use Rattle.std.specs.Prelude.{◌≡◌, ℕ, ◌≤◌, List, [], ◌∷◌, ◌++◌}
+use Rattle.std.specs.Prelude.{◌≡◌, ℕ, ◌≤◌, List, [], ◌∷◌, ◌++◌, length, ◌<◌, ◌⊎◌, Bool, false}
 use Rattle.ea_pool.specs.declared.entry.Entry.{Entry}
 use Rattle.ea_pool.specs.declared.words.TheConstants.{EMPTY}
 use Rattle.ea_pool.specs.Entries.{SameEntries, IsLeastOf, AreTakenOut, face}
@@ -28,3 +28,13 @@ GivesOne Buckets entry content rest = SameEntries content (entry ∷ rest)
 abbrev pub IsBelow : HeapKind → ℕ → List Entry → Entry → Type 0
 IsBelow Least word entries left = face entries ≤ left.key
 IsBelow Buckets word entries left = word ≤ left.key
+
+-- as many came out as were asked for, or all that there were; or with buckets some, all of a window
+abbrev pub IsEnough : HeapKind → ℕ → List Entry → List Entry → Type 0
+IsEnough Least most entries rest = (length entries ≡ most) ⊎ (rest ≡ [])
+IsEnough Buckets most entries rest = (length entries ≡ most) ⊎ (rest ≡ []) ⊎ (0 < length entries)
+
+-- whether no more is to be taken at once: with Least more always is
+abbrev pub IsSpentAs : HeapKind → Bool → Type 0
+IsSpentAs Least spent = spent ≡ false
+IsSpentAs Buckets spent = Unit {0}

@@ -29,7 +29,7 @@ pub(crate) fn push_all<H: EntryHeap>(heap: &mut Slot<H>, batch: &mut Batch) -> b
     true
 }
 
-// Pops so many entries, or all that there are.
+// Pops so many entries, or all that there are, or all that the heap gives at once.
 pub(crate) fn pop_some<H: EntryHeap>(heap: &mut Slot<H>, most: usize, batch: &mut Batch)
     requires { array_vec_len batch.old + most ≤ MOST_IN_BATCH }
     ensures { ComesOut H.kind most batch.old.items batch.new.items heap.old heap.new }
@@ -39,5 +39,8 @@ pub(crate) fn pop_some<H: EntryHeap>(heap: &mut Slot<H>, most: usize, batch: &mu
             return;
         };
         batch.push(entry);
+        if heap.is_spent() {
+            return;
+        }
     }
 }

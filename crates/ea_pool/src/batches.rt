@@ -160,7 +160,7 @@ impl<K: Known, A: Allocator, H: EntryHeap> Pool<K, A, H> {
         requires room { (0 < most) × (array_vec_len batch.old + most ≤ MOST_IN_BATCH) }
         ensures table { seat.new.table_id ≡ seat.old.table_id }
         ensures rests { Rests seat.new.me }
-        ensures popped { result ≡ true → PopsSome K.is_known most batch.old.items batch.new.items
+        ensures popped { result ≡ true → PopsSome K.is_known H.kind most batch.old.items batch.new.items
             (books seat.old.me.0) (books seat.new.me.0)
             (λ out. TookLeast H.kind heap seen out seat.old.me.0.seen seat.new.me.0.last_take)
             seat.new.me.0.last_take }
@@ -193,7 +193,7 @@ impl<K: Known, A: Allocator, H: EntryHeap> Pool<K, A, H> {
         ensures table { seat.new.table_id ≡ seat.old.table_id }
         ensures rests { Rests seat.new.me }
         ensures popped { MatchSome result
-            ((pops : PopsSome K.is_known most batch.old.items batch.new.items
+            ((pops : PopsSome K.is_known H.kind most batch.old.items batch.new.items
             (books seat.old.me.0) (books seat.new.me.0)
             (λ out. TookLesser H.kind i j out seat.old.me.0.seen seat.new.me.0.last_take)
             seat.new.me.0.last_take)
@@ -240,7 +240,7 @@ impl<K: Known, A: Allocator, H: EntryHeap> Pool<K, A, H> {
         ensures popped { let i = first_draw (heaps_of self.now) first in
             let j = second_draw (heaps_of self.now) first second in
             MatchSome result
-            ((pops : PopsSome K.is_known most batch.old.items batch.new.items
+            ((pops : PopsSome K.is_known H.kind most batch.old.items batch.new.items
             (account_of seat.old) (account_of seat.new)
             (λ out. TookLesser H.kind i j out seat.old.seen seat.new.last_take)
             seat.new.last_take)

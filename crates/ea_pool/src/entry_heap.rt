@@ -1,7 +1,7 @@
 //! What a heap of a pool is, and the slot that it lies in.
 ghost use Rattle.std.specs.Prelude.{◌≡◌, [], ◌∷◌, List, IfErr, IfOk, OnOk, MatchOption};
 ghost use Rattle.ea_pool.specs.Entries.{SameEntries};
-ghost use Rattle.ea_pool.specs.Kinds.{HeapKind, Shows, GivesOne};
+ghost use Rattle.ea_pool.specs.Kinds.{HeapKind, Shows, GivesOne, IsSpentAs};
 ghost use Rattle.ea_pool.specs.Pools.{AreInTime};
 ghost use Rattle.ea_pool.specs.declared.entry.Entry.{Entry as Held};
 
@@ -27,6 +27,10 @@ pub trait EntryHeap: Drop {
     fn take_entry(&mut self) -> Option<Entry>
         ensures { MatchOption result ((entries self.old ≡ []) × (entries self.new ≡ []))
             (λ entry. GivesOne kind entry (entries self.old) (entries self.new)) };
+
+    /// Whether no more entries are to be taken together with the last one.
+    fn is_spent(&self) -> bool
+        ensures { IsSpentAs kind result };
 
     /// The word under which it lies in a pool.
     fn word(&self) -> u64
@@ -77,6 +81,13 @@ impl<H: EntryHeap> Slot<H> {
             (λ entry. GivesOne H.kind entry self.old self.new) }
     {
         self.heap.take_entry()
+    }
+
+    /// Whether no more entries are to be taken together with the last one.
+    pub(crate) fn is_spent(&self) -> bool
+        ensures { IsSpentAs H.kind result }
+    {
+        self.heap.is_spent()
     }
 
     /// The word under which the heap is put back.

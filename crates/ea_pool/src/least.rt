@@ -109,6 +109,10 @@ impl<A: Allocator> EntryHeap for LeastHeap<A> {
         self.pop()
     }
 
+    fn is_spent(&self) -> bool {
+        false
+    }
+
     fn word(&self) -> u64 {
         match self.least_key() {
             Some(key) => key,

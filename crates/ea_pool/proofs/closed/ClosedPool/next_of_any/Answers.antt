@@ -1,8 +1,8 @@
-use Rattle.std.proofs.Common.{◌≡◌, List, [], ◌∷◌, length, refl, sym, ap, ◌∙◌, arith, subst, take}
+use Rattle.std.proofs.Common.{◌≡◌, List, [], length, refl, sym, ap, ◌∙◌, arith}
 use Rattle.std.proofs.lemmas.List.{take_all}
 use Rattle.ea_lists.specs.Totals.{total}
 use Rattle.ea_pool.specs.declared.entry.Entry.{Entry}
-use Rattle.ea_pool.specs.Entries.{SameEntries, gathered}
+use Rattle.ea_pool.specs.Entries.{gathered}
 use Rattle.ea_pool.proofs.Leaving.{still_none, weighs_changed}
 use Rattle.ea_pool.proofs.Shown.{given_one}
 use Rattle.ea_pool.proofs.closed.ClosedPool.next_of_any.Goals as goal

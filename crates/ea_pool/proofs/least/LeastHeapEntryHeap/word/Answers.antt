@@ -1,4 +1,4 @@
-use Rattle.std.proofs.Common.{sym, ◌∙◌}
+use Rattle.std.proofs.Common.{◌∙◌}
 use Rattle.ea_pool.proofs.HeapOrder.{face_is}
 use Rattle.ea_pool.proofs.least.LeastHeapEntryHeap.word.Goals as goal
 

@@ -1,4 +1,4 @@
-use Rattle.std.proofs.Common.{◌≡◌, ℕ, min, List, ap, ◌∙◌, subst}
+use Rattle.std.proofs.Common.{◌≡◌, ℕ, min, ap, ◌∙◌, subst}
 use Rattle.ea_pool.specs.Batches.{PopsSome, IsLowest, MatchSome}
 use Rattle.ea_pool.specs.Draws.{first_draw, second_draw}
 use Rattle.ea_pool.specs.Pools.{books, SameBooks}
@@ -13,7 +13,7 @@ returns-clause-popped g c =
     let last = new.last_take in
     let batch = c.pop_some_of_two.new.batch in
     let Tells = λ (i j : ℕ) (s : SeatView). MatchSome c.pop_some_of_two.result
-    ((pops : PopsSome g.K.Known.is_known c.args.most c.args.batch.now.items batch.items s.account (books new) (λ out. TookLesser g.H.EntryHeap.kind i j out s.seen last) last) × IsLowest g.H.EntryHeap.kind heaps (min pops.took.x pops.took.y) pops.out s.account)
+    ((pops : PopsSome g.K.Known.is_known g.H.EntryHeap.kind c.args.most c.args.batch.now.items batch.items s.account (books new) (λ out. TookLesser g.H.EntryHeap.kind i j out s.seen last) last) × IsLowest g.H.EntryHeap.kind heaps (min pops.took.x pops.took.y) pops.out s.account)
     (SameBooks s.account (books new) × (batch ≡ c.args.batch.now))
     (SameBooks s.account (books new) × (batch ≡ c.args.batch.now)) in
     let same = ap (λ (p : PoolView). p.heaps) c.self.view_is in

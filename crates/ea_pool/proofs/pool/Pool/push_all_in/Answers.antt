@@ -1,4 +1,4 @@
-use Rattle.std.proofs.Common.{List, ◌∷◌, [], ◌++◌, ap, sym, ◌∙◌, subst, ℕ}
+use Rattle.std.proofs.Common.{List, ◌++◌, ap, sym, ◌∙◌, subst, ℕ}
 use Rattle.ea_pool.specs.declared.entry.Entry.{Entry}
 use Rattle.ea_pool.specs.Plays.{value_of}
 use Rattle.ea_pool.specs.Pools.{AreInTime}

@@ -1,5 +1,4 @@
 use Rattle.std.proofs.Common.{ap, ◌∙◌, sym}
-use Rattle.ea_pool.specs.Kinds.{Least}
 use Rattle.ea_pool.specs.Plays.{Place}
 use Rattle.ea_pool.proofs.Tells.{none_out, never_missed, gives_one, pushes_one, rests_one, took_one}
 use Rattle.ea_pool.proofs.pool.Pool.push_at.Goals as goal
