@@ -162,7 +162,7 @@ after_arc line lines n size arcs (arc ∷ more) small count lists rest =
     ∙ rest (n + 1) (arcs ++ arc ∷ []) more (ap length joined ∙ count) lists.1
     ∙ ap (λ (known : List RawArc). Ok (record { nodes = size.nodes; arcs = known })) joined
 
-some_of : (lines : List (List (List ℕ))) (n : ℕ) (size : GraphSize) (arcs more : List RawArc) → size.nodes < 2 ^ 64 → length (arcs ++ more) ≡ size.arcs → AreArcLines size.nodes (speaking lines) more → rest n (reader (Some size) arcs) lines ≡ Ok (record { nodes = size.nodes; arcs = arcs ++ more })
+pub some_of : (lines : List (List (List ℕ))) (n : ℕ) (size : GraphSize) (arcs more : List RawArc) → size.nodes < 2 ^ 64 → length (arcs ++ more) ≡ size.arcs → AreArcLines size.nodes (speaking lines) more → rest n (reader (Some size) arcs) lines ≡ Ok (record { nodes = size.nodes; arcs = arcs ++ more })
 some_of [] n size arcs more small count lists = end_of n size arcs more count lists
 some_of (line ∷ lines) n size arcs more small count lists =
     let P : List (List (List ℕ)) → Type 0 = λ ls. AreArcLines size.nodes ls more in

@@ -19,3 +19,5 @@ pub mod ListFaults
 pub mod TableFaults
 pub mod Grammars
 pub mod QuickEntry
+pub mod Cuts
+pub mod Piecewise

@@ -2,6 +2,7 @@ pub mod Range
 pub mod Fault
 pub mod Reading
 pub mod Graph
+pub mod Pieces
 pub mod GraphFronts
 pub mod Views
 pub mod Borrowed

@@ -185,9 +185,9 @@ pub struct RawGraph {
 
 /// What the lines of a text said so far.
 #[derive(Drop)]
-struct GraphReader {
-    size: Option<GraphSize>,
-    arcs: Vec<RawArc>,
+pub(crate) struct GraphReader {
+    pub size: Option<GraphSize>,
+    pub arcs: Vec<RawArc>,
 }
 
 impl GraphReader {
@@ -260,7 +260,8 @@ impl LineReader for GraphReader {
     ghost front = { graph_step-front };
 }
 
-fn read_graph(alloc: Global, text: &[u8]) -> Result<RawGraph, InputFault>
+/// The same with one clause, which says what the lines come to step by step.
+pub(crate) fn read_graph(alloc: Global, text: &[u8]) -> Result<RawGraph, InputFault>
     ensures exact { Gives graph result (graph_of (field_lines text.now)) }
 {
     let start = GraphReader {

@@ -6,6 +6,7 @@ mod graph;
 mod kinds;
 mod listing;
 mod pairs;
+mod pieces;
 mod plain;
 mod range;
 mod reading;
@@ -19,9 +20,12 @@ pub use ea_text::{
 pub use fault::{FaultKind, InputFault};
 pub use graph::{RawArc, RawGraph, graph_law, read_gr};
 pub use pairs::{pair_law, read_p2p};
+pub use pieces::read_gr_by;
 pub use sources::{read_ss, source_law};
 pub use step_lines::{MOST_SPEED, MOST_STEPS, step_limits_are_these};
 pub use table::{RawKind, RawTable, read_tp, table_law};
 
+#[cfg(test)]
+mod piece_tests;
 #[cfg(test)]
 mod tests;

@@ -65,7 +65,7 @@ fn read_line<R: LineReader>(alloc: Global, reader: &mut R, line: &[u8]) -> Resul
 }
 
 /// Reads the line at the front of a text, and gives the bytes after it.
-fn read_front<'a, R: LineReader>(
+pub(crate) fn read_front<'a, R: LineReader>(
     alloc: Global,
     reader: &mut R,
     text: &'a [u8],
@@ -84,7 +84,11 @@ fn read_front<'a, R: LineReader>(
 }
 
 /// Reads all lines of a text.
-fn read_lines<R: LineReader>(alloc: Global, reader: &mut R, text: &[u8]) -> Result<(), InputFault>
+pub(crate) fn read_lines<R: LineReader>(
+    alloc: Global,
+    reader: &mut R,
+    text: &[u8],
+) -> Result<(), InputFault>
     ensures { Gives (λ _. R.state reader.new) result
         (lines_after R.step 0 (R.state reader.old) (field_lines text.now)) }
 {

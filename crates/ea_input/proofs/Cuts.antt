@@ -1,0 +1,41 @@
+-- Texts that are cut after a line feed.
+use Rattle.std.proofs.Common.{◌≡◌, ℕ, suc, zero, ◌<◌, cond, List, [], ◌∷◌, ◌++◌, length, get_or, take, drop, refl, ap, ◌∙◌, arith, inl, inr}
+use Rattle.std.specs.Prelude.{◌==◌}
+use Rattle.std.specs.List.{onto_first}
+use Rattle.ea_text.specs.Text.{lines_of}
+use Rattle.ea_input.proofs.Denoted.{two_ways}
+
+-- Lines of which there is one.
+abbrev AreSome : List (List ℕ) → Type 0
+AreSome lines = (first : List ℕ) × (others : List (List ℕ)) × (lines ≡ first ∷ others)
+
+onto_some : (b : ℕ) (lines : List (List ℕ)) → AreSome (onto_first b lines)
+onto_some b [] = (b ∷ [], [], refl)
+onto_some b (line ∷ lines) = (b ∷ line, lines, refl)
+
+-- A text that has a byte has a line.
+some_line : (b : ℕ) (bs : List ℕ) → AreSome (lines_of (b ∷ bs))
+some_line b bs = elim (two_ways (b == 10)) [
+  | inl is ↦ ([], lines_of bs, ap (λ t. cond t ([] ∷ lines_of bs) (onto_first b (lines_of bs))) is)
+  | inr is ↦
+      let some = onto_some b (lines_of bs) in
+      (some.0, some.1, ap (λ t. cond t ([] ∷ lines_of bs) (onto_first b (lines_of bs))) is ∙ some.2)
+]
+
+onto_both : (b : ℕ) (xs ys : List (List ℕ)) → AreSome xs → onto_first b (xs ++ ys) ≡ onto_first b xs ++ ys
+onto_both b xs ys some = rw (some.2) refl
+
+front_some : (bs : List ℕ) (i : ℕ) → i < length bs → AreSome (lines_of (take (suc i) bs))
+front_some [] i h = absurd (omega arith)
+front_some (b ∷ bs) i h = some_line b (take i bs)
+
+-- The lines up to a line feed, and those after it.
+pub cut : (text : List ℕ) (i : ℕ) → i < length text → get_or text i 0 ≡ 10 → lines_of text ≡ lines_of (take (suc i) text) ++ lines_of (drop (suc i) text)
+cut [] i h e = absurd (omega arith)
+cut (b ∷ bs) zero h e = rw e refl
+cut (b ∷ bs) (suc i) h e =
+    let rest = cut bs i (omega arith) e in
+    elim (two_ways (b == 10)) [
+      | inl is ↦ rw is (ap (λ lines. [] ∷ lines) rest)
+      | inr is ↦ rw is (ap (onto_first b) rest ∙ onto_both b (lines_of (take (suc i) bs)) (lines_of (drop (suc i) bs)) (front_some bs i (omega arith)))
+    ]
