@@ -10,8 +10,10 @@ ghost use Rattle.ea_files.specs.Given.{AreGiven, Given, IsRoadOf};
 use crate::fault::{FileFault, FileWord};
 use crate::reading::{read_graph, read_pairs, read_sources};
 use crate::road::{Road, read_road};
+use crate::together::read_graph_by;
 use ea_input::ByteIn;
 use std::alloc::Global;
+use std::thread::Threads;
 
 /// A road, and the nodes of sources in the order of their file.
 #[derive(Drop)]
@@ -55,9 +57,10 @@ pub fn read_run<G: ByteIn, S: ByteIn, T: ByteIn>(
     Ok(RunFiles { road, sources })
 }
 
-/// Reads the files of pairs, as `read_run` those of a run.
-pub fn read_trips<G: ByteIn, P: ByteIn, T: ByteIn>(
+/// Reads the files of pairs, as `read_run_by` those of a run.
+pub fn read_trips<H: Threads + Sync, G: ByteIn, P: ByteIn, T: ByteIn>(
     alloc: Global,
+    rt: &H,
     gr: &mut G,
     p2p: &mut P,
     tp: &mut Option<T>,
@@ -74,7 +77,7 @@ pub fn read_trips<G: ByteIn, P: ByteIn, T: ByteIn>(
         (reading G.seen gr.old gr.new) (reading P.seen p2p.old p2p.new)
         (tables T.seen tp.old tp.new)) }
 {
-    let graph = read_graph(alloc, gr)?;
+    let graph = read_graph_by(alloc, rt, gr)?;
     let pairs = read_pairs(alloc, p2p, graph.nodes)?;
     let road = read_road(alloc, graph, tp)?;
     Ok(PairFiles { road, pairs })

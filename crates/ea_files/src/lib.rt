@@ -7,6 +7,7 @@ mod reading;
 mod road;
 mod starts;
 mod texts;
+mod together;
 
 pub use fault::{FileFault, FileWord};
 pub use files::{PairFiles, RunFiles, read_run, read_trips};
@@ -14,3 +15,4 @@ pub use reading::read_report;
 pub use road::{Road, timetables_law};
 pub use starts::{departures_fit, pair_queries, run_queries};
 pub use texts::road_of_texts;
+pub use together::read_run_by;

@@ -20,7 +20,11 @@ use ea_limits::MOST_BYTES;
 use std::alloc::Global;
 
 /// All bytes of a file.
-fn text_of<R: ByteIn>(alloc: Global, file: FileWord, reader: &mut R) -> Result<Vec<u8>, FileFault>
+pub(crate) fn text_of<R: ByteIn>(
+    alloc: Global,
+    file: FileWord,
+    reader: &mut R,
+) -> Result<Vec<u8>, FileFault>
     ensures text { IfOk result
         (λ bytes. IsFileText (reading R.seen reader.old reader.new) bytes.items) }
     ensures end { OnOk result (IsAtEnd (R.seen reader.new).bytes) }

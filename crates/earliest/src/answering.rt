@@ -6,7 +6,7 @@ ghost use Rattle.ea_words.specs.Limits.{AreOptions};
 ghost use Rattle.earliest.specs.Runs.{run_asks, pair_asks};
 
 use crate::progress::report_all;
-use ea_files::{departures_fit, pair_queries, read_run, read_trips, run_queries};
+use ea_files::{departures_fit, pair_queries, read_run_by, read_trips, run_queries};
 use ea_input::{ByteIn, ByteOut};
 use ea_outcomes::AnswerFault;
 use ea_report::Totals;
@@ -40,7 +40,7 @@ pub fn answer<H: Threads + Sync, G: ByteIn, S: ByteIn, T: ByteIn, W: ByteOut>(
         (files_of (reading G.seen gr.old gr.new) (reading S.seen ss.old ss.new) T.seen tp.old tp.new)
         (W.seen out.old) (W.seen out.new)) }
 {
-    let files = read_run(alloc, gr, ss, tp)?;
+    let files = read_run_by(alloc, rt, gr, ss, tp)?;
     if !departures_fit(files.sources.len(), options.depart, options.gap) {
         return Err(AnswerFault::BadOption);
     }
@@ -73,7 +73,7 @@ pub fn answer_pairs<H: Threads + Sync, G: ByteIn, P: ByteIn, T: ByteIn, W: ByteO
         (files_of (reading G.seen gr.old gr.new) (reading P.seen p2p.old p2p.new) T.seen tp.old tp.new)
         (W.seen out.old) (W.seen out.new)) }
 {
-    let files = read_trips(alloc, gr, p2p, tp)?;
+    let files = read_trips(alloc, rt, gr, p2p, tp)?;
     if !departures_fit(files.pairs.len(), options.depart, options.gap) {
         return Err(AnswerFault::BadOption);
     }

@@ -19,10 +19,10 @@ pub returns-in_err-files-clause-failed : goal.returns-in_err-files-clause-failed
 returns-in_err-files-clause-failed g c =
     let p = err_from_is_err_and c.from_residual.result c.from_residual.ensures.1 in
     let o = c.args.options.now in
-    let gr = reading g.G.Device.seen c.args.gr.now c.read_run.new.gr in
-    let starts = reading g.S.Device.seen c.args.ss.now c.read_run.new.ss in
-    rw (p.1, p.2) (files_failed (run_asks o) (files_of gr starts g.T.Device.seen c.args.tp.now c.read_run.new.tp) _ _
-    (first_there g.T.Device.seen Ss source_format DenotesSources gr starts c.args.tp.now c.read_run.new.tp _ c.in_err-files.ensures.fault))
+    let gr = reading g.G.Device.seen c.args.gr.now c.read_run_by.new.gr in
+    let starts = reading g.S.Device.seen c.args.ss.now c.read_run_by.new.ss in
+    rw (p.1, p.2) (files_failed (run_asks o) (files_of gr starts g.T.Device.seen c.args.tp.now c.read_run_by.new.tp) _ _
+    (first_there g.T.Device.seen Ss source_format DenotesSources gr starts c.args.tp.now c.read_run_by.new.tp _ c.in_err-files.ensures.fault))
 
 pub run_queries-requires-clause-nodes : goal.run_queries-requires-clause-nodes
 run_queries-requires-clause-nodes g c =
@@ -58,10 +58,10 @@ returns-clause-answered g c =
     let o = c.args.options.now in
     let within : AreWithin o.depart o.gap (length found.sources.items) = search rules in
     let queries = c.deref-2.ensures.value ∙ c.in_ok-queries.ensures ∙ ap (run_problems o.joint o.depart o.gap) c.deref.ensures.value in
-    let gr = reading g.G.Device.seen c.args.gr.now c.read_run.new.gr in
-    let starts = reading g.S.Device.seen c.args.ss.now c.read_run.new.ss in
-    let files = files_of gr starts g.T.Device.seen c.args.tp.now c.read_run.new.tp in
-    let sound = sound_there (run_asks o) g.T.Device.seen gr starts c.args.tp.now c.read_run.new.tp given.0 found.sources.items given.1 c.in_ok-files.ensures.gr_borne c.in_ok-files.ensures.ss_borne c.in_ok-files.ensures.tp_borne in
+    let gr = reading g.G.Device.seen c.args.gr.now c.read_run_by.new.gr in
+    let starts = reading g.S.Device.seen c.args.ss.now c.read_run_by.new.ss in
+    let files = files_of gr starts g.T.Device.seen c.args.tp.now c.read_run_by.new.tp in
+    let sound = sound_there (run_asks o) g.T.Device.seen gr starts c.args.tp.now c.read_run_by.new.tp given.0 found.sources.items given.1 c.in_ok-files.ensures.gr_borne c.in_ok-files.ensures.ss_borne c.in_ok-files.ensures.tp_borne in
     let first = g.W.Device.seen c.args.out.now in
     let now = g.W.Device.seen c.report_all.new.out in
     answered (run_asks o) files given.0 found.sources.items sound within found.road given.2 c.deref-2.result.now queries first now c.report_all.result c.report_all.ensures.ok
@@ -73,10 +73,10 @@ returns-clause-failed g c =
     let o = c.args.options.now in
     let within : AreWithin o.depart o.gap (length found.sources.items) = search rules in
     let queries = c.deref-2.ensures.value ∙ c.in_ok-queries.ensures ∙ ap (run_problems o.joint o.depart o.gap) c.deref.ensures.value in
-    let gr = reading g.G.Device.seen c.args.gr.now c.read_run.new.gr in
-    let starts = reading g.S.Device.seen c.args.ss.now c.read_run.new.ss in
-    let files = files_of gr starts g.T.Device.seen c.args.tp.now c.read_run.new.tp in
-    let sound = sound_there (run_asks o) g.T.Device.seen gr starts c.args.tp.now c.read_run.new.tp given.0 found.sources.items given.1 c.in_ok-files.ensures.gr_borne c.in_ok-files.ensures.ss_borne c.in_ok-files.ensures.tp_borne in
+    let gr = reading g.G.Device.seen c.args.gr.now c.read_run_by.new.gr in
+    let starts = reading g.S.Device.seen c.args.ss.now c.read_run_by.new.ss in
+    let files = files_of gr starts g.T.Device.seen c.args.tp.now c.read_run_by.new.tp in
+    let sound = sound_there (run_asks o) g.T.Device.seen gr starts c.args.tp.now c.read_run_by.new.tp given.0 found.sources.items given.1 c.in_ok-files.ensures.gr_borne c.in_ok-files.ensures.ss_borne c.in_ok-files.ensures.tp_borne in
     let first = g.W.Device.seen c.args.out.now in
     let now = g.W.Device.seen c.report_all.new.out in
     failed (run_asks o) files given.0 found.sources.items sound within found.road given.2 c.deref-2.result.now queries (cuts_short o) first now c.report_all.result c.report_all.ensures.err
@@ -86,15 +86,15 @@ returns-then-not-departures_fit-clause-failed g c =
     let given = c.in_ok-files.ensures.given in
     let found = c.in_ok-files.files in
     let o = c.args.options.now in
-    let gr = reading g.G.Device.seen c.args.gr.now c.read_run.new.gr in
-    let starts = reading g.S.Device.seen c.args.ss.now c.read_run.new.ss in
+    let gr = reading g.G.Device.seen c.args.gr.now c.read_run_by.new.gr in
+    let starts = reading g.S.Device.seen c.args.ss.now c.read_run_by.new.ss in
     let late : AreWithin o.depart o.gap (length found.sources.items) → ⊥ =
     λ within. let fits : IsTrue c.departures_fit.result = c.departures_fit.ensures.1 (λ i inside. within i (omega (arith, inside, found.sources.ok.0))) in search rules
     in (
       record {
         given = given.0;
         found = found.sources.items;
-        sound = sound_there (run_asks o) g.T.Device.seen gr starts c.args.tp.now c.read_run.new.tp given.0 found.sources.items given.1 c.in_ok-files.ensures.gr_borne c.in_ok-files.ensures.ss_borne c.in_ok-files.ensures.tp_borne;
+        sound = sound_there (run_asks o) g.T.Device.seen gr starts c.args.tp.now c.read_run_by.new.tp given.0 found.sources.items given.1 c.in_ok-files.ensures.gr_borne c.in_ok-files.ensures.ss_borne c.in_ok-files.ensures.tp_borne;
         late = late;
       },
       refl,
