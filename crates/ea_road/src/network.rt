@@ -53,8 +53,7 @@ impl Network {
         requires { IsNetwork (record { nodes = nodes; arcs = arcs.items }) }
         ensures { IfOk result (λ network. network ≡ record { nodes = nodes; arcs = arcs.items }) }
     {
-        let top = top_of(&arcs);
-        let mean = mean_weight(&arcs);
+        let (top, mean) = top_and_mean(&arcs);
         let mut starts = ends_by_tail(alloc, nodes, &arcs)?;
         let (numbers, by_tail) = place_by_tail(alloc, nodes, &arcs, &mut starts)?;
         Ok(Network {
@@ -157,24 +156,17 @@ impl Network {
     }
 }
 
-/// The greatest class of arcs, 0 with no arc.
-fn top_of(arcs: &[Arc]) -> u32
-    ensures { result ≡ top_class arcs.now }
+/// The greatest class of arcs and their mean weight, rounded down; both 0 with no arc.
+fn top_and_mean(arcs: &[Arc]) -> (u32, u64)
+    ensures { result.0 ≡ top_class arcs.now }
 {
     let mut top = 0;
-    for arc in arcs {
-        top = arc.class.max(top);
-    }
-    top
-}
-
-/// The mean weight of arcs, rounded down.
-fn mean_weight(arcs: &[Arc]) -> u64 {
     let mut total = 0u64;
     for arc in arcs {
+        top = arc.class.max(top);
         total = total.wrapping_add(u64::from(arc.weight));
     }
-    total / (arcs.len() as u64).max(1)
+    (top, total / (arcs.len() as u64).max(1))
 }
 
 /// Whether an arc's ends are nodes.

@@ -67,6 +67,20 @@ fn room(alloc: Global, len: usize) -> Result<Vec<u8>, AllocError>
     vec![in alloc; 0u8; len]
 }
 
+/// Up to how many bytes a text gets room for four times as many as there are.
+const MOST_AHEAD: usize = 67_108_864;
+
+/// Makes room for so many more bytes where there is none: for four times as many as there are, so that they are seldom moved.
+/// Where that is refused or they are very many the next growth asks for less.
+fn make_room(bytes: &mut Vec<u8>, more: usize)
+    ensures { bytes.new.items ≡ bytes.old.items }
+{
+    let len = bytes.len();
+    if len <= MOST_AHEAD && bytes.capacity() - len < more {
+        let _ = bytes.reserve((len * 3).max(more));
+    }
+}
+
 /// What one read came to.
 enum Piece {
     Some,
@@ -101,6 +115,7 @@ fn read_piece<R: ByteIn>(
     match reader.read(piece) {
         Ok(0) => Ok(Piece::End),
         Ok(count) => {
+            make_room(bytes, count);
             bytes.extend_from_slice(&piece[..count])?;
             Ok(Piece::Some)
         }
