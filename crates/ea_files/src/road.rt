@@ -22,7 +22,11 @@ pub struct Road {
 }
 
 /// The arcs of a graph with their classes; the graph is let go.
-fn classed_arcs(alloc: Global, graph: RawGraph, table: &RawTable) -> Result<Vec<Arc>, AllocError>
+pub(crate) fn classed_arcs(
+    alloc: Global,
+    graph: RawGraph,
+    table: &RawTable,
+) -> Result<Vec<Arc>, AllocError>
     requires { IsSound (given_by graph table.now) }
     ensures { IfOk result (λ arcs. arcs.items ≡ (roads_of (given_by graph table.now)).arcs) }
 {

@@ -1,11 +1,16 @@
 ghost use Rattle.std.specs.Prelude.{◌≡◌, ◌≤◌, ◌<◌, ◌↔◌, IfOk, IsTrue, length};
+ghost use Rattle.ea_road.specs.Index.{AreSums, IsRoom};
 ghost use Rattle.ea_road.specs.Roads.{AreSideBySide, FitsNodes, IsArc, IsNetwork, IsNode, leaving, top_class};
 
 use crate::arc::Arc;
-use crate::index::{ends_by_tail, place_by_tail};
+use crate::index::{Room, Sums, place_by_tail, room_for, sums_of};
 use ea_limits::{MOST_ARCS, MOST_NODES};
 use std::alloc::{AllocError, Global};
 use std::marker::Model;
+use std::thread::{Threads, join};
+
+/// From how many arcs on a network is made by two threads.
+const MANY_ARCS: usize = 65_536;
 
 /// A network of roads: nodes numbered from 1, and arcs numbered from 1 in the order in which they were given. Contracts
 /// see it as its number of nodes and its arcs.
@@ -53,18 +58,29 @@ impl Network {
         requires { IsNetwork (record { nodes = nodes; arcs = arcs.items }) }
         ensures { IfOk result (λ network. network ≡ record { nodes = nodes; arcs = arcs.items }) }
     {
-        let (top, mean) = top_and_mean(&arcs);
-        let mut starts = ends_by_tail(alloc, nodes, &arcs)?;
-        let (numbers, by_tail) = place_by_tail(alloc, nodes, &arcs, &mut starts)?;
-        Ok(Network {
-            nodes,
-            arcs,
-            starts,
-            numbers,
-            by_tail,
-            top,
-            mean,
-        })
+        let sums = sums_of(alloc, nodes, &arcs)?;
+        let room = room_for(alloc, arcs.len())?;
+        Ok(indexed(nodes, arcs, sums, room))
+    }
+
+    /// As `new`, in two threads where there are many arcs and a second one can be started: one counts while the other takes
+    /// memory for the index, which is most of the time.
+    pub fn new_by<H: Threads + Sync>(
+        alloc: Global,
+        rt: &H,
+        nodes: u32,
+        arcs: Vec<Arc>,
+    ) -> Result<Network, AllocError>
+        requires { IsNetwork (record { nodes = nodes; arcs = arcs.items }) }
+        ensures { IfOk result (λ network. network ≡ record { nodes = nodes; arcs = arcs.items }) }
+    {
+        if arcs.len() < MANY_ARCS {
+            return Network::new(alloc, nodes, arcs);
+        }
+        let (sums, room) = sums_and_room(alloc, rt, nodes, &arcs);
+        let sums = sums?;
+        let room = room?;
+        Ok(indexed(nodes, arcs, sums, room))
     }
 
     /// Whether so many nodes and these arcs make a network: 1 to 67,108,864 nodes, at most 268,435,456 arcs, and each
@@ -156,17 +172,50 @@ impl Network {
     }
 }
 
-/// The greatest class of arcs and their mean weight, rounded down; both 0 with no arc.
-fn top_and_mean(arcs: &[Arc]) -> (u32, u64)
-    ensures { result.0 ≡ top_class arcs.now }
+/// The sums over a network's arcs, and room for its index, in two threads where a second one can be started.
+fn sums_and_room<H: Threads + Sync>(
+    alloc: Global,
+    rt: &H,
+    nodes: u32,
+    arcs: &[Arc],
+) -> (Result<Sums, AllocError>, Result<Room, AllocError>)
+    requires { IsNetwork (record { nodes = nodes; arcs = arcs.now }) }
+    ensures sums { IfOk result.0 (AreSums nodes arcs.now) }
+    ensures room { IfOk result.1 (IsRoom (length arcs.now)) }
 {
-    let mut top = 0;
-    let mut total = 0u64;
-    for arc in arcs {
-        top = arc.class.max(top);
-        total = total.wrapping_add(u64::from(arc.weight));
+    let count = arcs.len();
+    let sums = move || -> Result<Sums, AllocError>
+        requires { IsNetwork (record { nodes = nodes; arcs = arcs.now }) }
+        ensures { IfOk result (AreSums nodes arcs.entry.now) }
+    { sums_of(alloc, nodes, arcs) };
+    let room = move || -> Result<Room, AllocError>
+        ensures { IfOk result (IsRoom count) }
+    { room_for(alloc, count) };
+    join(rt, sums, room)
+}
+
+/// A network, by the sums over its arcs, with its index in this room.
+fn indexed(nodes: u32, arcs: Vec<Arc>, sums: Sums, room: Room) -> Network
+    requires network { IsNetwork (record { nodes = nodes; arcs = arcs.items }) }
+    requires sums { AreSums nodes arcs.items sums }
+    requires room { IsRoom (length arcs.items) room }
+    ensures { result ≡ record { nodes = nodes; arcs = arcs.items } }
+{
+    let Sums {
+        top,
+        mean,
+        ends: mut starts,
+    } = sums;
+    let Room { numbers, by_tail } = place_by_tail(nodes, &arcs, &mut starts, room);
+    Network {
+        nodes,
+        arcs,
+        starts,
+        numbers,
+        by_tail,
+        top,
+        mean,
     }
-    (top, total / (arcs.len() as u64).max(1))
 }
 
 /// Whether an arc's ends are nodes.

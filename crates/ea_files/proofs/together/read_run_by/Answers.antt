@@ -28,10 +28,10 @@ returns-clause-given g c =
         tp_text = road.0;
         all_gr = gr.1.all;
         all_starts = starts.1.all;
-        all_tp = all_there g.T.Device.seen c.args.tp.now c.read_road.new.tp road.0 road.2;
+        all_tp = all_there g.T.Device.seen c.args.tp.now c.read_road_by.new.tp road.0 road.2;
         few_gr = gr.1.few;
         few_starts = starts.1.few;
-        few_tp = few_there g.T.Device.seen c.args.tp.now c.read_road.new.tp road.0 road.2;
+        few_tp = few_there g.T.Device.seen c.args.tp.now c.read_road_by.new.tp road.0 road.2;
         denoted = record { graph = gr.2; table = road.3 };
         starts_denoted = starts.2;
       },
