@@ -1,8 +1,6 @@
 //! Runs with batches of several entries.
-use crate::constant::Constant;
-use crate::given::{FOUR_NODES, Given, Row, pose};
-use crate::ran::{Came, arrives, run};
-use ea_engine::{Counters, Crew, Flow, NoGate, Settings, Turn, TurnKind, solve_alone};
+use crate::ran::{Came, arrives, has_four, run};
+use ea_engine::{Answer, Counters, Crew, Flow, NoGate, Settings, Turn, TurnKind, solve_alone};
 use ea_road::is_problem;
 use rand_core::{Rng, SeedableRng};
 use rand_xoshiro::Xoshiro256PlusPlus;
@@ -10,6 +8,8 @@ use std::alloc::{AllocError, Global};
 use std::sync::atomic::{AtomicU64, Ordering};
 use std::test::Fail;
 use std::thread::Threads;
+use tests_given::constant::Constant;
+use tests_given::networks::{FOUR_NODES, Given, Row, pose};
 
 /// The key, the node and the lowered heads of each turn that visits an entry, in their order, with batches of two.
 const VISITED: [(u64, u32, u64); 6] = [
@@ -37,12 +37,8 @@ fn is_right(turn: &Turn) -> bool {
 }
 
 /// One worker over two heaps with batches of two, whose generator always gives 0. Tells how many turns were right.
-fn run_of_two<H: Threads + Sync>(
-    alloc: Global,
-    rt: &H,
-    given: &Given,
-    turns: u64,
-) -> Result<Option<(Came, u64)>, AllocError> {
+fn run_of_two<H: Threads + Sync>(alloc: Global, rt: &H, turns: u64) -> Result<(Came, u64), Fail> {
+    let given = pose(alloc, 4, &FOUR_NODES, &[(1, 0)])?.ok_or("rows")?;
     let right = AtomicU64::new(0);
     let rights = &right;
     let mut rngs = Vec::new(alloc);
@@ -66,26 +62,14 @@ fn run_of_two<H: Threads + Sync>(
         gate: &NoGate,
         tracers,
     };
-    match run(alloc, rt, given, crew)? {
-        Some(came) => Ok(Some((came, right.load(Ordering::SeqCst)))),
-        None => Ok(None),
-    }
-}
-
-/// Whether the arrivals are those of the four nodes.
-fn has_four(came: &Came) -> bool {
-    arrives(&came.answer, 1, Some(0))
-        && arrives(&came.answer, 2, Some(5))
-        && arrives(&came.answer, 3, Some(2))
-        && arrives(&came.answer, 4, Some(6))
+    let came = run(alloc, rt, &given, crew)?.ok_or("problem")?;
+    Ok((came, right.load(Ordering::SeqCst)))
 }
 
 #[test]
 fn batch_of_two(rt: HostRuntime) -> Result<(), Fail> {
-    let alloc = rt.alloc();
-    let given = pose(alloc, 4, &FOUR_NODES, &[(1, 0)])?.ok_or("rows")?;
-    let (came, right) = run_of_two(alloc, &rt, &given, 100)?.ok_or("problem")?;
-    assert!(rt; has_four(&came));
+    let (came, right) = run_of_two(rt.alloc(), &rt, 100)?;
+    assert!(rt; has_four(&came.answer));
     assert_eq!(rt; right, 38);
     assert_eq!(rt; (came.returned, came.drained, came.finish), (0, 0, 0));
     assert_eq!(rt; came.counters.len(), 1);
@@ -99,10 +83,8 @@ fn batch_of_two(rt: HostRuntime) -> Result<(), Fail> {
 
 #[test]
 fn batch_of_two_in_two_turns(rt: HostRuntime) -> Result<(), Fail> {
-    let alloc = rt.alloc();
-    let given = pose(alloc, 4, &FOUR_NODES, &[(1, 0)])?.ok_or("rows")?;
-    let (came, right) = run_of_two(alloc, &rt, &given, 2)?.ok_or("problem")?;
-    assert!(rt; has_four(&came));
+    let (came, right) = run_of_two(rt.alloc(), &rt, 2)?;
+    assert!(rt; has_four(&came.answer));
     assert_eq!(rt; right, 2);
     assert_eq!(rt; (came.returned, came.drained, came.finish), (1, 2, 2));
     assert_eq!(rt; came.counters.len(), 1);
@@ -191,6 +173,15 @@ fn is_balanced(came: &Came) -> bool {
     even && pushed == popped && came.finish <= came.drained.wrapping_add(came.returned)
 }
 
+/// Whether a run's arrivals are those of one thread.
+fn arrives_as(came: &Came, alone: &Answer) -> bool {
+    let mut same = true;
+    for node in 1..NODES + 1 {
+        same &= alone.asks(node) && arrives(&came.answer, node, alone.arrival(node));
+    }
+    same
+}
+
 /// Runs of one network with each number of workers, whose turns are few or whose tracers leave, and whether each gives the
 /// answer of one thread and counts that are in balance.
 fn all_right<H: Threads + Sync>(
@@ -224,11 +215,7 @@ fn all_right<H: Threads + Sync>(
             let Some(came) = run_until(alloc, rt, given, settings, seed, last)? else {
                 return Ok(false);
             };
-            let mut same = is_balanced(&came);
-            for node in 1..NODES + 1 {
-                same &= alone.asks(node) && arrives(&came.answer, node, alone.arrival(node));
-            }
-            if !same {
+            if !is_balanced(&came) || !arrives_as(&came, &alone) {
                 return Ok(false);
             }
         }
@@ -236,18 +223,21 @@ fn all_right<H: Threads + Sync>(
     Ok(true)
 }
 
+/// Whether all runs of a random network are right, with batches of each size.
+fn are_batches_right<H: Threads + Sync>(alloc: Global, rt: &H, seed: u64) -> Result<bool, Fail> {
+    let rows = rows_of(alloc, seed)?;
+    let given = pose(alloc, NODES, &rows, &[(1, 3), (2, 0)])?.ok_or("rows")?;
+    let mut right = true;
+    for batch in [1, 2, 3, 16, 64] {
+        right &= all_right(alloc, rt, &given, batch, seed)?;
+    }
+    Ok(right)
+}
+
 #[test]
 fn batches_answer_as_one_thread(rt: HostRuntime) -> Result<(), Fail> {
-    let alloc = rt.alloc();
     for seed in 0..12 {
-        let rows = rows_of(alloc, seed)?;
-        let given = pose(alloc, NODES, &rows, &[(1, 3), (2, 0)])?.ok_or("rows")?;
-        for batch in [1, 2, 3, 16, 64] {
-            assert!(rt;
-                all_right(alloc, &rt, &given, batch, seed)?,
-                "batch {batch} seed {seed}"
-            );
-        }
+        assert!(rt; are_batches_right(rt.alloc(), &rt, seed)?, "seed {seed}");
     }
     Ok(())
 }

@@ -1,12 +1,14 @@
 //! The worked examples, by their counters.
-use crate::constant::Constant;
-use crate::given::{FOUR_NODES, pose};
-use crate::ran::{run_crew, run_one, run_with};
-use ea_engine::{Answer, Flow, NoGate, Turn, TurnKind};
+use crate::ran::{Came, Ran, has_four, run_crew_on_four, run_four, run_with};
+use ea_engine::{Flow, NoGate, Turn, TurnKind};
 use rand_core::SeedableRng;
 use rand_xoshiro::Xoshiro256PlusPlus;
+use std::alloc::Global;
 use std::sync::atomic::{AtomicU64, Ordering};
 use std::test::Fail;
+use std::thread::Threads;
+use tests_given::constant::Constant;
+use tests_given::networks::{FOUR_NODES, pose};
 
 /// The key, the node and the lowered heads of each turn that popped an entry, in their order.
 const POPPED: [(u64, u32, u64); 6] = [
@@ -32,10 +34,8 @@ fn is_right(turn: &Turn) -> bool {
     kind && shown == POPPED[turn.number as usize]
 }
 
-#[test]
-fn one_worker(rt: HostRuntime) -> Result<(), Fail> {
-    let alloc = rt.alloc();
-    let given = pose(alloc, 4, &FOUR_NODES, &[(1, 0)])?.ok_or("rows")?;
+/// A run of one worker, how many turns its tracer was shown, and how many of them were right.
+fn run_watched<H: Threads + Sync>(alloc: Global, rt: &H) -> Result<(Ran, u64, u64), Fail> {
     let calls = AtomicU64::new(0);
     let right = AtomicU64::new(0);
     let (shown, rights) = (&calls, &right);
@@ -45,9 +45,18 @@ fn one_worker(rt: HostRuntime) -> Result<(), Fail> {
         }
         Flow::Go
     };
-    let ran = run_one(alloc, &rt, &given, 100, tracer)?.ok_or("problem")?;
-    assert_eq!(rt; calls.load(Ordering::SeqCst), 38);
-    assert_eq!(rt; right.load(Ordering::SeqCst), 38);
+    let ran = run_four(alloc, rt, 100, tracer)?;
+    Ok((
+        ran,
+        calls.load(Ordering::SeqCst),
+        right.load(Ordering::SeqCst),
+    ))
+}
+
+#[test]
+fn one_worker(rt: HostRuntime) -> Result<(), Fail> {
+    let (ran, calls, right) = run_watched(rt.alloc(), &rt)?;
+    assert_eq!(rt; (calls, right), (38, 38));
     assert!(rt; has_four(&ran.answer));
     assert_eq!(rt;
         (ran.seeded, ran.returned, ran.drained, ran.finish),
@@ -75,25 +84,18 @@ fn one_worker(rt: HostRuntime) -> Result<(), Fail> {
     Ok(())
 }
 
-/// Whether an answer has the arrivals of the four nodes.
-fn has_four(answer: &Answer) -> bool {
-    let wanted = [0, 5, 2, 6];
-    let mut right = answer.nodes() == 4;
-    for node in 1..5u32 {
-        right &= answer.asks(node) && answer.arrival(node) == Some(wanted[node as usize - 1]);
-    }
-    right
-}
-
-#[test]
-fn no_turns(rt: HostRuntime) -> Result<(), Fail> {
-    let alloc = rt.alloc();
-    let given = pose(alloc, 4, &FOUR_NODES, &[(1, 0)])?.ok_or("rows")?;
+/// A run of four workers that make no turn.
+fn run_idle<H: Threads + Sync>(alloc: Global, rt: &H) -> Result<Came, Fail> {
     let mut rngs = Vec::new(alloc);
     for seed in 0..4 {
         rngs.push(Xoshiro256PlusPlus::seed_from_u64(seed))?;
     }
-    let came = run_crew(alloc, &rt, &given, 2, 0, rngs, &NoGate)?.ok_or("problem")?;
+    run_crew_on_four(alloc, rt, 2, 0, rngs, &NoGate)
+}
+
+#[test]
+fn no_turns(rt: HostRuntime) -> Result<(), Fail> {
+    let came = run_idle(rt.alloc(), &rt)?;
     assert!(rt; has_four(&came.answer));
     assert_eq!(rt;
         (came.seeded, came.returned, came.drained, came.finish),
@@ -108,12 +110,7 @@ fn no_turns(rt: HostRuntime) -> Result<(), Fail> {
 
 #[test]
 fn leave_at_once(rt: HostRuntime) -> Result<(), Fail> {
-    let alloc = rt.alloc();
-    let given = pose(alloc, 4, &FOUR_NODES, &[(1, 0)])?.ok_or("rows")?;
-    let ran = run_one(alloc, &rt, &given, 100, |_turn: Turn| -> Flow {
-        Flow::Leave
-    })?
-    .ok_or("problem")?;
+    let ran = run_four(rt.alloc(), &rt, 100, |_turn: Turn| -> Flow { Flow::Leave })?;
     assert!(rt; has_four(&ran.answer));
     assert_eq!(rt; (ran.drained, ran.finish), (2, 2));
     let counters = ran.counters;
@@ -124,20 +121,16 @@ fn leave_at_once(rt: HostRuntime) -> Result<(), Fail> {
     Ok(())
 }
 
+/// A run of one worker over eight heaps whose words pick heap 2 first, and then heap 5.
+fn run_over_eight<H: Threads + Sync>(alloc: Global, rt: &H) -> Result<Ran, Fail> {
+    let given = pose(alloc, 4, &FOUR_NODES, &[(1, 0)])?.ok_or("rows")?;
+    let go = |_turn: Turn| -> Flow { Flow::Go };
+    Ok(run_with(alloc, rt, &given, 8, 100, Constant(2), go)?.ok_or("problem")?)
+}
+
 #[test]
 fn eight_heaps(rt: HostRuntime) -> Result<(), Fail> {
-    let alloc = rt.alloc();
-    let given = pose(alloc, 4, &FOUR_NODES, &[(1, 0)])?.ok_or("rows")?;
-    let ran = run_with(
-        alloc,
-        &rt,
-        &given,
-        8,
-        100,
-        Constant(2),
-        |_turn: Turn| -> Flow { Flow::Go },
-    )?
-    .ok_or("problem")?;
+    let ran = run_over_eight(rt.alloc(), &rt)?;
     assert!(rt; has_four(&ran.answer));
     assert_eq!(rt; (ran.seeded, ran.drained, ran.finish), (1, 1, 1));
     let counters = ran.counters;

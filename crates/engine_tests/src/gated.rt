@@ -1,11 +1,13 @@
 //! The gate is called before each turn of each worker, once, with the worker's and the turn's numbers.
-use crate::given::{FOUR_NODES, pose};
-use crate::ran::run;
+use crate::ran::{Came, run};
 use ea_engine::{Crew, Flow, Gate, Settings, Turn};
 use rand_core::SeedableRng;
 use rand_xoshiro::Xoshiro256PlusPlus;
+use std::alloc::Global;
 use std::sync::atomic::{AtomicU64, Ordering};
 use std::test::Fail;
+use std::thread::Threads;
+use tests_given::networks::{FOUR_NODES, pose};
 
 /// Counts its calls by workers, and notes a call whose number isn't the count so far.
 #[derive(Drop)]
@@ -33,22 +35,15 @@ impl Counting {
     }
 }
 
-#[test]
-fn gate_counts_the_turns(rt: HostRuntime) -> Result<(), Fail> {
-    let alloc = rt.alloc();
+/// Runs three workers with this gate, each of which leaves at a turn of its own.
+fn run_gated<H: Threads + Sync>(alloc: Global, rt: &H, gate: &Counting) -> Result<Came, Fail> {
     let given = pose(alloc, 4, &FOUR_NODES, &[(1, 0)])?.ok_or("rows")?;
-    let gate = Counting {
-        calls: [AtomicU64::new(0), AtomicU64::new(0), AtomicU64::new(0)],
-        wrong: AtomicU64::new(0),
-    };
     let mut rngs = Vec::new(alloc);
     let mut tracers = Vec::new(alloc);
-    let counting = &gate;
     for worker in 0..3u32 {
         rngs.push(Xoshiro256PlusPlus::seed_from_u64(u64::from(worker)))?;
-        // Each worker leaves at a turn of its own.
         tracers.push(move |turn: Turn| -> Flow {
-            counting.shown(worker, turn.number);
+            gate.shown(worker, turn.number);
             if turn.number > 5 * u64::from(worker) {
                 Flow::Leave
             } else {
@@ -66,10 +61,19 @@ fn gate_counts_the_turns(rt: HostRuntime) -> Result<(), Fail> {
     let crew = Crew {
         settings,
         rngs,
-        gate: &gate,
+        gate,
         tracers,
     };
-    let came = run(alloc, &rt, &given, crew)?.ok_or("problem")?;
+    Ok(run(alloc, rt, &given, crew)?.ok_or("problem")?)
+}
+
+#[test]
+fn gate_counts_the_turns(rt: HostRuntime) -> Result<(), Fail> {
+    let gate = Counting {
+        calls: [AtomicU64::new(0), AtomicU64::new(0), AtomicU64::new(0)],
+        wrong: AtomicU64::new(0),
+    };
+    let came = run_gated(rt.alloc(), &rt, &gate)?;
     assert_eq!(rt; gate.wrong.load(Ordering::SeqCst), 0);
     assert_eq!(rt; came.counters.len(), 3);
     for (calls, counters) in gate.calls.iter().zip(&came.counters) {

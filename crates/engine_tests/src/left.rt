@@ -1,36 +1,33 @@
 //! Runs that end early.
-use crate::given::{FOUR_NODES, pose};
-use crate::ran::{Ran, arrives, run_one};
+use crate::ran::{Ran, has_four, run_four};
 use ea_engine::{Flow, Turn};
+use std::alloc::Global;
 use std::sync::atomic::{AtomicU64, Ordering};
 use std::test::Fail;
+use std::thread::Threads;
 
-/// Whether the arrivals are those of the four nodes.
-fn has_four(ran: &Ran) -> bool {
-    arrives(&ran.answer, 1, Some(0))
-        && arrives(&ran.answer, 2, Some(5))
-        && arrives(&ran.answer, 3, Some(2))
-        && arrives(&ran.answer, 4, Some(6))
+/// A run that leaves at the turn of a number, and how many turns its tracer was shown.
+fn run_until<H: Threads + Sync>(alloc: Global, rt: &H, last: u64) -> Result<(Ran, u64), Fail> {
+    let calls = AtomicU64::new(0);
+    let shown = &calls;
+    let tracer = move |turn: Turn| -> Flow {
+        shown.fetch_add(1, Ordering::SeqCst);
+        if turn.number == last {
+            Flow::Leave
+        } else {
+            Flow::Go
+        }
+    };
+    let ran = run_four(alloc, rt, 100, tracer)?;
+    Ok((ran, calls.load(Ordering::SeqCst)))
 }
 
 #[test]
 fn failing_devices_leaving_at_each_turn(rt: HostRuntime) -> Result<(), Fail> {
-    let alloc = rt.alloc();
-    let given = pose(alloc, 4, &FOUR_NODES, &[(1, 0)])?.ok_or("rows")?;
     for last in 0..38u64 {
-        let calls = AtomicU64::new(0);
-        let shown = &calls;
-        let tracer = move |turn: Turn| -> Flow {
-            shown.fetch_add(1, Ordering::SeqCst);
-            if turn.number == last {
-                Flow::Leave
-            } else {
-                Flow::Go
-            }
-        };
-        let ran = run_one(alloc, &rt, &given, 100, tracer)?.ok_or("problem")?;
-        assert_eq!(rt; calls.load(Ordering::SeqCst), last + 1);
-        assert!(rt; has_four(&ran), "left at turn {last}");
+        let (ran, calls) = run_until(rt.alloc(), &rt, last)?;
+        assert_eq!(rt; calls, last + 1);
+        assert!(rt; has_four(&ran.answer), "left at turn {last}");
         if last == 2 {
             let counters = ran.counters;
             assert_eq!(rt; (counters.pushed, counters.popped), (5, 3));
@@ -42,11 +39,9 @@ fn failing_devices_leaving_at_each_turn(rt: HostRuntime) -> Result<(), Fail> {
 
 #[test]
 fn failing_devices_budget_of_one(rt: HostRuntime) -> Result<(), Fail> {
-    let alloc = rt.alloc();
-    let given = pose(alloc, 4, &FOUR_NODES, &[(1, 0)])?.ok_or("rows")?;
-    let ran = run_one(alloc, &rt, &given, 1, |_turn: Turn| -> Flow { Flow::Go })?.ok_or("problem")?;
+    let ran = run_four(rt.alloc(), &rt, 1, |_turn: Turn| -> Flow { Flow::Go })?;
     let counters = ran.counters;
-    assert!(rt; has_four(&ran));
+    assert!(rt; has_four(&ran.answer));
     assert_eq!(rt;
         (counters.pushed, counters.popped, counters.scanned),
         (2, 1, 1)

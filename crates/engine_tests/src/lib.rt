@@ -1,15 +1,11 @@
-//! Tests of whole runs, and of tables and heaps: the worked examples, many small networks beside one thread, inputs of the size
-//! of real use, and calls whose memory is refused.
+//! Tests of whole runs: the worked examples, many small networks beside one thread, inputs of the size of real use, and runs
+//! whose memory is refused.
 #![tactic(auto)]
 
-#[cfg(test)]
-mod asked;
 #[cfg(test)]
 mod batched;
 #[cfg(test)]
 mod company;
-#[cfg(test)]
-mod constant;
 #[cfg(test)]
 mod counted;
 #[cfg(test)]
@@ -17,21 +13,13 @@ mod drawn;
 #[cfg(test)]
 mod gated;
 #[cfg(test)]
-mod given;
-#[cfg(test)]
-mod heaps;
-#[cfg(test)]
 mod homed;
-#[cfg(test)]
-mod in_turn;
 #[cfg(test)]
 mod large;
 #[cfg(test)]
 mod left;
 #[cfg(test)]
 mod met;
-#[cfg(test)]
-mod numbered;
 #[cfg(test)]
 mod pairs;
 #[cfg(test)]

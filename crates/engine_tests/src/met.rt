@@ -1,12 +1,13 @@
 //! Two workers that wait for each other: each is there while the other one is.
-use crate::constant::Constant;
-use crate::given::{FOUR_NODES, Row, pose};
-use crate::ran::{arrives, run, run_crew};
+use crate::ran::{Came, arrives, has_four, run, run_crew_on_four};
 use ea_engine::{Crew, Flow, Gate, Settings, Turn};
 use std::alloc::{AllocError, Global};
 use std::hint;
 use std::sync::atomic::{AtomicU64, Ordering};
 use std::test::Fail;
+use std::thread::Threads;
+use tests_given::constant::Constant;
+use tests_given::networks::{Row, pose};
 
 /// Each worker raises its flag before its first turn and then looks for the other's.
 #[derive(Drop)]
@@ -31,30 +32,42 @@ impl Gate for Meeting {
     }
 }
 
-#[test]
-fn two_workers_meet(rt: HostRuntime) -> Result<(), Fail> {
-    let alloc = rt.alloc();
-    let given = pose(alloc, 4, &FOUR_NODES, &[(1, 0)])?.ok_or("rows")?;
-    let meeting = Meeting {
-        flags: [AtomicU64::new(0), AtomicU64::new(0)],
-        missed: AtomicU64::new(0),
-    };
+/// A run of so many workers on four nodes that meet at a gate.
+fn run_meeting<H: Threads + Sync, G: Gate>(
+    alloc: Global,
+    rt: &H,
+    workers: u32,
+    gate: &G,
+) -> Result<Came, Fail> {
     let mut rngs = Vec::new(alloc);
-    rngs.push(Constant(0))?;
-    rngs.push(Constant(0))?;
-    let came = run_crew(alloc, &rt, &given, 2, 100, rngs, &meeting)?.ok_or("problem")?;
-    assert_eq!(rt; meeting.missed.load(Ordering::SeqCst), 0);
-    for flag in &meeting.flags {
-        assert_eq!(rt; flag.load(Ordering::SeqCst), 1);
+    for _ in 0..workers {
+        rngs.push(Constant(0))?;
     }
-    for (node, arrival) in [(1, 0), (2, 5), (3, 2), (4, 6)] {
-        assert!(rt; arrives(&came.answer, node, Some(arrival)));
-    }
+    run_crew_on_four(alloc, rt, 2, 100, rngs, gate)
+}
+
+/// Whether a run popped some entry.
+fn pops_some(came: &Came) -> bool {
     let mut popped = 0;
     for counters in &came.counters {
         popped = counters.popped.max(popped);
     }
-    assert!(rt; popped > 0);
+    popped > 0
+}
+
+#[test]
+fn two_workers_meet(rt: HostRuntime) -> Result<(), Fail> {
+    let meeting = Meeting {
+        flags: [AtomicU64::new(0), AtomicU64::new(0)],
+        missed: AtomicU64::new(0),
+    };
+    let came = run_meeting(rt.alloc(), &rt, 2, &meeting)?;
+    assert_eq!(rt; meeting.missed.load(Ordering::SeqCst), 0);
+    for flag in &meeting.flags {
+        assert_eq!(rt; flag.load(Ordering::SeqCst), 1);
+    }
+    assert!(rt; has_four(&came.answer));
+    assert!(rt; pops_some(&came));
     Ok(())
 }
 
@@ -107,20 +120,12 @@ impl Gate for MeetingOfFour {
 
 #[test]
 fn four_workers_meet(rt: HostRuntime) -> Result<(), Fail> {
-    let alloc = rt.alloc();
-    let given = pose(alloc, 4, &FOUR_NODES, &[(1, 0)])?.ok_or("rows")?;
     let meeting = MeetingOfFour::new();
-    let mut rngs = Vec::new(alloc);
-    for _ in 0..4 {
-        rngs.push(Constant(0))?;
-    }
-    let came = run_crew(alloc, &rt, &given, 2, 100, rngs, &meeting)?.ok_or("problem")?;
+    let came = run_meeting(rt.alloc(), &rt, 4, &meeting)?;
     assert_eq!(rt; meeting.missed.load(Ordering::SeqCst), 0);
     assert!(rt; meeting.are_all_there());
     assert_eq!(rt; came.counters.len(), 4);
-    for (node, arrival) in [(1, 0), (2, 5), (3, 2), (4, 6)] {
-        assert!(rt; arrives(&came.answer, node, Some(arrival)));
-    }
+    assert!(rt; has_four(&came.answer));
     Ok(())
 }
 
@@ -173,22 +178,16 @@ fn star(alloc: Global) -> Result<Vec<Row>, AllocError> {
     Ok(rows)
 }
 
-#[test]
-fn each_of_four_workers_pops_some(rt: HostRuntime) -> Result<(), Fail> {
-    let alloc = rt.alloc();
+/// A run of four workers on the star, which share what there is.
+fn run_sharing<H: Threads + Sync>(alloc: Global, rt: &H, sharing: &Sharing) -> Result<Came, Fail> {
     let rows = star(alloc)?;
     let given = pose(alloc, 4_000, &rows, &[(1, 0)])?.ok_or("rows")?;
-    let sharing = Sharing {
-        popped: MeetingOfFour::new(),
-        spread: AtomicU64::new(0),
-    };
-    let shown = &sharing;
     let mut rngs = Vec::new(alloc);
     let mut tracers = Vec::new(alloc);
     for worker in 0..4u32 {
         rngs.push(Constant(0))?;
         tracers.push(move |turn: Turn| -> Flow {
-            shown.show(worker, turn);
+            sharing.show(worker, turn);
             Flow::Go
         })?;
     }
@@ -202,10 +201,19 @@ fn each_of_four_workers_pops_some(rt: HostRuntime) -> Result<(), Fail> {
     let crew = Crew {
         settings,
         rngs,
-        gate: &sharing,
+        gate: sharing,
         tracers,
     };
-    let came = run(alloc, &rt, &given, crew)?.ok_or("problem")?;
+    Ok(run(alloc, rt, &given, crew)?.ok_or("problem")?)
+}
+
+#[test]
+fn each_of_four_workers_pops_some(rt: HostRuntime) -> Result<(), Fail> {
+    let sharing = Sharing {
+        popped: MeetingOfFour::new(),
+        spread: AtomicU64::new(0),
+    };
+    let came = run_sharing(rt.alloc(), &rt, &sharing)?;
     assert_eq!(rt; sharing.popped.missed.load(Ordering::SeqCst), 0);
     assert_eq!(rt; came.counters.len(), 4);
     for counters in &came.counters {

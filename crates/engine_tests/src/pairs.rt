@@ -1,9 +1,13 @@
 //! Pair queries.
-use crate::given::{Row, with_query};
-use crate::ran::{arrives, run_one, walks};
+ghost use Rattle.std.specs.Prelude.{◌<◌};
+
+use crate::ran::{Ran, arrives, run_one, walks};
 use ea_engine::{Flow, Turn};
 use ea_road::{Query, Source};
+use std::alloc::Global;
 use std::test::Fail;
+use std::thread::Threads;
+use tests_given::networks::{Row, with_query};
 
 /// From node 1 at 0.
 const START: Source = Source {
@@ -11,15 +15,26 @@ const START: Source = Source {
     departure: 0,
 };
 
+/// A run of one worker for a pair from node 1.
+fn run_pair<H: Threads + Sync>(
+    alloc: Global,
+    rt: &H,
+    nodes: u32,
+    rows: &[Row],
+    target: u32,
+) -> Result<Ran, Fail>
+    requires { 0 < target }
+{
+    let given = with_query(alloc, nodes, rows, Query::pair(START, target))?.ok_or("rows")?;
+    let go = |_turn: Turn| -> Flow { Flow::Go };
+    Ok(run_one(alloc, rt, &given, 100, go)?.ok_or("problem")?)
+}
+
 const ONE_ARC_TOO_FAR: [Row; 2] = [(1, 2, 1, 0), (1, 3, 5, 0)];
 
 #[test]
 fn pair_queries(rt: HostRuntime) -> Result<(), Fail> {
-    let alloc = rt.alloc();
-    let given = with_query(alloc, 3, &ONE_ARC_TOO_FAR, Query::pair(START, 2))?.ok_or("rows")?;
-    let ran = run_one(alloc, &rt, &given, 100, |_turn: Turn| -> Flow { Flow::Go })?.ok_or(
-        "problem",
-    )?;
+    let ran = run_pair(rt.alloc(), &rt, 3, &ONE_ARC_TOO_FAR, 2)?;
     let counters = ran.counters;
     assert!(rt; arrives(&ran.answer, 2, Some(1)));
     assert!(rt; !ran.answer.asks(1) && !ran.answer.asks(3));
@@ -41,12 +56,8 @@ pub const EQUAL_KEYS: [Row; 6] = [
 
 #[test]
 fn cut_at_equal_keys(rt: HostRuntime) -> Result<(), Fail> {
-    let alloc = rt.alloc();
-    let given = with_query(alloc, 6, &EQUAL_KEYS, Query::pair(START, 3))?.ok_or("rows")?;
-    let ran = run_one(alloc, &rt, &given, 100, |_turn: Turn| -> Flow { Flow::Go })?.ok_or(
-        "problem",
-    )?;
+    let ran = run_pair(rt.alloc(), &rt, 6, &EQUAL_KEYS, 3)?;
     assert!(rt; arrives(&ran.answer, 3, Some(3)));
-    assert!(rt; walks(alloc, &ran.answer, 3, &[1, 2, 3])?);
+    assert!(rt; walks(rt.alloc(), &ran.answer, 3, &[1, 2, 3])?);
     Ok(())
 }

@@ -2,13 +2,14 @@
 //! function.
 ghost use Rattle.std.specs.Prelude.{All};
 
-use crate::given::Given;
 use ea_engine::{Answer, Counters, Crew, Flow, Gate, NoGate, Settings, Turn, solve};
 use ea_road::is_problem;
 use rand_core::{Rng, SeedableRng};
 use rand_xoshiro::Xoshiro256PlusPlus;
 use std::alloc::{AllocError, Global};
+use std::test::Fail;
 use std::thread::Threads;
+use tests_given::networks::{FOUR_NODES, Given, pose};
 
 /// What a run came to.
 #[derive(Drop)]
@@ -188,9 +189,45 @@ pub fn run_one<H: Threads + Sync, T: FnMut(Turn) -> Flow + Send + Drop>(
     )
 }
 
+/// Runs one worker over two heaps on the example four-nodes, from node 1 at 0.
+pub fn run_four<H: Threads + Sync, T: FnMut(Turn) -> Flow + Send + Drop>(
+    alloc: Global,
+    rt: &H,
+    turns: u32,
+    tracer: T,
+) -> Result<Ran, Fail>
+    requires { T.IsAlwaysCallable tracer }
+{
+    let given = pose(alloc, 4, &FOUR_NODES, &[(1, 0)])?.ok_or("rows")?;
+    Ok(run_one(alloc, rt, &given, turns, tracer)?.ok_or("problem")?)
+}
+
+/// Runs workers on the example four-nodes, from node 1 at 0, by generators of the test.
+pub fn run_crew_on_four<H: Threads + Sync, R: Rng + Send + Drop, G: Gate>(
+    alloc: Global,
+    rt: &H,
+    heaps: u32,
+    turns: u32,
+    rngs: Vec<R>,
+    gate: &G,
+) -> Result<Came, Fail> {
+    let given = pose(alloc, 4, &FOUR_NODES, &[(1, 0)])?.ok_or("rows")?;
+    Ok(run_crew(alloc, rt, &given, heaps, turns, rngs, gate)?.ok_or("problem")?)
+}
+
 /// Whether an answer gives an arrival for an asked node.
 pub fn arrives(answer: &Answer, node: u32, arrival: Option<u64>) -> bool {
     answer.asks(node) && answer.arrival(node) == arrival
+}
+
+/// Whether an answer has the arrivals of the four nodes.
+pub fn has_four(answer: &Answer) -> bool {
+    let wanted = [0, 5, 2, 6];
+    let mut right = answer.nodes() == 4;
+    for node in 1..5u32 {
+        right &= answer.asks(node) && answer.arrival(node) == Some(wanted[node as usize - 1]);
+    }
+    right
 }
 
 /// Whether an answer gives this walk for an asked node.

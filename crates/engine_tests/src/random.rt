@@ -1,5 +1,4 @@
 //! Many small networks, solved by several workers and by one thread.
-use crate::given::{Given, Row, pose};
 use crate::ran::run_all;
 use ea_engine::{Answer, Settings, solve_alone};
 use ea_road::is_problem;
@@ -7,6 +6,8 @@ use rand_core::{Rng, SeedableRng};
 use rand_xoshiro::Xoshiro256PlusPlus;
 use std::alloc::{AllocError, Global};
 use std::test::Fail;
+use std::thread::Threads;
+use tests_given::networks::{Given, Row, pose};
 
 const NODES: u32 = 24;
 
@@ -41,24 +42,30 @@ fn answer_alone(alloc: Global, given: &Given) -> Result<Option<Answer>, AllocErr
     Ok(Some(answer))
 }
 
+/// Whether runs of one to four workers on a random network all give the answer of one thread.
+fn are_all_same<H: Threads + Sync>(alloc: Global, rt: &H, seed: u64) -> Result<bool, Fail> {
+    let rows = rows_of(alloc, seed)?;
+    let given = pose(alloc, NODES, &rows, &[(1, 3), (2, 0)])?.ok_or("rows")?;
+    let alone = answer_alone(alloc, &given)?.ok_or("problem")?;
+    let mut same = true;
+    for workers in 1..5u32 {
+        let settings = Settings {
+            workers,
+            heaps: 2,
+            turns: 7 * (seed % 9),
+            batch: 1,
+            patience: 32,
+        };
+        let answer = run_all(alloc, rt, &given, settings, 0)?.ok_or("problem")?;
+        same &= are_same(&answer, &alone);
+    }
+    Ok(same)
+}
+
 #[test]
 fn workers_answer_as_one_thread(rt: HostRuntime) -> Result<(), Fail> {
-    let alloc = rt.alloc();
     for seed in 0..60 {
-        let rows = rows_of(alloc, seed)?;
-        let given = pose(alloc, NODES, &rows, &[(1, 3), (2, 0)])?.ok_or("rows")?;
-        let alone = answer_alone(alloc, &given)?.ok_or("problem")?;
-        for workers in 1..5u32 {
-            let settings = Settings {
-                workers,
-                heaps: 2,
-                turns: 7 * (seed % 9),
-                batch: 1,
-                patience: 32,
-            };
-            let answer = run_all(alloc, &rt, &given, settings, 0)?.ok_or("problem")?;
-            assert!(rt; are_same(&answer, &alone), "seed {seed}");
-        }
+        assert!(rt; are_all_same(rt.alloc(), &rt, seed)?, "seed {seed}");
     }
     Ok(())
 }

@@ -1,12 +1,4 @@
-//! Tests where memory is refused. Where a call takes an allocator, one of little memory stands in for the system's; where it
-//! takes the system's, the tests take all of the process's memory first but for a few bytes.
+//! Tests where memory is refused: they take all of the process's memory but for a few bytes, before a run or in its middle.
 
-mod finishing;
-mod given;
 mod greedy;
-mod labels;
-mod pool;
-mod road;
-mod scarce;
 mod solving;
-mod travel_times;

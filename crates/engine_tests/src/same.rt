@@ -1,5 +1,6 @@
 //! Runs of all settings give one answer.
-use crate::given::{FOUR_NODES, Given, Row, with_period};
+ghost use Rattle.ea_road.specs.Queries.{IsSource};
+
 use crate::pairs::EQUAL_KEYS;
 use crate::ran::{arrives, run_all, walks};
 use ea_engine::{Answer, Settings};
@@ -7,6 +8,7 @@ use ea_road::{Query, Source};
 use std::alloc::{AllocError, Global};
 use std::test::Fail;
 use std::thread::Threads;
+use tests_given::networks::{FOUR_NODES, Given, Row, with_period};
 
 /// A node, its arrival and its walk.
 type Line = (u32, u64, &'static [u32]);
@@ -66,93 +68,89 @@ fn all_told<H: Threads + Sync>(
     Ok(right)
 }
 
-/// All nodes from node 1.
-fn all_from(alloc: Global, departure: u32) -> Result<Query, AllocError> {
-    Ok(Query::new(vec![in alloc;
-        Source {
-            node: 1,
-            departure: u64::from(departure)
-        },
-    ]?))
+/// From node 1 at a departure.
+fn from_first(departure: u32) -> Source
+    ensures { IsSource result }
+{
+    Source {
+        node: 1,
+        departure: u64::from(departure),
+    }
+}
+
+/// Whether each run for all nodes, from node 1 at a departure, gives these lines.
+fn all_told_from<H: Threads + Sync>(
+    alloc: Global,
+    rt: &H,
+    nodes: u32,
+    rows: &[Row],
+    period: u32,
+    departure: u32,
+    lines: &[Line],
+) -> Result<bool, Fail> {
+    let query = Query::from_one(from_first(departure));
+    let given = with_period(alloc, nodes, rows, period, query)?.ok_or("rows")?;
+    Ok(all_told(alloc, rt, &given, lines)?)
 }
 
 #[test]
 fn same_bytes_four_nodes(rt: HostRuntime) -> Result<(), Fail> {
-    let alloc = rt.alloc();
-    let query = all_from(alloc, 0)?;
-    let given = with_period(alloc, 4, &FOUR_NODES, 0, query)?.ok_or("rows")?;
     let lines: [Line; 4] = [
         (1, 0, &[]),
         (2, 5, &[2, 3]),
         (3, 2, &[2]),
         (4, 6, &[2, 3, 4]),
     ];
-    assert!(rt; all_told(alloc, &rt, &given, &lines)?);
+    assert!(rt; all_told_from(rt.alloc(), &rt, 4, &FOUR_NODES, 0, 0, &lines)?);
     Ok(())
 }
 
 #[test]
 fn same_bytes_two_ways_to_fifteen(rt: HostRuntime) -> Result<(), Fail> {
-    let alloc = rt.alloc();
-    let query = all_from(alloc, 1)?;
-    let given = with_period(alloc, 4, &TWO_WAYS_TO_FIFTEEN, 10, query)?.ok_or("rows")?;
     let lines: [Line; 4] = [
         (1, 1, &[]),
         (2, 3, &[2, 3]),
         (3, 2, &[2]),
         (4, 15, &[2, 3, 4]),
     ];
-    assert!(rt; all_told(alloc, &rt, &given, &lines)?);
+    assert!(rt; all_told_from(rt.alloc(), &rt, 4, &TWO_WAYS_TO_FIFTEEN, 10, 1, &lines)?);
     Ok(())
 }
 
 #[test]
 fn same_bytes_parallel_arcs(rt: HostRuntime) -> Result<(), Fail> {
-    let alloc = rt.alloc();
-    let early = all_from(alloc, 1)?;
-    let given = with_period(alloc, 2, &PARALLEL_ARCS, 100, early)?.ok_or("rows")?;
-    let lines: [Line; 2] = [(1, 1, &[]), (2, 51, &[2])];
-    assert!(rt; all_told(alloc, &rt, &given, &lines)?);
-    let late = all_from(alloc, 100)?;
-    let given = with_period(alloc, 2, &PARALLEL_ARCS, 100, late)?.ok_or("rows")?;
-    let lines: [Line; 2] = [(1, 100, &[]), (2, 101, &[1])];
-    assert!(rt; all_told(alloc, &rt, &given, &lines)?);
+    let early: [Line; 2] = [(1, 1, &[]), (2, 51, &[2])];
+    assert!(rt; all_told_from(rt.alloc(), &rt, 2, &PARALLEL_ARCS, 100, 1, &early)?);
+    let late: [Line; 2] = [(1, 100, &[]), (2, 101, &[1])];
+    assert!(rt; all_told_from(rt.alloc(), &rt, 2, &PARALLEL_ARCS, 100, 100, &late)?);
     Ok(())
 }
 
 #[test]
 fn same_bytes_cycle_of_zero(rt: HostRuntime) -> Result<(), Fail> {
-    let alloc = rt.alloc();
-    let query = all_from(alloc, 0)?;
-    let given = with_period(alloc, 3, &CYCLE_OF_ZERO, 0, query)?.ok_or("rows")?;
     let lines: [Line; 3] = [(1, 0, &[]), (2, 4, &[1]), (3, 4, &[4])];
-    assert!(rt; all_told(alloc, &rt, &given, &lines)?);
+    assert!(rt; all_told_from(rt.alloc(), &rt, 3, &CYCLE_OF_ZERO, 0, 0, &lines)?);
     Ok(())
 }
 
 #[test]
 fn same_bytes_canonical_ties(rt: HostRuntime) -> Result<(), Fail> {
-    let alloc = rt.alloc();
-    let query = all_from(alloc, 0)?;
-    let given = with_period(alloc, 4, &CANONICAL_TIES, 0, query)?.ok_or("rows")?;
     let lines: [Line; 4] = [(1, 0, &[]), (2, 1, &[1]), (3, 1, &[2]), (4, 2, &[2, 3])];
-    assert!(rt; all_told(alloc, &rt, &given, &lines)?);
-    let query = all_from(alloc, 0)?;
-    let given = with_period(alloc, 3, &TIES_AT_ZERO, 0, query)?.ok_or("rows")?;
+    assert!(rt; all_told_from(rt.alloc(), &rt, 4, &CANONICAL_TIES, 0, 0, &lines)?);
     let lines: [Line; 3] = [(1, 0, &[]), (2, 0, &[1]), (3, 0, &[3])];
-    assert!(rt; all_told(alloc, &rt, &given, &lines)?);
+    assert!(rt; all_told_from(rt.alloc(), &rt, 3, &TIES_AT_ZERO, 0, 0, &lines)?);
     Ok(())
+}
+
+/// Whether each run for the pair of nodes 1 and 3 gives its walk.
+fn pair_told<H: Threads + Sync>(alloc: Global, rt: &H) -> Result<bool, Fail> {
+    let query = Query::pair(from_first(0), 3);
+    let given = with_period(alloc, 6, &EQUAL_KEYS, 0, query)?.ok_or("rows")?;
+    Ok(all_told(alloc, rt, &given, &[(3, 3, &[1, 2, 3])])?)
 }
 
 #[test]
 fn same_bytes_cut_at_equal_keys(rt: HostRuntime) -> Result<(), Fail> {
-    let alloc = rt.alloc();
-    let start = Source {
-        node: 1,
-        departure: 0,
-    };
-    let given = with_period(alloc, 6, &EQUAL_KEYS, 0, Query::pair(start, 3))?.ok_or("rows")?;
-    let lines: [Line; 1] = [(3, 3, &[1, 2, 3])];
-    assert!(rt; all_told(alloc, &rt, &given, &lines)?);
+    assert!(rt; pair_told(rt.alloc(), &rt)?);
     Ok(())
 }

@@ -8,5 +8,4 @@ mod devices;
 mod given;
 mod held;
 mod ranks;
-mod scarce;
 mod words;

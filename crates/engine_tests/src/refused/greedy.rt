@@ -2,10 +2,10 @@
 ghost use Rattle.std.specs.Prelude.{◌≡◌, ℕ, ◌%◌, ◌^◌};
 ghost use Rattle.rand_core.specs.Steps.{stream_of, steps_u64_low};
 
-use crate::refused::scarce::Held;
 use rand_core::utils::NextWord;
 use rand_core::{Rng, utils};
 use std::marker::Model;
+use tests_given::memory::Held;
 
 #[derive(Drop)]
 pub struct Greedy {

@@ -4,12 +4,12 @@ ghost use Rattle.ea_words.specs.Limits.{AreOptions};
 use crate::refused::counts::{Came, Count};
 use crate::refused::devices::{Greedy, Taking};
 use crate::refused::given::{FOUR_NODES, FROM_ONE, NO_ARCS, holds, unreached, walks_by};
-use crate::refused::scarce::{Held, pieces};
 use ea_input::{StdIn, StdOut};
 use earliest::{AnswerFault, RunOptions, Totals, answer, answer_pairs};
 use std::alloc::Global;
 use std::test::Fail;
 use std::thread::Threads;
+use tests_given::memory::{Held, pieces};
 
 /// Timetables by which each arc takes its weight.
 const PLAIN: &[u8] = b"p tp 1 2\nk 1 plain\nt 1 1\nt 4 1\n";
@@ -57,7 +57,7 @@ fn files_and_first_problem(rt: HostRuntime) -> Result<(), Fail> {
         let mut small = Held::new(alloc, 20_000)?;
         // A file is read by pieces of 65,536 bytes.
         let sizes = pieces(alloc, 65_500, 300, 16)?;
-        let mut large = Held::of_large(alloc)?;
+        let mut large = Held::of_large(alloc, 4)?;
         let mut count = Count::new();
         for piece in sizes {
             count.add(four_nodes_with(alloc, &rt, &walks_by(many), tp, &mut small, piece));
@@ -100,7 +100,7 @@ fn arrays_of_the_first_problem(rt: HostRuntime) -> Result<(), Fail> {
     let mut room = Vec::from_elem(alloc, 0u8, 40_000)?;
     for many in [false, true] {
         let sizes = pieces(alloc, 0, 220, 512)?;
-        let mut large = Held::of_large(alloc)?;
+        let mut large = Held::of_large(alloc, 4)?;
         let mut count = Count::new();
         for piece in sizes {
             let held = Held::new(alloc, 4_000)?;
@@ -160,7 +160,7 @@ fn second_problem(rt: HostRuntime) -> Result<(), Fail> {
         } else {
             pieces(alloc, 0, 300, 16)?
         };
-        let mut large = Held::of_large(alloc)?;
+        let mut large = Held::of_large(alloc, 4)?;
         let mut count = Count::new();
         for piece in sizes {
             let held = Held::new(alloc, 4_000)?;
@@ -208,7 +208,7 @@ fn second_pair(rt: HostRuntime) -> Result<(), Fail> {
         } else {
             pieces(alloc, 0, 300, 16)?
         };
-        let mut large = Held::of_large(alloc)?;
+        let mut large = Held::of_large(alloc, 4)?;
         let mut count = Count::new();
         for piece in sizes {
             let held = Held::new(alloc, 4_000)?;

@@ -2,11 +2,11 @@
 use crate::refused::counts::{Came, Count};
 use crate::refused::devices::Taking;
 use crate::refused::given::{FROM_ONE, NO_ARCS, unreached, walks_by};
-use crate::refused::scarce::{Held, pieces};
 use ea_input::StdIn;
 use earliest::{AnswerFault, CheckFault, check_report};
 use std::alloc::Global;
 use std::test::Fail;
+use tests_given::memory::{Held, pieces};
 
 /// A check of the network without arcs, whose report takes memory at its end.
 fn verdict_with(
@@ -56,7 +56,7 @@ fn check_of_a_report(rt: HostRuntime) -> Result<(), Fail> {
         (wrong.as_slice(), Err(CheckFault::BadLine(2_002))),
     ] {
         let sizes = pieces(alloc, 0, 110, 1_024)?;
-        let mut large = Held::of_large(alloc)?;
+        let mut large = Held::of_large(alloc, 4)?;
         let mut count = Count::new();
         for piece in sizes {
             let held = Held::new(alloc, 4_000)?;
@@ -95,7 +95,7 @@ fn files_of_a_check(rt: HostRuntime) -> Result<(), Fail> {
     let alloc = rt.alloc();
     let mut small = Held::new(alloc, 20_000)?;
     let sizes = pieces(alloc, 65_500, 200, 16)?;
-    let mut large = Held::of_large(alloc)?;
+    let mut large = Held::of_large(alloc, 4)?;
     let mut count = Count::new();
     for piece in sizes {
         count.add(read_with(alloc, &mut small, piece));

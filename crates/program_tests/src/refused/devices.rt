@@ -1,6 +1,6 @@
 //! Devices of std that take all memory but for a piece.
-use crate::refused::scarce::Held;
 use std::io::{self, Read, Write};
+use tests_given::memory::Held;
 
 /// A reader that takes memory where it tells that its bytes are at an end.
 #[derive(Drop)]

@@ -1,5 +1,4 @@
 //! Calls that need little memory, whatever the size of the network, where little is left.
-use crate::refused::scarce::{Held, pieces};
 use ea_finish::{Answer, Open, arrivals_alone, solve_alone};
 use ea_input::StdOut;
 use ea_report::{ReportOptions, write_problem};
@@ -7,6 +6,7 @@ use ea_road::{Arc, Network, Query, Source, Timetables, is_problem};
 use std::alloc::{AllocError, Global};
 use std::io::{self, Write};
 use std::test::Fail;
+use tests_given::memory::{Held, pieces};
 
 /// How many nodes the networks have.
 const NODES: u32 = 60_000;
@@ -72,7 +72,7 @@ fn report_is_larger_than_the_memory(rt: HostRuntime) -> Result<(), Fail> {
     let answer = arrivals_alone(alloc, &network, &times, &query)?;
     let mut small = Held::new(alloc, 20_000)?;
     let sizes = pieces(alloc, 100_000, 4, 0)?;
-    let mut large = Held::of_large(alloc)?;
+    let mut large = Held::of_large(alloc, 4)?;
     let options = ReportOptions { walks: false };
     let mut out = StdOut::new(Counting { bytes: 0 });
     small.leave_together(sizes);
@@ -90,7 +90,7 @@ fn short_walk(alloc: Global, answer: &Answer) -> Result<Option<Vec<u32>>, Fail> 
     }
     let mut small = Held::new(alloc, 20_000)?;
     let sizes = pieces(alloc, 2_000, 1, 0)?;
-    let mut large = Held::of_large(alloc)?;
+    let mut large = Held::of_large(alloc, 4)?;
     let mut walk = Ok(None);
     for piece in sizes {
         small.leave(piece);
@@ -125,7 +125,7 @@ const FEW: u32 = 2_000;
 fn first_piece(alloc: Global, walks: bool) -> Result<Option<u32>, Fail> {
     let mut small = Held::new(alloc, 20_000)?;
     let sizes = pieces(alloc, 0, 400, STEP)?;
-    let mut large = Held::of_large(alloc)?;
+    let mut large = Held::of_large(alloc, 4)?;
     let mut first = None;
     let mut place = 0u32;
     for piece in sizes {

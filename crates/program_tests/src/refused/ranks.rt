@@ -2,11 +2,11 @@
 use crate::refused::counts::{Came, Count};
 use crate::refused::devices::Greedy;
 use crate::refused::given::{FOUR_NODES, FROM_ONE, holds, walks_by};
-use crate::refused::scarce::{Held, pieces};
 use ea_input::{StdIn, StdOut};
 use earliest::{AnswerFault, rank_report};
 use std::alloc::Global;
 use std::test::Fail;
+use tests_given::memory::{Held, pieces};
 
 /// What it came to: whole with the whole text, or refused with the front and its length.
 fn came_of(ranked: Result<(), AnswerFault>, room: &[u8], front: &[u8], whole: &[u8]) -> Came {
@@ -38,7 +38,7 @@ fn files_and_first_source(rt: HostRuntime) -> Result<(), Fail> {
     let alloc = rt.alloc();
     let mut small = Held::new(alloc, 20_000)?;
     let sizes = pieces(alloc, 65_500, 200, 16)?;
-    let mut large = Held::of_large(alloc)?;
+    let mut large = Held::of_large(alloc, 4)?;
     let mut count = Count::new();
     for piece in sizes {
         count.add(one_source_with(alloc, &mut small, piece));
@@ -73,7 +73,7 @@ fn two_sources_with(alloc: Global, held: Held, piece: Vec<u8>) -> Came {
 fn second_source(rt: HostRuntime) -> Result<(), Fail> {
     let alloc = rt.alloc();
     let sizes = pieces(alloc, 0, 200, 16)?;
-    let mut large = Held::of_large(alloc)?;
+    let mut large = Held::of_large(alloc, 4)?;
     let mut count = Count::new();
     for piece in sizes {
         let held = Held::new(alloc, 4_000)?;

@@ -1,9 +1,9 @@
 //! Words whose growths are refused.
 use crate::refused::counts::{Came, Count};
-use crate::refused::scarce::{Held, pieces};
 use earliest::{Command, CommandFault, RunOptions};
 use std::alloc::Global;
 use std::test::Fail;
+use tests_given::memory::{Held, pieces};
 
 /// The words of a run, where a piece of memory is left.
 fn run_with(alloc: Global, small: &mut Held, piece: Vec<u8>) -> Came {
@@ -51,7 +51,7 @@ fn words_with_little_memory(rt: HostRuntime) -> Result<(), Fail> {
     for short in [false, true] {
         let mut small = Held::new(alloc, 20_000)?;
         let sizes = pieces(alloc, 0, 600, 64)?;
-        let mut large = Held::of_large(alloc)?;
+        let mut large = Held::of_large(alloc, 4)?;
         let mut count = Count::new();
         for piece in sizes {
             count.add(if short {
