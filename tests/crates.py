@@ -1,5 +1,9 @@
-"""The crates of the repository, as crates.txt lists them."""
+"""The crates of the repository, as crates.txt lists them, and rt as a module."""
+import importlib.machinery
+import importlib.util
 import os
+import shutil
+import sys
 
 ROOT = os.path.normpath(os.path.join(os.path.dirname(os.path.abspath(__file__)), ".."))
 
@@ -35,3 +39,13 @@ def above(name, uses):
 def processors():
     """How many processors this process may run on."""
     return len(os.sched_getaffinity(0))
+
+
+def kit():
+    """rt as a module, and its library."""
+    program = os.path.realpath(shutil.which("rt"))
+    sys.path.insert(0, os.path.dirname(program))
+    loader = importlib.machinery.SourceFileLoader("rt", program)
+    module = importlib.util.module_from_spec(importlib.util.spec_from_loader("rt", loader))
+    loader.exec_module(module)
+    return module, importlib.import_module("rtlib")

@@ -4,8 +4,6 @@ Each is tried in a check of the functions that it changes alone, which takes a f
 functions were proved as they stand. Where that check refuses nothing, or the edit changes more than functions, rt's own
 trial of the whole crate decides. What is read as a refusal is what rt reads as one.
 """
-import importlib.machinery
-import importlib.util
 import os
 import re
 import shutil
@@ -13,20 +11,12 @@ import subprocess
 import sys
 import tempfile
 
+from crates import kit
+
 # At most so many edits go over the same kept work.
 TOGETHER = 12
 
 FUNCTION = re.compile(r"^( *)(?:pub(?:\([^)]*\))? )?(?:final |const )*fn (\w+)", re.M)
-
-
-def kit():
-    """rt as a module, and its library."""
-    program = os.path.realpath(shutil.which("rt"))
-    sys.path.insert(0, os.path.dirname(program))
-    loader = importlib.machinery.SourceFileLoader("rt", program)
-    module = importlib.util.module_from_spec(importlib.util.spec_from_loader("rt", loader))
-    loader.exec_module(module)
-    return module, importlib.import_module("rtlib")
 
 
 def edits_of(root, name):

@@ -1,14 +1,16 @@
-"""Builds the program bin/earliest: proves the libraries that it stands on, as many side by side as there are processors,
+"""Builds the program bin/earliest: proves the libraries that it stands on, as many side by side as there are processors and memory,
 tells which of how many are done, and then proves, builds and runs the program once, which answers the run that is stored in it.
 
-What an earlier build proved is kept in crates/NAME/out and not proved again.
+What an earlier build proved is kept in crates/NAME/out and not proved again. Each library is built as `rt lib` builds it. Of `rt lib` itself
+one call would wait for the other wherever both stand on one library, so all are built by one process, which holds their folders, as `rt ci`
+does.
 """
 import os
 import shutil
 import subprocess
 import sys
+import tempfile
 import time
-from concurrent.futures import FIRST_COMPLETED, ThreadPoolExecutor, wait
 
 sys.dont_write_bytecode = True
 sys.path.insert(0, os.path.join(os.path.dirname(os.path.abspath(__file__)), "..", "tests"))
@@ -17,60 +19,60 @@ import crates
 PROGRAM = "earliest_program"
 
 
-def folder(name):
-    return os.path.join(crates.ROOT, "crates", name)
+class Libraries:
+    """The libraries of the program as they are built, and what is told of them."""
 
+    def __init__(self):
+        self.rt, self.rtlib = crates.kit()
+        os.chdir(crates.ROOT)
+        # Its first call sets the handler of a signal, which only this thread may.
+        self.rtlib.guarded()
+        every = {crate.name: crate for crate in self.rtlib.crates_below(crates.ROOT)}
+        self.left = every[PROGRAM].below()
+        self.done = []
 
-def lines_of(name):
-    """How many lines of code and proofs a crate has: about how long its check takes."""
-    count = 0
-    for part in ("src", "specs", "proofs"):
-        for at, _, files in os.walk(os.path.join(folder(name), part)):
-            for file in files:
-                with open(os.path.join(at, file), "rb") as text:
-                    count += text.read().count(b"\n")
-    return count
+    def build(self, crate, given, jobs):
+        """Builds a library, where those below it are built: whether it is built."""
+        if not all(given[one.name, "library"] for one in crate.below()):
+            return False
+        begun = time.monotonic()
+        with tempfile.TemporaryFile("w+", errors="replace") as crate.out:
+            is_built = crate.build_rlib(["--jobs", str(jobs)], anew=False) == 0
+            crate.out.seek(0)
+            said = crate.out.read()
+        if is_built:
+            self.done.append(crate.name)
+            print(f"proved {len(self.done)} of {len(self.left)}: {crate.name}, {time.monotonic() - begun:.0f} s", flush=True)
+        else:
+            print(f"{said}\n{crate.name} is not proved", flush=True)
+        return is_built
 
-
-def build(name, jobs):
-    """Builds a library: its status, what rt said, and how long it took."""
-    begun = time.monotonic()
-    ran = subprocess.run(["rt", "lib", "--jobs", str(jobs)], cwd=folder(name), stdout=subprocess.PIPE, stderr=subprocess.STDOUT, text=True, errors="replace")
-    return ran.returncode, ran.stdout, time.monotonic() - begun
+    def build_all(self):
+        """Builds all, those with the longest chain of others above them first: whether all are built."""
+        held = self.rtlib.lock(self.left)
+        tasks = {}
+        for crate in self.left:
+            waits = [(one.name, "library") for one in crate.below()]
+            call = lambda given, jobs, crate=crate: self.build(crate, given, jobs)
+            tasks[crate.name, "library"] = waits, crate.count(rb"\n"), self.rt.need(crate), call
+        given = self.rt.in_lanes(tasks)
+        for folder in held:
+            os.close(folder)
+        return all(given.values())
 
 
 def main():
     begun = time.monotonic()
-    _, uses = crates.listed()
-    left = crates.below(PROGRAM, uses)
-    number, done, running = len(left), set(), {}
-    size = {name: lines_of(name) for name in left}
-    behind = {name: size[name] + sum(size[it] for it in left if name in crates.below(it, uses)) for name in left}
-    left.sort(key=lambda name: -behind[name])
-    print(f"{number} libraries are proved first; the first time this takes minutes", flush=True)
-    with ThreadPoolExecutor(crates.processors()) as pool:
-        while left or running:
-            ready = [name for name in left if set(crates.below(name, uses)) <= done]
-            for at, name in enumerate(ready):
-                idle = crates.processors() - sum(jobs for _, jobs in running.values())
-                if idle > 0:
-                    jobs = max(1, idle // (len(ready) - at))
-                    left.remove(name)
-                    running[pool.submit(build, name, jobs)] = name, jobs
-            for ended in wait(running, return_when=FIRST_COMPLETED).done:
-                name, _ = running.pop(ended)
-                status, said, seconds = ended.result()
-                if status:
-                    print(said)
-                    print(f"{name} is not proved")
-                    return status
-                done.add(name)
-                print(f"proved {len(done)} of {number}: {name}, {seconds:.0f} s", flush=True)
-    ran = subprocess.run(["rt", "run"], cwd=folder(PROGRAM), stdout=subprocess.PIPE)
+    libraries = Libraries()
+    print(f"{len(libraries.left)} libraries are proved first; the first time this takes minutes", flush=True)
+    if not libraries.build_all():
+        return 1
+    folder = os.path.join(crates.ROOT, "crates", PROGRAM)
+    ran = subprocess.run(["rt", "run"], cwd=folder, stdout=subprocess.PIPE)
     if ran.returncode:
         return ran.returncode
     os.makedirs(os.path.join(crates.ROOT, "bin"), exist_ok=True)
-    shutil.copy(os.path.join(folder(PROGRAM), "out", PROGRAM), os.path.join(crates.ROOT, "bin", "earliest"))
+    shutil.copy(os.path.join(folder, "out", PROGRAM), os.path.join(crates.ROOT, "bin", "earliest"))
     print(f"bin/earliest is built, after {time.monotonic() - begun:.0f} s")
     return 0
 

@@ -1,7 +1,8 @@
 """Builds the library for programs that are not Rattle: lib/libearliest.a and lib/libearliest.so.
 
-The crate is proved and built first, over what earlier builds left in crates/NAME/out. With `--install PREFIX FOLDER` what was built is
-copied to a folder, which programs find as PREFIX.
+The crate is proved and built first, over what earlier builds left in crates/NAME/out. With `--over ROOM` it is proved and built in a copy of
+the repository in which `rt ci` has just proved the crates below it, over these. With `--install PREFIX FOLDER` what was built is copied to
+a folder, which programs find as PREFIX.
 """
 import os
 import shutil
@@ -9,7 +10,12 @@ import subprocess
 import sys
 import tempfile
 
-ROOT = os.path.normpath(os.path.join(os.path.dirname(os.path.abspath(__file__)), ".."))
+sys.dont_write_bytecode = True
+sys.path.insert(0, os.path.join(os.path.dirname(os.path.abspath(__file__)), "..", "tests"))
+import crates
+
+ROOT = crates.ROOT
+CRATE = "ea_c"
 PACKAGE = """prefix=PREFIX
 libdir=${prefix}/lib
 includedir=${prefix}/include
@@ -43,14 +49,32 @@ def joined(archive, folder):
     return static, shared
 
 
-def built():
+def archived():
+    """Proves the crate and makes its archive here: the archive, the status and what was said."""
+    folder = os.path.join(ROOT, "crates", CRATE)
+    ran = subprocess.run(["rt", "lib"], cwd=folder, stdout=subprocess.PIPE, stderr=subprocess.STDOUT, text=True, errors="replace")
+    return os.path.join(folder, "out", f"lib{CRATE}.a"), ran.returncode, ran.stdout
+
+
+def archived_over(room):
+    """The same in a room where rt ci has proved what the crate stands on. (`rt lib` would prove that again: what rt ci leaves has no stamp.)"""
+    _, rtlib = crates.kit()
+    os.chdir(room)
+    rtlib.guarded()
+    crate = next(it for it in rtlib.crates_below(os.path.realpath(room)) if it.name == CRATE)
+    with tempfile.TemporaryFile("w+", errors="replace") as crate.out:
+        status = crate.build_static(["--jobs", str(crates.processors())])
+        crate.out.seek(0)
+        return os.path.join(crate.folder, "out", f"lib{CRATE}.a"), status, crate.out.read()
+
+
+def built(room=None):
     """Proves and builds the library: 0, or the status of what failed."""
-    crate = os.path.join(ROOT, "crates", "ea_c")
-    ran = subprocess.run(["rt", "lib"], cwd=crate, stdout=subprocess.PIPE, stderr=subprocess.STDOUT, text=True, errors="replace")
-    if ran.returncode:
-        print(ran.stdout)
-        return ran.returncode
-    static, shared = joined(os.path.join(crate, "out", "libea_c.a"), os.path.join(ROOT, "lib"))
+    archive, status, said = archived_over(room) if room else archived()
+    if status:
+        print(said)
+        return status
+    static, shared = joined(archive, os.path.join(ROOT, "lib"))
     shutil.copy(shared, os.path.join(ROOT, "python", "earliest", "libearliest.so"))
     print(f"{os.path.relpath(static, ROOT)} and {os.path.relpath(shared, ROOT)} are built")
     return 0
@@ -69,5 +93,11 @@ def installed(prefix, folder):
     return 0
 
 
+def main(words):
+    if words[:1] == ["--install"]:
+        return installed(*words[1:3])
+    return built(words[1] if words[:1] == ["--over"] else None)
+
+
 if __name__ == "__main__":
-    sys.exit(installed(*sys.argv[2:4]) if sys.argv[1:2] == ["--install"] else built())
+    sys.exit(main(sys.argv[1:]))
