@@ -3,6 +3,7 @@
 What can't be run for want of a compiler or of a checker of memory is told, and left out.
 """
 import os
+import re
 import shutil
 import subprocess
 import sys
@@ -27,6 +28,26 @@ def built(compiler, flags, source, to):
     words = [compiler, *flags, "-Wall", "-Wextra", "-I" + os.path.join(ROOT, "include"), source, STATIC, "-o", to]
     run = subprocess.run(words, capture_output=True, text=True)
     return run.stderr if run.returncode or run.stderr else None
+
+
+def read(*parts):
+    with open(os.path.join(ROOT, *parts), encoding="utf-8") as file:
+        return file.read()
+
+
+def numbered():
+    """The numbers of refusals and the last time in the header are those of the crates, and its words name each by its number."""
+    header, crate = read("include", "earliest.h"), read("crates", "ea_c", "src", "numbers.rt")
+    told = {name: int(number) for name, number in re.findall(r"EARLIEST_(\w+) = (\d+)", header)}
+    for name, number in re.findall(r"pub const (\w+): u32 = (\d+);", crate):
+        if name in told:
+            yield f"the header's {name}", told[name], int(number)
+    limits = read("crates", "ea_limits", "src", "lib.rt")
+    last = re.search(r"pub const HORIZON: u64 = ([\d_]+);", limits)[1].replace("_", "")
+    yield "the header's last time", f"EARLIEST_HORIZON UINT64_C({last})\n" in header, True
+    for name, number in told.items():
+        says = re.search(rf'case EARLIEST_{name}: return ".*\((\d+) (\w+)\)";', header)
+        yield f"the header's words for {name}", says and (int(says[1]), says[2].upper()), (number, name.replace("_", ""))
 
 
 def in_c(room):
@@ -131,9 +152,12 @@ def installed(room):
     yield "the installed package", ran([python, "-c", text], env=environment), (0, b"[2, 3, 4]\n", b"")
 
 
-def results(program):
-    """Each test with what came and what has to come. The library is proved and built first, over what earlier builds left."""
-    run = subprocess.run([sys.executable, os.path.join(ROOT, "tools", "library.py")], stdout=subprocess.PIPE, text=True)
+def results(program, room=None):
+    """Each test with what came and what has to come. The library is proved and built first, over what rt ci has proved in a room, or
+    else over what earlier builds left."""
+    yield from numbered()
+    over = ["--over", room] if room else []
+    run = subprocess.run([sys.executable, os.path.join(ROOT, "tools", "library.py"), *over], stdout=subprocess.PIPE, text=True)
     yield "the library, built", run.returncode or None, None
     if run.returncode:
         print(run.stdout)

@@ -137,7 +137,7 @@ def main():
         passed, failed = counts
         if not asked:
             program = os.path.join(room, "crates", "earliest_program", "out", "earliest_program")
-            well, ill = run.run_all(program)
+            well, ill = run.run_all(program, room)
             print(f"cases of the program: {well} passed, {ill} failed")
             passed, failed = passed + well, failed + ill
     print(f"{passed} passed, {failed} failed")

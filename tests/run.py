@@ -12,12 +12,15 @@ import tempfile
 sys.dont_write_bytecode = True
 import at_once
 import commuter_network
+import documents
 import embedding
+import explained
 import large
 import opening
 import people
 import road_network
 import scripts
+import threads
 import travel_times
 
 HERE = os.path.dirname(os.path.abspath(__file__))
@@ -110,8 +113,9 @@ def alike(program):
         yield f"{command} {road}: {this} beside {that}", was, (0, 0, equal, True)
 
 
-def run_all(program):
-    """Runs all cases, tells which fail, and answers how many passed and failed."""
+def run_all(program, room=None):
+    """Runs all cases, tells which fail, and answers how many passed and failed. Where rt ci has proved the crates in a room, the library
+    for C is built over these."""
     program = os.path.abspath(program)
     results = [(shlex.join(words), ran(program, words), (status, out, err)) for words, status, out, err in cases()]
     results += [(name, result, (4, None, line)) for name, result, line in into_devices(program)]
@@ -122,13 +126,16 @@ def run_all(program):
     results += [(shlex.join(words), ran(program, words), wanted) for words, wanted in opening.cases()]
     results += alike(program)
     results += people.results(program)
+    results += explained.results(program)
     results += road_network.results(program)
     results += travel_times.results(program)
     results += commuter_network.results(program)
     results += at_once.results(program)
+    results += threads.results(program)
     results += scripts.results(program)
+    results += documents.results(program)
     results += large.results(program, EXAMPLES)
-    results += embedding.results(program)
+    results += embedding.results(program, room)
     failed = [(name, was) for name, was, want in results if was != want]
     for name, was in failed:
         print("failed:", name, *was)

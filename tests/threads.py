@@ -1,0 +1,60 @@
+"""How many threads a run has: as many problems are searched at once as are asked for, and by default as many as there are processors; and
+as many workers as are asked for are there."""
+import os
+import random
+import subprocess
+import tempfile
+import time
+
+NODES, ARCS = 300_000, 900_000
+# A run is long enough to be looked at hundreds of times, and is asked for again where that many threads weren't seen.
+TRIES = 3
+
+
+def write(folder, problems):
+    """A random network, and so many sources."""
+    words = random.Random(25)
+    arcs = [f"a {words.randint(1, NODES)} {words.randint(1, NODES)} {words.randint(1, 1000)}\n" for _ in range(ARCS)]
+    with open(os.path.join(folder, "net.gr"), "w", encoding="ascii") as file:
+        file.writelines([f"p sp {NODES} {ARCS}\n", *arcs])
+    with open(os.path.join(folder, "net.ss"), "w", encoding="ascii") as file:
+        file.writelines([f"p aux sp ss {problems}\n", *[f"s {1 + at}\n" for at in range(problems)]])
+
+
+def seen(program, words, folder, processors):
+    """The status of a run on so many processors, and the most threads that it was seen to have."""
+    def limit():
+        os.sched_setaffinity(0, processors)
+
+    with subprocess.Popen([program, *words.split()], cwd=folder, stdin=subprocess.DEVNULL, stdout=subprocess.DEVNULL, preexec_fn=limit) as run:
+        most = 0
+        while run.poll() is None:
+            try:
+                most = max(most, len(os.listdir(f"/proc/{run.pid}/task")))
+            except OSError:
+                break
+            time.sleep(0.001)
+        return run.wait(timeout=100), most
+
+
+def results(program):
+    """Each run with its status and number of threads, and what these have to be."""
+    here = sorted(os.sched_getaffinity(0))
+    with tempfile.TemporaryDirectory(prefix="threads-") as folder:
+        write(folder, 12)
+        for words, processors, wanted in (
+            ("--at-once 1", here, 1),
+            ("--at-once 3", here, 3),
+            ("--at-once 5", here[:1], 5),
+            ("", here[:1], 1),
+            ("", here[:2], len(here[:2])),
+            ("--workers 1", here, 1),
+            ("--workers 4", here, 4),
+            ("--workers 2 --at-once 1", here[:1], 2),
+            ("--stats --workers 3", here, 3),
+        ):
+            for _ in range(TRIES):
+                was = seen(program, f"run net.gr net.ss {words}", folder, processors)
+                if was == (0, wanted):
+                    break
+            yield f"threads of run {words} on {len(processors)} processors", was, (0, wanted)
