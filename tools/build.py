@@ -28,7 +28,8 @@ class Libraries:
         # Its first call sets the handler of a signal, which only this thread may.
         self.rtlib.guarded()
         every = {crate.name: crate for crate in self.rtlib.crates_below(crates.ROOT)}
-        self.left = every[PROGRAM].below()
+        self.program = every[PROGRAM]
+        self.left = self.program.below()
         self.done = []
 
     def build(self, crate, given, jobs):
@@ -60,6 +61,14 @@ class Libraries:
             os.close(folder)
         return all(given.values())
 
+    def run_program(self):
+        """Proves, builds and runs the program, by as many processors as memory allows: its status."""
+        def call(_, jobs):
+            return subprocess.run(["rt", "run", "--jobs", str(jobs)], cwd=self.program.folder, stdout=subprocess.PIPE).returncode
+
+        task = [], 1, self.rt.need(self.program), call
+        return self.rt.in_lanes({(PROGRAM, "program"): task})[PROGRAM, "program"]
+
 
 def main():
     begun = time.monotonic()
@@ -67,12 +76,11 @@ def main():
     print(f"{len(libraries.left)} libraries are proved first; the first time this takes minutes", flush=True)
     if not libraries.build_all():
         return 1
-    folder = os.path.join(crates.ROOT, "crates", PROGRAM)
-    ran = subprocess.run(["rt", "run"], cwd=folder, stdout=subprocess.PIPE)
-    if ran.returncode:
-        return ran.returncode
+    status = libraries.run_program()
+    if status:
+        return status
     os.makedirs(os.path.join(crates.ROOT, "bin"), exist_ok=True)
-    shutil.copy(os.path.join(folder, "out", PROGRAM), os.path.join(crates.ROOT, "bin", "earliest"))
+    shutil.copy(os.path.join(libraries.program.folder, "out", PROGRAM), os.path.join(crates.ROOT, "bin", "earliest"))
     print(f"bin/earliest is built, after {time.monotonic() - begun:.0f} s")
     return 0
 

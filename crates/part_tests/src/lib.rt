@@ -5,6 +5,8 @@
 #[cfg(test)]
 mod asked;
 #[cfg(test)]
+mod constants;
+#[cfg(test)]
 mod heaps;
 #[cfg(test)]
 mod refused;
