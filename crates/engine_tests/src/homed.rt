@@ -1,7 +1,7 @@
 //! Words that keep a worker at its own heaps.
 use ea_engine::Homing;
 use rand_core::Rng;
-use tests_given::Constant;
+use tests_given::constant::Constant;
 
 /// Whether two words in a row draw two different heaps of a worker's own, as a pop draws them.
 fn draws_its_own(first: u64, second: u64, worker: u32, workers: u32, heaps: u32) -> bool {
