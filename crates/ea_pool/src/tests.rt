@@ -3,7 +3,9 @@ ghost use Rattle.std.specs.Prelude.{◌≡◌, ◌<◌};
 ghost use Rattle.std.specs.Thread.{IsSync};
 ghost use Rattle.ea_pool.specs.Seats.{account_of, IsSeatOf};
 
-use crate::{ClosedPool, Entry, Pool, PoolSeat, Popped, PushRefused, Solo};
+use crate::{
+    Batch, Buckets, ClosedPool, Entry, EntryHeap, LeastHeap, Pool, PoolSeat, Popped, PushRefused, Solo,
+};
 use ea_road::{AnyPair, Known};
 use std::alloc::Global;
 use std::test::Fail;
@@ -253,5 +255,150 @@ fn four_threads_lose_nothing(rt: HostRuntime) -> Result<(), Fail> {
     count_all(counts.as_mut_slice(), d.entries.as_slice());
     count_left(counts.as_mut_slice(), pool.close(seat));
     assert!(rt; is_each_once(counts.as_slice()));
+    Ok(())
+}
+
+// The numbers from 0 to 10,006 in another order: 10,007 is a prime.
+fn key_at(step: u64) -> u64
+    ensures { result < 10007 }
+{
+    (step % 10007) * 7919 % 10007
+}
+
+// Pops at most so many entries of one heap.
+fn pop_few<H: EntryHeap>(
+    pool: &Pool<AnyPair, Global, H>,
+    seat: &mut PoolSeat<AnyPair, Global, H>,
+    word: u64,
+    most: usize,
+) -> Batch
+    requires { IsSeatOf pool.now seat.old × (0 < most) × (most < 65) }
+    ensures { IsSeatOf pool.now seat.new × ((account_of seat.new).shares ≡ (account_of seat.old).shares) }
+{
+    let mut batch = Batch::new();
+    pool.pop_some_as(seat, word, word, most, &mut batch);
+    batch
+}
+
+// Counts popped entries at their nodes, where their keys are right.
+fn count_few(counts: &mut [u32], batch: &Batch) {
+    for entry in batch.as_slice() {
+        let node = entry.node as usize;
+        if node < counts.len() && entry.key == key_at(u64::from(entry.node)) {
+            counts[node] = counts[node].wrapping_add(1);
+        }
+    }
+}
+
+// Pushes each number as a node at its key, with a pop of at most three behind every second push.
+fn push_and_pop_few<H: EntryHeap>(
+    pool: &Pool<AnyPair, Global, H>,
+    seat: &mut PoolSeat<AnyPair, Global, H>,
+    counts: &mut [u32],
+) -> u64
+    requires { IsSeatOf pool.now seat.old }
+    ensures { IsSeatOf pool.now seat.new × ((account_of seat.new).shares ≡ (account_of seat.old).shares) }
+{
+    let mut refused = 0u64;
+    for step in 0..10007u64 {
+        let pushed = pool.push_as(seat, step / 3, entry(key_at(step), step as u32));
+        if pushed.is_err() {
+            refused = refused.wrapping_add(1);
+        }
+        if step % 2 == 1 {
+            count_few(counts, &pop_few(pool, seat, step, 3));
+        }
+    }
+    refused
+}
+
+// Pops what is left, at most so many at once.
+fn pop_the_rest<H: EntryHeap>(
+    pool: &Pool<AnyPair, Global, H>,
+    seat: &mut PoolSeat<AnyPair, Global, H>,
+    counts: &mut [u32],
+)
+    requires { IsSeatOf pool.now seat.old }
+    ensures { IsSeatOf pool.now seat.new × ((account_of seat.new).shares ≡ (account_of seat.old).shares) }
+{
+    for step in 0..10007u64 {
+        count_few(counts, &pop_few(pool, seat, step, 7));
+    }
+}
+
+#[test]
+fn both_kinds_give_each_entry_once(rt: HostRuntime) -> Result<(), Fail> {
+    let (pool, mut seat) = Pool::<AnyPair>::open(rt.alloc(), 3)?;
+    let mut counts = Vec::from_elem(rt.alloc(), 0, 10007)?;
+    assert_eq!(rt; push_and_pop_few(&pool, &mut seat, counts.as_mut_slice()), 0);
+    pop_the_rest(&pool, &mut seat, counts.as_mut_slice());
+    assert!(rt; is_each_once(counts.as_slice()));
+    // Windows of one time, of many, and of all.
+    for width in [0, 1, 64, 1_000_000, u64::MAX] {
+        let (pool, mut seat) =
+            Pool::<AnyPair, Global, Buckets<Global>>::open_with(rt.alloc(), 3, width)?;
+        let mut counts = Vec::from_elem(rt.alloc(), 0, 10007)?;
+        assert_eq!(rt; push_and_pop_few(&pool, &mut seat, counts.as_mut_slice()), 0);
+        pop_the_rest(&pool, &mut seat, counts.as_mut_slice());
+        assert!(rt; is_each_once(counts.as_slice()));
+        let mut left = pool.close(seat);
+        assert_eq!(rt; left.next_of_any(), None);
+    }
+    Ok(())
+}
+
+#[test]
+fn buckets_close_with_what_is_left(rt: HostRuntime) -> Result<(), Fail> {
+    let (pool, mut seat) = Pool::<AnyPair, Global, Buckets<Global>>::open_with(rt.alloc(), 2, 64)?;
+    let mut counts = Vec::from_elem(rt.alloc(), 0, 10007)?;
+    assert_eq!(rt; push_and_pop_few(&pool, &mut seat, counts.as_mut_slice()), 0);
+    let mut left = pool.close(seat);
+    for _ in 0..u64::MAX {
+        match left.next_of_any() {
+            Some(entry) => {
+                let node = entry.node as usize;
+                if node < 10007 && counts.len() == 10007 {
+                    counts[node] = counts[node].wrapping_add(1);
+                }
+            }
+            None => break,
+        }
+    }
+    assert_eq!(rt; left.next_of_any(), None);
+    assert!(rt; is_each_once(counts.as_slice()));
+    Ok(())
+}
+
+// Pushes each key once into two heaps, and pops all in turn. The greatest distance of a key from its place in the order.
+fn farthest<H: EntryHeap>(
+    pool: &Pool<AnyPair, Global, H>,
+    seat: &mut PoolSeat<AnyPair, Global, H>,
+) -> u64
+    requires { IsSeatOf pool.now seat.old }
+    ensures { IsSeatOf pool.now seat.new × ((account_of seat.new).shares ≡ (account_of seat.old).shares) }
+{
+    for step in 0..10007u64 {
+        let _ = pool.push_as(seat, step / 3, entry(key_at(step), 1));
+    }
+    let mut far = 0u64;
+    for place in 0..10007u64 {
+        let batch = pop_few(pool, seat, place, 1);
+        for popped in batch.as_slice() {
+            far = far.max(popped.key.abs_diff(place));
+        }
+    }
+    far
+}
+
+// The order of what comes out is that of the keys, or nearly: with buckets it is wrong by no more than two windows.
+#[test]
+fn early_times_come_first(rt: HostRuntime) -> Result<(), Fail> {
+    let (pool, mut seat) = Pool::<AnyPair>::open(rt.alloc(), 2)?;
+    assert_eq!(rt; farthest(&pool, &mut seat), 0);
+    for width in [0, 16, 64, 256] {
+        let (pool, mut seat) =
+            Pool::<AnyPair, Global, Buckets<Global>>::open_with(rt.alloc(), 2, width)?;
+        assert!(rt; farthest(&pool, &mut seat) <= 2 * width, "width {width}");
+    }
     Ok(())
 }
