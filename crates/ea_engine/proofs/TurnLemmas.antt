@@ -30,7 +30,7 @@ use Rattle.ea_limits.specs.declared.TheConstants.{SHARES}
 use Rattle.ea_pool.specs.Pools.{SameBooks}
 use Rattle.ea_engine.specs.Turns.{is_busy, is_idle, is_refused, IsShaped, visited_as}
 use Rattle.ea_engine.specs.Closed.{entry_at, IsClosedAs, IsFreshAs}
-use Rattle.ea_engine.specs.Holds.{IsVisit, Took, AreInOrder}
+use Rattle.ea_engine.specs.Holds.{IsVisit, Took, ComeInOrder}
 use Rattle.ea_engine.specs.Worked.{Kit, kit, Progress, IsTurn, IsBrokenAs, IsLeftAs, IsFirstLeft, IsLoneAs, IsPoppingAs}
 use Rattle.ea_engine.proofs.ProgressLemmas.{Progress-idle, Progress-took, Progress-then, Progress-beside}
 
@@ -131,7 +131,7 @@ not_busy_lone kind Cut heaps a e lone = refl
 
 -- what a pop brought is turned round
 -- what heaps give stands in their order
-in_order : (kind : HeapKind) (out content rest : List Entry) → Gives kind out content rest → AreInOrder kind out
+in_order : (kind : HeapKind) (out content rest : List Entry) → Gives kind out content rest → ComeInOrder kind out
 in_order Least out content rest h = h.ascending
 in_order Buckets out content rest h = tt
 

@@ -16,9 +16,9 @@ use Rattle.ea_engine.specs.Turns.{IsShaped, visited_in}
 use Rattle.ea_engine.specs.Worked.{Kit, Progress, IsBrokenAs, IsLeftAs}
 
 -- heaps that give the least entry first give entries in ascending order
-abbrev pub AreInOrder : HeapKind → List Entry → Type 0
-AreInOrder Least entries = IsAscending entries
-AreInOrder Buckets entries = Unit {0}
+abbrev pub ComeInOrder : HeapKind → List Entry → Type 0
+ComeInOrder Least entries = IsAscending entries
+ComeInOrder Buckets entries = Unit {0}
 
 -- A pop from so many heaps of a kind brought known entries, at least one and at most so many, which stand with the first one
 -- last. A seat with all shares pops what was left, and of two heaps the least of it; or with buckets, under a word that no key
@@ -30,7 +30,7 @@ pub record Took (known : ℕ → ℕ → Type 0) (kind : HeapKind) (heaps most :
   pub few : length out ≤ most
   pub popped : PopsAll before out after
   pub known_all : AreKnown known out
-  pub ascending : AreInOrder kind out
+  pub ascending : ComeInOrder kind out
   pub left : before.shares ≡ SHARES → AreLeft out before
   pub word : ℕ
   pub lowest : IsLowest kind heaps word out before

@@ -4,7 +4,8 @@ ghost use Rattle.std.specs.Thread.{IsSync};
 ghost use Rattle.ea_pool.specs.Seats.{account_of, IsSeatOf};
 
 use crate::{
-    Batch, Buckets, ClosedPool, Entry, EntryHeap, LeastHeap, Pool, PoolSeat, Popped, PushRefused, Solo,
+    Batch, Buckets, ClosedPool, Entry, EntryHeap, LeastHeap, Pool, PoolSeat, Popped, PushRefused,
+    Solo,
 };
 use ea_road::{AnyPair, Known};
 use std::alloc::Global;
@@ -330,15 +331,24 @@ fn pop_the_rest<H: EntryHeap>(
 fn both_kinds_give_each_entry_once(rt: HostRuntime) -> Result<(), Fail> {
     let (pool, mut seat) = Pool::<AnyPair>::open(rt.alloc(), 3)?;
     let mut counts = Vec::from_elem(rt.alloc(), 0, 10007)?;
-    assert_eq!(rt; push_and_pop_few(&pool, &mut seat, counts.as_mut_slice()), 0);
+    assert_eq!(rt;
+        push_and_pop_few(&pool, &mut seat, counts.as_mut_slice()),
+        0
+    );
     pop_the_rest(&pool, &mut seat, counts.as_mut_slice());
     assert!(rt; is_each_once(counts.as_slice()));
     // Windows of one time, of many, and of all.
     for width in [0, 1, 64, 1_000_000, u64::MAX] {
-        let (pool, mut seat) =
-            Pool::<AnyPair, Global, Buckets<Global>>::open_with(rt.alloc(), 3, width)?;
+        let (pool, mut seat) = Pool::<AnyPair, Global, Buckets<Global>>::open_with(
+            rt.alloc(),
+            3,
+            width,
+        )?;
         let mut counts = Vec::from_elem(rt.alloc(), 0, 10007)?;
-        assert_eq!(rt; push_and_pop_few(&pool, &mut seat, counts.as_mut_slice()), 0);
+        assert_eq!(rt;
+            push_and_pop_few(&pool, &mut seat, counts.as_mut_slice()),
+            0
+        );
         pop_the_rest(&pool, &mut seat, counts.as_mut_slice());
         assert!(rt; is_each_once(counts.as_slice()));
         let mut left = pool.close(seat);
@@ -351,7 +361,10 @@ fn both_kinds_give_each_entry_once(rt: HostRuntime) -> Result<(), Fail> {
 fn buckets_close_with_what_is_left(rt: HostRuntime) -> Result<(), Fail> {
     let (pool, mut seat) = Pool::<AnyPair, Global, Buckets<Global>>::open_with(rt.alloc(), 2, 64)?;
     let mut counts = Vec::from_elem(rt.alloc(), 0, 10007)?;
-    assert_eq!(rt; push_and_pop_few(&pool, &mut seat, counts.as_mut_slice()), 0);
+    assert_eq!(rt;
+        push_and_pop_few(&pool, &mut seat, counts.as_mut_slice()),
+        0
+    );
     let mut left = pool.close(seat);
     for _ in 0..u64::MAX {
         match left.next_of_any() {
@@ -369,6 +382,15 @@ fn buckets_close_with_what_is_left(rt: HostRuntime) -> Result<(), Fail> {
     Ok(())
 }
 
+// The greatest distance of a key from a place.
+fn distance(batch: &Batch, place: u64) -> u64 {
+    let mut far = 0u64;
+    for popped in batch.as_slice() {
+        far = far.max(popped.key.abs_diff(place));
+    }
+    far
+}
+
 // Pushes each key once into two heaps, and pops all in turn. The greatest distance of a key from its place in the order.
 fn farthest<H: EntryHeap>(
     pool: &Pool<AnyPair, Global, H>,
@@ -382,10 +404,7 @@ fn farthest<H: EntryHeap>(
     }
     let mut far = 0u64;
     for place in 0..10007u64 {
-        let batch = pop_few(pool, seat, place, 1);
-        for popped in batch.as_slice() {
-            far = far.max(popped.key.abs_diff(place));
-        }
+        far = far.max(distance(&pop_few(pool, seat, place, 1), place));
     }
     far
 }
@@ -396,8 +415,11 @@ fn early_times_come_first(rt: HostRuntime) -> Result<(), Fail> {
     let (pool, mut seat) = Pool::<AnyPair>::open(rt.alloc(), 2)?;
     assert_eq!(rt; farthest(&pool, &mut seat), 0);
     for width in [0, 16, 64, 256] {
-        let (pool, mut seat) =
-            Pool::<AnyPair, Global, Buckets<Global>>::open_with(rt.alloc(), 2, width)?;
+        let (pool, mut seat) = Pool::<AnyPair, Global, Buckets<Global>>::open_with(
+            rt.alloc(),
+            2,
+            width,
+        )?;
         assert!(rt; farthest(&pool, &mut seat) <= 2 * width, "width {width}");
     }
     Ok(())
