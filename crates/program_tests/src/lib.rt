@@ -1,5 +1,5 @@
-//! Tests of the calls that the program makes: the worked examples from files to reports, failing devices, refused memory, checked
-//! reports and rank errors.
+//! Tests of the calls that the program makes: the worked examples from files to reports, failing devices, checked reports and rank
+//! errors.
 #![tactic(auto)]
 
 #[cfg(test)]
@@ -8,8 +8,6 @@ mod asked;
 mod checked_and_ranked;
 #[cfg(test)]
 mod devices;
-#[cfg(test)]
-mod refused;
 #[cfg(test)]
 mod reports;
 #[cfg(test)]

@@ -1,9 +1,9 @@
 //! Answers of runs and of pairs whose growths are refused.
 ghost use Rattle.ea_words.specs.Limits.{AreOptions};
 
-use crate::refused::counts::{Came, Count};
-use crate::refused::devices::{Greedy, Taking};
-use crate::refused::given::{FOUR_NODES, FROM_ONE, NO_ARCS, holds, unreached, walks_by};
+use crate::counts::{Came, Count};
+use crate::devices::{Greedy, Taking};
+use crate::given::{FOUR_NODES, FROM_ONE, NO_ARCS, holds, unreached, walks_by};
 use ea_input::{StdIn, StdOut};
 use earliest::{AnswerFault, RunOptions, Totals, answer, answer_pairs};
 use std::alloc::Global;

@@ -1,5 +1,5 @@
 //! Words whose growths are refused.
-use crate::refused::counts::{Came, Count};
+use crate::counts::{Came, Count};
 use earliest::{Command, CommandFault, RunOptions};
 use std::alloc::Global;
 use std::test::Fail;

@@ -1,7 +1,7 @@
 //! Checks of reports whose growths are refused.
-use crate::refused::counts::{Came, Count};
-use crate::refused::devices::Taking;
-use crate::refused::given::{FROM_ONE, NO_ARCS, unreached, walks_by};
+use crate::counts::{Came, Count};
+use crate::devices::Taking;
+use crate::given::{FROM_ONE, NO_ARCS, unreached, walks_by};
 use ea_input::StdIn;
 use earliest::{AnswerFault, CheckFault, check_report};
 use std::alloc::Global;
@@ -70,7 +70,7 @@ fn check_of_a_report(rt: HostRuntime) -> Result<(), Fail> {
 
 /// A check of four-nodes where a piece of memory is left from the start.
 fn read_with(alloc: Global, small: &mut Held, piece: Vec<u8>) -> Came {
-    let mut gr = StdIn::new(crate::refused::given::FOUR_NODES);
+    let mut gr = StdIn::new(crate::given::FOUR_NODES);
     let mut ss = StdIn::new(FROM_ONE);
     let mut tp: Option<StdIn<&[u8]>> = None;
     let mut report = StdIn::new(b"s 1 0\nd 1 0\nd 2 5\nd 3 2\nd 4 6\n".as_slice());

@@ -1,7 +1,7 @@
 //! Rank errors whose growths are refused.
-use crate::refused::counts::{Came, Count};
-use crate::refused::devices::Greedy;
-use crate::refused::given::{FOUR_NODES, FROM_ONE, holds, walks_by};
+use crate::counts::{Came, Count};
+use crate::devices::Greedy;
+use crate::given::{FOUR_NODES, FROM_ONE, holds, walks_by};
 use ea_input::{StdIn, StdOut};
 use earliest::{AnswerFault, rank_report};
 use std::alloc::Global;
