@@ -36,7 +36,10 @@ fn read_places<K: Known + Posed, E: EntryHeap, T: TravelTimes>(
 }
 
 // Reads the first arcs from entries' nodes.
-fn read_arcs<K: Known + Posed, E: EntryHeap, T: TravelTimes>(ground: &Ground<'_, K, T, E>, entries: &[Entry]) -> u32
+fn read_arcs<K: Known + Posed, E: EntryHeap, T: TravelTimes>(
+    ground: &Ground<'_, K, T, E>,
+    entries: &[Entry],
+) -> u32
     requires ground { IsGround K.is_known K.problem T.answers T.classes ground.now }
     requires known { AreKnown K.is_known entries.now }
 {
