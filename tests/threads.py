@@ -22,15 +22,18 @@ def write(folder, problems):
 
 
 def seen(program, words, folder, processors):
-    """The status of a run on so many processors, and the most threads that it was seen to have."""
+    """The status of a run on so many processors, and the most threads that it was seen to have while it wrote its report: the
+    network, which is read before, is read by as many threads as there are processors."""
     def limit():
         os.sched_setaffinity(0, processors)
 
-    with subprocess.Popen([program, *words.split()], cwd=folder, stdin=subprocess.DEVNULL, stdout=subprocess.DEVNULL, preexec_fn=limit) as run:
+    path = os.path.join(folder, "report")
+    with open(path, "wb") as report, subprocess.Popen([program, *words.split()], cwd=folder, stdin=subprocess.DEVNULL, stdout=report, preexec_fn=limit) as run:
         most = 0
         while run.poll() is None:
             try:
-                most = max(most, len(os.listdir(f"/proc/{run.pid}/task")))
+                if os.path.getsize(path) > 0:
+                    most = max(most, len(os.listdir(f"/proc/{run.pid}/task")))
             except OSError:
                 break
             time.sleep(0.001)
