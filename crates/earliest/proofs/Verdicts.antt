@@ -1,5 +1,5 @@
 -- What a checked report comes to.
-use Rattle.std.proofs.Common.{◌≡◌, ℕ, List, refl, subst, inl, inr}
+use Rattle.std.proofs.Common.{◌≡◌, ℕ, List, refl, subst, inl}
 use Rattle.std.specs.Prelude.{Result}
 use Rattle.ea_road.specs.Queries.{Asking}
 use Rattle.ea_files.specs.declared.road.Road.{Road}
@@ -10,12 +10,12 @@ use Rattle.ea_files.specs.Given.{Given, IsRoadOf}
 use Rattle.ea_check.specs.Checked.{IsChecked, sources_of}
 use Rattle.ea_check.specs.Form.{lines_of_report}
 use Rattle.ea_check.specs.declared.fault.CheckFault.{CheckFault}
-use Rattle.ea_outcomes.specs.Asked.{AreSound, Files, IsFault}
+use Rattle.ea_outcomes.specs.Asked.{AreSound, Files}
 use Rattle.ea_outcomes.specs.Faults.{answer_fault}
 use Rattle.ea_outcomes.specs.Posed.{times_on}
 use Rattle.ea_outcomes.proofs.Outcomes.{asked}
 use Rattle.ea_words.specs.declared.options.RunOptions.{RunOptions}
-use Rattle.earliest.specs.Checks.{IsReadWhole, in_run, IsFirstAtFault, IsJudged, IsUnjudged}
+use Rattle.earliest.specs.Checks.{IsReadWhole, IsFirstAtFault, IsJudged, IsUnjudged}
 use Rattle.earliest.specs.Runs.{run_asks}
 
 module _ (options : RunOptions) (files : Files) (report : Reading) where

@@ -1,8 +1,6 @@
 -- What a checked report comes to, with the network and the sources that its files denote.
-use Rattle.std.specs.Prelude.{◌≡◌, ◌⊎◌, ℕ, List, Result, length}
+use Rattle.std.specs.Prelude.{◌≡◌, ◌⊎◌, ℕ, List, Result}
 use Rattle.std.specs.Io.KnownBytes.{IsAtEnd}
-use Rattle.ea_road.specs.Roads.{Roads}
-use Rattle.ea_road.specs.Queries.{Asking}
 use Rattle.ea_files.specs.declared.fault.FileWord.TheVariants.{Report}
 use Rattle.ea_files.specs.declared.fault.FileFault.{FileFault}
 use Rattle.ea_files.specs.declared.fault.FileFault.TheVariants as file

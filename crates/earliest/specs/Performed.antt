@@ -1,5 +1,5 @@
 -- What each command does with its files.
-use Rattle.std.specs.Prelude.{◌≡◌, ℕ, List, Option, Some, None, Result, Ok, Err, option_map}
+use Rattle.std.specs.Prelude.{◌≡◌, Option, Some, None, Result, Ok, Err, option_map}
 use Rattle.ea_text.specs.Device.{Seen}
 use Rattle.ea_files.specs.Files.{Reading, reading}
 use Rattle.ea_outcomes.specs.Asked.{Files, files_of, IsAnswered, IsFailed}

@@ -1,5 +1,5 @@
 -- What all workers of a problem did together.
-use Rattle.std.specs.Prelude.{ℕ, ◌+◌, ◌^◌, ◌<◌, ◌≤◌}
+use Rattle.std.specs.Prelude.{◌+◌, ◌^◌, ◌<◌, ◌≤◌}
 use Rattle.ea_engine.specs.declared.counters.Counters.{Counters}
 use Rattle.earliest.specs.declared.totals.Work.{Work}
 

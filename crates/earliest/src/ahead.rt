@@ -1,4 +1,4 @@
-//! Reports of problems that are searched at once: several threads make those of some, then they are sent, and so on.
+//! Reports of problems that are searched at once: several threads make those of some, while those before are sent, and so on.
 ghost use Rattle.std.specs.Prelude.{◌≡◌, ◌≤◌, ◌<◌, ◌+◌, ◌-◌, ◌*◌, ◌^◌, ℕ, IfErr, IfOk, IfSome, OnOk, length, take};
 ghost use Rattle.ea_text.specs.Device.{GivesUp, Seen};
 ghost use Rattle.ea_limits.specs.declared.TheConstants.{MOST_AT_ONCE, MOST_NODES, MOST_STARTS};
@@ -8,12 +8,12 @@ ghost use Rattle.ea_report.specs.Sent.{IsCutAt, IsWhole};
 ghost use Rattle.ea_words.specs.Limits.{AreOptions};
 ghost use Rattle.earliest.specs.Counted.{AreBalanced};
 ghost use Rattle.ea_outcomes.specs.Posed.{AreProblems, times_on};
-ghost use Rattle.earliest.specs.Drafts.{AreDraftsFrom, AreServing, IsDraftOf};
+ghost use Rattle.earliest.specs.Drafts.{AreDraftsAt, AreDraftsFrom, AreServing, IsDraftOf, IsJob, StopsAfter};
 ghost use Rattle.earliest.specs.Fronts.{AreSent, IsCutShort, IsSent, IsStoppedBy};
 ghost use Rattle.earliest.specs.Reported.{IsReportOf};
 ghost use Rattle.earliest.specs.Solved.{Serves};
 
-use crate::drafts::{Draft, Place, Plan, make_row, places_of};
+use crate::drafts::{Draft, Job, Place, Plan, make_row, rows_of, take_drafts};
 use crate::progress::{Progress, fault_after};
 use ea_files::Road;
 use ea_input::ByteOut;
@@ -23,8 +23,8 @@ use ea_report::write_pieces;
 use ea_road::Query;
 use ea_words::RunOptions;
 use std::alloc::Global;
-use std::mem;
 use std::thread::{Threads, available_parallelism};
+use std::{mem, thread};
 
 /// How many bytes of reports a thread keeps before they are sent, at most.
 const KEPT: usize = 33_554_432;
@@ -132,50 +132,91 @@ struct Span {
     to: usize,
 }
 
-impl Progress {
-    /// Sends the reports of problems by the drafts in a row, in their order.
-    fn send_row<W: ByteOut>(
-        &mut self,
-        alloc: Global,
-        road: &Road,
-        queries: &[Query],
-        options: &RunOptions,
-        span: Span,
-        row: &mut [Place],
-        out: &mut W,
-    ) -> Result<(), AnswerFault>
-        requires problems { AreProblems road.now queries.now }
-        requires few { (length queries.now ≤ MOST_STARTS) × (road.now.network.nodes ≤ MOST_NODES) }
-        requires span { (span.from ≤ span.to) × (span.to ≤ length queries.now)
-            × (span.to ≤ span.from + length row.old) }
-        requires room { self.old.written ≤ span.from * 2 ^ 90 }
-        requires search { IfSome self.old.search (Serves road.now.network options.now.walks) }
-        requires serving { AreServing road.now.network options.now.walks row.old }
-        requires drafts { AreDraftsFrom options.now.walks road.now queries.now span.from row.old }
-        ensures ok { OnOk result ((first : Seen) → first.interrupted < 2 ^ 64
-            → AreSent options.now.walks road.now.network (times_on road.now) (take span.from queries.now)
-            first (W.seen out.old) self.old.written
-            → AreSent options.now.walks road.now.network (times_on road.now) (take span.to queries.now)
-            first (W.seen out.new) self.new.written) }
-        ensures err { IfErr result (λ fault. (first : Seen) → first.interrupted < 2 ^ 64
-            → AreSent options.now.walks road.now.network (times_on road.now) (take span.from queries.now)
-            first (W.seen out.old) self.old.written
-            → IsCutShort options.now road.now.network (times_on road.now) queries.now
-            first (W.seen out.new) fault) }
-        ensures bound { OnOk result (self.new.written ≤ span.to * 2 ^ 90) }
-        ensures totals { self.new.totals ≡ self.old.totals }
-        ensures search { OnOk result
-            (IfSome self.new.search (Serves road.now.network options.now.walks)) }
-        ensures serving { AreServing road.now.network options.now.walks row.new }
-        ensures length { length row.new ≡ length row.old }
-    {
-        for k in 0..span.to - span.from {
-            let draft = mem::replace(&mut row[k].draft, Draft::Nothing);
-            let query = &queries[span.from + k];
-            self.send_draft(alloc, road, query, options.walks, draft, out)?;
-        }
-        Ok(())
+/// Sends the reports of problems by their drafts, in their order.
+fn send_row<W: ByteOut>(
+    progress: &mut Progress,
+    job: Job<'_>,
+    span: Span,
+    ready: &mut [Draft],
+    out: &mut W,
+) -> Result<(), AnswerFault>
+    requires job { IsJob job }
+    requires span { (span.from ≤ span.to) × (span.to ≤ length job.queries.now)
+        × (span.to ≤ span.from + length ready.old) }
+    requires room { progress.old.written ≤ span.from * 2 ^ 90 }
+    requires search { IfSome progress.old.search (Serves job.road.now.network job.options.now.walks) }
+    requires drafts { AreDraftsAt job.options.now.walks job.road.now job.queries.now span.from ready.old }
+    ensures ok { OnOk result ((first : Seen) → first.interrupted < 2 ^ 64
+        → AreSent job.entry.options.now.walks job.entry.road.now.network (times_on job.entry.road.now)
+        (take span.from job.entry.queries.now) first (W.seen out.old) progress.old.written
+        → AreSent job.entry.options.now.walks job.entry.road.now.network (times_on job.entry.road.now)
+        (take span.to job.entry.queries.now) first (W.seen out.new) progress.new.written) }
+    ensures err { IfErr result (StopsAfter job.entry span.from
+        (W.seen out.old) progress.old.written (W.seen out.new)) }
+    ensures bound { OnOk result (progress.new.written ≤ span.to * 2 ^ 90) }
+    ensures totals { progress.new.totals ≡ progress.old.totals }
+    ensures search { OnOk result
+        (IfSome progress.new.search (Serves job.entry.road.now.network job.entry.options.now.walks)) }
+    ensures length { length ready.new ≡ length ready.old }
+{
+    let queries = job.queries;
+    for k in 0..span.to - span.from {
+        let draft = mem::replace(&mut ready[k], Draft::Nothing);
+        let query = &queries[span.from + k];
+        progress.send_draft(job.alloc, job.road, query, job.options.walks, draft, out)?;
     }
+    Ok(())
+}
+
+/// Sends the reports of problems by their drafts, while those of the problems after them are made in a row, where there are
+/// some.
+fn send_and_make<H: Threads + Sync, W: ByteOut>(
+    progress: &mut Progress,
+    rt: &H,
+    job: Job<'_>,
+    span: Span,
+    ready: &mut [Draft],
+    row: &mut [Place],
+    out: &mut W,
+) -> Result<(), AnswerFault>
+    requires job { IsJob job }
+    requires span { (span.from ≤ span.to) × (span.to ≤ length job.queries.now)
+        × (span.to ≤ span.from + length ready.old) }
+    requires few { length row.old ≤ 4096 }
+    requires room { progress.old.written ≤ span.from * 2 ^ 90 }
+    requires search { IfSome progress.old.search (Serves job.road.now.network job.options.now.walks) }
+    requires serving { AreServing job.road.now.network job.plan.walks row.old }
+    requires drafts { AreDraftsAt job.options.now.walks job.road.now job.queries.now span.from ready.old }
+    ensures ok { OnOk result ((first : Seen) → first.interrupted < 2 ^ 64
+        → AreSent job.entry.options.now.walks job.entry.road.now.network (times_on job.entry.road.now)
+        (take span.from job.entry.queries.now) first (W.seen out.old) progress.old.written
+        → AreSent job.entry.options.now.walks job.entry.road.now.network (times_on job.entry.road.now)
+        (take span.to job.entry.queries.now) first (W.seen out.new) progress.new.written) }
+    ensures err { IfErr result (StopsAfter job.entry span.from
+        (W.seen out.old) progress.old.written (W.seen out.new)) }
+    ensures bound { OnOk result (progress.new.written ≤ span.to * 2 ^ 90) }
+    ensures totals { progress.new.totals ≡ progress.old.totals }
+    ensures search { OnOk result
+        (IfSome progress.new.search (Serves job.entry.road.now.network job.entry.options.now.walks)) }
+    ensures lengths { (length ready.new ≡ length ready.old) × (length row.new ≡ length row.old) }
+    ensures serving { AreServing job.entry.road.now.network job.entry.plan.walks row.new }
+    ensures made { span.to < length job.entry.queries.now
+        → AreDraftsFrom job.entry.plan.walks job.entry.road.now job.entry.queries.now span.to row.new }
+{
+    if span.to >= job.queries.len() {
+        return send_row(progress, job, span, ready, out);
+    }
+    let next = span.to;
+    let mut making = ||
+        requires { IsJob job × (next + length row.now < 2 ^ 64)
+            × AreServing job.road.now.network job.plan.walks row.now }
+        ensures { (length row.exit.now ≡ length row.entry.now)
+            × AreServing job.entry.road.now.network job.entry.plan.walks row.exit.now
+            × AreDraftsFrom job.entry.plan.walks job.entry.road.now job.entry.queries.now next row.exit.now }
+    { make_row(rt, job, next, row) };
+    let mut sending = || -> Result<(), AnswerFault> { send_row(progress, job, span, ready, out) };
+    let (_, sent) = thread::join_mut(rt, &mut making, &mut sending);
+    sent
 }
 
 /// How many lines a report has, about.
@@ -213,21 +254,31 @@ pub(crate) fn report_ahead<H: Threads + Sync, W: ByteOut>(
     let mut progress = Progress::begin();
     let lines = lines_of(road, &queries[0]);
     let plan = plan_of(queries.len(), threads, lines, options.walks);
-    let mut places = match places_of(alloc, threads * plan.part) {
-        Ok(places) => places,
+    let count = threads * plan.part;
+    let (mut places, mut drafts) = match rows_of(alloc, count) {
+        Ok(rows) => rows,
         Err(_) => return Err(AnswerFault::OutOfMemory { written: 0 }),
     };
     let row = places.as_mut_slice();
+    let ready = drafts.as_mut_slice();
+    let job = Job {
+        alloc,
+        road,
+        queries,
+        options,
+        plan,
+    };
     // Tells that the count is one of 64 bits.
     let _ = out.interruptions();
+    make_row(rt, job, 0, row);
     let mut sent = 0;
     while sent < queries.len() {
+        take_drafts(row, ready);
         let span = Span {
             from: sent,
-            to: (sent + row.len()).min(queries.len()),
+            to: (sent + count).min(queries.len()),
         };
-        make_row(alloc, rt, road, queries, plan, sent, row);
-        progress.send_row(alloc, road, queries, options, span, row, out)?;
+        send_and_make(&mut progress, rt, job, span, ready, row, out)?;
         sent = span.to;
     }
     Ok(progress)

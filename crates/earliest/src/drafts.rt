@@ -4,7 +4,7 @@ ghost use Rattle.ea_limits.specs.declared.TheConstants.{MOST_NODES, MOST_STARTS}
 ghost use Rattle.ea_road.specs.Queries.{Asking, IsProblem};
 ghost use Rattle.ea_road.specs.Roads.{Roads};
 ghost use Rattle.ea_outcomes.specs.Posed.{AreProblems};
-ghost use Rattle.earliest.specs.Drafts.{AreDraftsFrom, AreServing, IsDraftOf};
+ghost use Rattle.earliest.specs.Drafts.{AreDraftsFrom, AreServing, AreTaken, IsDraftOf, IsJob};
 ghost use Rattle.earliest.specs.Solved.{Serves};
 
 use crate::finding::search;
@@ -13,9 +13,10 @@ use ea_files::Road;
 use ea_finish::Search;
 use ea_report::{ReportOptions, write_problem};
 use ea_road::Query;
+use ea_words::RunOptions;
 use std::alloc::{AllocError, Global};
-use std::thread;
 use std::thread::Threads;
+use std::{mem, thread};
 
 /// What was made of a problem.
 #[derive(Drop)]
@@ -48,7 +49,7 @@ pub(crate) struct Plan {
 }
 
 /// So many places where nothing was made.
-pub(crate) fn places_of(alloc: Global, count: usize) -> Result<Vec<Place>, AllocError>
+fn places_of(alloc: Global, count: usize) -> Result<Vec<Place>, AllocError>
     ensures count { IfOk result (λ row. vec_len row ≡ count) }
     ensures serving { IfOk result (λ row. (roads : Roads) (walks : Bool) → AreServing roads walks row.items) }
 {
@@ -155,26 +156,66 @@ fn make_part(
     part[0].search = last;
 }
 
+/// So many drafts that are nothing.
+fn no_drafts(alloc: Global, count: usize) -> Result<Vec<Draft>, AllocError>
+    ensures count { IfOk result (λ drafts. vec_len drafts ≡ count) }
+{
+    let mut drafts = Vec::with_capacity(alloc, count)?;
+    for i in 0..count {
+        drafts.push(Draft::Nothing)?;
+    }
+    Ok(drafts)
+}
+
+/// So many places where nothing was made, and as many drafts that are nothing.
+pub(crate) fn rows_of(alloc: Global, count: usize) -> Result<(Vec<Place>, Vec<Draft>), AllocError>
+    ensures count { IfOk result (λ rows. (vec_len rows.0 ≡ count) × (vec_len rows.1 ≡ count)) }
+    ensures serving { IfOk result (λ rows.
+        (roads : Roads) (walks : Bool) → AreServing roads walks rows.0.items) }
+{
+    let places = places_of(alloc, count)?;
+    let drafts = no_drafts(alloc, count)?;
+    Ok((places, drafts))
+}
+
+/// Takes the drafts of a row, and leaves the arrays of searches there.
+pub(crate) fn take_drafts(row: &mut [Place], ready: &mut [Draft])
+    requires length { length ready.old ≡ length row.old }
+    ensures length { (length row.new ≡ length row.old) × (length ready.new ≡ length row.old) }
+    ensures taken { AreTaken row.old row.new ready.new }
+{
+    for k in 0..row.len() {
+        ready[k] = mem::replace(&mut row[k].draft, Draft::Nothing);
+    }
+}
+
+/// Problems on a road, and how their drafts are made.
+#[derive(Clone, Copy)]
+pub(crate) struct Job<'a> {
+    pub alloc: Global,
+    pub road: &'a Road,
+    pub queries: &'a [Query],
+    pub options: &'a RunOptions,
+    pub plan: Plan,
+}
+
 /// Makes the drafts of a row for the problems from this one on, each part of it in a thread of its own where one can be
 /// started.
-pub(crate) fn make_row<H: Threads + Sync>(
-    alloc: Global,
-    rt: &H,
-    road: &Road,
-    queries: &[Query],
-    plan: Plan,
-    first: usize,
-    row: &mut [Place],
-)
-    requires problems { AreProblems road.now queries.now }
-    requires few { road.now.network.nodes ≤ MOST_NODES }
-    requires part { 0 < plan.part }
+pub(crate) fn make_row<H: Threads + Sync>(rt: &H, job: Job<'_>, first: usize, row: &mut [Place])
+    requires job { IsJob job }
     requires room { first + length row.old < 2 ^ 64 }
-    requires serving { AreServing road.now.network plan.walks row.old }
+    requires serving { AreServing job.road.now.network job.plan.walks row.old }
     ensures length { length row.new ≡ length row.old }
-    ensures serving { AreServing road.now.network plan.walks row.new }
-    ensures drafts { AreDraftsFrom plan.walks road.now queries.now first row.new }
+    ensures serving { AreServing job.entry.road.now.network job.entry.plan.walks row.new }
+    ensures drafts { AreDraftsFrom job.entry.plan.walks job.entry.road.now job.entry.queries.now first row.new }
 {
+    let Job {
+        alloc,
+        road,
+        queries,
+        plan,
+        ..
+    } = job;
     let make_one = |start: usize, places: &mut [Place]|
         requires { AreProblems road.now queries.now × (road.now.network.nodes ≤ MOST_NODES)
             × AreServing road.now.network plan.walks places.now

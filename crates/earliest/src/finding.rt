@@ -44,7 +44,7 @@ pub(crate) struct Found {
 const FEW_NODES: u32 = 10_000;
 
 /// Several workers are quicker than the search of one thread from so many nodes on, where no walks are asked for.
-const MANY_NODES: u32 = 500_000;
+const MANY_NODES: u32 = 2_000_000;
 
 /// How many workers search a problem. With statistics it is those that are counted. Else those that are asked for, and where the
 /// program may choose, one for each processor where that is quicker; one is the search of one thread.

@@ -1,4 +1,4 @@
-use Rattle.std.proofs.Common.{◌≡◌, ◌+◌, ◌<◌, ℕ, Some, IfSome, arith, length, slice_get, slice_index_or, ◌∙◌}
+use Rattle.std.proofs.Common.{◌≡◌, ◌+◌, ◌<◌, ℕ, Some, arith, length, slice_get, slice_index_or, ◌∙◌}
 use Rattle.std.proofs.lemmas.List.{length-set}
 use Rattle.ea_road.specs.Queries.{Asking}
 use Rattle.earliest.specs.declared.drafts.Place.{Place}
