@@ -6,14 +6,15 @@ use tests_given::constant::Constant;
 /// Whether two words in a row draw two different heaps of a worker's own, as a pop draws them.
 fn draws_its_own(first: u64, second: u64, worker: u32, workers: u32, heaps: u32) -> bool {
     let own = u64::from(heaps);
-    let all = u64::from(workers.max(1)) * own;
+    let all = u64::from(workers).wrapping_mul(own);
     if all < 2 {
         return false;
     }
-    let from = u64::from(worker) * own;
+    let from = u64::from(worker).wrapping_mul(own);
+    let end = from.wrapping_add(own);
     let i = first % all;
-    let j = (i + 1 + second % (all - 1)) % all;
-    i != j && from <= i && i < from + own && from <= j && j < from + own
+    let j = i.wrapping_add(1).wrapping_add(second % (all - 1)) % all;
+    i != j && from <= i && i < end && from <= j && j < end
 }
 
 #[test]

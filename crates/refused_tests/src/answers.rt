@@ -154,12 +154,8 @@ fn two_sources_with<H: Threads + Sync>(
 fn second_problem(rt: HostRuntime) -> Result<(), Fail> {
     let alloc = rt.alloc();
     for many in [false, true] {
-        // The places of two workers take some thousand bytes each.
-        let sizes = if many {
-            pieces(alloc, 0, 300, 128)?
-        } else {
-            pieces(alloc, 0, 300, 16)?
-        };
+        // So few nodes are searched by one thread, also where two workers are asked for.
+        let sizes = pieces(alloc, 0, 300, 16)?;
         let mut large = Held::of_large(alloc, 4)?;
         let mut count = Count::new();
         for piece in sizes {
@@ -202,12 +198,8 @@ fn two_pairs_with<H: Threads + Sync>(
 fn second_pair(rt: HostRuntime) -> Result<(), Fail> {
     let alloc = rt.alloc();
     for many in [false, true] {
-        // The places of two workers take some thousand bytes each.
-        let sizes = if many {
-            pieces(alloc, 0, 300, 128)?
-        } else {
-            pieces(alloc, 0, 300, 16)?
-        };
+        // So few nodes are searched by one thread, also where two workers are asked for.
+        let sizes = pieces(alloc, 0, 600, 8)?;
         let mut large = Held::of_large(alloc, 4)?;
         let mut count = Count::new();
         for piece in sizes {
