@@ -1,5 +1,5 @@
 -- Each kind of step is an event of the label table, and tells what it says.
-use Rattle.std.proofs.Common.{◌≡◌, ℕ, zero, suc, ◌+◌, ◌-◌, ◌<◌, ◌≤◌, Bool, true, false, cond, nat_lt, List, [], ◌∷◌, ◌++◌, length, get_or, set, replicate, min, sym, refl, ap, ◌∙◌, subst, arith, add-one, below_more, get_or-set_other, get_or-set_same, lt-ltb, le-ltb}
+use Rattle.std.proofs.Common.{◌≡◌, ℕ, zero, suc, ◌+◌, ◌-◌, ◌<◌, ◌≤◌, ◌⊎◌, Bool, true, false, cond, nat_lt, List, [], ◌∷◌, ◌++◌, length, get_or, set, replicate, min, sym, refl, ap, ◌∙◌, subst, arith, add-one, below_more, get_or-set_other, get_or-set_same, lt-ltb, le-ltb}
 use Rattle.std.proofs.lemmas.List.{set-get_or}
 use Rattle.std.proofs.lemmas.Grind.{same_number_lists}
 use Rattle.std.specs.Prelude.{slice_index}
@@ -15,10 +15,10 @@ use Rattle.ea_limits.specs.declared.TheConstants.{SHARES}
 use Rattle.ea_labels.specs.declared.record.SeatRecord.{SeatRecord}
 use Rattle.ea_road.specs.Roads.{IsNode}
 use Rattle.ea_road.specs.Labels.{label_of}
-use Rattle.ea_labels.specs.Core.{IsNoneOrKnown, IsAtMostBounds, first_record, seen, lowered, with_one_share_less, with_one_share, joined, spent, IsLawful}
+use Rattle.ea_labels.specs.Core.{IsNoneOrKnown, HasLowered, IsAtMostBounds, first_record, seen, lowered, with_one_share_less, with_one_share, joined, spent, IsLawful}
 use Rattle.ea_labels.specs.Events.{Core, load, fetch_min, split, join, opening, record_of, with_bound, with_lowering, after, MayCome, IsReached, IsRunEnd}
-use Rattle.ea_labels.specs.Steps.{IsLabelState, loads, lowers, counts_shares}
-use Rattle.ea_labels.proofs.Lawful.{close_lawful, word_known, word_least, shares_bound}
+use Rattle.ea_labels.specs.Steps.{IsLabelState, finds, loads, lowers, counts_shares}
+use Rattle.ea_labels.proofs.Lawful.{close_lawful, word_known, word_least, words_lowered, shares_bound}
 use Rattle.ea_labels.proofs.Runs.{reached_lawful, reached_next, opening_reached}
 
 abbrev Place : Type 0
@@ -64,6 +64,15 @@ module _ (known : ℕ → ℕ → Type 0) (nodes : ℕ) where
       → IsReached known nodes (cond b (with_lowering core id node t) (with_bound core id node))
   fetched core id node t h may b e = subst (λ (b : Bool). IsReached known nodes (cond b (with_lowering core id node t) (with_bound core id node))) e (reached_next known nodes core (fetch_min id node t) h may)
 
+  -- what a seat finds at a node
+  found_at : (s : State (Unit {0}) SeatRecord) (h : Rule s) (id : ℕ) (v : SeatRecord) (node x : ℕ) → get_elem? s.views id ≡ some v → IsNode nodes node → x ≡ label_of h.core.words node → finds known v node x
+  found_at s h id v node x at is found =
+      let here = at_core s h id v at in (
+        subst (IsNoneOrKnown known node) (sym found) (word_known known nodes h.core.words h.core.seats node (lawful s h) is),
+        subst (IsAtMostBounds v node) (sym found) (word_least known nodes h.core.words h.core.seats id v node (lawful s h) here),
+        λ whole. subst (λ t. (t ≡ NONE) ⊎ HasLowered v node t) (sym found) (words_lowered known nodes h.core.words v (close_lawful known nodes h.core.words h.core.seats id v (lawful s h) here whole) node is),
+      )
+
   pub load_allowed : (slots id : ℕ) (me : Place) (node : ℕ) → 1 ≤ me.0.shares → IsNode nodes node
       → Allows Rule slots id me node (λ n. n) (loads known (step slots node 0 0 none) me)
   load_allowed slots id me node live is s h _ at _ =
@@ -72,11 +81,7 @@ module _ (known : ℕ → ℕ → Type 0) (nodes : ℕ) where
         keeps,
         tt,
         loaded s h id me.0 node (slice_index s.words node) (set s.words node (slice_index s.words node)) at live is found (set-get_or s.words node 0),
-        (
-          refl,
-          subst (IsNoneOrKnown known node) (sym found) (word_known known nodes h.core.words h.core.seats node (lawful s h) is),
-          subst (IsAtMostBounds me.0 node) (sym found) (word_least known nodes h.core.words h.core.seats id me.0 node (lawful s h) (at_core s h id me.0 at)),
-        ),
+        (refl, found_at s h id me.0 node (slice_index s.words node) at is found),
       )
 
   pub lower_allowed : (slots id : ℕ) (me : Place) (node t : ℕ) → 1 ≤ me.0.shares → IsNode nodes node → known node t
@@ -84,8 +89,7 @@ module _ (known : ℕ → ℕ → Type 0) (nodes : ℕ) where
   lower_allowed slots id me node t live is is_known s h _ at _ =
       let x = slice_index s.words node in
       let found : x ≡ label_of h.core.words node = word_is s.words h.seat_word h.core.words node h.words is.from_one in
-      let none_or : IsNoneOrKnown known node x = subst (IsNoneOrKnown known node) (sym found) (word_known known nodes h.core.words h.core.seats node (lawful s h) is) in
-      let least : IsAtMostBounds me.0 node x = subst (IsAtMostBounds me.0 node) (sym found) (word_least known nodes h.core.words h.core.seats id me.0 node (lawful s h) (at_core s h id me.0 at)) in
+      let tells : finds known me.0 node x = found_at s h id me.0 node x at is found in
       dite (dec_lt t x)
       (λ below.
       let new : min x t ≡ t = omega arith in
@@ -100,7 +104,7 @@ module _ (known : ℕ → ℕ → Type 0) (nodes : ℕ) where
           words = ap (λ n. set s.words node n) new ∙ set_is s.words h.seat_word h.core.words node t h.words is.from_one;
           seats = λ i. set (h.seats i) id (lowered (own i) node (found i) t);
         },
-        ((λ _. refl), (λ above. absurd (omega arith)), none_or, least),
+        ((λ _. refl), (λ above. absurd (omega arith)), tells),
       ))
       (λ not_below.
       let same : min x t ≡ x = omega arith in
@@ -115,7 +119,7 @@ module _ (known : ℕ → ℕ → Type 0) (nodes : ℕ) where
           words = ap (λ n. set s.words node n) same ∙ (set-get_or s.words node 0 ∙ h.words);
           seats = λ i. set (h.seats i) id (seen (own i) node (found i));
         },
-        ((λ below. absurd (not_below below)), (λ _. refl), none_or, least),
+        ((λ below. absurd (not_below below)), (λ _. refl), tells),
       ))
 
   pub split_allowed : (id : ℕ) (v : SeatRecord) → 2 ≤ v.shares → Splits Rule id v (with_one_share_less v) (with_one_share v)

@@ -1,5 +1,5 @@
 -- The label table as plain data: one word per node and one record per seat, and when these fit each other.
-use Rattle.std.specs.Prelude.{◌≡◌, ℕ, ◌+◌, ◌-◌, ◌<◌, ◌≤◌, ◌==◌, ◌&&◌, ◌⊎◌, if◌then◌else◌, List, [], ◌∷◌, ◌++◌, length, slice_index, All, Any}
+use Rattle.std.specs.Prelude.{◌≡◌, ℕ, ◌+◌, ◌-◌, ◌<◌, ◌≤◌, ◌==◌, ◌&&◌, ◌⊎◌, if◌then◌else◌, List, [], ◌∷◌, ◌++◌, length, All, Any}
 use Rattle.ea_lists.specs.Totals.{total}
 use Rattle.atomic_table.specs.Seated.{TableId}
 use Rattle.ea_road.specs.declared.TheConstants.{NONE}
@@ -66,9 +66,13 @@ spent = record { shares = 0; bounds = []; lowerings = [] }
 
 -- THE LAW
 
--- some seat's record has a lowering of the node to this time
+-- the seat's record has a lowering of the node to this time
+abbrev pub HasLowered : SeatRecord → ℕ → ℕ → Type 0
+HasLowered seat node time = Any (λ l. (l.node ≡ node) × (l.to ≡ time)) seat.lowerings
+
+-- some seat's record has one
 abbrev pub IsLoweredTo : List SeatRecord → ℕ → ℕ → Type 0
-IsLoweredTo seats node time = Any (λ seat. Any (λ l. (l.node ≡ node) × (l.to ≡ time)) seat.lowerings) seats
+IsLoweredTo seats node time = Any (λ seat. HasLowered seat node time) seats
 
 abbrev pub IsNoneOrLoweredTo : List SeatRecord → ℕ → ℕ → Type 0
 IsNoneOrLoweredTo seats node time = (time ≡ NONE) ⊎ IsLoweredTo seats node time

@@ -1,8 +1,8 @@
 // The label table.
-ghost use Rattle.std.specs.Prelude.{◌≡◌, ◌≤◌, ◌⊎◌, ℕ, All, Any, [], ◌∷◌, vec_len, IfOk};
+ghost use Rattle.std.specs.Prelude.{◌≡◌, ◌≤◌, ◌⊎◌, ℕ, All, [], ◌∷◌, vec_len, IfOk};
 ghost use Rattle.ea_road.specs.Roads.{IsNode};
 ghost use Rattle.ea_road.specs.Labels.{label_of};
-ghost use Rattle.ea_labels.specs.Core.{IsLawful, IsNoneOrKnown, IsAtMostBounds};
+ghost use Rattle.ea_labels.specs.Core.{IsLawful, IsAtMostBounds, IsNoneOrKnown, HasLowered};
 ghost use Rattle.ea_labels.specs.Core.{seen, first_record, with_one_share_less, with_one_share, joined};
 ghost use Rattle.ea_labels.specs.Events.{IsRunEnd};
 ghost use Rattle.ea_labels.specs.Offers.{IfKept, IfLowered, Keeps, LowersWord};
@@ -58,7 +58,8 @@ impl<K: Known, A: Allocator + Copy> Labels<K, A> {
 }
 
 impl<K: Known, A: Allocator> Labels<K, A> {
-    /// The word of a node: NONE or a known time, and no more than this seat has seen before.
+    /// The word of a node: NONE or a known time, and no more than this seat has seen before. Where the seat has all shares, it
+    /// is NONE or what this seat lowered it to.
     pub fn read(&self, seat: &mut LabelSeat<K>, node: u32) -> u64
         requires same_table { seat.old.table ≡ self.now.table }
         requires node { IsNode self.now.nodes node }
@@ -66,6 +67,8 @@ impl<K: Known, A: Allocator> Labels<K, A> {
         ensures value { IsNoneOrKnown K.is_known node result }
         ensures least { IsAtMostBounds seat.old.history node result }
         ensures gains { seat.new.history ≡ seen seat.old.history node result }
+        ensures alone { seat.old.history.shares ≡ SHARES
+            → (result ≡ NONE) ⊎ HasLowered seat.old.history node result }
     {
         self.table
             .shared
@@ -73,7 +76,8 @@ impl<K: Known, A: Allocator> Labels<K, A> {
     }
 
     /// Lowers the word of a node to the time where it is above it, in one atomic step.
-    /// The pair has to be known, so the time is at most HORIZON.
+    /// The pair has to be known, so the time is at most HORIZON. Where the seat has all shares, a word that stays is one to which
+    /// this seat lowered it.
     pub fn offer(&self, seat: &mut LabelSeat<K>, node: u32, time: u64) -> Offered
         requires same_table { seat.old.table ≡ self.now.table }
         requires node { IsNode self.now.nodes node }
@@ -81,6 +85,8 @@ impl<K: Known, A: Allocator> Labels<K, A> {
         ensures same_table { seat.new.table ≡ seat.old.table }
         ensures lowered { IfLowered result (LowersWord K.is_known seat.old.history node time seat.new.history) }
         ensures kept { IfKept result (λ old. Keeps K.is_known seat.old.history node time old seat.new.history) }
+        ensures alone { seat.old.history.shares ≡ SHARES
+            → IfKept result (λ old. HasLowered seat.old.history node old) }
         ensures same_shares { seat.new.history.shares ≡ seat.old.history.shares }
     {
         let found = self
@@ -138,7 +144,7 @@ impl<K: Known, A: Allocator> Labels<K, A> {
             → IsNoneOrKnown K.is_known node (label_of result.items node) }
         ensures least { All (λ b. label_of result.items b.node ≤ b.time) seat.history.bounds }
         ensures lowered_to { (node : ℕ) → IsNode self.nodes node → (label_of result.items node ≡ NONE)
-            ⊎ Any (λ l. (l.node ≡ node) × (l.to ≡ label_of result.items node)) seat.history.lowerings }
+            ⊎ HasLowered seat.history node (label_of result.items node) }
         ensures lawful { IsLawful K.is_known self.nodes result.items (seat.history ∷ []) }
         ensures run { IsRunEnd K.is_known self.nodes result.items seat.history }
     {
