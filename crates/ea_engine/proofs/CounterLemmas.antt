@@ -1,5 +1,5 @@
 -- Counters and turn lists, one turn at a time.
-use Rattle.std.proofs.Common.{◌≡◌, ℕ, ◌+◌, ◌-◌, ◌*◌, ◌^◌, ◌<◌, ◌≤◌, Bool, cond, List, [], ◌∷◌, ◌++◌, length, get_or, refl, sym, arith, length-append, subst, below_more}
+use Rattle.std.proofs.Common.{◌≡◌, ℕ, ◌+◌, ◌^◌, ◌<◌, ◌≤◌, Bool, cond, List, [], ◌∷◌, ◌++◌, length, get_or, refl, sym, arith, length-append, subst, below_more}
 use Rattle.std.proofs.Math.Seq.{get_or-append_seam}
 use Rattle.std.proofs.lemmas.List.{get_or_append_left}
 use Rattle.std.proofs.lemmas.List.Sums.{count_by-le-length, fold-append}
@@ -8,7 +8,7 @@ use Rattle.ea_engine.specs.declared.turn.TurnKind.TheVariants.{Empty, Busy, Stal
 use Rattle.ea_engine.specs.declared.counters.Counters.{Counters}
 use Rattle.ea_engine.specs.declared.turn.TurnEnd.{TurnEnd}
 use Rattle.ea_engine.specs.declared.turn.Flow.{Flow}
-use Rattle.ea_engine.specs.Turns.{Told, CountsTurns, AreCounters, counters_of, counted, counted_as, closed_by, count_kind, lowered_in_all, visited_as, visited_in, visited_count, is_empty, is_busy, is_stale, is_scanned, is_refused, is_cut, IsRoomy}
+use Rattle.ea_engine.specs.Turns.{Told, CountsTurns, AreCounters, counted, counted_as, closed_by, count_kind, lowered_in_all, visited_as, visited_in, visited_count, is_empty, is_busy, is_stale, is_scanned, is_refused, is_cut, IsRoomy}
 
 -- what holds of each element by its place, after one more
 pub index_push : {X : Type 0} (P : ℕ → X → Type 0) (xs : List X) (x : X) → ((i : ℕ) (d : X) → i < length xs → P i (get_or xs i d)) → P (length xs) x

@@ -173,16 +173,16 @@ module _ {K R T E : Type 0} (problem : Problem) (tables : Tables)
 
   -- what each worker reports
   report_of : (p : Place K R T E) (end : WorkerEnd K R T E) (r : R) (t : T) (seats : Seats K E) → p ≡ place.Done end → Runs (place_of seats r t) p
-      → IsReport shows pace (stream r) (stream end.rng) t end.tracer end.counters
+      → IsReport shows problem.network problem.answers problem.query.sources pace (stream r) (stream end.rng) t end.tracer end.counters
   report_of p end r t seats done run =
       let w = (subst (λ q. Runs (place_of seats r t) q) done run).1 in
-      record { turns = w.turns; lawful = w.lawful; shown = w.shown; counted = w.counted; words_are = w.progress.words_are }
+      record { turns = w.turns; lawful = w.lawful; shown = w.shown; counted = w.counted; reached = w.reached; words_are = w.progress.words_are }
 
   pub reports_of_row : (rngs : List R) (tracers : List T) (row row' : List (Place K R T E)) (ends : List (WorkerEnd K R T E)) (seeded : ℕ) (waiting : List ℕ) (end : WorkerEnd K R T E)
       → AreSeated problem tables seeded waiting rngs tracers row
       → IsRunRow problem tables stream shows pace row row' → length row ≡ length rngs → length ends ≡ length rngs
       → row' ≡ all_done ends
-      → AreReports stream shows pace rngs (map (λ e. e.rng) ends) tracers (map (λ e. e.tracer) ends) (map (λ e. e.counters) ends)
+      → AreReports stream shows problem.network problem.answers problem.query.sources pace rngs (map (λ e. e.rng) ends) tracers (map (λ e. e.tracer) ends) (map (λ e. e.counters) ends)
   reports_of_row rngs tracers row row' ends seeded waiting end a ran len count done k c r t lt =
       let inside : k < length row = omega (arith, lt, len) in
       let among : k < length ends = omega (arith, lt, count) in

@@ -8,7 +8,14 @@ use Rattle.ea_road.specs.Queries.{Asking, IsProblem}
 use Rattle.ea_road.specs.Roads.{Roads, IsNetwork, IsNode, top_class}
 use Rattle.ea_finish.specs.Underway.{IsUnderway}
 use Rattle.ea_road.proofs.Reached.{reaches_node}
-use Rattle.ea_engine.specs.Problems.{Problem, IsPosed, IsNamed}
+use Rattle.rand_core.specs.Stream.{Stream}
+use Rattle.ea_engine.specs.declared.counters.Counters.{Counters}
+use Rattle.ea_engine.specs.declared.settings.Pace.{Pace}
+use Rattle.ea_engine.specs.declared.turn.Flow.{Flow}
+use Rattle.ea_engine.specs.declared.turn.Turn.{Turn}
+use Rattle.ea_engine.specs.Problems.{Problem, AreReached, IsPosed, IsNamed}
+use Rattle.ea_engine.specs.Reports.{AreReports}
+use Rattle.ea_engine.specs.Turns.{visited_in_all}
 
 each_target : (target : Option ℕ) (P : ℕ → Type 0) → ((node : ℕ) → target ≡ Some node → P node) → IfSome target P
 each_target None P h = tt
@@ -66,3 +73,20 @@ module _ (known : ℕ → ℕ → Type 0) (problem : Problem) (network : Roads) 
   underway_of table waiting u =
       subst (λ (n : Roads). IsUnderway n answers query table waiting) (sym named.network_is)
       (subst (λ (q : Asking). IsUnderway problem.network answers q table waiting) (sym named.query_is) (underway_here table waiting u))
+
+  -- and so are reports
+  pub reports_of : {R T : Type 0} (stream : R → Stream) (shows : T → Turn → Flow → T → Type 0) (pace : Pace) (rngs rngs' : List R) (tracers tracers' : List T) (counters : List Counters)
+      → AreReports stream shows problem.network problem.answers problem.query.sources pace rngs rngs' tracers tracers' counters
+      → AreReports stream shows network answers query.sources pace rngs rngs' tracers tracers' counters
+  reports_of stream shows pace rngs rngs' tracers tracers' counters all k c r t lt =
+      let one = all k c r t lt in
+      record {
+        turns = one.turns;
+        lawful = one.lawful;
+        shown = one.shown;
+        counted = one.counted;
+        reached = subst (λ (n : Roads). AreReached n answers query.sources (visited_in_all one.turns)) (sym named.network_is)
+            (subst (λ (q : Asking). AreReached problem.network answers q.sources (visited_in_all one.turns)) (sym named.query_is)
+            (λ i d inside. reached_by problem.query.sources _ _ (one.reached i d inside)));
+        words_are = one.words_are;
+      }

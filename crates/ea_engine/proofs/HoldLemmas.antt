@@ -1,20 +1,19 @@
 -- What a worker holds is known, and what a push leaves of it.
-use Rattle.std.proofs.Common.{◌≡◌, ℕ, zero, suc, ◌+◌, ◌<◌, ◌≤◌, Bool, true, false, cond, List, [], ◌∷◌, ◌++◌, length, get_or, refl, sym, ◌∙◌, ap, subst, arith, Result, Ok, Err, length-append}
-use Rattle.std.specs.Prelude.{Contains, reverse}
-use Rattle.std.proofs.lemmas.Bool.Decides.{nat_tests}
+use Rattle.std.proofs.Common.{◌≡◌, ℕ, zero, suc, ◌<◌, ◌≤◌, List, [], ◌∷◌, ◌++◌, length, get_or, refl, sym, ap, subst, arith, Err, length-append}
+use Rattle.std.specs.Prelude.{reverse}
 use Rattle.rand_core.specs.Stream.{Stream, next_u64}
 use Rattle.arrayvec.specs.ArrayVec.{ArrayVec, array_vec_len}
 use Rattle.ea_lists.specs.Totals.{total}
 use Rattle.ea_lists.proofs.Totals.{total-append}
 use Rattle.ea_labels.specs.declared.record.SeatRecord.{SeatRecord}
-use Rattle.ea_road.specs.Roads.{Roads, IsNode}
+use Rattle.ea_road.specs.Roads.{IsNode}
 use Rattle.ea_road.proofs.Lists.{any_default}
 use Rattle.ea_pool.specs.declared.entry.Entry.{Entry}
 use Rattle.ea_pool.specs.declared.account.Account.{Account}
 use Rattle.ea_pool.specs.declared.reply.PushAllRefused.{PushAllRefused}
 use Rattle.ea_pool.specs.declared.reply.PushAllRefused.TheVariants as refused
 use Rattle.ea_pool.specs.Batches.{MatchPushed, PushesFrom}
-use Rattle.ea_pool.specs.Entries.{only, times, AreKnown, SameEntries}
+use Rattle.ea_pool.specs.Entries.{only, times, AreKnown}
 use Rattle.ea_pool.specs.Pools.{PushesAll, SameBooks}
 use Rattle.ea_pool.proofs.Weights.{only-same, only-one}
 use Rattle.ea_engine.specs.Problems.{Problem, IsPosed}

@@ -11,5 +11,6 @@ pub mod HoldLemmas
 pub mod WorkLemmas
 pub mod AccountLemmas
 pub mod Settling
+pub mod SeedLemmas
 pub mod JoinLemmas
 pub mod GroundLemmas

@@ -3,8 +3,10 @@ use Rattle.std.proofs.Common.{◌≡◌, ℕ, ◌+◌, ◌*◌, ◌<◌, ◌≤�
 use Rattle.std.specs.Prelude.{reverse}
 use Rattle.std.specs.Option.{option_to_list}
 use Rattle.std.proofs.lemmas.Bool.{false≢true}
+use Rattle.std.proofs.lemmas.List.Elements.{All-nil, All-cons}
 use Rattle.std.proofs.lemmas.List.{reverse-reverse, reverse-append, length-reverse}
 use Rattle.rand_core.specs.Stream.{Stream, next_u64}
+use Rattle.ea_road.specs.Arrivals.{Reaches}
 use Rattle.ea_pool.specs.declared.entry.Entry.{Entry}
 use Rattle.arrayvec.specs.ArrayVec.{ArrayVec}
 use Rattle.ea_pool.specs.Batches.{IsLowest, MatchSome, PopsSome}
@@ -217,6 +219,7 @@ module _ {kind : HeapKind} (problem : Problem) (batch heaps : ℕ) where
     fresh_few = IsLeftAs-idle end.turn.kind batch (length fresh) idle few;
     progress = rw (lowered, pops, pushes, visited_as-idle end.turn.kind end.turn.key end.turn.node idle)
         (Progress-idle r a b w u taken taken' fresh books none none' d);
+    reached = rw (visited_as-idle end.turn.kind end.turn.key end.turn.node idle) (All-nil (λ (e : Entry). Reaches problem.network problem.answers problem.query.sources e.node e.key));
     closed = IsClosedAs-idle problem r.bounds (option_to_list end.broken) end.turn.kind _ idle;
     fresh = IsFreshAs-idle problem r.bounds end.turn.kind _ idle;
     never_busy = λ whole. not_busy_lone kind end.turn.kind heaps a _ (lone whole);
@@ -239,6 +242,7 @@ module _ {kind : HeapKind} (problem : Problem) (batch heaps : ℕ) where
         taken_few = omega (arith, size, few);
         fresh_few = v.fresh_few;
         progress = subst (λ m. Progress from to (visited_as end.turn.kind end.turn.key end.turn.node) m end.turn.lowered) (omega (arith, v.pops)) v.progress;
+        reached = rw v.visited (All-cons (λ (e : Entry). Reaches problem.network problem.answers problem.query.sources e.node e.key) v.entry [] v.reached (All-nil (λ (e : Entry). Reaches problem.network problem.answers problem.query.sources e.node e.key)));
         closed = v.closed;
         fresh = v.fresh;
         never_busy = λ whole. not_busy_visited end.turn.kind end.turn.key end.turn.node v.entry v.visited;
@@ -268,6 +272,7 @@ module _ {kind : HeapKind} (problem : Problem) (batch heaps : ℕ) where
         progress = subst (λ ts. Progress (kit r a w ts fresh) to (visited_as end.turn.kind end.turn.key end.turn.node) (2 * 1 + end.pushes) end.turn.lowered) (sym none)
             (Progress-then (kit r a w [] fresh) (kit r b u taken' fresh) to [] (visited_as end.turn.kind end.turn.key end.turn.node) _ 2 end.pushes _ 0 end.turn.lowered _
             (Progress-took r a b w u taken' t.out fresh t.popped t.turned d) v.progress (appended (visited_as end.turn.kind end.turn.key end.turn.node)) refl (omega arith));
+        reached = rw v.visited (All-cons (λ (e : Entry). Reaches problem.network problem.answers problem.query.sources e.node e.key) v.entry [] v.reached (All-nil (λ (e : Entry). Reaches problem.network problem.answers problem.query.sources e.node e.key)));
         closed = v.closed;
         fresh = v.fresh;
         never_busy = λ whole. not_busy_visited end.turn.kind end.turn.key end.turn.node v.entry v.visited;
@@ -300,6 +305,7 @@ module _ {kind : HeapKind} (problem : Problem) (batch heaps : ℕ) where
     fresh_few = IsLeftAs-fewer end.turn.kind batch (length fresh) (length fresh') not few t.fresh_few;
     progress = Progress-then from (kit s b v taken fresh) (kit s c z taken fresh') (visited_as end.turn.kind end.turn.key end.turn.node) [] _ (2 * end.pops + end.pushes) 1 _ end.turn.lowered 0 _
         t.progress (Progress-beside s s b c v z taken fresh fresh' 1 0 p) refl (omega arith) (omega arith);
+    reached = t.reached;
     closed = t.closed;
     fresh = t.fresh;
     never_busy = t.never_busy;

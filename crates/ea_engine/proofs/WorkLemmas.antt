@@ -7,13 +7,14 @@ use Rattle.std.proofs.Math.Seq.{take-append_seam}
 use Rattle.std.proofs.lemmas.List.{take-append-le, length-map}
 use Rattle.std.proofs.lemmas.List.Sums.{fold-append}
 use Rattle.std.proofs.lemmas.Bool.{false≢true}
-use Rattle.std.proofs.lemmas.List.Elements.{Contains-append_left}
+use Rattle.std.proofs.lemmas.List.Elements.{All-append, All-nil, Contains-append_left}
 use Rattle.std.proofs.lemmas.Fn.{FoldsTo-push}
 use Rattle.std.specs.Prelude.{if◌then◌else◌}
 use Rattle.arrayvec.specs.ArrayVec.{array_vec_len}
 use Rattle.ea_road.specs.Roads.{IsNode}
 use Rattle.ea_pool.specs.declared.entry.Entry.{Entry}
-use Rattle.ea_engine.specs.Problems.{Problem}
+use Rattle.ea_road.specs.Arrivals.{Reaches}
+use Rattle.ea_engine.specs.Problems.{Problem, AreReachedOf}
 use Rattle.ea_engine.specs.declared.settings.Pace.{Pace}
 use Rattle.ea_engine.specs.declared.turn.Turn.{Turn}
 use Rattle.ea_engine.specs.declared.turn.TurnEnd.{TurnEnd}
@@ -200,6 +201,7 @@ module _ (problem : Problem) where
     entry = v.entry;
     next = v.next;
     visited = v.visited;
+    reached = v.reached;
     number_is = v.number_is;
     shaped = v.shaped;
     few = v.few;
@@ -233,6 +235,7 @@ module _ (problem : Problem) where
       pub pushes_few : counters.pushes ≤ lowered_in_all turns + length turns
       pub one_each : pace.batch ≡ 1 → (counters.pops ≡ length turns) × (counters.pushes ≡ lowered_in_all turns)
       pub progress : Progress from to (visited_in_all turns) (2 * counters.pops + counters.pushes) (lowered_in_all turns)
+      pub reached : AreReachedOf problem (visited_in_all turns)
       pub closed : (i : ℕ) (d : Told) → i < length turns → IsClosedTurn problem to.labels.bounds (option_to_list broken) (get_or turns i d).0
       pub fresh : (i : ℕ) (d : Told) → i < length turns → IsFreshTurn problem.query.target from.labels.bounds (get_or turns i d).0
       pub broken_visited : (entry : Entry) → Contains (option_to_list broken) entry → Contains (visited_in_all turns) entry
@@ -267,6 +270,7 @@ module _ (problem : Problem) where
       pushes_few = omega (arith, pushes);
       one_each = λ one. (pops, pushes);
       progress = rw (pops, pushes) (Progress-none k);
+      reached = All-nil (λ (e : Entry). Reaches problem.network problem.answers problem.query.sources e.node e.key);
       closed = λ i d lt. absurd (omega arith);
       fresh = λ i d lt. absurd (omega arith);
       broken_visited = λ e inside. absurd (omega (arith, (rw nothing at inside).1));
@@ -377,6 +381,7 @@ module _ (problem : Problem) where
             (lowered_in_all h.turns) end.turn.lowered _ h.progress one.progress
             (visited_push h.turns (end.turn, flow))
             (omega (arith, pops_now, pushes_now)) (lowered_push h.turns (end.turn, flow));
+        reached = rw (visited_push h.turns (end.turn, flow)) (All-append (λ (e : Entry). Reaches problem.network problem.answers problem.query.sources e.node e.key) (visited_in end.turn) (visited_in_all h.turns) one.reached h.reached);
         closed = index_push (λ i t. IsClosedTurn problem to.labels.bounds (option_to_list end.broken) t.0) h.turns (end.turn, flow)
             (λ i d lt. IsClosedAs-more mid.labels.bounds to.labels.bounds (option_to_list broken) (option_to_list end.broken) _ _ one.progress.bounds_stay (λ x inside. absurd (omega (arith, (rw (h.whole refl) at inside).1))) (h.closed i d lt)) one.closed;
         fresh = index_push (λ i t. IsFreshTurn problem.query.target from.labels.bounds t.0) h.turns (end.turn, flow) h.fresh (IsFreshAs-less from.labels.bounds mid.labels.bounds end.turn.kind _ h.progress.bounds_stay one.fresh);
@@ -452,6 +457,7 @@ module _ (problem : Problem) where
                 omega (arith, h.fresh_back is, ap length fresh, h.counted.refused),
               ));
           progress = h.progress;
+          reached = λ k d lt. h.reached k d lt;
           closed = λ k d lt. h.closed k d lt;
           fresh = λ k d lt. h.fresh k d lt;
           hand_popped = h.broken_visited;

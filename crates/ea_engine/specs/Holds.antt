@@ -2,6 +2,7 @@
 use Rattle.std.specs.Prelude.{◌≡◌, ℕ, ◌^◌, ◌<◌, ◌≤◌, List, [], ◌∷◌, ◌++◌, length, reverse, Contains, IfSome}
 use Rattle.std.specs.Option.{option_to_list}
 use Rattle.ea_limits.specs.declared.TheConstants.{SHARES}
+use Rattle.ea_road.specs.Arrivals.{Reaches}
 use Rattle.ea_road.specs.Roads.{IsNode}
 use Rattle.ea_pool.specs.declared.entry.Entry.{Entry}
 use Rattle.ea_pool.specs.declared.account.Account.{Account}
@@ -40,6 +41,7 @@ pub record IsVisit (problem : Problem) (batch : ℕ) (from to : Kit) (number : �
   pub entry : Entry
   pub next : from.taken ≡ to.taken ++ entry ∷ []
   pub visited : visited_in end.turn ≡ entry ∷ []
+  pub reached : Reaches problem.network problem.answers problem.query.sources entry.node entry.key
   pub number_is : end.turn.number ≡ number
   pub shaped : IsShaped end.turn
   pub few : end.turn.lowered ≤ 2 ^ 28

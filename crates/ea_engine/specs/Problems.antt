@@ -1,11 +1,12 @@
 -- The problem of a run, and the tables and seats of its workers.
-use Rattle.std.specs.Prelude.{◌≡◌, ℕ, ◌≤◌, ◌↔◌, List, [], None, IfSome}
+use Rattle.std.specs.Prelude.{◌≡◌, ℕ, ◌≤◌, ◌↔◌, List, [], None, All, IfSome}
 use Rattle.std.specs.List.{IsAmong}
 use Rattle.ea_limits.specs.declared.TheConstants.{HORIZON}
 use Rattle.ea_road.specs.declared.source.Source.{Source}
 use Rattle.ea_road.specs.Arrivals.{Reaches}
 use Rattle.ea_road.specs.Queries.{Asking}
 use Rattle.ea_road.specs.Roads.{Roads, IsNode, IsNetwork}
+use Rattle.ea_pool.specs.declared.entry.Entry.{Entry}
 
 -- A network, what its travel times answer for a class, a weight and a departure, and a query.
 pub record Problem : Type 1 where
@@ -39,3 +40,10 @@ pub record IsNamed (known : ℕ → ℕ → Type 0) (problem : Problem) (network
   pub query_is : query ≡ problem.query
   pub answers_are : (class weight departure arrival : ℕ) → answers class weight departure arrival ↔ problem.answers class weight departure arrival
   pub names : (node time : ℕ) → known node time ↔ Reaches problem.network problem.answers problem.query.sources node time
+
+-- Each entry's node is reached at its key.
+abbrev pub AreReached : Roads → (ℕ → ℕ → ℕ → ℕ → Type 0) → List Source → List Entry → Type 0
+AreReached network answers sources entries = All (λ entry. Reaches network answers sources entry.node entry.key) entries
+
+abbrev pub AreReachedOf : Problem → List Entry → Type 0
+AreReachedOf problem entries = AreReached problem.network problem.answers problem.query.sources entries

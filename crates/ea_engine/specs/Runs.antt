@@ -1,7 +1,8 @@
 -- What a run promises beside its answer, and what it asks of its crew.
-use Rattle.std.specs.Prelude.{◌≡◌, ◌*◌, List, All, length, vec_len}
+use Rattle.std.specs.Prelude.{◌≡◌, ℕ, ◌+◌, ◌-◌, ◌*◌, All, length, vec_len}
 use Rattle.rand_core.specs.Stream.{Stream}
-use Rattle.ea_road.specs.declared.source.Source.{Source}
+use Rattle.ea_road.specs.Queries.{Asking}
+use Rattle.ea_road.specs.Roads.{Roads}
 use Rattle.ea_engine.specs.declared.crew.Crew.{Crew}
 use Rattle.ea_engine.specs.declared.ran.Ran.{Ran}
 use Rattle.ea_engine.specs.declared.solved.Solved.{Solved}
@@ -9,7 +10,8 @@ use Rattle.ea_engine.specs.declared.turn.Flow.{Flow}
 use Rattle.ea_engine.specs.declared.turn.Turn.{Turn}
 use Rattle.ea_engine.specs.Limits.{AreSettings, pace_of}
 use Rattle.ea_engine.specs.Reports.{AreReports}
-use Rattle.ea_engine.specs.Tallies.{IsTally, IsLoneTally}
+use Rattle.ea_engine.specs.Seeds.{AreSeeds}
+use Rattle.ea_engine.specs.Tallies.{IsTally, IsLoneTally, returned_by_all}
 
 -- The settings are within the limits, and each worker has a generator and a tracer that may be called.
 pub record IsCrew {R G T : Type 0} (callable : T → Type 0) (crew : Crew R G T) : Type 0 where
@@ -19,12 +21,13 @@ pub record IsCrew {R G T : Type 0} (callable : T → Type 0) (crew : Crew R G T)
   pub callable_all : All callable crew.tracers.items
 
 module _ {R G T : Type 0} (stream : R → Stream) (shows : T → Turn → Flow → T → Type 0) where
-  -- A run from these sources by this crew: its counts are in balance, a worker that runs alone is never busy, each worker
-  -- reports its turns, and each has its place.
-  pub record IsRunOf (sources : List Source) (crew : Crew R G T) (ran : Ran R T) : Type 0 where
-    pub tally : IsTally (length sources) ran.seeded ran.returned ran.drained ran.finish ran.results.counters.items
+  -- A run of this problem by this crew: its counts are in balance, what workers don't account for are the seeds, a worker that
+  -- runs alone is never busy, each worker reports its turns, and each has its place.
+  pub record IsRunOf (network : Roads) (answers : ℕ → ℕ → ℕ → ℕ → Type 0) (query : Asking) (crew : Crew R G T) (ran : Ran R T) : Type 0 where
+    pub tally : IsTally (length query.sources) ran.seeded ran.returned ran.drained ran.finish ran.results.counters.items
+    pub seeds : AreSeeds query.sources (ran.seeded + (ran.returned - returned_by_all ran.results.counters.items))
     pub lone : IsLoneTally crew.settings.batch (crew.settings.workers * crew.settings.heaps) ran.drained ran.results.counters.items
-    pub reports : AreReports stream shows (pace_of crew.settings) crew.rngs.items ran.results.rngs.items crew.tracers.items ran.results.tracers.items ran.results.counters.items
+    pub reports : AreReports stream shows network answers query.sources (pace_of crew.settings) crew.rngs.items ran.results.rngs.items crew.tracers.items ran.results.tracers.items ran.results.counters.items
     pub counters_len : vec_len ran.results.counters ≡ crew.settings.workers
     pub rngs_len : vec_len ran.results.rngs ≡ crew.settings.workers
     pub tracers_len : vec_len ran.results.tracers ≡ crew.settings.workers

@@ -1,5 +1,10 @@
--- How many entries of a source the pool took, and how many it handed back.
-use Rattle.std.specs.Prelude.{◌≡◌, ℕ, ◌+◌, length}
+-- Which sources lower a label, how many of their entries the pool took, and how many it handed back.
+use Rattle.std.specs.Prelude.{◌≡◌, ℕ, ◌+◌, ◌≤◌, List, [], ◌∷◌, ◌++◌, length, Any}
+use Rattle.ea_limits.specs.declared.TheConstants.{SHARES}
+use Rattle.ea_road.specs.declared.source.Source.{Source}
+use Rattle.ea_labels.specs.declared.record.SeatRecord.{SeatRecord}
+use Rattle.ea_labels.specs.Core.{lowering}
+use Rattle.ea_engine.specs.Closed.{IsReachedBy}
 use Rattle.ea_engine.specs.declared.means.Seats.{Seats}
 use Rattle.ea_engine.specs.declared.seeds.Seeded.{Seeded}
 use Rattle.ea_engine.specs.declared.seeds.Seeded.TheVariants.{Kept, Pushed, HandedBack}
@@ -20,3 +25,29 @@ pub record HasPushed {K E : Type 0} (pushed : ℕ) (before after : Seats K E) : 
   pub popped_is : after.pool_seat.account.popped ≡ before.pool_seat.account.popped
   pub label_shares : after.label_seat.history.shares ≡ before.label_seat.history.shares
   pub pool_shares : after.pool_seat.account.shares ≡ before.pool_seat.account.shares
+
+-- One of the earlier sources is at the same node and departs no later.
+abbrev pub IsForestalled : List Source → Source → Type 0
+IsForestalled earlier source = Any (λ s. (s.node ≡ source.node) × (s.departure ≤ source.departure)) earlier
+
+-- Of the sources so many lower a label where they are offered in order: those that depart before each earlier one of their node.
+pub data AreSeeds : List Source → ℕ → Type 0 where
+  none : AreSeeds [] 0
+  forestalled : {earlier : List Source} {count : ℕ} {source : Source} → AreSeeds earlier count → IsForestalled earlier source → AreSeeds (earlier ++ source ∷ []) count
+  first : {earlier : List Source} {count : ℕ} {source : Source} → AreSeeds earlier count → (IsForestalled earlier source → ⊥) → AreSeeds (earlier ++ source ∷ []) (count + 1)
+
+-- The offer of a source lowered no label, and a seat with all shares had lowered the label of its node as far.
+pub record KeepsSeed (before after : SeatRecord) (source : Source) : Type 0 where
+  pub same : after.lowerings ≡ before.lowerings
+  pub alone : before.shares ≡ SHARES → Any (λ l. (l.node ≡ source.node) × (l.to ≤ source.departure)) before.lowerings
+
+-- The offer of a source lowered the label of its node, for which the seat had seen no time as early.
+pub record SowsSeed (before after : SeatRecord) (source : Source) : Type 0 where
+  pub from : ℕ
+  pub later : IsReachedBy before.bounds source.node source.departure → ⊥
+  pub lowered : after.lowerings ≡ lowering source.node from source.departure ∷ before.lowerings
+
+abbrev pub OffersSeed : Seeded → SeatRecord → SeatRecord → Source → Type 0
+OffersSeed Kept before after source = KeepsSeed before after source
+OffersSeed Pushed before after source = SowsSeed before after source
+OffersSeed HandedBack before after source = SowsSeed before after source

@@ -18,14 +18,15 @@ abbrev pub empty_by_all : List Counters → ℕ
 empty_by_all counters = sum_by (λ c. c.empty) counters
 
 -- Of so many sources the pool took `seeded` entries. What it took was popped or drained. When the finishing pass starts,
--- `finish` nodes are open, no more than entries were drained and handed back, and some where any was. What the workers don't account for of what
--- was handed back are seeds.
+-- `finish` nodes are open, no more than entries were drained and handed back, and some where any was. What the workers don't
+-- account for of what was handed back are seeds, of which there is one where there are sources.
 pub record IsTally (sources seeded returned drained finish : ℕ) (counters : List Counters) : Type 0 where
   pub balance : seeded + pushed_by_all counters ≡ popped_by_all counters + drained
   pub few_open : finish ≤ drained + returned
   pub some_open : 0 < drained + returned → 0 < finish
   pub hands : returned_by_all counters ≤ returned
   pub seeds : seeded + (returned - returned_by_all counters) ≤ sources
+  pub begun : 0 < sources → 0 < seeded + (returned - returned_by_all counters)
 
 -- What a run of one worker shows, with batches of so many entries on a pool of so many heaps.
 pub record IsLoneTally (batch heaps drained : ℕ) (counters : List Counters) : Type 0 where

@@ -23,7 +23,7 @@ use Rattle.ea_pool.specs.declared.account.Account.{Account}
 use Rattle.ea_limits.specs.declared.TheConstants.{SHARES}
 use Rattle.ea_pool.specs.Kinds.{HeapKind, Least, Buckets}
 use Rattle.ea_pool.specs.Pools.{NothingLeft, IsLeft, IsLeastLeft}
-use Rattle.ea_engine.specs.Problems.{Problem}
+use Rattle.ea_engine.specs.Problems.{Problem, AreReachedOf}
 use Rattle.ea_engine.specs.Turns.{Told, IsTurnList, IsShaped, is_busy, StaysEmpty, AreCounters, visited_in, visited_in_all, lowered_in_all}
 use Rattle.ea_engine.specs.Closed.{entry_at, entry_of, IsClosedTurn, IsFreshTurn}
 
@@ -134,6 +134,7 @@ module _ (problem : Problem) where
     pub taken_few : length to.taken < batch
     pub fresh_few : IsLeftAs end.turn.kind batch (length to.fresh)
     pub progress : Progress from to (visited_in end.turn) (2 * end.pops + end.pushes) end.turn.lowered
+    pub reached : AreReachedOf problem (visited_in end.turn)
     pub closed : IsClosedTurn problem to.labels.bounds (option_to_list end.broken) end.turn
     pub fresh : IsFreshTurn problem.query.target from.labels.bounds end.turn
     -- a seat with all shares is never busy, and learns more by a pop
@@ -148,6 +149,7 @@ module _ (problem : Problem) where
       pub shown : FoldsTo (λ p t q. shows p t.0 t.1 q) tracer turns tracer'
       pub counted : AreCounters pace.batch turns counters
       pub progress : Progress from to (visited_in_all turns) (2 * counters.pops + counters.pushes) (lowered_in_all turns)
+      pub reached : AreReachedOf problem (visited_in_all turns)
       pub closed : All (λ t. IsClosedTurn problem to.labels.bounds (option_to_list hand.popped) t.0) turns
       pub fresh : All (λ t. IsFreshTurn problem.query.target from.labels.bounds t.0) turns
       pub hand_popped : (entry : Entry) → Contains (option_to_list hand.popped) entry → Contains (visited_in_all turns) entry

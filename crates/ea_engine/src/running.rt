@@ -55,7 +55,7 @@ fn run_with<
         ended.finished.table.items ended.finished.todo) }
     ensures walks { IfOk result (λ ended. ended.finished.todo.walks ≡ walks) }
     ensures run { IfOk result (λ ended.
-        IsRunOf R.stream F.step query.now.sources crew.entry ended.ran) }
+        IsRunOf R.stream F.step network.now (T.answers times.now) query.now crew.entry ended.ran) }
 {
     times_are_fifo(times);
     let width = network.mean_weight() / 2;
@@ -104,7 +104,7 @@ pub fn run_named<
         ended.finished.table.items ended.finished.todo) }
     ensures walks { IfOk result (λ ended. ended.finished.todo.walks ≡ walks) }
     ensures run { IfOk result (λ ended.
-        IsRunOf R.stream F.step query.now.sources crew.entry ended.ran) }
+        IsRunOf R.stream F.step network.now (T.answers times.now) query.now crew.entry ended.ran) }
 {
     if takes_least(crew.settings) {
         return run_with::<K, LeastHeap<Global>, H, T, R, G, F>(

@@ -2,12 +2,13 @@
 ghost use Rattle.std.specs.Prelude.{◌≡◌, ◌≤◌, ◌<◌, ◌+◌, ◌^◌, length, Contains};
 ghost use Rattle.ea_road.specs.Roads.{IsNode};
 ghost use Rattle.ea_labels.specs.declared.record.Bound.{Bound};
+ghost use Rattle.ea_labels.specs.Core.{first_record};
 ghost use Rattle.ea_engine.specs.Closed.{IsReachedBy};
 ghost use Rattle.ea_engine.specs.Gathered.{IsGathered};
 ghost use Rattle.ea_engine.specs.Grounds.{IsGround, tables_of};
 ghost use Rattle.ea_engine.specs.Opened.{AreOffered};
 ghost use Rattle.ea_engine.specs.Seated.{AreSeatsOf};
-ghost use Rattle.ea_engine.specs.Seeds.{seeded_by, back_by, HasPushed};
+ghost use Rattle.ea_engine.specs.Seeds.{seeded_by, back_by, AreSeeds, HasPushed, OffersSeed};
 
 use crate::ground::Ground;
 use crate::means::Seats;
@@ -58,6 +59,7 @@ pub fn seed<K: Known + Posed, E: EntryHeap, T: TravelTimes>(
     ensures reached { IsReachedBy seats.new.label_seat.history.bounds source.node source.departure }
     ensures bounds { (b : Bound) → Contains seats.old.label_seat.history.bounds b
         → Contains seats.new.label_seat.history.bounds b }
+    ensures offers { OffersSeed result seats.old.label_seat.history seats.new.label_seat.history source }
     ensures step { HasPushed (seeded_by result) seats.old seats.new }
     ensures few { length todo.new.waiting ≤ length todo.old.waiting + back_by result }
     ensures some { 0 < length todo.old.waiting + back_by result → 0 < length todo.new.waiting }
@@ -84,7 +86,7 @@ pub fn seed<K: Known + Posed, E: EntryHeap, T: TravelTimes>(
 }
 
 /// Offers all sources in their order. The entries of those whose labels are lowered are pushed with the words 0, 1, 2, ..
-/// in turn.
+/// in turn: on a new table, of those that depart before each earlier source of their node.
 pub fn seed_all<K: Known + Posed, E: EntryHeap, T: TravelTimes>(
     ground: &Ground<'_, K, T, E>,
     seats: &mut Seats<K, E>,
@@ -105,7 +107,8 @@ pub fn seed_all<K: Known + Posed, E: EntryHeap, T: TravelTimes>(
     ensures few { length todo.new.waiting ≤ length todo.old.waiting + result.returned }
     ensures some { 0 < result.returned → 0 < length todo.new.waiting }
     ensures small { result.seeded + result.returned < 2 ^ 64 }
-    ensures counted { result.seeded + result.returned ≤ length K.problem.query.sources }
+    ensures counted { seats.old.label_seat.history ≡ first_record
+        → AreSeeds K.problem.query.sources (result.seeded + result.returned) }
 {
     let mut seeded = 0u128;
     let mut returned = 0u128;

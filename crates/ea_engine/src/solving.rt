@@ -82,7 +82,8 @@ pub fn solve<
     ensures answer { IfOk result (λ solved.
         IsAnswer network.now (T.answers times.now) query.now solved.answer) }
     ensures run { IfOk result (λ solved.
-        IsRunOf R.stream F.step query.now.sources crew.entry (ran_of solved)) }
+        IsRunOf R.stream F.step network.now (T.answers times.now) query.now
+        crew.entry (ran_of solved)) }
 {
     let Ended { finished, ran } = run_named::<Brand, H, T, R, G, F>(
         alloc, rt, network, times, query, crew, true,
@@ -115,7 +116,8 @@ pub fn solve_arrivals<
         HasArrivals network.now (T.answers times.now) query.now solved.answer) }
     ensures none { IfOk result (λ solved. solved.answer.walks ≡ false) }
     ensures run { IfOk result (λ solved.
-        IsRunOf R.stream F.step query.now.sources crew.entry (ran_of solved)) }
+        IsRunOf R.stream F.step network.now (T.answers times.now) query.now
+        crew.entry (ran_of solved)) }
 {
     let Ended { finished, ran } = run_named::<Brand, H, T, R, G, F>(
         alloc, rt, network, times, query, crew, false,
@@ -149,8 +151,9 @@ pub fn solve_by<
     ensures answer { IfOk result (λ solved. IsAnswer network.now
         (λ class weight departure arrival. ∥ C.answers closure class weight departure arrival ∥₁)
         query.now solved.answer) }
-    ensures run { IfOk result (λ solved.
-        IsRunOf R.stream F.step query.now.sources crew.entry (ran_of solved)) }
+    ensures run { IfOk result (λ solved. IsRunOf R.stream F.step network.now
+        (λ class weight departure arrival. ∥ C.answers closure class weight departure arrival ∥₁)
+        query.now crew.entry (ran_of solved)) }
 {
     let profiles = Profiles::new(closure, classes);
     solve(alloc, rt, network, &profiles, query, crew)

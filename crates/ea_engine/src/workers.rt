@@ -105,7 +105,8 @@ pub fn run<
         result.table.items result.todo.waiting }
     ensures nodes { result.todo.nodes ≡ network.now.nodes }
     ensures walks { result.todo.walks ≡ arrays.todo.walks }
-    ensures run { IsRunOf R.stream F.step query.now.sources crew.entry result.ran }
+    ensures run { IsRunOf R.stream F.step network.now (T.answers times.now) query.now
+        crew.entry result.ran }
 {
     let Arrays {
         labels,

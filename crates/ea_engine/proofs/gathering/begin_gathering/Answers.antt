@@ -1,4 +1,4 @@
-use Rattle.std.proofs.Common.{[], ◌∷◌, ◌++◌, length, ◌∙◌, ap, arith}
+use Rattle.std.proofs.Common.{[], ◌∷◌, ◌++◌, ◌∙◌, ap, arith}
 use Rattle.ea_engine.specs.Worked.{back_of}
 use Rattle.ea_engine.proofs.JoinLemmas.{waits_hand}
 use Rattle.ea_engine.proofs.RowedLemmas.{waits_first}

@@ -1,4 +1,4 @@
-use Rattle.std.proofs.Common.{◌≡◌, ◌<◌, ◌+◌, ℕ, length, get_or, ◌∙◌, subst, arith, below_more}
+use Rattle.std.proofs.Common.{◌<◌, ℕ, length, get_or, ◌∙◌, subst, arith, below_more}
 use Rattle.std.specs.Prelude.{Contains}
 use Rattle.ea_road.proofs.Lists.{any_default}
 use Rattle.ea_pool.specs.declared.entry.Entry.{Entry}

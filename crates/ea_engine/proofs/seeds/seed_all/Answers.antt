@@ -1,10 +1,15 @@
-use Rattle.std.proofs.Common.{◌≡◌, ℕ, ◌<◌, List, length, get_or, sym, ◌∙◌, ap, arith, subst, below_more}
+use Rattle.std.proofs.Common.{◌≡◌, ℕ, ◌+◌, ◌<◌, List, length, get_or, take, refl, sym, ◌∙◌, ap, arith, rules, subst, below_more}
 use Rattle.std.specs.List.{IsAmong}
 use Rattle.ea_road.specs.declared.source.Source.{Source}
 use Rattle.ea_road.proofs.Reached.{reaches_source}
 use Rattle.ea_engine.specs.Closed.{IsReachedBy}
 use Rattle.ea_road.proofs.Lists.{any_default}
 use Rattle.ea_engine.proofs.BoundLemmas.{IsReachedBy-more}
+use Rattle.ea_limits.specs.declared.TheConstants.{SHARES}
+use Rattle.ea_labels.specs.declared.record.SeatRecord.{SeatRecord}
+use Rattle.std.proofs.lemmas.List.{take_all}
+use Rattle.ea_engine.specs.Seeds.{AreSeeds}
+use Rattle.ea_engine.proofs.SeedLemmas.{IsSown, IsSown-start, IsSown-kept, IsSown-lowered}
 use Rattle.ea_engine.proofs.Settling.{pushed_then}
 use Rattle.ea_engine.proofs.seeds.seed_all.Goals as goal
 use Rattle.ea_engine.proofs.seeds.seed_all.Goals.{in-Kept, in-Pushed, in-HandedBack}
@@ -25,6 +30,20 @@ seed-requires-clause-known g c κs outlives =
     let inside = among c.sources-sources.result.now problem.query.sources c.loop-place.place (record { node = 0; departure = 0 }) (c.sources-sources.ensures.sources ∙ ap (λ q. q.sources) ground.named.query_is) (omega arith) in
     let start = ground.posed.sources_in _ inside in
     (ground.posed.names _ _).1 (reaches_source problem.network _ problem.query.sources _ inside start.1)
+
+pub loop-place-init : goal.loop-place-init
+loop-place-init g c = record {
+  fit = c.requires.fit;
+  room = refl;
+  walks = refl;
+  gathered = c.requires.gathered;
+  offered = λ k d lt. absurd (omega (arith, lt));
+  step = search rules;
+  few = omega arith;
+  some = λ back. absurd (omega (arith, back));
+  counted = λ new. IsSown-start _ _ (ap (λ (r : SeatRecord). r.lowerings) new);
+  tried = omega arith;
+}
 
 pub loop-place-preserved : goal.loop-place-preserved
 loop-place-preserved g c = record {
@@ -55,10 +74,22 @@ loop-place-preserved g c = record {
     | in-Pushed w ↦ (λ back. c.seed.ensures.some (omega (arith, c.loop-place.invariant.some (omega (arith, back)))))
     | in-HandedBack w ↦ (λ back. w.in-HandedBack.ensures.some (omega arith))
   ];
-  counted = elim c.match-seed.branch [
-    | in-Kept w ↦ omega (arith, c.loop-place.invariant.counted)
-    | in-Pushed w ↦ omega (arith, c.loop-place.invariant.counted)
-    | in-HandedBack w ↦ omega (arith, c.loop-place.invariant.counted)
+  counted = λ new.
+      let sources = c.sources-sources.result.now in
+      let source : Source = record { node = 0; departure = 0 } in
+      let here : c.loop-place.place < length sources = omega arith in
+      let h = c.loop-place.invariant.counted new in
+      let whole : c.loop-place.seats.label_seat.history.shares ≡ SHARES = c.loop-place.invariant.step.label_shares ∙ ap (λ (r : SeatRecord). r.shares) new in
+      let P : ℕ → Type 0 = λ n. IsSown sources (c.loop-place.place + 1) c.seed.new.seats.label_seat.history.lowerings n in
+      elim c.match-seed.branch [
+        | in-Kept w ↦ subst P (omega arith) (IsSown-kept sources c.loop-place.place source here _ _ _ h w.in-Kept.ensures.offers whole)
+        | in-Pushed w ↦ subst P (omega arith) (IsSown-lowered sources c.loop-place.place source here _ _ _ h w.in-Pushed.ensures.offers c.loop-place.invariant.offered)
+        | in-HandedBack w ↦ subst P (omega arith) (IsSown-lowered sources c.loop-place.place source here _ _ _ h w.in-HandedBack.ensures.offers c.loop-place.invariant.offered)
+      ];
+  tried = elim c.match-seed.branch [
+    | in-Kept w ↦ omega (arith, c.loop-place.invariant.tried)
+    | in-Pushed w ↦ omega (arith, c.loop-place.invariant.tried)
+    | in-HandedBack w ↦ omega (arith, c.loop-place.invariant.tried)
   ];
 }
 
@@ -66,3 +97,10 @@ pub returns-clause-offered : goal.returns-clause-offered
 returns-clause-offered g c = λ source inside.
     let here = subst (λ xs. IsAmong xs source) (sym (c.sources-sources.ensures.sources ∙ ap (λ q. q.sources) c.requires.ground.named.query_is)) inside in
     subst (λ (s : Source). IsReachedBy c.loop-place.seats.label_seat.history.bounds s.node s.departure) (sym here.1.1) (c.loop-place.invariant.offered here.0 source (omega (arith, here.1.0)))
+
+pub returns-clause-counted : goal.returns-clause-counted
+returns-clause-counted g c = λ new.
+    let sources = c.sources-sources.result.now in
+    let all : take c.loop-place.place sources ≡ sources = take_all c.loop-place.place sources (omega arith) in
+    subst (λ xs. AreSeeds xs (c.loop-place.seeded + c.loop-place.returned)) (all ∙ (c.sources-sources.ensures.sources ∙ ap (λ q. q.sources) c.requires.ground.named.query_is))
+    (c.loop-place.invariant.counted new).seeds

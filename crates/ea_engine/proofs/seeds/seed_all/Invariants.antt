@@ -1,10 +1,12 @@
 use Rattle.std.proofs.Common.{◌≡◌, ℕ, ◌+◌, ◌<◌, ◌≤◌, length, get_or}
 use Rattle.ea_road.specs.declared.source.Source.{Source}
+use Rattle.ea_labels.specs.Core.{first_record}
 use Rattle.ea_engine.specs.Closed.{IsReachedBy}
 use Rattle.ea_engine.specs.Gathered.{IsGathered}
 use Rattle.ea_engine.specs.Grounds.{tables_of}
 use Rattle.ea_engine.specs.Seated.{AreSeatsOf}
 use Rattle.ea_engine.specs.Seeds.{HasPushed}
+use Rattle.ea_engine.proofs.SeedLemmas.{IsSown}
 use Rattle.ea_engine.proofs.seeds.seed_all.Given as goal
 
 abbrev pub invariant-loop-place : goal.invariant-loop-place
@@ -17,5 +19,6 @@ invariant-loop-place g l = record {
   step : HasPushed l.seeded l.fn.seats l.seats;
   few : length l.todo.waiting ≤ length l.fn.todo.waiting + l.returned;
   some : 0 < l.returned → 0 < length l.todo.waiting;
-  counted : l.seeded + l.returned ≤ l.place;
+  counted : l.fn.seats.label_seat.history ≡ first_record → IsSown l.sources l.place l.seats.label_seat.history.lowerings (l.seeded + l.returned);
+  tried : l.seeded + l.returned ≤ l.place;
 }

@@ -1,4 +1,3 @@
-use Rattle.std.proofs.Common.{arith}
 use Rattle.ea_engine.proofs.TurnLemmas.{IsTurn-pushed}
 use Rattle.ea_engine.proofs.taking.take_turn.Goals as goal
 

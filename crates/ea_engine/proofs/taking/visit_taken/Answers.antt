@@ -1,4 +1,4 @@
-use Rattle.std.proofs.Common.{[], ◌∷◌, sym, zero-add, arith}
+use Rattle.std.proofs.Common.{[], ◌∷◌, sym, zero-add}
 use Rattle.ea_engine.specs.Turns.{visited_in}
 use Rattle.ea_engine.proofs.HoldLemmas.{known_front, known_last}
 use Rattle.ea_engine.proofs.ProgressLemmas.{Progress-next, Progress-beside, Progress-then}
@@ -19,6 +19,7 @@ returns-clause-visit g c =
       entry = entry;
       next = c.in-Some.ensures.items;
       visited = v.visited;
+      reached = (c.requires.ground.posed.names entry.node entry.key).0 (known_last g.K.Known.is_known _ _ _ c.in-Some.ensures.items c.requires.taken.1);
       number_is = v.number;
       shaped = v.shaped;
       few = v.few;

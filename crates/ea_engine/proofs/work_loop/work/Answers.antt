@@ -1,6 +1,6 @@
 use Rattle.std.proofs.Common.{ap, ◌∙◌, inl, inr, refl, arith, rules, of_calls}
 use Rattle.ea_engine.proofs.HoldLemmas.{known_nothing, known_inside}
-use Rattle.ea_engine.proofs.WorkLemmas.{SoFar-start, SoFar-more, SoFar-end, SoFar-roomy, fresh_of_lowered, popping_most}
+use Rattle.ea_engine.proofs.WorkLemmas.{SoFar-start, SoFar-more, SoFar-end, fresh_of_lowered}
 use Rattle.ea_engine.proofs.work_loop.work.Goals as goal
 use Rattle.ea_engine.proofs.work_loop.work.Goals.{then-turns-test+then-idle-pace+else-number-pace, then-turns-test+else-idle-pace, else-turns-test}
 

@@ -1,12 +1,15 @@
-use Rattle.std.proofs.Common.{◌≡◌, ℕ, ◌*◌, length, sym, ◌∙◌, ap, arith, subst}
+use Rattle.std.proofs.Common.{◌≡◌, ℕ, ◌+◌, ◌-◌, ◌*◌, length, sym, ◌∙◌, ap, arith, subst}
 use Rattle.std.proofs.lemmas.List.{length-map}
 use Rattle.ea_engine.specs.Seated.{tables}
-use Rattle.ea_engine.proofs.GroundLemmas.{underway_of}
+use Rattle.ea_road.specs.Queries.{Asking}
+use Rattle.ea_engine.specs.Seeds.{AreSeeds}
+use Rattle.ea_engine.proofs.GroundLemmas.{reports_of, underway_of}
+use Rattle.ea_engine.proofs.SeedLemmas.{AreSeeds-few, AreSeeds-some}
 use Rattle.ea_engine.specs.declared.counters.Counters.{Counters}
 use Rattle.ea_engine.specs.declared.settings.Pace.{Pace}
 use Rattle.ea_engine.specs.Reports.{AreReports}
 use Rattle.ea_engine.specs.Rowed.{all_done, IsDoneRow, AreSeated}
-use Rattle.ea_engine.specs.Tallies.{busy_by_all, empty_by_all, IsTally, IsLoneTally}
+use Rattle.ea_engine.specs.Tallies.{busy_by_all, empty_by_all, returned_by_all, IsTally, IsLoneTally}
 use Rattle.ea_engine.proofs.DoneRows.{some_of, written, ready_row, seated_done, reports_of_row, lone_of_row}
 use Rattle.ea_engine.proofs.RowedLemmas.{all_done-length, sum_of_ends, waits_or}
 use Rattle.ea_engine.proofs.Settling.{gathered_start}
@@ -81,6 +84,16 @@ lone_of g c began =
       );
     }
 
+-- what the seeds came to
+seeds_of : (g : _) (c : After-len g) → AreSeeds c.args.query.now.sources (c.seed_all-seeds.result.seeded + c.seed_all-seeds.result.returned)
+seeds_of g c = subst (λ (q : Asking). AreSeeds q.sources (c.seed_all-seeds.result.seeded + c.seed_all-seeds.result.returned)) (sym c.requires.named.query_is) (c.seed_all-seeds.ensures.counted c.requires.arrays.history)
+
+-- and what the workers don't account for
+own_seeds : (g : _) (c : After-len g) → c.seed_all-seeds.result.seeded + c.seed_all-seeds.result.returned ≡ c.seed_all-seeds.result.seeded + (c.gather_row-seats.result.returned - returned_by_all c.gather_row-seats.result.results.counters.items)
+own_seeds g c =
+    let all = c.gather_row-seats.ensures.gathered.all in
+    omega (arith, all.returned_is, sum_of_ends (λ (k : Counters). k.returned) _ _ all.counters_are)
+
 tally_of : (g : _) (c : After-len g) → IsTally (length c.args.query.now.sources) c.seed_all-seeds.result.seeded c.gather_row-seats.result.returned c.settle-table.result.drained (length c.settle-table.result.todo.waiting) c.gather_row-seats.result.results.counters.items
 tally_of g c =
     let all = c.gather_row-seats.ensures.gathered.all in
@@ -90,7 +103,8 @@ tally_of g c =
       few_open = omega (arith, c.settle-table.ensures.few, all.few);
       some_open = λ some. c.settle-table.ensures.some (waits_or _ _ _ _ all.some (omega arith) some);
       hands = omega (arith, all.returned_is, sum (λ k. k.returned));
-      seeds = omega (arith, all.returned_is, sum (λ k. k.returned), c.seed_all-seeds.ensures.counted, ap (λ q. length q.sources) c.requires.named.query_is);
+      seeds = omega (arith, own_seeds g c, AreSeeds-few _ _ (seeds_of g c));
+      begun = λ some. omega (arith, own_seeds g c, AreSeeds-some _ _ (seeds_of g c) some);
     }
 
 pub returns-clause-run : goal.returns-clause-run
@@ -105,10 +119,12 @@ returns-clause-run g c =
     let end = some_of ends (omega (arith, is.1, c.requires.crew.rngs, c.requires.crew.settings.some_worker, c.args.crew.rngs.ok)) in
     record {
       tally = subst (λ n. IsTally (length c.args.query.now.sources) c.seed_all-seeds.result.seeded c.gather_row-seats.result.returned c.settle-table.result.drained n r.counters.items) (sym c.len.ensures) (tally_of g d);
+      seeds = subst (λ n. AreSeeds c.args.query.now.sources n) (own_seeds g d) (seeds_of g d);
       lone = lone_of g d began;
-      reports = subst (λ (p : Pace). AreReports g.R.Rng.stream (given.F-step g) p c.args.crew.rngs.items r.rngs.items c.args.crew.tracers.items r.tracers.items r.counters.items) c.pace.ensures.pace (rw (all.rngs_are, all.tracers_are, all.counters_are)
+      reports = subst (λ (p : Pace). AreReports g.R.Rng.stream (given.F-step g) c.args.network.now (g.T.TravelTimes.answers c.args.times.now) c.args.query.now.sources p c.args.crew.rngs.items r.rngs.items c.args.crew.tracers.items r.tracers.items r.counters.items) c.pace.ensures.pace (rw (all.rngs_are, all.tracers_are, all.counters_are)
+          (reports_of g.K.Known.is_known g.K.Posed.problem c.args.network.now (g.T.TravelTimes.answers c.args.times.now) c.args.query.now c.requires.named g.R.Rng.stream (given.F-step g) c.pace.result _ _ _ _ _
           (reports_of_row g.K.Posed.problem (tables c.args.arrays.labels c.args.arrays.pool) g.R.Rng.stream (given.F-step g) c.pace.result c.pace.ensures.limits.batch
-          c.args.crew.rngs.items c.args.crew.tracers.items c.seat_workers.new.row.items c.run_workers.new.row ends c.seed_all-seeds.result.seeded c.seed_all-seeds.new.todo.waiting end began (rw c.deref_mut.ensures.value at c.run_workers.ensures.run) (omega (arith, c.seat_workers.ensures.len, c.args.crew.rngs.ok, c.seat_workers.new.row.ok)) is.1 is.0));
+          c.args.crew.rngs.items c.args.crew.tracers.items c.seat_workers.new.row.items c.run_workers.new.row ends c.seed_all-seeds.result.seeded c.seed_all-seeds.new.todo.waiting end began (rw c.deref_mut.ensures.value at c.run_workers.ensures.run) (omega (arith, c.seat_workers.ensures.len, c.args.crew.rngs.ok, c.seat_workers.new.row.ok)) is.1 is.0)));
       counters_len = omega (arith, is.1, ap length all.counters_are, length-map ends (λ e. e.counters), r.counters.ok, c.args.crew.rngs.ok, c.requires.crew.rngs);
       rngs_len = omega (arith, is.1, ap length all.rngs_are, length-map ends (λ e. e.rng), r.rngs.ok, c.args.crew.rngs.ok, c.requires.crew.rngs);
       tracers_len = omega (arith, is.1, ap length all.tracers_are, length-map ends (λ e. e.tracer), r.tracers.ok, c.args.crew.rngs.ok, c.requires.crew.rngs);
