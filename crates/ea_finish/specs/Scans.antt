@@ -5,7 +5,7 @@ use Rattle.ea_limits.specs.declared.TheConstants.{HORIZON}
 use Rattle.ea_road.specs.declared.TheConstants.{NONE}
 use Rattle.ea_road.specs.declared.arc.Arc.{Arc}
 use Rattle.ea_road.specs.declared.source.Source.{Source}
-use Rattle.ea_road.specs.Roads.{Roads, IsArc}
+use Rattle.ea_road.specs.Roads.{Roads, IsArc, IsNode}
 use Rattle.ea_road.specs.Arrivals.{Reaches}
 use Rattle.ea_road.specs.Queries.{Asking}
 use Rattle.ea_road.specs.Labels.{limit}
@@ -79,3 +79,25 @@ pub record AwaitsScansFrom
 -- So it is for the sources and the target of a query.
 abbrev pub AwaitsScans : Roads → (ℕ → ℕ → ℕ → ℕ → Type 0) → Asking → List ℕ → (ℕ → Type 0) → Type 0
 AwaitsScans roads answers query table waits = AwaitsScansFrom roads answers query.sources query.target table waits
+
+-- An arc that is left no later than a time arrives at the node.
+pub record IsLeftBy
+    (roads : Roads)
+    (answers : ℕ → ℕ → ℕ → ℕ → Type 0)
+    (last node arrival : ℕ)
+    : Type 0 where
+  pub from : ℕ
+  pub departure : ℕ
+  pub number : ℕ
+  pub in_time : departure ≤ last
+  pub step : Step roads answers from departure number node arrival
+
+-- Nodes' labels only fell, each to an arrival along an arc that is left no later than a time.
+pub record FallsBy
+    (roads : Roads)
+    (answers : ℕ → ℕ → ℕ → ℕ → Type 0)
+    (last : ℕ)
+    (label label' : ℕ → ℕ)
+    : Type 0 where
+  pub lower : (node : ℕ) → IsNode roads.nodes node → label' node ≤ label node
+  pub fallen : (node : ℕ) → IsNode roads.nodes node → label' node < label node → IsLeftBy roads answers last node (label' node)

@@ -6,7 +6,7 @@ ghost use Rattle.ea_road.specs.Labels.{label_of, limit, time_of};
 ghost use Rattle.ea_road.specs.Queries.{IsAsked, IsProblem};
 ghost use Rattle.ea_road.specs.Roads.{IsArc, IsNode, leaving, top_class};
 ghost use Rattle.ea_finish.specs.Listings.{AreLabelsListed, KeepsListed};
-ghost use Rattle.ea_finish.specs.Scans.{KeepsLess, Scanned};
+ghost use Rattle.ea_finish.specs.Scans.{FallsBy, KeepsLess, Scanned};
 ghost use Rattle.ea_finish.specs.Underway.{IsFinished, IsUnderway, bound_of};
 
 use crate::levels::{Track, Untracked};
@@ -167,6 +167,9 @@ pub(crate) fn finish_noted<T: TravelTimes, K: Track>(
     ensures finished { IsFinished network.now (T.answers times.now) query.now
         result.table.items result.todo }
     ensures walks { result.todo.walks ≡ todo.walks }
+    ensures beyond { FallsBy network.now (T.answers times.now)
+        (limit query.now.target (label_of table.items))
+        (label_of table.items) (label_of result.table.items) }
     ensures listed { AreLabelsListed table.items (K.lists track.old)
         → AreLabelsListed result.table.items (K.lists track.new) }
 {
@@ -185,7 +188,8 @@ pub(crate) fn finish_noted<T: TravelTimes, K: Track>(
 }
 
 /// Scans waiting nodes at their labels, in the order in which they were opened, until nobody waits. Then each label is
-/// the least arrival; in a pair query, each up to the target's. It takes no memory.
+/// the least arrival; in a pair query, each up to the target's, and no arc is followed that is left later than the label which
+/// the target has at first. It takes no memory.
 ///
 /// Labels are corrected until none is open: the method is of Dreyfus, An Appraisal of Some Shortest-Path Algorithms
 /// (Operations Research 17, 1969).
@@ -203,6 +207,9 @@ pub fn finish<T: TravelTimes>(
     ensures finished { IsFinished network.now (T.answers times.now) query.now
         result.table.items result.todo }
     ensures walks { result.todo.walks ≡ todo.walks }
+    ensures beyond { FallsBy network.now (T.answers times.now)
+        (limit query.now.target (label_of table.items))
+        (label_of table.items) (label_of result.table.items) }
     ensures least { (node : ℕ) → IsNode network.now.nodes node → IsAsked query.now node
         → IsLeast network.now (T.answers times.now) query.now.sources node
         (time_of (label_of result.table.items node)) }

@@ -1,10 +1,11 @@
 //! A search from the sources, nearly in the order of times.
 ghost use Rattle.std.specs.Prelude.{◌≡◌, Contains, replicate};
+ghost use Rattle.ea_road.specs.Labels.{limit};
 ghost use Rattle.ea_road.specs.Queries.{IsProblem};
 ghost use Rattle.ea_road.specs.declared.TheConstants.{NONE};
 ghost use Rattle.ea_finish.specs.Frontiers.{HaveNone, WaitsAt};
 ghost use Rattle.ea_finish.specs.Listings.{AreLabelsListed};
-ghost use Rattle.ea_finish.specs.Scans.{AwaitsScans};
+ghost use Rattle.ea_finish.specs.Scans.{AwaitsScans, FallsBy};
 ghost use Rattle.ea_finish.specs.Underway.{IsUnderway, bound_of};
 
 use crate::finishing::{latest, lower, scan};
@@ -53,6 +54,8 @@ fn exhaust<T: TravelTimes, K: Track>(
         table.new (Contains frontier.new.todo.waiting) }
     ensures nodes { frontier.new.todo.nodes ≡ frontier.old.todo.nodes }
     ensures walks { frontier.new.todo.walks ≡ frontier.old.todo.walks }
+    ensures beyond { FallsBy network.now (T.answers times.now) (limit query.now.target (bound_of table.old))
+        (bound_of table.old) (bound_of table.new) }
     ensures none { HaveNone frontier.new.lists }
     ensures listed { AreLabelsListed table.old (K.lists track.old)
         → AreLabelsListed table.new (K.lists track.new) }
@@ -110,6 +113,8 @@ pub(crate) fn search_on<T: TravelTimes, K: Track>(
         table.new frontier.new.todo.waiting }
     ensures nodes { frontier.new.todo.nodes ≡ frontier.old.todo.nodes }
     ensures walks { frontier.new.todo.walks ≡ frontier.old.todo.walks }
+    ensures beyond { FallsBy network.now (T.answers times.now) (limit query.now.target (bound_of table.old))
+        (bound_of table.old) (bound_of table.new) }
 {
     network.keeps_limits();
     frontier.move_in(table);

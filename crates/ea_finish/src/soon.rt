@@ -1,7 +1,9 @@
 //! The finishing pass in about the order of labels.
 ghost use Rattle.std.specs.Prelude.{◌≡◌, length, map};
+ghost use Rattle.ea_road.specs.Labels.{label_of, limit};
 ghost use Rattle.ea_road.specs.Queries.{IsProblem};
 ghost use Rattle.ea_finish.specs.Frontiers.{HaveNone};
+ghost use Rattle.ea_finish.specs.Scans.{FallsBy};
 ghost use Rattle.ea_finish.specs.Underway.{IsFinished, IsUnderway};
 
 use crate::finishing::{Finished, finish};
@@ -29,7 +31,11 @@ fn finish_on<T: TravelTimes>(
     ensures finished { IsFinished network.now (T.answers times.now) query.now
         result.table.items result.todo }
     ensures walks { result.todo.walks ≡ todo.walks }
+    ensures beyond { FallsBy network.now (T.answers times.now)
+        (limit query.now.target (label_of table.items))
+        (label_of table.items) (label_of result.table.items) }
 {
+    network.keeps_limits();
     let mut frontier = Frontier::over(lists, todo, network.mean_weight());
     search_on(
         network,
@@ -61,6 +67,9 @@ pub fn finish_in_order<T: TravelTimes>(
     ensures finished { IsFinished network.now (T.answers times.now) query.now
         result.table.items result.todo }
     ensures walks { result.todo.walks ≡ todo.walks }
+    ensures beyond { FallsBy network.now (T.answers times.now)
+        (limit query.now.target (label_of table.items))
+        (label_of table.items) (label_of result.table.items) }
 {
     match empty_lists(alloc) {
         Ok(lists) => finish_on(network, times, query, lists, table, todo),

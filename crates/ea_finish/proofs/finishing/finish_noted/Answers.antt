@@ -9,11 +9,13 @@ use Rattle.ea_finish.specs.Worklist.{Room}
 use Rattle.ea_finish.proofs.Worklists.{Contains-cons_cases}
 use Rattle.ea_finish.proofs.Boundary.{underway_of, same_limit, fixed_of}
 use Rattle.ea_finish.proofs.Entries.{bound_of-at, AwaitsScansFrom-scanned, AwaitsScansFrom-unlabelled, AwaitsScansFrom-above}
+use Rattle.ea_finish.proofs.Falls.{FallsBy-same, FallsBy-then, FallsBy-scanned, FallsBy-labels, limit_falls}
 use Rattle.ea_finish.proofs.finishing.finish_noted.Goals as goal
 
 pub loop-node-init : goal.loop-node-init
 loop-node-init g c = record {
   underway = underway_of c.args.network.now _ _ c.args.query.now c.keeps_limits.ensures c.requires.problem c.args.table.items c.requires.underway.places c.args.todo.waiting c.requires.underway;
+  falls = FallsBy-same _ _ _ _;
   room = c.requires.room;
   walks = search rules;
   listed = λ first. first;
@@ -29,10 +31,12 @@ loop-node-preserved-then-departure-last g c =
     let room = c.loop-node.invariant.room in
     let places = before.places in
     let at_label : c.index-departure.result.now ≡ bound_of table node = get_or_read table (node - 1) c.index-departure.result.now (omega arith) c.index-departure.ensures NONE ∙ sym (bound_of-at table node is_node.0) in
+    let limited = rw (c.target-target.ensures.target, c.deref.ensures.value, ← same_limit c.args.network.now (g.T.TravelTimes.answers c.args.times.now) _ c.args.query.now c.keeps_limits.ensures c.requires.problem table places) at c.latest.ensures in
     let scanned = rw c.deref_mut.ensures.value at c.scan.ensures.scanned in
     let filled : length c.scan.new.table ≡ c.loop-node.table.len = omega (arith, scanned.places, c.loop-node.table.ok.0) in
     record {
       underway = rw (with_items_is c.loop-node.table c.scan.new.table filled) (AwaitsScansFrom-scanned _ _ _ _ node _ _ _ _ _ _ _ before (λ v there. Contains-cons_cases node v _ there) at_label (omega arith) (λ n arc is_arc tail. leaving_has c.args.network.now node n arc is_arc tail) scanned);
+      falls = rw (with_items_is c.loop-node.table c.scan.new.table filled) (FallsBy-then _ _ _ _ _ _ _ c.loop-node.invariant.falls (FallsBy-scanned _ _ _ _ _ _ _ _ _ scanned) (omega (arith, limited, c.min-last.ensures, c.if-departure-last.true, limit_falls _ _ _ _ _ _ c.loop-node.invariant.falls c.requires.problem.target)));
       room = ap (λ (r : Room). r.nodes) c.scan.ensures.room ∙ c.in-Some.ensures.room.0 ∙ room;
       walks = ap (λ (r : Room). r.walks) c.scan.ensures.room ∙ c.in-Some.ensures.room.1 ∙ c.loop-node.invariant.walks;
       listed = rw (with_items_is c.loop-node.table c.scan.new.table filled) (λ first. rw c.deref_mut.ensures.value at c.scan.ensures.listed (c.loop-node.invariant.listed first));
@@ -53,6 +57,7 @@ loop-node-preserved g c =
         | inl above ↦ AwaitsScansFrom-above _ _ _ _ node table _ _ before (λ v there. Contains-cons_cases node v _ there) above
         | inr below ↦ AwaitsScansFrom-unlabelled _ _ _ _ node table _ _ before (λ v there. Contains-cons_cases node v _ there) (omega (arith, limited, c.min-last.ensures))
       ];
+      falls = c.loop-node.invariant.falls;
       room = c.in-Some.ensures.room.0 ∙ room;
       walks = c.in-Some.ensures.room.1 ∙ c.loop-node.invariant.walks;
       listed = c.loop-node.invariant.listed;
@@ -67,3 +72,10 @@ returns-clause-finished g c =
       nobody = rw c.in_default.ensures.taken.1 c.in_default.ensures.taken.0;
       room = c.in_default.ensures.room.0 ∙ c.loop-node.invariant.room;
     }
+
+pub returns-clause-beyond : goal.returns-clause-beyond
+returns-clause-beyond g c =
+    let under = c.loop-node.invariant.underway in
+    let before = c.requires.underway.places in
+    rw (← same_limit c.args.network.now (g.T.TravelTimes.answers c.args.times.now) _ c.args.query.now c.keeps_limits.ensures c.requires.problem c.args.table.items before)
+    (FallsBy-labels _ _ _ _ _ before under.places c.loop-node.invariant.falls)

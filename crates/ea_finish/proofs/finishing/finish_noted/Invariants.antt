@@ -1,11 +1,14 @@
 use Rattle.std.proofs.Common.{◌≡◌, ◌+◌, sum, length, Contains}
 use Rattle.ea_finish.specs.Listings.{AreLabelsListed}
-use Rattle.ea_finish.specs.Scans.{AwaitsScansFrom}
+use Rattle.ea_road.specs.Labels.{limit}
+use Rattle.ea_finish.specs.Scans.{AwaitsScansFrom, FallsBy}
+use Rattle.ea_finish.specs.Underway.{bound_of}
 use Rattle.ea_finish.proofs.finishing.finish_noted.Given as goal
 
 abbrev pub invariant-loop-node : goal.invariant-loop-node
 invariant-loop-node g l = record {
   underway : AwaitsScansFrom l.network (g.T.TravelTimes.answers l.times) l.query.sources l.query.target l.table.items (Contains l.todo.waiting);
+  falls : FallsBy l.network (g.T.TravelTimes.answers l.times) (limit l.query.target (bound_of l.initial.table.items)) (bound_of l.initial.table.items) (bound_of l.table.items);
   room : l.todo.nodes ≡ l.network.nodes;
   walks : l.todo.walks ≡ l.initial.todo.walks;
   listed : AreLabelsListed l.initial.table.items (g.K.Track.lists l.initial.track) → AreLabelsListed l.table.items (g.K.Track.lists l.track);

@@ -1,4 +1,4 @@
-use Rattle.std.proofs.Common.{◌≡◌, ◌-◌, length, sym, ◌∙◌, ap, inl, inr, arith}
+use Rattle.std.proofs.Common.{refl, sym, ◌∙◌, ap, inl, inr, arith}
 use Rattle.std.proofs.lemmas.Bool.{cases_lt}
 use Rattle.ea_road.specs.Labels.{limit}
 use Rattle.ea_road.proofs.ByTail.{leaving_has}
@@ -8,7 +8,17 @@ use Rattle.ea_finish.proofs.Boundary.{same_limit}
 use Rattle.ea_finish.proofs.Entries.{AwaitsScansFrom-scanned, AwaitsScansFrom-unlabelled, AwaitsScansFrom-above, AwaitsScansFrom-moved}
 use Rattle.ea_finish.proofs.Linkings.{bound_of_read}
 use Rattle.ea_finish.proofs.Fronts.{taken_or_waits, Takes-stale}
+use Rattle.ea_finish.proofs.Falls.{FallsBy-same, FallsBy-then, FallsBy-scanned, limit_falls}
 use Rattle.ea_finish.proofs.searching.exhaust.Goals as goal
+
+pub loop-key-init : goal.loop-key-init
+loop-key-init g c = record {
+  underway = c.requires.underway;
+  falls = FallsBy-same _ _ _ _;
+  nodes = refl;
+  walks = refl;
+  listed = λ first. first;
+}
 
 pub loop-key-preserved-then-key-last : goal.loop-key-preserved-then-key-last
 loop-key-preserved-then-key-last g c =
@@ -18,10 +28,12 @@ loop-key-preserved-then-key-last g c =
     let taken = c.in-Some.ensures in
     let places = before.places in
     let at_label = bound_of_read table node taken.node.0 (omega (arith, taken.node, places, c.loop-key.invariant.nodes, c.requires.room)) in
+    let limited = rw (c.target-target.ensures.target, ← same_limit c.args.network.now (g.T.TravelTimes.answers c.args.times.now) _ c.args.query.now c.keeps_limits.ensures c.requires.problem table places) at c.latest.ensures in
     let scanned = c.scan.ensures.scanned in
     let key_is = c.if-key-table.true ∙ at_label in
     record {
       underway = (AwaitsScansFrom-scanned _ _ _ _ node _ _ _ _ _ _ _ before (taken_or_waits (bound_of table) (c.in-Some.key, node) _ _ taken) key_is (omega arith) (λ n arc is_arc tail. leaving_has c.args.network.now node n arc is_arc tail) scanned);
+      falls = FallsBy-then _ _ _ _ _ _ _ c.loop-key.invariant.falls (FallsBy-scanned _ _ _ _ _ _ _ _ _ scanned) (omega (arith, limited, c.min-last.ensures, c.if-key-last.true, limit_falls _ _ _ _ _ _ c.loop-key.invariant.falls c.requires.problem.target));
       nodes = ap (λ (r : Room). r.nodes) c.scan.ensures.room ∙ taken.nodes ∙ c.loop-key.invariant.nodes;
       walks = ap (λ (r : Room). r.walks) c.scan.ensures.room ∙ taken.walks ∙ c.loop-key.invariant.walks;
       listed = λ first. c.scan.ensures.listed (λ v has. c.leave.ensures v (c.loop-key.invariant.listed first v has));
@@ -44,6 +56,7 @@ loop-key-preserved g c =
         ]
         | inr stale ↦ AwaitsScansFrom-moved _ _ _ _ table _ _ before (Takes-stale (bound_of table) (c.in-Some.key, node) _ _ taken (λ same. stale (same ∙ sym at_label))).rest
       ];
+      falls = c.loop-key.invariant.falls;
       nodes = taken.nodes ∙ c.loop-key.invariant.nodes;
       walks = taken.walks ∙ c.loop-key.invariant.walks;
       listed = c.loop-key.invariant.listed;
