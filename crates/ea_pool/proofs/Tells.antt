@@ -1,5 +1,5 @@
 -- What the steps of one attempt give together.
-use Rattle.std.proofs.Common.{◌≡◌, ℕ, ◌<◌, ◌≤◌, Bool, true, List, [], ◌∷◌, ◌++◌, sym, refl, ap, ◌∙◌, arith, subst, Option, Some, slice_index_or}
+use Rattle.std.proofs.Common.{◌≡◌, ℕ, ◌<◌, ◌≤◌, Bool, true, List, length, [], ◌∷◌, ◌++◌, sym, refl, ap, ◌∙◌, arith, subst, Option, Some, slice_index_or}
 use Rattle.std.specs.Prelude.{Result, Ok, MatchOption, MatchResult}
 use Rattle.std.specs.List.{AllByRecursion}
 use mathlib.Core.Logic.{dite}
@@ -233,14 +233,16 @@ module _ (known : ℕ → ℕ → Type 0) (kind : HeapKind) where
         pub took_batch : TookThere kind k v.seen m₃.0.last_take
         took_batch = took_there v m m₁ m₂ m₃ k x goes.went moves.2.0 seen_there t view moves.2.1 goes.added done
 
-        pub pushes_batch : PushesFrom before after (books v) (books m₃.0)
-        pushes_batch = (goes.went, goes.split, pushes_all v m m₁ m₂ m₃ k x goes.went moves.2.0 seen_there t view moves.2.1 goes.added done)
+        pushes_went : PushesAll (books v) goes.went (books m₃.0)
+        pushes_went = pushes_all v m m₁ m₂ m₃ k x goes.went moves.2.0 seen_there t view moves.2.1 goes.added done
+
+        pub pushes_batch : 0 < length after → PushesFrom before after (books v) (books m₃.0)
+        pushes_batch some = (goes.went, goes.split, pushes_went, some)
 
         pub pushes_whole : after ≡ [] → PushesAll (books v) before (books m₃.0)
-        unfolding goes pushes_batch
         pushes_whole none =
             let same : before ≡ goes.went = goes.split ∙ ap (λ (l : List Entry). l ++ goes.went) none in
-            subst (λ (l : List Entry). PushesAll (books v) l (books m₃.0)) (sym same) pushes_batch.2
+            subst (λ (l : List Entry). PushesAll (books v) l (books m₃.0)) (sym same) pushes_went
 
   -- with all shares no heap is out
   pub none_out : (heaps : ℕ) (v w : SeatMemory) (k x : ℕ) → Surveys known kind heaps w → w ≡ saw v k x → k < heaps → x ≡ OUT → ⊥

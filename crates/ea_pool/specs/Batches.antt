@@ -29,9 +29,10 @@ pub record AreFirst (kind : HeapKind) (most : ℕ) (out heap heap' : List Entry)
 abbrev pub ComesOut : HeapKind → ℕ → List Entry → List Entry → List Entry → List Entry → Type 0
 ComesOut kind most before after heap heap' = (out : List Entry) × (after ≡ before ++ out) × AreFirst kind most out heap heap'
 
--- What is left in a batch after a push, and the account: those that are no longer there were pushed
+-- What a refused push leaves in a batch, and the account: the first entries of the batch, at least one, in their order. Those that
+-- are no longer there were pushed
 abbrev pub PushesFrom : List Entry → List Entry → Account → Account → Type 0
-PushesFrom before after a b = (went : List Entry) × (before ≡ after ++ went) × PushesAll a went b
+PushesFrom before after a b = (went : List Entry) × (before ≡ after ++ went) × PushesAll a went b × (0 < length after)
 
 -- as many as were asked for, or all that the heap had that was taken last; with buckets, any
 abbrev pub TookEnough : HeapKind → ℕ → List Entry → Option LastTake → Type 0

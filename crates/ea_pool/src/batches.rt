@@ -31,6 +31,7 @@ impl<K: Known, A: Allocator, H: EntryHeap> Pool<K, A, H> {
         ensures moves { HoldsHeap seat.old.me heap (λ es. HoldsHeap seat.new.me heap (λ left.
             GoesIn batch.old.items batch.new.items es left × Shows H.kind result.1 left)) }
         ensures all { result.0 ≡ true → batch.new.items ≡ [] }
+        ensures some { result.0 ≡ false → 0 < array_vec_len batch.new }
     {
         let held = seat.slot_mut(&self.table.shared, heap);
         let all = push_all(held, batch);
@@ -121,7 +122,8 @@ impl<K: Known, A: Allocator, H: EntryHeap> Pool<K, A, H> {
 
     /// Pushes a batch into the one heap that `push_as` would push to, so that the batch is empty. After
     /// `Busy` the batch and the account are as they were. After `OutOfMemory` what the heap had no room
-    /// for is left in the batch, the first entries of it, and what is gone from it was pushed.
+    /// for is left in the batch, the first entries of it in their order, at least one, and what is gone from
+    /// it was pushed.
     pub fn push_all_as(
         &self,
         seat: &mut PoolSeat<K, A, H>,

@@ -9,7 +9,7 @@ use ea_pool::{Batch, Entry, MOST_IN_BATCH, Pool, PoolSeat, Popped, PoppedSome, S
 use ea_road::{AnyPair, HORIZON, NONE};
 use std::test::Fail;
 
-fn entry(key: u64, node: u32) -> Entry
+pub fn entry(key: u64, node: u32) -> Entry
     ensures { (result.key ≡ key) × (result.node ≡ node) }
 {
     Entry { key, node }
@@ -158,7 +158,7 @@ fn each_lower_offer_lowers(rt: HostRuntime) -> Result<(), Fail> {
 }
 
 // Appends an entry that is in time.
-fn add(batch: &mut Batch, new: Entry)
+pub fn add(batch: &mut Batch, new: Entry)
     requires room { array_vec_len batch.old < MOST_IN_BATCH }
     requires in_time { AreKnown (λ node time. time ≤ HORIZON) batch.old.items × (new.key ≤ HORIZON) }
     ensures len { array_vec_len batch.new ≡ array_vec_len batch.old + 1 }

@@ -124,7 +124,7 @@ fn push_refused_then_again(rt: HostRuntime) -> Result<(), Fail> {
 }
 
 // Counts an entry at its key.
-fn count(counts: &mut [u32], entry: Entry) {
+pub fn count(counts: &mut [u32], entry: Entry) {
     let key = entry.key;
     if key < counts.len() as u64 {
         let place = key as usize;

@@ -1,4 +1,4 @@
-use Rattle.std.proofs.Common.{◌≡◌, ℕ, true, false, List, ap, ◌∙◌, sym}
+use Rattle.std.proofs.Common.{◌≡◌, ℕ, true, false, List, ap, ◌∙◌, sym, arith}
 use Rattle.ea_pool.specs.declared.entry.Entry.{Entry}
 use Rattle.ea_pool.specs.States.{saw}
 use Rattle.ea_pool.specs.Plays.{Place}
@@ -49,7 +49,7 @@ returns-else-all-clause-rests g c =
 pub returns-else-all-clause-pushed : goal.returns-else-all-clause-pushed
 returns-else-all-clause-pushed g c =
     let saw_it = c.look-seen.ensures.saw ∙ ap (λ (l : List (ℕ × List Entry)). (saw c.args.seat.now.me.0 c.args.heap c.look-seen.result, l)) c.requires.rests.0 in
-    pushes_batch g.K.Known.is_known g.H.EntryHeap.kind c.args.seat.now.me.0 c.look-seen.new.seat.me c.take.new.seat.me c.args.heap c.look-seen.result c.args.batch.now.items saw_it (c.take.ensures.taken c.if-not-take.false) c.requires.known c.push_all_in-all.new.seat.me c.push_all_in-all.new.batch.items c.push_all_in-all.result.1 c.push_all_in-all.ensures.view c.push_all_in-all.ensures.moves c.give_pushed.new.seat.me c.give_pushed.ensures.pushed
+    pushes_batch g.K.Known.is_known g.H.EntryHeap.kind c.args.seat.now.me.0 c.look-seen.new.seat.me c.take.new.seat.me c.args.heap c.look-seen.result c.args.batch.now.items saw_it (c.take.ensures.taken c.if-not-take.false) c.requires.known c.push_all_in-all.new.seat.me c.push_all_in-all.new.batch.items c.push_all_in-all.result.1 c.push_all_in-all.ensures.view c.push_all_in-all.ensures.moves c.give_pushed.new.seat.me c.give_pushed.ensures.pushed (omega (arith, c.push_all_in-all.ensures.some c.if-all.false))
 
 pub returns-else-all-clause-tried : goal.returns-else-all-clause-tried
 returns-else-all-clause-tried g c =
