@@ -1,5 +1,5 @@
 -- Words that keep a worker mostly at its own heaps.
-use Rattle.std.specs.Prelude.{ℕ, ◌+◌, ◌%◌, ◌^◌, nat_lt, slice_index, if◌then◌else◌}
+use Rattle.std.specs.Prelude.{◌≡◌, ℕ, ◌+◌, ◌-◌, ◌*◌, ◌%◌, ◌^◌, ◌<◌, ◌==◌, nat_lt, List, slice_index, if◌then◌else◌}
 use Rattle.ea_engine.specs.declared.homing.Homing.{Homing}
 
 -- a word of the generator below that is below 2^62, or the next of the worker's own words
@@ -8,3 +8,15 @@ homing_step step h =
     let drawn = step h.below in
     if nat_lt drawn.0 (2 ^ 62) then (drawn.0, record { below = drawn.1; words = h.words; place = h.place })
     else (slice_index h.words (h.place % 8), record { below = drawn.1; words = h.words; place = if nat_lt h.place 7 then h.place + 1 else 0 })
+
+-- Words that draw a worker's own heaps in turn: as the first word of a pop or as a push's each draws the next of its heaps, and as
+-- the second word of a pop it leads there from the one before.
+pub record AreOwn (worker workers heaps : ℕ) (words : List ℕ) : Type 0 where
+  pub draws : (k : ℕ) → k < 8 → slice_index words k % (workers * heaps) ≡ worker * heaps + k % heaps
+  pub leads : (k : ℕ) → k < 8 → slice_index words k % (workers * heaps - 1) ≡ (if k % heaps == 0 then workers * heaps - heaps else 0)
+
+-- A worker's words, of which none was drawn yet, over a generator.
+pub record IsAtHome {R : Type 0} (below : R) (worker workers heaps : ℕ) (homing : Homing R) : Type 0 where
+  pub below_is : homing.below ≡ below
+  pub first : homing.place ≡ 0
+  pub own : AreOwn worker workers heaps homing.words

@@ -23,3 +23,4 @@ pub mod Splits
 pub mod Grown
 pub mod Runs
 pub mod Homes
+pub mod Companies

@@ -1,4 +1,6 @@
 //! Workers that notice together that nothing is left to do.
+ghost use Rattle.std.specs.Prelude.{◌≡◌, ◌%◌, ◌≤◌};
+ghost use Rattle.ea_engine.specs.Companies.{LeavesAs};
 
 use crate::turn::{Flow, Turn, TurnKind};
 use std::sync::atomic::Ordering::SeqCst;
@@ -66,7 +68,9 @@ impl Company {
 
 impl Member<'_> {
     /// Whether the worker goes on after a turn: it leaves when no worker has anything to do, or when it alone has for long.
-    pub fn after(&mut self, turn: Turn) -> Flow {
+    pub fn after(&mut self, turn: Turn) -> Flow
+        ensures { LeavesAs turn.kind turn.number self.old result }
+    {
         match turn.kind {
             TurnKind::Empty | TurnKind::Busy => self.found_nothing(),
             TurnKind::Stale | TurnKind::Scanned | TurnKind::Cut => self.found_entry(turn.number),
@@ -78,7 +82,9 @@ impl Member<'_> {
     }
 
     /// It is idle from now on.
-    fn rest(&mut self) {
+    fn rest(&mut self)
+        ensures { (self.new.quiet ≡ self.old.quiet) × (self.new.alone ≡ self.old.alone) }
+    {
         if self.is_active {
             self.is_active = false;
             self.company.active.fetch_sub(1, SeqCst);
@@ -86,7 +92,9 @@ impl Member<'_> {
     }
 
     /// It is idle no longer.
-    fn rise(&mut self) {
+    fn rise(&mut self)
+        ensures { (self.new.quiet ≡ self.old.quiet) × (self.new.alone ≡ self.old.alone) }
+    {
         if !self.is_active {
             self.is_active = true;
             if self.company.begun.swap(true, SeqCst) {
@@ -95,7 +103,9 @@ impl Member<'_> {
         }
     }
 
-    fn found_nothing(&mut self) -> Flow {
+    fn found_nothing(&mut self) -> Flow
+        ensures { result ≡ Flow.Leave → 32 ≤ self.old.quiet }
+    {
         self.idle = self.idle.saturating_add(1);
         if self.idle < IDLE_AFTER {
             return Flow::Go;
@@ -115,7 +125,9 @@ impl Member<'_> {
         Flow::Go
     }
 
-    fn found_entry(&mut self, number: u64) -> Flow {
+    fn found_entry(&mut self, number: u64) -> Flow
+        ensures { result ≡ Flow.Leave → (number % 64 ≡ 0) × (255 ≤ self.old.alone) }
+    {
         self.idle = 0;
         self.quiet = 0;
         self.rise();

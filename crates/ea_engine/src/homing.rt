@@ -1,7 +1,7 @@
 //! Words that keep a worker mostly at its own heaps.
-ghost use Rattle.std.specs.Prelude.{◌<◌, ◌≤◌};
+ghost use Rattle.std.specs.Prelude.{◌≡◌, ◌+◌, ◌-◌, ◌%◌, ◌<◌, ◌≤◌};
 ghost use Rattle.rand_core.specs.Steps.{stream_of, steps_u64_low};
-ghost use Rattle.ea_engine.specs.Homes.{homing_step};
+ghost use Rattle.ea_engine.specs.Homes.{homing_step, IsAtHome};
 ghost use Rattle.ea_limits.specs.declared.TheConstants.{LEAST_HEAPS, MOST_HEAPS, MOST_WORKERS};
 
 use rand_core::utils::NextWord;
@@ -26,7 +26,9 @@ pub struct Homing<R> {
 /// The word that is `step` modulo one less than the heaps, and `heap` modulo the heaps: as the first word of a pop it draws that
 /// heap, and as the second one the heap that is so many and one behind the first.
 fn word_at(heaps: u64, step: u64, heap: u64) -> u64
-    requires { (heap < heaps) × (step < heaps) × (heaps ≤ 128) }
+    requires { (heap < heaps) × (step + 1 < heaps) × (heaps ≤ 128) }
+    ensures draws { result % heaps ≡ heap }
+    ensures leads { result % (heaps - 1) ≡ step }
 {
     step + (heaps - 1) * ((step + heaps - heap) % heaps)
 }
@@ -36,6 +38,7 @@ impl<R> Homing<R> {
     pub fn new(below: R, worker: u32, workers: u32, heaps: u32) -> Homing<R>
         requires worker { (worker < workers) × (workers ≤ MOST_WORKERS) }
         requires heaps { (LEAST_HEAPS ≤ heaps) × (heaps ≤ MOST_HEAPS) }
+        ensures { IsAtHome below worker workers heaps result }
     {
         let own = u64::from(heaps);
         let all = u64::from(workers) * own;
