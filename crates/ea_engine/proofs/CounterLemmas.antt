@@ -8,7 +8,7 @@ use Rattle.ea_engine.specs.declared.turn.TurnKind.TheVariants.{Empty, Busy, Stal
 use Rattle.ea_engine.specs.declared.counters.Counters.{Counters}
 use Rattle.ea_engine.specs.declared.turn.TurnEnd.{TurnEnd}
 use Rattle.ea_engine.specs.declared.turn.Flow.{Flow}
-use Rattle.ea_engine.specs.Turns.{Told, CountsTurns, AreCounters, counted, counted_as, closed_by, count_kind, lowered_in_all, visited_as, visited_in, visited_count, is_empty, is_busy, is_stale, is_scanned, is_refused, is_cut, IsRoomy}
+use Rattle.ea_engine.specs.Turns.{Told, AreTurnCounts, AreCounters, counted, counted_as, closed_by, count_kind, lowered_in_all, visited_as, visited_in, visited_count, is_empty, is_busy, is_stale, is_scanned, is_refused, is_cut, IsRoomy}
 
 -- what holds of each element by its place, after one more
 pub index_push : {X : Type 0} (P : ℕ → X → Type 0) (xs : List X) (x : X) → ((i : ℕ) (d : X) → i < length xs → P i (get_or xs i d)) → P (length xs) x
@@ -81,8 +81,8 @@ adds Cut c = record { turns = omega arith; empty = omega arith; busy = omega ari
 abbrev before_kind : Counters → TurnEnd → Counters
 before_kind c end = record c { turns = c.turns + 1; pops = c.pops + end.pops; lowered = c.lowered + end.turn.lowered; pushes = c.pushes + end.pushes }
 
-pub CountsTurns-push : (ts : List Told) (end : TurnEnd) (flow : Flow) (c : Counters) → CountsTurns ts c → CountsTurns (ts ++ (end.turn, flow) ∷ []) (counted c end)
-CountsTurns-push ts end flow c h =
+pub AreTurnCounts-push : (ts : List Told) (end : TurnEnd) (flow : Flow) (c : Counters) → AreTurnCounts ts c → AreTurnCounts (ts ++ (end.turn, flow) ∷ []) (counted c end)
+AreTurnCounts-push ts end flow c h =
     let a = adds end.turn.kind (before_kind c end) in
     let t : Told = (end.turn, flow) in
     record {
@@ -108,7 +108,7 @@ counters_same : {a b c d e f g h i j k l m n a' b' c' d' e' f' g' h' i' j' k' l'
 counters_same p q r s t u v w x y z aa bb cc' = cc
 
 -- the counters at the end, where so many of the entries that were lowered are fresh
-pub AreCounters-closed : (batch : ℕ) (ts : List Told) (c : Counters) (unvisited fresh : ℕ) → CountsTurns ts c → fresh ≤ c.lowered
+pub AreCounters-closed : (batch : ℕ) (ts : List Told) (c : Counters) (unvisited fresh : ℕ) → AreTurnCounts ts c → fresh ≤ c.lowered
     → c.pops ≤ length ts → c.empty + c.busy ≤ c.pops → c.pushes ≤ lowered_in_all ts + length ts
     → (batch ≡ 1 → (c.pops ≡ length ts) × (c.pushes ≡ lowered_in_all ts) × (unvisited ≡ 0) × (fresh ≡ c.refused))
     → AreCounters batch ts (closed_by unvisited fresh c)
@@ -148,7 +148,7 @@ AreCounters-closed batch ts c unvisited fresh h few pops idle pushes one = recor
       (omega (arith, h.refused, o.2, o.3));
 }
 
-pub IsRoomy-few : (ts : List Told) (c : Counters) → CountsTurns ts c → length ts < 2 ^ 30 → lowered_in_all ts < 2 ^ 59 → c.pops ≤ length ts → c.pushes ≤ lowered_in_all ts + length ts → IsRoomy c
+pub IsRoomy-few : (ts : List Told) (c : Counters) → AreTurnCounts ts c → length ts < 2 ^ 30 → lowered_in_all ts < 2 ^ 59 → c.pops ≤ length ts → c.pushes ≤ lowered_in_all ts + length ts → IsRoomy c
 IsRoomy-few ts c h few low pops pushes =
     let count : (p : TurnKind → Bool) → count_kind p ts ≤ length ts = λ p. count_by-le-length (λ t. p t.0.kind) ts in
     record {

@@ -14,7 +14,7 @@ use Rattle.ea_engine.specs.declared.work_loop.WorkerEnd.{WorkerEnd}
 use Rattle.ea_engine.specs.Ends.{AreFresh, IsEndPlace}
 use Rattle.ea_engine.specs.Reports.{IsReport, AreReports}
 use Rattle.ea_engine.specs.Rowed.{all_done, IsFirstEnd, IsSeeded, AreSeated, IsDoneRow}
-use Rattle.ea_engine.specs.Rows.{IsReady, IsReadyRow, IsRun, IsRunRow, IsSeatedRow}
+use Rattle.ea_engine.specs.Rows.{MayStart, IsReadyRow, IsRun, IsRunRow, IsSeatedRow}
 use Rattle.ea_limits.specs.declared.TheConstants.{SHARES}
 use Rattle.ea_engine.specs.Tallies.{busy_by_all, empty_by_all}
 use Rattle.ea_limits.specs.declared.TheConstants.{MOST_BATCH}
@@ -162,7 +162,7 @@ module _ {K R T E : Type 0} (problem : Problem) (tables : Tables)
       → IsReadyRow tables callable row
   ready_row callable rngs tracers row rng tracer seeded waiting a may few k d lt =
       let seats = get_or (a.main ∷ a.fresh) k a.main in
-      subst (λ p. IsReady tables callable p) (sym (a.seated k a.main rng tracer d lt)) (
+      subst (λ p. MayStart tables callable p) (sym (a.seated k a.main rng tracer d lt)) (
         fits k (omega (arith, lt, a.length_is)),
         may k tracer (omega (arith, lt, few)),
       )

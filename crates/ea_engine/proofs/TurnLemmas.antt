@@ -32,7 +32,7 @@ use Rattle.ea_limits.specs.declared.TheConstants.{SHARES}
 use Rattle.ea_pool.specs.Pools.{SameBooks}
 use Rattle.ea_engine.specs.Turns.{is_busy, is_idle, is_refused, IsShaped, visited_as}
 use Rattle.ea_engine.specs.Closed.{entry_at, IsClosedAs, IsFreshAs}
-use Rattle.ea_engine.specs.Holds.{IsVisit, Took, ComeInOrder}
+use Rattle.ea_engine.specs.Holds.{IsVisit, TookSome, ComeInOrder}
 use Rattle.ea_engine.specs.Worked.{Kit, kit, Progress, IsTurn, IsBrokenAs, IsLeftAs, IsFirstLeft, IsLoneAs, IsPoppingAs}
 use Rattle.ea_engine.proofs.ProgressLemmas.{Progress-idle, Progress-took, Progress-then, Progress-beside}
 
@@ -141,7 +141,7 @@ pub took_by : (known : ℕ → ℕ → Type 0) (kind : HeapKind) (reply : Popped
     → old.items ≡ []
     → MatchSome reply ((pops : PopsSome known kind most old.items mid.items a b (λ out. TookLesser kind i j out seen last) last) × IsLowest kind heaps (min pops.took.x pops.took.y) pops.out a) (SameBooks a b × (mid ≡ old)) (SameBooks a b × (mid ≡ old))
     → new.items ≡ reverse mid.items
-    → MatchSome reply (Took known kind heaps most new.items a b) (SameBooks a b × (new.items ≡ [])) (SameBooks a b × (new.items ≡ []))
+    → MatchSome reply (TookSome known kind heaps most new.items a b) (SameBooks a b × (new.items ≡ [])) (SameBooks a b × (new.items ≡ []))
 took_by known kind reply.Entries heaps most i j old mid new a b seen last none h turned = record {
   out = h.0.out;
   turned = turned ∙ ap reverse (h.0.brought ∙ ap (λ xs. xs ++ h.0.out) none);
@@ -158,7 +158,7 @@ took_by known kind reply.Empty heaps most i j old mid new a b seen last none h t
 took_by known kind reply.Busy heaps most i j old mid new a b seen last none h turned = (h.0, turned ∙ ap reverse (ap (λ (v : ArrayVec Entry). v.items) h.1 ∙ none))
 
 -- there is one to be visited
-pub took_some : (known : ℕ → ℕ → Type 0) (kind : HeapKind) (heaps most : ℕ) (taken : List Entry) (a b : Account) → Took known kind heaps most taken a b → 0 < length taken
+pub took_some : (known : ℕ → ℕ → Type 0) (kind : HeapKind) (heaps most : ℕ) (taken : List Entry) (a b : Account) → TookSome known kind heaps most taken a b → 0 < length taken
 took_some known kind heaps most taken a b t = omega (arith, t.some, ap length t.turned, length-reverse t.out)
 
 -- the first one of what a pop brought is visited first
@@ -171,7 +171,7 @@ face_above e [] least low = low
 face_above e (x ∷ es) least low = omega (arith, least.0.0, face_above e es least.1 low)
 
 -- so it is the least that a seat with all shares has left
-least_out : (known : ℕ → ℕ → Type 0) (kind : HeapKind) (heaps most : ℕ) (taken rest : List Entry) (a b : Account) (e : Entry) (t : Took known kind heaps most taken a b)
+least_out : (known : ℕ → ℕ → Type 0) (kind : HeapKind) (heaps most : ℕ) (taken rest : List Entry) (a b : Account) (e : Entry) (t : TookSome known kind heaps most taken a b)
     → taken ≡ rest ++ e ∷ [] → e.key ≤ EMPTY → a.shares ≡ SHARES → heaps ≡ 2 → IsFirstLeft kind e a
 least_out known Buckets heaps most taken rest a b e t next low whole two =
     let is = out_is taken t.out rest e t.turned next in
@@ -251,7 +251,7 @@ module _ {kind : HeapKind} (problem : Problem) (batch heaps : ℕ) where
 
   -- a turn that popped entries and visited one of them
   pub IsTurn-popped : (known : ℕ → ℕ → Type 0) (r : SeatRecord) (a b : Account) (w u : Stream) (taken taken' fresh : List Entry) (to : Kit) (n : ℕ) (end : TurnEnd)
-      → taken ≡ [] → (t : Took known kind heaps batch taken' a b) → u ≡ after_words 2 w → ((node time : ℕ) → known node time → time ≤ EMPTY)
+      → taken ≡ [] → (t : TookSome known kind heaps batch taken' a b) → u ≡ after_words 2 w → ((node time : ℕ) → known node time → time ≤ EMPTY)
       → (v : IsVisit problem batch (kit r b u taken' fresh) to n end)
       → IsTurn problem kind batch heaps (kit r a w taken fresh) to n (record { turn = end.turn; broken = end.broken; pops = 1; pushes = end.pushes })
   IsTurn-popped known r a b w u taken taken' fresh to n end none t d within v =

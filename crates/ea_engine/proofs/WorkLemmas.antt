@@ -33,14 +33,14 @@ use Rattle.ea_limits.specs.declared.TheConstants.{SHARES}
 use Rattle.ea_pool.specs.Entries.{only}
 use Rattle.ea_pool.specs.Kinds.{HeapKind, Least, Buckets}
 use Rattle.ea_pool.specs.Pools.{NothingLeft, IsLeft}
-use Rattle.ea_engine.specs.Turns.{Told, IsShaped, IsShapedAs, IsWorkDone, is_ended, idle_run, ends_worker, is_empty, is_busy, is_idle, is_leave, is_refused, counted, closed_by, CountsTurns, count_kind, lowered_in_all, visited_as, visited_in, visited_in_all, visited_count, IsRoomy}
+use Rattle.ea_engine.specs.Turns.{Told, IsShaped, IsShapedAs, IsWorkDone, is_ended, idle_run, ends_worker, is_empty, is_busy, is_idle, is_leave, is_refused, counted, closed_by, AreTurnCounts, count_kind, lowered_in_all, visited_as, visited_in, visited_in_all, visited_count, IsRoomy}
 use Rattle.ea_engine.specs.Closed.{entry_at, entry_of, IsClosedAs, IsClosedTurn, IsFreshAs, IsFreshTurn}
 use Rattle.ea_engine.specs.Holds.{IsVisit}
 use Rattle.ea_engine.specs.Worked.{Kit, kit, OnlySaw, Progress, IsTurn, IsWork, IsBrokenAs, IsLeftAs, IsFirstLeft, IsLoneAs, IsPoppingAs, AreInside}
 use Rattle.ea_engine.proofs.Multisets.{same_length}
 use Rattle.ea_engine.proofs.ProgressLemmas.{Progress-none, Progress-saw, Progress-then}
 use Rattle.ea_engine.proofs.BoundLemmas.{IsStale-more, IsScanned-more, IsCut-more}
-use Rattle.ea_engine.proofs.CounterLemmas.{index_push, count_push, visited_count_push, lowered_push, CountsTurns-push, pops_push, pushes_push, AreCounters-closed, IsRoomy-few}
+use Rattle.ea_engine.proofs.CounterLemmas.{index_push, count_push, visited_count_push, lowered_push, AreTurnCounts-push, pops_push, pushes_push, AreCounters-closed, IsRoomy-few}
 
 some_one : (o : Option Entry) → IsSome o → length (option_to_list o) ≡ 1
 some_one None h = absurd (false≢true h)
@@ -229,7 +229,7 @@ module _ (problem : Problem) where
       pub ended_is : is_ended turns ≡ ended
       pub few : lowered_in_all turns ≤ number * 2 ^ 28
       pub shown : FoldsTo (λ p t q. shows p t.0 t.1 q) tracer turns tracer'
-      pub counted : CountsTurns turns counters
+      pub counted : AreTurnCounts turns counters
       pub pops_few : counters.pops ≤ length turns
       pub idle_pops : counters.empty + counters.busy ≤ counters.pops
       pub pushes_few : counters.pushes ≤ lowered_in_all turns + length turns
@@ -251,7 +251,7 @@ module _ (problem : Problem) where
       pub stays_empty : pace.batch ≡ 1 → from.account.shares ≡ SHARES → heaps ≡ 2 → (i : ℕ) (d : Told) → i < length turns → 0 < count_kind is_empty (take i turns) → is_empty (get_or turns i d).0.kind ≡ true
       pub empty_so_far : pace.batch ≡ 1 → from.account.shares ≡ SHARES → heaps ≡ 2 → 0 < count_kind is_empty turns → NothingLeft to.account
 
-    pub SoFar-start : (k : Kit) (pace : Pace) (tracer : T) (counters : Counters) (broken : Option Entry) → CountsTurns [] counters → counters.pops ≡ 0 → counters.pushes ≡ 0 → broken ≡ None
+    pub SoFar-start : (k : Kit) (pace : Pace) (tracer : T) (counters : Counters) (broken : Option Entry) → AreTurnCounts [] counters → counters.pops ≡ 0 → counters.pushes ≡ 0 → broken ≡ None
         → k.taken ≡ [] → k.fresh ≡ [] → 1 ≤ pace.batch
         → SoFar k k pace tracer tracer counters broken 0 0 false
     SoFar-start k pace tracer counters broken zeros pops pushes nothing taken fresh some = record {
@@ -323,8 +323,8 @@ module _ (problem : Problem) where
       pushes_now : counters'.pushes ≡ counters.pushes + end.pushes
       pushes_now = ap (λ (c : Counters). c.pushes) counts ∙ pushes_push end counters
 
-      counted_now : CountsTurns (h.turns ++ (end.turn, flow) ∷ []) counters'
-      counted_now = subst (λ (c : Counters). CountsTurns (h.turns ++ (end.turn, flow) ∷ []) c) (sym counts) (CountsTurns-push h.turns end flow counters h.counted)
+      counted_now : AreTurnCounts (h.turns ++ (end.turn, flow) ∷ []) counters'
+      counted_now = subst (λ (c : Counters). AreTurnCounts (h.turns ++ (end.turn, flow) ∷ []) c) (sym counts) (AreTurnCounts-push h.turns end flow counters h.counted)
 
       refused_now : count_kind is_refused (h.turns ++ (end.turn, flow) ∷ []) ≡ cond (is_refused end.turn.kind) 1 0
       refused_now = count_push is_refused h.turns (end.turn, flow) ∙ ap (λ n. n + cond (is_refused end.turn.kind) 1 0) none_refused ∙ zero-add _

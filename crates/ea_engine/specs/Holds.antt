@@ -24,7 +24,7 @@ ComeInOrder Buckets entries = Unit {0}
 -- A pop from so many heaps of a kind brought known entries, at least one and at most so many, which stand with the first one
 -- last. A seat with all shares pops what was left, and of two heaps the least of it; or with buckets, under a word that no key
 -- that is left is below.
-pub record Took (known : ℕ → ℕ → Type 0) (kind : HeapKind) (heaps most : ℕ) (taken : List Entry) (before after : Account) : Type 0 where
+pub record TookSome (known : ℕ → ℕ → Type 0) (kind : HeapKind) (heaps most : ℕ) (taken : List Entry) (before after : Account) : Type 0 where
   pub out : List Entry
   pub turned : taken ≡ reverse out
   pub some : 0 < length out

@@ -12,7 +12,7 @@ use Rattle.ea_engine.specs.Opened.{AreOffered}
 use Rattle.ea_engine.specs.Problems.{Problem}
 use Rattle.ea_engine.specs.Rows.{IsSeatedRow}
 use Rattle.ea_engine.specs.Seated.{Tables, AreSeatsOf}
-use Rattle.ea_engine.specs.Worked.{IsInside, hand_size}
+use Rattle.ea_engine.specs.Worked.{IsHandInside, hand_size}
 
 -- Workers that are done stand at each place.
 abbrev pub all_done : {K R T E : Type 0} → List (WorkerEnd K R T E) → List (Place K R T E)
@@ -38,7 +38,7 @@ module _ {K R T E : Type 0} (problem : Problem) (tables : Tables) where
   pub record IsFirstEnd (seeded : ℕ) (waiting : List ℕ) (end : WorkerEnd K R T E) : Type 0 where
     pub fit : AreSeatsOf tables end.label_seat end.pool_seat
     pub handed : IsHanded problem end.label_seat.history end.pool_seat.account end.hand waiting
-    pub inside : IsInside problem.network end.hand
+    pub inside : IsHandInside problem.network end.hand
     pub offered : AreOffered problem.query.sources end.label_seat.history
     pub pushed_is : length end.pool_seat.account.pushed ≡ seeded + end.counters.pushed
     pub pushed_few : end.counters.pushed ≤ 2 ^ 62

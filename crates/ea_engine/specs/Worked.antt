@@ -73,7 +73,7 @@ abbrev pub AreInside : Roads → List Entry → Type 0
 AreInside roads entries = (entry : Entry) → Contains entries entry → IsNode roads.nodes entry.node
 
 -- the entries that a worker hands back are at nodes of the network
-pub record IsInside (roads : Roads) (hand : Hand) : Type 0 where
+pub record IsHandInside (roads : Roads) (hand : Hand) : Type 0 where
   pub popped : IfSome hand.popped (λ entry. IsNode roads.nodes entry.node)
   pub taken : AreInside roads hand.taken.items
   pub fresh : AreInside roads hand.fresh.items
@@ -153,7 +153,7 @@ module _ (problem : Problem) where
       pub closed : All (λ t. IsClosedTurn problem to.labels.bounds (option_to_list hand.popped) t.0) turns
       pub fresh : All (λ t. IsFreshTurn problem.query.target from.labels.bounds t.0) turns
       pub hand_popped : (entry : Entry) → Contains (option_to_list hand.popped) entry → Contains (visited_in_all turns) entry
-      pub hand_inside : IsInside problem.network hand
+      pub hand_inside : IsHandInside problem.network hand
       pub hand_few : hand_size hand ≤ 2 * pace.batch
       pub unvisited_is : counters.unvisited ≡ array_vec_len hand.taken
       pub returned_is : counters.returned ≡ hand_size hand

@@ -3,7 +3,7 @@ ghost use Rattle.ea_limits.specs.declared.TheConstants.{MOST_WORKERS};
 ghost use Rattle.ea_engine.specs.Grounds.{IsGround, tables_of};
 ghost use Rattle.ea_engine.specs.Limits.{IsPace};
 ghost use Rattle.ea_engine.specs.Parts.{AllFrom, AllPairsFrom};
-ghost use Rattle.ea_engine.specs.Rows.{IsReady, IsRun, IsReadyRow, IsRunRow};
+ghost use Rattle.ea_engine.specs.Rows.{MayStart, IsRun, IsReadyRow, IsRunRow};
 
 use crate::gate::Gate;
 use crate::ground::Ground;
@@ -44,7 +44,7 @@ pub fn run_place<
     F: FnMut(Turn) -> Flow + Drop,
 >(ground: &Ground<'_, K, T, E>, worker: u32, pace: Pace, gate: &G, place: &mut Place<K, R, F, E>)
     requires ground { IsGround K.is_known K.problem T.answers T.classes ground.now }
-    requires ready { IsReady (tables_of ground.now) F.IsAlwaysCallable place.old }
+    requires ready { MayStart (tables_of ground.now) F.IsAlwaysCallable place.old }
     requires pace { IsPace pace }
     ensures run { IsRun K.problem (tables_of ground.now) R.stream F.step pace place.old place.new }
 {
@@ -73,7 +73,7 @@ pub fn run_workers<
     let run_one = |start: usize, part: &mut [Place<K, R, F, E>]|
         requires { (length part.now ≡ 1) × (start < 2 ^ 32) × IsPace pace
             × IsGround K.is_known K.problem T.answers T.classes ground.now
-            × AllFrom (λ _ place. IsReady (tables_of ground.now) F.IsAlwaysCallable place) start part.now }
+            × AllFrom (λ _ place. MayStart (tables_of ground.now) F.IsAlwaysCallable place) start part.now }
         ensures { AllPairsFrom (λ _ before after.
             IsRun K.problem (tables_of ground.entry.now) R.stream F.step pace before after)
             start part.entry.now part.exit.now }

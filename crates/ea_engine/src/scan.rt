@@ -7,7 +7,7 @@ ghost use Rattle.ea_engine.specs.Grounds.{IsGround, tables_of};
 ghost use Rattle.ea_engine.specs.Seated.{AreSeatsOf, kit_of};
 ghost use Rattle.ea_engine.specs.Closed.{IsFollowed, IsScanned};
 ghost use Rattle.ea_engine.specs.Worked.{Progress};
-ghost use Rattle.ea_engine.specs.Scans.{is_refused, lowered_by, pushes_by, IsLeft};
+ghost use Rattle.ea_engine.specs.Scans.{stops_scan, lowered_by, pushes_by, LeavesFew};
 
 use crate::ground::Ground;
 use crate::means::Means;
@@ -59,7 +59,7 @@ pub fn follow<K: Known + Posed, E: EntryHeap, T: TravelTimes, R: Rng>(
     ensures fresh { AreKnown K.is_known fresh.new.items }
     ensures progress { Progress (kit_of R.stream means.old [] fresh.old.items)
         (kit_of R.stream means.new [] fresh.new.items) [] (pushes_by result) (lowered_by result) }
-    ensures left { IsLeft (is_refused result) batch (array_vec_len fresh.new) }
+    ensures left { LeavesFew (stops_scan result) batch (array_vec_len fresh.new) }
     ensures one { batch ≡ 1 → pushes_by result ≡ lowered_by result }
     ensures spent { IsFollowed K.problem means.new.label_seat.history.bounds entry.key arc }
 {
@@ -108,7 +108,7 @@ pub fn scan_entry<K: Known + Posed, E: EntryHeap, T: TravelTimes, R: Rng>(
     ensures fresh { AreKnown K.is_known fresh.new.items }
     ensures progress { Progress (kit_of R.stream means.old [] fresh.old.items)
         (kit_of R.stream means.new [] fresh.new.items) [] result.pushes result.lowered }
-    ensures left { IsLeft result.refused batch (array_vec_len fresh.new) }
+    ensures left { LeavesFew result.refused batch (array_vec_len fresh.new) }
     ensures scanned { result.refused ≡ false
         → IsScanned K.problem means.new.label_seat.history.bounds entry }
     ensures refused { result.refused ≡ true → 0 < result.lowered }

@@ -9,7 +9,7 @@ ghost use Rattle.ea_pool.specs.Seats.{account_of, heaps_of, IsSeatOf};
 ghost use Rattle.ea_pool.specs.Tries.{LookedAt, TookLesser, WasBusy};
 ghost use Rattle.ea_pool.specs.declared.words.TheConstants.{EMPTY};
 ghost use Rattle.ea_engine.specs.Grounds.{IsGround, tables_of};
-ghost use Rattle.ea_engine.specs.Holds.{IsVisit, Took};
+ghost use Rattle.ea_engine.specs.Holds.{IsVisit, TookSome};
 ghost use Rattle.ea_engine.specs.Looks.{first_heap, second_heap, SawAs};
 ghost use Rattle.ea_engine.specs.Seated.{AreSeatsOf, kit_of, kit_with};
 ghost use Rattle.ea_engine.specs.Turns.{is_refused};
@@ -54,7 +54,7 @@ fn pop_drawn<K: Known, E: EntryHeap, R: Rng>(
     requires most { (0 < most) × (most ≤ MOST_BATCH) }
     ensures pool_seat { IsSeatOf pool.now pool_seat.new }
     ensures popped { MatchSome result
-        (Took K.is_known E.kind (heaps_of pool.now) most taken.new.items
+        (TookSome K.is_known E.kind (heaps_of pool.now) most taken.new.items
         (account_of pool_seat.old) (account_of pool_seat.new))
         (SameBooks (account_of pool_seat.old) (account_of pool_seat.new) × (taken.new.items ≡ []))
         (SameBooks (account_of pool_seat.old) (account_of pool_seat.new) × (taken.new.items ≡ [])) }
