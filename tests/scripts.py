@@ -1,10 +1,13 @@
-"""The scripts of tools/ on the examples: parts of many sources, whose reports one after the other are the report of the whole,
-and the picture of arrivals, which has a dot for each node and a line for each arc that a walk takes."""
+"""The scripts of tools/ on the examples: parts of many sources, whose reports one after the other are the report of the whole; the
+picture of arrivals, which has a dot for each node and a line for each arc that a walk takes; and the latest departure, in time by a plain
+search, where one unit later is late."""
 import os
 import re
 import subprocess
 import sys
 import tempfile
+
+import commuter_network
 
 HERE = os.path.dirname(os.path.abspath(__file__))
 EXAMPLES = os.path.join(HERE, "..", "examples")
@@ -51,6 +54,23 @@ def picture(program, room):
     yield "a picture of arrivals and walks", (made.returncode, made.stderr, dots, paths), (0, b"", 2025, [roads, len(arcs)])
 
 
+def departure(program):
+    """The latest departures from home to work in the commuter town, and where no departure is in time."""
+    texts = {}
+    for name in ("commuter.gr", "commuter.tp"):
+        with open(os.path.join(EXAMPLES, name), encoding="ascii") as text:
+            texts[name] = text.read()
+    town = commuter_network.network(texts)
+    for wished in (600, 28000, 30600, 86400):
+        ran = script("latest.py", "commuter.gr", "225", "236", str(wished), "--tp", "commuter.tp", "--program", program)
+        leave, arrive = (int(it) for it in re.findall(rb"\d+", ran.stdout))
+        now, later = (commuter_network.Search(town, 225, leave + more).least[236] for more in (0, 1))
+        yield f"the latest departure for {wished}", (ran.returncode, ran.stderr, arrive == now, now <= wished < later), (0, b"", True, True)
+    for target, wished, why in (("4", "5", b"no departure arrives at 4 by 5\n"), ("9", "5", b"earliest: p2p 2: 6 OutOfRange\n")):
+        ran = script("latest.py", "four-nodes.gr", "1", target, wished, "--program", program)
+        yield f"no departure to {target} by {wished}", (ran.returncode, ran.stdout, ran.stderr), (1, b"", why)
+
+
 def results(program):
     with tempfile.TemporaryDirectory(prefix="scripts-") as room:
-        return [*parts(program, room), *picture(program, room)]
+        return [*parts(program, room), *picture(program, room), *departure(program)]
