@@ -3,8 +3,9 @@
 # `make lib` builds the library for C, C++ and Python (lib/), and puts it beside the Python package. `make install PREFIX=..` installs
 # the program, its man page, the completions of bash, zsh and fish, the library, its headers and its pkg-config file.
 # `make try` runs the program with no proof, within about a minute. `make part CRATES="ea_input"` runs the gate of some crates
-# and of those that they stand on, with ABOVE=1 also of those that stand on them.
-.PHONY: all lib run try test part cases install clean
+# and of those that they stand on, with ABOVE=1 also of those that stand on them. `make bench` measures the program in bin/ beside its
+# peers on networks of up to 10^6 nodes, with SIZE=large up to 10^7, and writes bench/results/ and docs/performance.md.
+.PHONY: all lib run try test part cases bench install clean
 
 PREFIX ?= /usr/local
 
@@ -29,6 +30,10 @@ part:
 
 cases: all
 	python3 tests/run.py bin/earliest
+
+bench:
+	@test -x bin/earliest || $(MAKE) all
+	python3 bench/bench.py $(if $(filter large,$(SIZE)),--large)
 
 install: all lib
 	install -D bin/earliest $(DESTDIR)$(PREFIX)/bin/earliest

@@ -1,10 +1,12 @@
 //! Road-like test inputs. One file, stock Rust: `rustc -O generate.rs`.
 //!
-//! `generate ARCS OUT [plain|odd] [seed]` writes OUT.gr, OUT.ss, OUT.tp and OUT.co: a grid of nodes
+//! `generate ARCS OUT [plain|odd|patterns] [seed]` writes OUT.gr, OUT.ss, OUT.tp and OUT.co: a grid of nodes
 //! with about 2.5 arcs a node, both ways along streets, with weights like travel times, some missing
 //! streets and some fast roads; up to 100 sources; 16 kinds of timetable, given to a third of the
 //! arcs; and where each node lies, 1,000 units from its neighbours but for a little. `odd` writes the
-//! same texts with tabs, carriage returns, runs of blanks and comments.
+//! same texts with tabs, carriage returns, runs of blanks and comments. `patterns` writes the same texts as `plain`, and beside
+//! them OUT.patterns.tp, in which a third of the arcs have one of 200 traffic patterns of 96 steps: the speed of each quarter of
+//! an hour in a day with a rush in the morning and one in the evening, where a unit of time is a hundredth of a second.
 use std::fs::File;
 use std::io::{BufWriter, Result, Write};
 
@@ -52,6 +54,34 @@ impl Style {
     }
 }
 
+/// How much of the full speed a rush takes away at a time, in thousandths: most in its middle, nothing from an end of it on.
+fn lost(time: u64, middle: u64, half: u64, most: u64) -> u64 {
+    most - (most * time.abs_diff(middle) / half).min(most)
+}
+
+/// Writes 200 classes of speeds, and which arcs have them.
+fn patterns(base: &str, arcs: u64, mut words: Words) -> Result<()> {
+    const CLASSES: u64 = 200;
+    const STEPS: u64 = 96;
+    let given: Vec<(u64, u64)> =
+        (1..=arcs).filter_map(|e| if words.below(3) == 0 { Some((e, words.below(CLASSES) + 1)) } else { None }).collect();
+    let mut tp = BufWriter::with_capacity(1 << 20, File::create(format!("{base}.patterns.tp"))?);
+    writeln!(tp, "p tp {CLASSES} {}", given.len())?;
+    for j in 1..=CLASSES {
+        writeln!(tp, "k {j} speeds 8640000 {STEPS}")?;
+        // In steps: a rush round eight and one round half past five, each of one to three hours to either side.
+        let rushes = [32, 70].map(|middle| (middle - 3 + words.below(7), 4 + words.below(9), 200 + words.below(500)));
+        for step in 0..STEPS {
+            let lost: u64 = rushes.iter().map(|(middle, half, most)| lost(step, *middle, *half, *most)).sum();
+            writeln!(tp, "v {} {}", 90_000 * step, 1000 - lost - words.below(50))?;
+        }
+    }
+    for (e, j) in &given {
+        writeln!(tp, "t {e} {j}")?;
+    }
+    tp.flush()
+}
+
 fn grid(arcs: u64) -> (u64, u64) {
     let nodes = (arcs as f64 / 2.5).max(1.0);
     let width = nodes.sqrt().ceil() as u64;
@@ -62,7 +92,9 @@ fn main() -> Result<()> {
     let args: Vec<String> = std::env::args().collect();
     let want: u64 = args[1].parse().expect("a number of arcs");
     let base = &args[2];
-    let odd = args.get(3).map(String::as_str) == Some("odd");
+    let style = args.get(3).map(String::as_str);
+    let odd = style == Some("odd");
+    let with_patterns = style == Some("patterns");
     let seed: u64 = args.get(4).map_or(1, |s| s.parse().expect("a seed"));
     let mut words = Words(seed);
     let mut style = Style { odd, words: Words(seed ^ 0xABCD) };
@@ -152,5 +184,6 @@ fn main() -> Result<()> {
             writeln!(tp, "t {e} {j}")?;
         }
     }
-    tp.flush()
+    tp.flush()?;
+    if with_patterns { patterns(base, arcs.len() as u64, Words(seed ^ 0x7A77)) } else { Ok(()) }
 }

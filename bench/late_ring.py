@@ -32,4 +32,5 @@ def main():
         file.write("p aux sp ss 1\ns 1\n")
 
 
-main()
+if __name__ == "__main__":
+    main()

@@ -1,0 +1,134 @@
+"""Measures the program beside its peers and writes bench/results/*.csv, docs/performance.md and its pictures.
+
+    python3 bench/bench.py [--large] [--rounds N] [--nodes N ..] [--no-traps] [--scratch FOLDER]
+
+`make bench` builds the program and calls this. Networks have 10^4, 10^5 and 10^6 nodes, with --large 10^7 too.
+"""
+import argparse
+import os
+import platform
+import subprocess
+import sys
+import time
+
+sys.dont_write_bytecode = True
+import page
+import programs
+import python_search
+import traps
+import workspace
+from measure import Turns, written
+
+THREADS = (1, 2, 4)
+
+
+def first_line(words):
+    """The first line that a program prints, or that it isn't there."""
+    try:
+        return subprocess.run(words, capture_output=True, text=True).stdout.split("\n")[0].strip() or "unknown"
+    except OSError:
+        return "not there"
+
+
+def field_of(file, name):
+    """The value of the first line `name : value` of a file of the system."""
+    try:
+        with open(file, encoding="ascii", errors="replace") as opened:
+            return next((line.split(":", 1)[1].strip() for line in opened if line.startswith(name)), "unknown")
+    except OSError:
+        return "unknown"
+
+
+def load():
+    return " ".join(f"{it:.2f}" for it in os.getloadavg())
+
+
+def machine(built, before):
+    """What a reader has to know of the machine and of the run."""
+    return [
+        ("processor", field_of("/proc/cpuinfo", "model name")), ("processors", len(os.sched_getaffinity(0))),
+        ("memory", field_of("/proc/meminfo", "MemTotal")), ("system", f"{platform.system()} {platform.release()}"),
+        ("load before", before), ("load after", load()), ("date", time.strftime("%Y-%m-%d")),
+        ("program", first_line([programs.EARLIEST, "--version"])), ("kit", first_line(["rt", "version"])),
+        ("rustc", first_line(["rustc", "--version"])), ("g++", first_line(["g++", "--version"])),
+        ("left out", "; ".join(built.left_out) or "nothing"),
+    ]
+
+
+class Bench:
+    """The parts of the bench and the rows that they gave."""
+
+    def __init__(self, options):
+        self.options, self.rows = options, {}
+        self.built = programs.Programs(options.scratch)
+        self.networks = []
+
+    def turns(self, name, jobs, rounds, same=True):
+        begun = time.monotonic()
+        rows = Turns(jobs, rounds, self.built.measure, same).run()
+        self.rows.setdefault(name, []).extend(rows)
+        written(name, self.rows[name])
+        print(f"{name}: {jobs[0].input}, {jobs[0].nodes} nodes, {rounds} rounds, {time.monotonic() - begun:.0f} s", flush=True)
+
+    def make(self):
+        for nodes in self.options.nodes:
+            network = programs.Network(self.built, nodes)
+            network.make_pairs(self.built, 10_000 if nodes >= 1_000_000 else 1_000, 1_000)
+            self.networks.append(network)
+        self.built.build_timing(self.networks[0])
+
+    def of_network(self, network):
+        rounds = self.options.rounds if network.nodes <= 1_000_000 else min(3, self.options.rounds)
+        for kind in ("plain", "timetables", "patterns"):
+            self.turns("whole", programs.whole(self.built, network, kind, THREADS), rounds)
+        if network.nodes <= 1_000_000:
+            self.turns("problems", programs.many(self.built, network, THREADS), min(3, rounds))
+        self.turns("pairs", programs.pairs(self.built, network, 10_000 if network.nodes >= 1_000_000 else 1_000), rounds)
+        self.check(network, rounds)
+
+    def check(self, network, rounds):
+        report = self.built.at("checked.report")
+        words, _ = network.words("timetables")
+        with open(report, "wb") as file:
+            words = [programs.EARLIEST, "run", network.gr, network.one, *words, "--depart", str(programs.DEPART)]
+            subprocess.run(words, stdout=file, check=True)
+        self.turns("check", programs.checks(self.built, network, report), rounds, same=False)
+        os.remove(report)
+
+    def python(self):
+        """The package in Python, where the library is built, on the largest network up to 10^6 nodes."""
+        if not python_search.is_there():
+            self.built.left_out.append("the Python package (make lib builds it)")
+            return
+        network = max((it for it in self.networks if it.nodes <= 1_000_000), key=lambda it: it.nodes)
+        rows = python_search.measured(network, self.built, self.options.rounds)
+        written("python", rows, python_search.FIELDS)
+        print("python: done", flush=True)
+
+
+def main():
+    words = argparse.ArgumentParser(description=__doc__.split("\n")[0])
+    words.add_argument("--large", action="store_true")
+    words.add_argument("--rounds", type=int, default=5)
+    words.add_argument("--nodes", type=int, nargs="+", default=[10_000, 100_000, 1_000_000])
+    words.add_argument("--no-traps", action="store_true")
+    words.add_argument("--scratch", default=workspace.SCRATCH)
+    options = words.parse_args()
+    options.nodes += [10_000_000] if options.large else []
+    if not os.access(programs.EARLIEST, os.X_OK):
+        sys.exit("bin/earliest isn't there: run make first")
+    before, begun = load(), time.monotonic()
+    bench = Bench(options)
+    bench.make()
+    for network in bench.networks:
+        bench.of_network(network)
+    bench.python()
+    if not options.no_traps:
+        traps.measured(options.scratch, 60, min(3, options.rounds))
+    written("machine", machine(bench.built, before), ("name", "value"))
+    page.main()
+    print(f"docs/performance.md is written, after {time.monotonic() - begun:.0f} s")
+
+
+if __name__ == "__main__":
+    main()

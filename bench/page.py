@@ -1,0 +1,239 @@
+"""Writes docs/performance.md and its pictures from bench/results/*.csv: python3 bench/page.py"""
+import os
+import sys
+
+sys.dont_write_bytecode = True
+import plots
+from measure import rows_of, spread
+from programs import BASE, ROOT
+
+PICTURES = os.path.join(ROOT, "docs", "pictures")
+KINDS = {"plain": "plain weights", "timetables": "timetables", "patterns": "traffic patterns"}
+OURS = "earliest"
+
+
+def groups(rows, field, ours_alone=False):
+    """The spread of a field by (input, nodes, problems) and (program, threads), in the order of the rows."""
+    found = {}
+    for row in rows:
+        if row[field] != "":
+            at = row["input"], int(row["nodes"]), int(row["problems"])
+            found.setdefault(at, {}).setdefault((row["program"], int(row["threads"])), []).append(row[field])
+    return {at: {who: spread(values) for who, values in these.items()} for at, these in found.items()}
+
+
+def shown(found):
+    """Those of at least 10^5 nodes, or all where there are none: what is smaller is in the pictures alone."""
+    large = {at: these for at, these in found.items() if at[1] >= 100_000}
+    return (large or found).items()
+
+
+def is_ours(program):
+    return program.startswith(OURS)
+
+
+def seconds(value):
+    return f"{value:.4f}" if value < 0.1 else f"{value:.3f}" if value < 10 else f"{value:.1f}"
+
+
+def table(title, these, base, memory=None):
+    """A table of programs: least, middle, greatest seconds, and the ratio of the middle times; and what is quicker than ours."""
+    out = [f"**{title}**", "", "| program | threads | least s | middle s | greatest s | beside the base |" + (" memory MB |" if memory else ""),
+           "|---|---|---|---|---|---|" + ("---|" if memory else "")]
+    for (program, threads), found in sorted(these.items(), key=lambda it: it[1].middle):
+        name = f"**{program}**" if is_ours(program) else program
+        ratio = f"{found.middle / base.middle:.2f}" if base else ""
+        cells = [name, str(threads), seconds(found.least), seconds(found.middle), seconds(found.greatest), ratio]
+        if memory:
+            peak = memory.get((program, threads))
+            cells.append(f"{peak.middle / 1024:.0f}" if peak else "")
+        out.append("| " + " | ".join(cells) + " |")
+    return [*out, "", *lost(these), ""]
+
+
+def lost(these):
+    """Which programs are quicker than ours with as many threads."""
+    best = {}
+    for (program, threads), found in these.items():
+        if is_ours(program):
+            best[threads] = min(found.middle, best.get(threads, found.middle))
+    quicker = [f"{program} with {count(threads, 'thread')} ({best[threads] / found.middle:.2f} times as fast)"
+               for (program, threads), found in these.items()
+               if not is_ours(program) and threads in best and best[threads] > 1.005 * found.middle]
+    return [f"Quicker than ours with as many threads: {', '.join(quicker)}."] if quicker else ["No other program is quicker with as many threads."]
+
+
+def count(number, word):
+    return f"{number:,} {word}" + ("" if number == 1 else "s")
+
+
+def machine():
+    """What is known of the machine and of the run, by name."""
+    return {row["name"]: row["value"] for row in rows_of("machine")}
+
+
+def head(about):
+    out = ["# How fast is it?", "",
+           "This page and its pictures are written by `make bench` (`bench/page.py`) from `bench/results/*.csv`, which have each round of each "
+           "program. `make bench SIZE=large` adds networks of 10^7 nodes.", "",
+           "All programs of a table run in turns, one after the other, as often as its heading tells; in each round another one begins. A whole run reads the "
+           "same files, solves the same problems and writes the same report into a file, and each report is compared byte for byte with the first "
+           "one's; of a run without reading and writing the sums of the arrivals are compared. A difference ends the bench with an error. The ratio is that of "
+           "the middle times, beside the base: Dijkstra's method with a binary heap, by hand in Rust, one thread (`bench/hand`). `earliest` reads "
+           "networks by as many threads as there are processors, whatever `--workers` says; the others read by one thread.", "",
+           "The networks are road-like grids with 2.5 arcs a node (`bench/generate.rs`). With timetables a third of the arcs have one of 16 kinds; with "
+           "traffic patterns a third have one of 200 classes of 96 speeds. Searches begin at node 1, or at random nodes where there are many.", ""]
+    out += ["| | |", "|---|---|"] + [f"| {name} | {value} |" for name, value in about.items()] + [""]
+    loads = [float(about.get(name, "0").split()[0]) for name in ("load before", "load after")]
+    if loads[0] > 1:
+        out += [f"**The machine did other work when the bench began (a load of {loads[0]}), so these figures are rough.**", ""]
+    return out
+
+
+def runs(rows, rounds):
+    """Whole runs and solving alone, for each input and size."""
+    whole, solving, memory = groups(rows, "seconds"), groups(rows, "solve_seconds"), groups(rows, "peak_kib")
+    out = ["## One problem, from files to a report", "",
+           "Reading, the index, one search and writing. igraph and scipy read and write by NumPy and Python; LEMON, Boost, igraph and scipy know plain weights only.", ""]
+    for at, these in shown(whole):
+        out += table(f"{at[1]:,} nodes, {KINDS[at[0]]}, {rounds(at)} rounds", these, these.get((BASE, 1)), memory[at])
+    out += ["![whole runs by nodes](pictures/time-by-nodes.svg)", "", "![memory by nodes](pictures/memory-by-nodes.svg)", "",
+            "## One search, without reading and writing", "",
+            "Ours are the proved engine's calls, timed by a proved program (`bench/several/program`), reports aside; the others tell their times themselves. By "
+            "one thread it is the search of one thread, by several two heaps a worker and batches of 32.", ""]
+    for at, these in shown(solving):
+        out += table(f"{at[1]:,} nodes, {KINDS[at[0]]}, {rounds(at)} rounds", these, these.get((BASE, 1)))
+    out += ["![searches by threads](pictures/time-by-threads.svg)", ""]
+    return out + patterns(solving)
+
+
+def patterns(solving):
+    """How much longer a search takes with traffic patterns, on the same network."""
+    out = []
+    for (kind, nodes, problems), these in shown(solving):
+        plain = solving.get(("plain", nodes, problems))
+        if kind == "patterns" and plain:
+            for (program, threads), found in these.items():
+                if (is_ours(program) or program == BASE) and (program, threads) in plain:
+                    ratio = found.middle / plain[program, threads].middle
+                    out.append(f"| {nodes:,} | {program} | {threads} | {ratio:.2f} |")
+    if not out:
+        return []
+    return ["**With traffic patterns beside plain weights.** The same network, the same source; the ratio of the middle times of the search alone.", "",
+            "| nodes | program | threads | patterns / plain |", "|---|---|---|---|", *out, ""]
+
+
+def problems(rows, rounds):
+    out = ["## 64 problems, so many at once", "",
+           "64 sources, with timetables: `earliest run --at-once N` beside N threads of programs by hand that take the next source each and "
+           "write the reports in their order. Ratios are to the base with one thread.", ""]
+    for at, these in shown(groups(rows, "seconds")):
+        out += table(f"{at[1]:,} nodes, {rounds(at)} rounds", these, these.get((BASE, 1)))
+    return [*out, "![64 problems by threads](pictures/time-by-problems.svg)", ""]
+
+
+def pairs(rows, rounds):
+    out = ["## Pairs", "", "Pairs whose search reaches about 1,000 nodes each, by hand with a stamp beside each label; whole runs, and solving alone.", ""]
+    whole, solving = groups(rows, "seconds"), groups(rows, "solve_seconds")
+    for at, _ in shown(solving):
+        title = f"{at[2]:,} pairs in {at[1]:,} nodes, {rounds(at)} rounds"
+        if at in whole:
+            out += table(f"{title}, whole runs", whole[at], whole[at].get((BASE, 1)))
+        out += table(f"{title}, solving alone", solving[at], solving[at].get((BASE, 1)))
+    return out
+
+
+def checks(rows, rounds):
+    out = ["## Checking and rank errors", "",
+           "`check` of a report of one problem beside searching again and comparing by hand, which trusts that search; `rank` records a run over eight heaps and "
+           "tells the rank error of each pop. The base is the one by hand.", ""]
+    for at, these in shown(groups(rows, "seconds")):
+        out += table(f"{at[1]:,} nodes, timetables, {rounds(at)} rounds", these, these.get(("search again and compare, by hand", 1)))
+    return out
+
+
+def embedded(rows):
+    """The Python package beside the program."""
+    if not rows:
+        return []
+    out = ["## From Python", "", "The package over the library for C (`bench/python_search.py`), with NumPy where it is there: searches and their arrays of arrivals, without reading. Middle "
+           "of the rounds.", "",
+           "| nodes | what | middle s | ratio | to |", "|---|---|---|---|---|"]
+    out += [f"| {int(row['nodes']):,} | {row['what']} | {float(row['seconds']):.4f} | {row['ratio']} | {row['to']} |" for row in rows]
+    return [*out, ""]
+
+
+def rings(rows):
+    """Networks that are hard for several workers."""
+    if not rows:
+        return []
+    out = ["## Hard shapes", "",
+           "Networks on which workers have little to do at once, or leave their work to one thread (`bench/traps.py`), with many settings: the worst of them beside "
+           "one worker, by the middle of the rounds, of whole runs.", "",
+           "| network | settings | one worker, s | worst, s | ratio | worst setting |", "|---|---|---|---|---|---|"]
+    out += [f"| {row['network']} | {row['settings']} | {row['one']} | {row['worst']} | {row['ratio']} | `{row['setting']}` |" for row in rows]
+    return [*out, ""]
+
+
+def drawn(name, *words):
+    """Writes a picture, where it has lines."""
+    text = plots.chart(*words)
+    if text:
+        os.makedirs(PICTURES, exist_ok=True)
+        with open(os.path.join(PICTURES, f"{name}.svg"), "w", encoding="utf-8") as file:
+            file.write(text)
+
+
+def lines_by_nodes(found, kind, scale=1.0):
+    """A line for each program and number of threads, over nodes."""
+    lines = {}
+    for (kind_of, nodes, _), these in found.items():
+        for (program, threads), value in these.items():
+            if kind_of == kind and threads in (1, 4):
+                lines.setdefault(f"{program}, {threads}", []).append((nodes, value.middle * scale))
+    return list(lines.items())
+
+
+def lines_by_threads(found, at):
+    lines = {}
+    for (program, threads), value in found.get(at, {}).items():
+        lines.setdefault(program, []).append((threads, value.middle))
+    return list(lines.items())
+
+
+def pictures(whole, many):
+    timed, memory, solving = groups(whole, "seconds"), groups(whole, "peak_kib"), groups(whole, "solve_seconds")
+    drawn("time-by-nodes", "Whole runs by nodes, plain weights (program, threads)", "nodes", "seconds", lines_by_nodes(timed, "plain"))
+    drawn("memory-by-nodes", "Greatest memory by nodes, plain weights (program, threads)", "nodes", "MB", lines_by_nodes(memory, "plain", 1 / 1024))
+    most = max((at[1] for at in solving if at[0] == "timetables"), default=0)
+    title = f"One search by threads, {most:,} nodes with timetables"
+    drawn("time-by-threads", title, "threads", "seconds", lines_by_threads(solving, ("timetables", most, 1)))
+    found = groups(many, "seconds")
+    most = max((at[1] for at in found), default=0)
+    title = f"64 problems by threads, {most:,} nodes with timetables"
+    drawn("time-by-problems", title, "problems at once", "seconds", lines_by_threads(found, ("timetables", most, 64)))
+
+
+def rounds_of(rows):
+    """How many rounds a group had."""
+    found = {}
+    for row in rows:
+        at = row["input"], int(row["nodes"]), int(row["problems"])
+        found[at] = max(found.get(at, 0), int(row["round"]))
+    return lambda at: found[at]
+
+
+def main():
+    whole, many, paired, checked = (rows_of(name) for name in ("whole", "problems", "pairs", "check"))
+    text = head(machine())
+    for part, rows in ((runs, whole), (problems, many), (pairs, paired), (checks, checked)):
+        if rows:
+            text += part(rows, rounds_of(rows))
+    text += embedded(rows_of("python")) + rings(rows_of("traps"))
+    pictures(whole, many)
+    with open(os.path.join(ROOT, "docs", "performance.md"), "w", encoding="utf-8") as file:
+        file.write("\n".join(text).rstrip() + "\n")
+
+
+if __name__ == "__main__":
+    main()

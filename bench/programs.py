@@ -1,0 +1,160 @@
+"""The programs of the bench: how they are built, and which words they are run with."""
+import os
+import shutil
+import subprocess
+import sys
+
+import workspace
+from measure import Job
+
+HERE = os.path.dirname(os.path.abspath(__file__))
+ROOT = os.path.dirname(HERE)
+EARLIEST = os.path.join(ROOT, "bin", "earliest")
+RUST = ["rustc", "--edition", "2024", "-C", "opt-level=3", "-C", "target-cpu=x86-64-v2", "-C", "codegen-units=1"]
+CPP = ["g++", "-O3", "-march=x86-64-v2", "-std=c++17", "-DNDEBUG"]
+DEPART = 2_520_000
+ALONE = {"heap": "binary heap, by hand", "radix": "radix heap, by hand", "buckets": "buckets, by hand"}
+SEVERAL = {"multiqueue": "MultiQueue of single entries, by hand", "multiqueue_of_buckets": "MultiQueue of buckets, by hand"}
+BASE = ALONE["heap"]
+
+
+def compiled(words):
+    """Whether a compiler made its program; what it says is shown where it fails."""
+    if shutil.which(words[0]) is None:
+        return False
+    ran = subprocess.run(words, stdout=subprocess.PIPE, stderr=subprocess.STDOUT, text=True)
+    return ran.returncode == 0
+
+
+def rust(name, scratch):
+    """Compiles bench/NAME.rs: the program."""
+    program = os.path.join(scratch, name.replace("/main", ""))
+    if not compiled([*RUST, os.path.join(HERE, f"{name}.rs"), "-o", program]):
+        sys.exit(f"bench/{name}.rs isn't compiled: rustc is needed")
+    return program
+
+
+def python_with(module):
+    """A Python that has a module and NumPy; None where none of those on the path has."""
+    for python in (sys.executable, "/usr/bin/python3", "python3"):
+        found = subprocess.run([python, "-c", f"import numpy, {module}"], stdout=subprocess.DEVNULL, stderr=subprocess.DEVNULL)
+        if shutil.which(python) and found.returncode == 0:
+            return python
+    return None
+
+
+class Programs:
+    """What was built in a scratch folder, and the names of what is left out, with the reason."""
+
+    def __init__(self, scratch):
+        self.scratch, self.left_out, self.peers = scratch, [], {}
+        os.makedirs(scratch, exist_ok=True)
+        self.generate, self.hand, self.measure = (rust(name, scratch) for name in ("generate", "hand/main", "measure"))
+        for name, package in (("LEMON", "liblemon-dev"), ("Boost", "libboost-graph-dev")):
+            if compiled([*CPP, os.path.join(HERE, "peers", f"{name.lower()}.cpp"), "-o", self.at(name)]):
+                self.peers[name] = [self.at(name)]
+            else:
+                self.left_out.append(f"{name} (g++ and the package {package} are needed)")
+        for name in ("scipy", "igraph"):
+            python = python_with(name)
+            if python:
+                self.peers[name] = [python, "-W", "ignore", os.path.join(HERE, "peers", "in_python.py"), name]
+            else:
+                self.left_out.append(f"{name} (the packages python3-{name} and python3-numpy are needed)")
+        self.several = self.pairs = None
+
+    def at(self, name):
+        return os.path.join(self.scratch, name)
+
+    def build_timing(self, network):
+        """The proved timing programs: the engine alone, without reading and writing."""
+        tell = lambda text: print(text[-2000:], file=sys.stderr)
+        words = [network.gr, network.tp("plain"), "0", "0", "2", "1", "32", "65536"]
+        self.several = workspace.built("several", self.scratch, words, tell)
+        self.pairs = workspace.built("pairs", self.scratch, [network.gr, network.pairs], tell)
+        if self.several is None or self.pairs is None:
+            self.left_out.append("the engine without reading and writing (the toolchain `rt` is needed)")
+
+
+class Network:
+    """A road-like network of about so many nodes, its timetables, sources and pairs, in files of the scratch."""
+
+    def __init__(self, programs, nodes):
+        self.nodes, self.base = nodes, programs.at(f"road{nodes}")
+        self.gr, self.one, self.many = f"{self.base}.gr", f"{self.base}.one.ss", f"{self.base}.many.ss"
+        self.pairs, self.none = f"{self.base}.p2p", programs.at("none.tp")
+        subprocess.run([programs.generate, str(nodes * 5 // 2), self.base, "patterns"], check=True)
+        with open(f"{self.base}.ss", encoding="ascii") as file:
+            sources = file.readlines()[1:65]
+        for name, lines in ((self.one, ["s 1\n"]), (self.many, sources), (self.none, None)):
+            with open(name, "w", encoding="ascii") as file:
+                file.writelines(["p tp 0 0\n"] if lines is None else [f"p aux sp ss {len(lines)}\n", *lines])
+
+    def make_pairs(self, programs, count, reach):
+        subprocess.run([programs.hand, "make_pairs", self.gr, self.pairs, str(count), str(reach)], check=True)
+
+    def tp(self, kind):
+        return {"plain": self.none, "timetables": f"{self.base}.tp", "patterns": f"{self.base}.patterns.tp"}[kind]
+
+    def words(self, kind):
+        """The words for timetables, for our program and for those by hand."""
+        return ([], "-") if kind == "plain" else (["--tp", self.tp(kind)], self.tp(kind))
+
+
+def whole(programs, network, kind, threads):
+    """Whole runs from one source: read, solve, write; and the engine alone."""
+    ours, tp = network.words(kind)
+    out, at = programs.at("out.report"), (kind, network.nodes)
+    by_hand = lambda method, count: [programs.hand, "run", method, network.gr, network.one, tp, str(DEPART), str(count), out]
+    jobs = [Job(*at, name, 1, 1, by_hand(method, 1), out) for method, name in ALONE.items()]
+    for count in threads:
+        words = [EARLIEST, "run", network.gr, network.one, *ours, "--depart", str(DEPART), "--workers", str(count)]
+        jobs.append(Job(*at, "earliest", count, 1, words, out, True))
+        jobs += [Job(*at, name, count, 1, by_hand(method, count), out) for method, name in SEVERAL.items()]
+        if programs.several:
+            # Where one worker is asked for the program searches by the engine of one thread, which is 0 here.
+            workers = str(count if count > 1 else 0)
+            words = [programs.several, network.gr, network.tp(kind), str(DEPART), workers, "2", "1", "32", "65536"]
+            jobs.append(Job(*at, "earliest, solving alone", count, 1, words))
+    if kind == "plain":
+        for name, front in programs.peers.items():
+            if network.nodes <= 1_000_000 or name in ("LEMON", "Boost"):
+                jobs.append(Job(*at, name, 1, 1, [*front, network.gr, network.one, str(DEPART), out], out))
+    return jobs
+
+
+def many(programs, network, threads):
+    """64 sources with timetables, so many at once."""
+    ours, tp = network.words("timetables")
+    out, at, jobs = programs.at("out.report"), ("timetables", network.nodes), []
+    for count in threads:
+        words = [EARLIEST, "run", network.gr, network.many, *ours, "--depart", str(DEPART), "--at-once", str(count)]
+        jobs.append(Job(*at, "earliest", count, 64, words, out, True))
+        for method, name in ALONE.items():
+            if method != "radix":
+                words = [programs.hand, "several", method, network.gr, network.many, tp, str(DEPART), str(count), out]
+                jobs.append(Job(*at, name, count, 64, words, out))
+    return jobs
+
+
+def pairs(programs, network, count):
+    """Pairs on plain weights: whole runs by one thread and by several, and the engine alone."""
+    out, at = programs.at("out.report"), ("plain", network.nodes)
+    jobs = [Job(*at, BASE, 1, count, [programs.hand, "pairs", network.gr, network.pairs, "-", "0", out], out)]
+    for threads in (1, 4):
+        words = [EARLIEST, "pairs", network.gr, network.pairs, "--at-once", str(threads)]
+        jobs.append(Job(*at, "earliest", threads, count, words, out, True))
+    if programs.pairs:
+        jobs.append(Job(*at, "earliest, solving alone", 1, count, [programs.pairs, network.gr, network.pairs]))
+    return jobs
+
+
+def checks(programs, network, report):
+    """Checking a report, beside searching again; and rank errors."""
+    ours, tp = network.words("timetables")
+    at, depart = ("timetables", network.nodes), ["--depart", str(DEPART)]
+    return [
+        Job(*at, "search again and compare, by hand", 1, 0, [programs.hand, "check", network.gr, network.one, tp, str(DEPART), report]),
+        Job(*at, "earliest check", 1, 0, [EARLIEST, "check", network.gr, network.one, report, *ours, *depart]),
+        Job(*at, "earliest rank", 1, 0, [EARLIEST, "rank", network.gr, network.one, *ours, *depart]),
+    ]

@@ -1,0 +1,106 @@
+"""Searches from Python by the package, beside the engine's own: python3 bench/python_search.py GR SS [THREADS]
+
+As a module it measures. As a program it is what is measured: with THREADS it searches from all sources on one road by so many threads, without
+from the first source alone, five times, and prints microseconds, reading aside, and the sum of the arrivals.
+"""
+import os
+import re
+import statistics
+import subprocess
+import sys
+import time
+
+HERE = os.path.dirname(os.path.abspath(__file__))
+PACKAGE = os.path.join(HERE, "..", "python")
+FIELDS = ("nodes", "what", "seconds", "ratio", "to")
+TIMES = 5
+
+
+def is_there():
+    return os.path.exists(os.path.join(PACKAGE, "earliest", "libearliest.so"))
+
+
+def road_of(gr, ss):
+    """The road of a text, and the sources."""
+    sys.path.insert(0, PACKAGE)
+    import earliest
+
+    with open(ss, encoding="ascii") as file:
+        sources = [int(line.split()[1]) for line in file if line.startswith("s")]
+    return earliest.Road.read(gr), sources, earliest.NEVER
+
+
+def search_all(gr, ss, threads):
+    """Searches from all sources by threads that keep a search each."""
+    import threading
+    from concurrent.futures import ThreadPoolExecutor
+
+    road, sources, never = road_of(gr, ss)
+    own = threading.local()
+
+    def total(source):
+        if not hasattr(own, "search"):
+            own.search = road.searcher(walks=False)
+        return sum_of(own.search.find([source]).arrivals, never)
+
+    with ThreadPoolExecutor(threads) as pool:
+        begun = time.perf_counter()
+        found = list(pool.map(total, sources))
+        took = time.perf_counter() - begun
+    print(f"wall_us {int(1e6 * took)} sum {sum(found)}")
+
+
+def search_one(gr, ss):
+    """Searches from one source with arrays of its own each time, as often as the engine's program does beside it."""
+    road, sources, never = road_of(gr, ss)
+    for _ in range(TIMES):
+        begun = time.perf_counter()
+        arrivals = road.search(sources[:1], walks=False).arrivals
+        took = time.perf_counter() - begun
+        print(f"us {int(1e6 * took)} sum {sum_of(arrivals, never)}")
+
+
+def sum_of(arrivals, never):
+    """The sum of the arrivals that there are, which NumPy makes in little time; without it the first and the last arrival alone."""
+    if hasattr(arrivals, "dtype"):
+        return int(arrivals[arrivals != never].sum())
+    return sum(it for it in (arrivals[0], arrivals[-1]) if it != never)
+
+
+def printed(words, name):
+    """All numbers behind a name in what a program prints."""
+    said = subprocess.run(words, capture_output=True, text=True, check=True).stdout
+    return [int(it) for it in re.findall(rf"\b{name} (\d+)", said)]
+
+
+def measured(network, programs, rounds):
+    """Rows of the table: 64 sources by 1, 2 and 4 threads, and one search beside the engine's own."""
+    from programs import python_with
+
+    python = [python_with("sys") or sys.executable, os.path.abspath(__file__), network.gr]
+    many, one, engine, sums = {1: [], 2: [], 4: []}, [], [], set()
+    for _ in range(rounds):
+        for threads, found in many.items():
+            said = subprocess.run([*python, network.many, str(threads)], capture_output=True, text=True, check=True).stdout
+            took, total = re.fullmatch(r"wall_us (\d+) sum (\d+)\n", said).groups()
+            found.append(int(took) / 1e6)
+            sums.add(total)
+        one += printed([*python, network.one], "us")
+        if programs.several:
+            words = [programs.several, network.gr, network.none, "0", "0", "2", str(TIMES), "32", "65536"]
+            engine += printed(words, "walks false us")
+    if len(sums) != 1:
+        sys.exit("Python's searches give different arrivals")
+    middle = {threads: statistics.median(found) for threads, found in many.items()}
+    rows = [(network.nodes, f"64 sources, threads: {threads}", f"{middle[threads]:.4f}", f"{middle[threads] / middle[1]:.2f}", "one thread of Python")
+            for threads in many]
+    single, own = statistics.median(one) / 1e6, statistics.median(engine) / 1e6 if engine else None
+    rows.append((network.nodes, "one search", f"{single:.4f}", f"{single / own:.2f}" if own else "", "the engine called from Rattle" if own else ""))
+    return rows
+
+
+if __name__ == "__main__":
+    if len(sys.argv) > 3:
+        search_all(sys.argv[1], sys.argv[2], int(sys.argv[3]))
+    else:
+        search_one(sys.argv[1], sys.argv[2])

@@ -1,0 +1,100 @@
+"""Networks on which several workers have little to gain: python3 bench/traps.py [--settings N] [--rounds N] [--scratch FOLDER]
+
+Late rings (late_ring.py) are run with many settings of workers, heaps, seeds, turns and batches; a path and a star of 10^6 nodes and road-like
+networks of 1,000 nodes with four workers. Each is a whole run beside one worker's, in turns; the reports are compared. It writes
+bench/results/traps.csv, of which the page has a table.
+"""
+import argparse
+import os
+import random
+import subprocess
+import sys
+
+sys.dont_write_bytecode = True
+import late_ring
+import measure
+import page
+import programs
+import workspace
+
+FIELDS = ("network", "settings", "one", "worst", "ratio", "setting")
+
+
+def settings(count):
+    """So many settings: those of one kind each first, and then others drawn with a fixed seed."""
+    found = [["--workers", str(workers)] for workers in (2, 3, 4, 8, 16)]
+    found += [["--workers", "4", "--turns", turns] for turns in ("0", "1", "40")]
+    found += [["--workers", "4", "--heaps", "8"], ["--workers", "4", "--batch", "1"]]
+    draw = random.Random(1)
+    while len(found) < count:
+        words = ["--workers", str(draw.randint(2, 16)), "--heaps", str(draw.randint(2, 8)), "--seed", str(draw.randint(1, 999))]
+        words += ["--batch", draw.choice(("1", "32"))]
+        turns = draw.choice(("0", "1", "7", "1000", None, None))
+        found.append(words + (["--turns", turns] if turns else []))
+    return found[:count]
+
+
+def star(base, leaves):
+    """A node with arcs of many weights to all others."""
+    with open(f"{base}.gr", "w", encoding="ascii") as file:
+        file.write(f"p sp {leaves + 1} {leaves}\n")
+        file.writelines(f"a 1 {leaf} {leaf * 7919 % 1000 + 1}\n" for leaf in range(2, leaves + 2))
+
+
+def path(base, nodes):
+    with open(f"{base}.gr", "w", encoding="ascii") as file:
+        file.write(f"p sp {nodes} {nodes - 1}\n")
+        file.writelines(f"a {node} {node + 1} {node % 100 + 1}\n" for node in range(1, nodes))
+
+
+def ring(base, before, nodes):
+    with open(f"{base}.gr", "w", encoding="ascii") as file:
+        file.writelines(f"{line}\n" for line in late_ring.lines(before, nodes))
+
+
+def compared(name, base, given, rounds, by):
+    """A row of the table: the network, with these settings beside one worker."""
+    with open(f"{base}.ss", "w", encoding="ascii") as file:
+        file.write("p aux sp ss 1\ns 1\n")
+    front, out = [programs.EARLIEST, "run", f"{base}.gr", f"{base}.ss"], f"{base}.report"
+    jobs = [measure.Job(name, 0, " ".join(words), 1, 1, [*front, *words], out, True) for words in (["--workers", "1"], *given)]
+    times = {}
+    for row in measure.Turns(jobs, rounds, by).run():
+        times.setdefault(row[2], []).append(row[6])
+    middle = {words: measure.spread(found).middle for words, found in times.items()}
+    one = middle.pop("--workers 1")
+    worst = max(middle, key=middle.get)
+    row = name, len(given), f"{one:.4f}", f"{middle[worst]:.4f}", f"{middle[worst] / one:.2f}", worst
+    print(*row, flush=True)
+    return row
+
+
+def measured(scratch, count, rounds):
+    """The rows of the table."""
+    base, four, rows = os.path.join(scratch, "trap"), [["--workers", "4"]], []
+    generate, by = (programs.rust(name, scratch) for name in ("generate", "measure"))
+    for before in (100, 50_000):
+        ring(base, before, 80_000)
+        rows.append(compared(f"a path of {before:,} nodes, then a ring of 80,000", base, settings(count), rounds, by))
+    path(base, 1_000_000)
+    rows.append(compared("a path of 1,000,000 nodes", base, four, rounds, by))
+    star(base, 1_000_000)
+    rows.append(compared("a star of 1,000,000 arcs", base, four, rounds, by))
+    subprocess.run([generate, "2500", base], check=True)
+    rows.append(compared("a road-like network of 1,000 nodes", base, four, 20 * rounds, by))
+    measure.written("traps", rows, FIELDS)
+
+
+def main():
+    words = argparse.ArgumentParser(description=__doc__.split("\n")[0])
+    words.add_argument("--settings", type=int, default=60)
+    words.add_argument("--rounds", type=int, default=3)
+    words.add_argument("--scratch", default=workspace.SCRATCH)
+    options = words.parse_args()
+    os.makedirs(options.scratch, exist_ok=True)
+    measured(options.scratch, options.settings, options.rounds)
+    page.main()
+
+
+if __name__ == "__main__":
+    main()
