@@ -136,8 +136,36 @@ def in_python(program):
     yield "no walks", failure_of(lambda: four.search([1], walks=False).walk(4)), ("Failure", "21 NoWalks")
     yield "a text's fault", failure_of(lambda: earliest.Road(b"p sp 2 1\na 1 3 1\n")), ("InputFailure", "gr 2: 6 OutOfRange")
     yield "no timetables in their text", failure_of(lambda: earliest.Road(b"p sp 1 0\n", b"")), ("InputFailure", "tp 0: 1 NoProblemLine")
+    yield from with_numpy(four, earliest)
     run = ran([sys.executable, "many_sources.py"], env={**os.environ, "PYTHONPATH": os.path.join(ROOT, "python")})
     yield "many_sources.py", (run[0], run[1].splitlines()[0], run[2]), (0, b"2025 nodes, 5000 arcs", b"")
+
+
+def with_numpy(road, earliest):
+    """Arrays in and out, on the network of four nodes, where NumPy is there."""
+    numpy = earliest._engine.numpy
+    if not numpy:
+        return
+    out = road.search([1]).arrivals
+    yield "arrivals as an array", (type(out), out.dtype, out.shape, out.tolist()), (numpy.ndarray, numpy.uint64, (4,), [0, 5, 2, 6])
+    both = numpy.array([[1, 7], [4, 3]], dtype=numpy.int64)
+    for name, nodes, departures in (
+        ("of 64 bits, not in one piece", both[:, 0], both[:, 1]),
+        ("of 8 and 16 bits", both[:, 0].astype(numpy.uint8), both[:, 1].astype(numpy.int16)),
+        ("of bytes in the other order", both[:, 0].astype(">u4"), both[:, 1].astype(">i8")),
+        ("of nodes beside a list", both[:, 0], [7, 3]),
+    ):
+        yield f"arrays {name}", road.search(nodes, departures).arrivals.tolist(), [7, 12, 9, 3]
+    yield "an array of no sources", road.search(numpy.array([], dtype=int)).arrivals.tolist(), [earliest.NEVER] * 4
+    for name, nodes, why in (
+        ("of two dimensions", both, ("ValueError", "the array has to have one dimension")),
+        ("of fractions", numpy.array([1.0]), ("TypeError", "the array has to be one of whole numbers")),
+        ("of truth values", numpy.array([True]), ("TypeError", "the array has to be one of whole numbers")),
+        ("below 0", numpy.array([-1]), ("OverflowError", "a number is not within 0 to 4294967295")),
+        ("above 32 bits", numpy.array([2**32]), ("OverflowError", "a number is not within 0 to 4294967295")),
+        ("of no such node", numpy.array([5]), ("Failure", "18 NoSuchNode")),
+    ):
+        yield f"an array {name}", failure_of(lambda: road.search(nodes)), why
 
 
 def installed(room):
