@@ -5,11 +5,71 @@ import sys
 sys.dont_write_bytecode = True
 import plots
 from measure import rows_of, spread
-from programs import BASE, ROOT
+from programs import BASE, ROOT, SEVERAL
 
 PICTURES = os.path.join(ROOT, "docs", "pictures")
 KINDS = {"plain": "plain weights", "timetables": "timetables", "patterns": "traffic patterns"}
 OURS = "earliest"
+
+HEAD = """# How fast is it?
+
+This page and its pictures are written by `make bench` (`bench/page.py`) from `bench/results/*.csv`, which have each round of each
+program. `make bench SIZE=large` adds networks of 10^7 nodes.
+
+All programs of a table run in turns, one after the other, as often as its heading tells; in each round another one begins. A whole run
+reads the same files, solves the same problems and writes the same report into a file, and each report is compared byte for byte with the
+first one's; of a run without reading and writing the sums of the arrivals are compared. A difference ends the bench with an error. The
+ratio is that of the middle times, beside the base: Dijkstra's method with a binary heap, by hand in Rust, one thread (`bench/hand`).
+`earliest` reads networks by as many threads as there are processors, whatever `--workers` says; the others read by one thread.
+
+The networks are road-like grids with 2.5 arcs a node (`bench/generate.rs`). With timetables a third of the arcs have one of 16 kinds; with
+traffic patterns a third have one of 200 classes of 96 speeds. Searches begin at node 1, or at random nodes where there are many.
+"""
+
+WHOLE = """## One problem, from files to a report
+
+Reading, the index, one search and writing. igraph and scipy read and write by NumPy and Python. LEMON, Boost, igraph and scipy know
+plain weights only.
+"""
+
+SOLVING = """## One search, without reading and writing
+
+Ours are the proved engine's calls, timed by a proved program (`bench/several/program`); the others tell their times themselves. By one
+thread it is the search of one thread, by several two heaps a worker and batches of 32.
+"""
+
+PATTERNS = """**With traffic patterns beside plain weights.** The same network and source; the ratio of the middle times of the search
+alone.
+"""
+
+MANY = """## 64 problems, so many at once
+
+64 sources, with timetables: `earliest run --at-once N` beside N threads of programs by hand that take the next source each and write the
+reports in their order. Ratios are to the base with one thread.
+"""
+
+PAIRS = """## Pairs
+
+Pairs whose search reaches about 1,000 nodes each, by hand with a stamp beside each label; whole runs, and solving alone.
+"""
+
+CHECKS = """## Checking and rank errors
+
+`check` of a report of one problem beside searching again and comparing by hand, which trusts that search; `rank` records a run over eight
+heaps and tells the rank error of each pop. The base is the one by hand.
+"""
+
+EMBEDDED = """## From Python
+
+The package over the library for C (`bench/python_search.py`), with NumPy where it is there: searches and their arrays of arrivals,
+without reading. Middle of the rounds.
+"""
+
+TRAPS = """## Hard shapes
+
+Networks on which workers have little to do at once, or leave their work to one thread (`bench/traps.py`), with many settings: the worst of
+them beside one worker, by the middle of the rounds, of whole runs.
+"""
 
 
 def groups(rows, field, ours_alone=False):
@@ -38,8 +98,8 @@ def seconds(value):
 
 def table(title, these, base, memory=None):
     """A table of programs: least, middle, greatest seconds, and the ratio of the middle times; and what is quicker than ours."""
-    out = [f"**{title}**", "", "| program | threads | least s | middle s | greatest s | beside the base |" + (" memory MB |" if memory else ""),
-           "|---|---|---|---|---|---|" + ("---|" if memory else "")]
+    columns = ["program", "threads", "least s", "middle s", "greatest s", "beside the base"] + (["memory MB"] if memory else [])
+    out = [f"**{title}**", "", "| " + " | ".join(columns) + " |", "|" + "---|" * len(columns)]
     for (program, threads), found in sorted(these.items(), key=lambda it: it[1].middle):
         name = f"**{program}**" if is_ours(program) else program
         ratio = f"{found.middle / base.middle:.2f}" if base else ""
@@ -60,7 +120,9 @@ def lost(these):
     quicker = [f"{program} with {count(threads, 'thread')} ({best[threads] / found.middle:.2f} times as fast)"
                for (program, threads), found in these.items()
                if not is_ours(program) and threads in best and best[threads] > 1.005 * found.middle]
-    return [f"Quicker than ours with as many threads: {', '.join(quicker)}."] if quicker else ["No other program is quicker with as many threads."]
+    if not quicker:
+        return ["No other program is quicker with as many threads."]
+    return [f"Quicker than ours with as many threads: {', '.join(quicker)}."]
 
 
 def count(number, word):
@@ -73,16 +135,7 @@ def machine():
 
 
 def head(about):
-    out = ["# How fast is it?", "",
-           "This page and its pictures are written by `make bench` (`bench/page.py`) from `bench/results/*.csv`, which have each round of each "
-           "program. `make bench SIZE=large` adds networks of 10^7 nodes.", "",
-           "All programs of a table run in turns, one after the other, as often as its heading tells; in each round another one begins. A whole run reads the "
-           "same files, solves the same problems and writes the same report into a file, and each report is compared byte for byte with the first "
-           "one's; of a run without reading and writing the sums of the arrivals are compared. A difference ends the bench with an error. The ratio is that of "
-           "the middle times, beside the base: Dijkstra's method with a binary heap, by hand in Rust, one thread (`bench/hand`). `earliest` reads "
-           "networks by as many threads as there are processors, whatever `--workers` says; the others read by one thread.", "",
-           "The networks are road-like grids with 2.5 arcs a node (`bench/generate.rs`). With timetables a third of the arcs have one of 16 kinds; with "
-           "traffic patterns a third have one of 200 classes of 96 speeds. Searches begin at node 1, or at random nodes where there are many.", ""]
+    out = [HEAD]
     out += ["| | |", "|---|---|"] + [f"| {name} | {value} |" for name, value in about.items()] + [""]
     loads = [float(about.get(name, "0").split()[0]) for name in ("load before", "load after")]
     if loads[0] > 1:
@@ -93,14 +146,10 @@ def head(about):
 def runs(rows, rounds):
     """Whole runs and solving alone, for each input and size."""
     whole, solving, memory = groups(rows, "seconds"), groups(rows, "solve_seconds"), groups(rows, "peak_kib")
-    out = ["## One problem, from files to a report", "",
-           "Reading, the index, one search and writing. igraph and scipy read and write by NumPy and Python; LEMON, Boost, igraph and scipy know plain weights only.", ""]
+    out = [WHOLE]
     for at, these in shown(whole):
         out += table(f"{at[1]:,} nodes, {KINDS[at[0]]}, {rounds(at)} rounds", these, these.get((BASE, 1)), memory[at])
-    out += ["![whole runs by nodes](pictures/time-by-nodes.svg)", "", "![memory by nodes](pictures/memory-by-nodes.svg)", "",
-            "## One search, without reading and writing", "",
-            "Ours are the proved engine's calls, timed by a proved program (`bench/several/program`), reports aside; the others tell their times themselves. By "
-            "one thread it is the search of one thread, by several two heaps a worker and batches of 32.", ""]
+    out += ["![whole runs by nodes](pictures/time-by-nodes.svg)", "", "![memory by nodes](pictures/memory-by-nodes.svg)", "", SOLVING]
     for at, these in shown(solving):
         out += table(f"{at[1]:,} nodes, {KINDS[at[0]]}, {rounds(at)} rounds", these, these.get((BASE, 1)))
     out += ["![searches by threads](pictures/time-by-threads.svg)", ""]
@@ -119,22 +168,18 @@ def patterns(solving):
                     out.append(f"| {nodes:,} | {program} | {threads} | {ratio:.2f} |")
     if not out:
         return []
-    return ["**With traffic patterns beside plain weights.** The same network, the same source; the ratio of the middle times of the search alone.", "",
-            "| nodes | program | threads | patterns / plain |", "|---|---|---|---|", *out, ""]
+    return [PATTERNS, "| nodes | program | threads | patterns / plain |", "|---|---|---|---|", *out, ""]
 
 
 def problems(rows, rounds):
-    out = ["## 64 problems, so many at once", "",
-           "64 sources, with timetables: `earliest run --at-once N` beside N threads of programs by hand that take the next source each and "
-           "write the reports in their order. Ratios are to the base with one thread.", ""]
+    out = [MANY]
     for at, these in shown(groups(rows, "seconds")):
         out += table(f"{at[1]:,} nodes, {rounds(at)} rounds", these, these.get((BASE, 1)))
     return [*out, "![64 problems by threads](pictures/time-by-problems.svg)", ""]
 
 
 def pairs(rows, rounds):
-    out = ["## Pairs", "", "Pairs whose search reaches about 1,000 nodes each, by hand with a stamp beside each label; whole runs, and solving alone.", ""]
-    whole, solving = groups(rows, "seconds"), groups(rows, "solve_seconds")
+    whole, solving, out = groups(rows, "seconds"), groups(rows, "solve_seconds"), [PAIRS]
     for at, _ in shown(solving):
         title = f"{at[2]:,} pairs in {at[1]:,} nodes, {rounds(at)} rounds"
         if at in whole:
@@ -144,9 +189,7 @@ def pairs(rows, rounds):
 
 
 def checks(rows, rounds):
-    out = ["## Checking and rank errors", "",
-           "`check` of a report of one problem beside searching again and comparing by hand, which trusts that search; `rank` records a run over eight heaps and "
-           "tells the rank error of each pop. The base is the one by hand.", ""]
+    out = [CHECKS]
     for at, these in shown(groups(rows, "seconds")):
         out += table(f"{at[1]:,} nodes, timetables, {rounds(at)} rounds", these, these.get(("search again and compare, by hand", 1)))
     return out
@@ -156,9 +199,7 @@ def embedded(rows):
     """The Python package beside the program."""
     if not rows:
         return []
-    out = ["## From Python", "", "The package over the library for C (`bench/python_search.py`), with NumPy where it is there: searches and their arrays of arrivals, without reading. Middle "
-           "of the rounds.", "",
-           "| nodes | what | middle s | ratio | to |", "|---|---|---|---|---|"]
+    out = [EMBEDDED, "| nodes | what | middle s | ratio | to |", "|---|---|---|---|---|"]
     out += [f"| {int(row['nodes']):,} | {row['what']} | {float(row['seconds']):.4f} | {row['ratio']} | {row['to']} |" for row in rows]
     return [*out, ""]
 
@@ -167,11 +208,9 @@ def rings(rows):
     """Networks that are hard for several workers."""
     if not rows:
         return []
-    out = ["## Hard shapes", "",
-           "Networks on which workers have little to do at once, or leave their work to one thread (`bench/traps.py`), with many settings: the worst of them beside "
-           "one worker, by the middle of the rounds, of whole runs.", "",
-           "| network | settings | one worker, s | worst, s | ratio | worst setting |", "|---|---|---|---|---|---|"]
-    out += [f"| {row['network']} | {row['settings']} | {row['one']} | {row['worst']} | {row['ratio']} | `{row['setting']}` |" for row in rows]
+    out = [TRAPS, "| network | settings | one worker, s | worst, s | ratio | worst setting |", "|---|---|---|---|---|---|"]
+    for row in rows:
+        out.append("| " + " | ".join(row[name] for name in ("network", "settings", "one", "worst", "ratio")) + f" | `{row['setting']}` |")
     return [*out, ""]
 
 
@@ -185,11 +224,11 @@ def drawn(name, *words):
 
 
 def lines_by_nodes(found, kind, scale=1.0):
-    """A line for each program and number of threads, over nodes."""
+    """A line over nodes for each program with one thread or four; MultiQueues with four alone."""
     lines = {}
     for (kind_of, nodes, _), these in found.items():
         for (program, threads), value in these.items():
-            if kind_of == kind and threads in (1, 4):
+            if kind_of == kind and threads in ((4,) if program in SEVERAL.values() else (1, 4)):
                 lines.setdefault(f"{program}, {threads}", []).append((nodes, value.middle * scale))
     return list(lines.items())
 
@@ -204,7 +243,8 @@ def lines_by_threads(found, at):
 def pictures(whole, many):
     timed, memory, solving = groups(whole, "seconds"), groups(whole, "peak_kib"), groups(whole, "solve_seconds")
     drawn("time-by-nodes", "Whole runs by nodes, plain weights (program, threads)", "nodes", "seconds", lines_by_nodes(timed, "plain"))
-    drawn("memory-by-nodes", "Greatest memory by nodes, plain weights (program, threads)", "nodes", "MB", lines_by_nodes(memory, "plain", 1 / 1024))
+    title = "Greatest memory by nodes, plain weights (program, threads)"
+    drawn("memory-by-nodes", title, "nodes", "MB", lines_by_nodes(memory, "plain", 1 / 1024))
     most = max((at[1] for at in solving if at[0] == "timetables"), default=0)
     title = f"One search by threads, {most:,} nodes with timetables"
     drawn("time-by-threads", title, "threads", "seconds", lines_by_threads(solving, ("timetables", most, 1)))

@@ -3,8 +3,8 @@ import html
 import math
 
 COLOURS = ("#0b6e4f", "#c0392b", "#2c5aa0", "#b8860b", "#6c3483", "#5d6d7e", "#d35400", "#148f77", "#7b241c", "#1a5276")
-WIDTH, HEIGHT = 760, 420
-LEFT, RIGHT, TOP, BOTTOM = 70, 270, 40, 50
+WIDTH, HEIGHT = 790, 420
+LEFT, RIGHT, TOP, BOTTOM = 70, 300, 40, 50
 
 
 def ticks(low, high):
@@ -50,19 +50,27 @@ def chart(title, across, up, lines):
         out.append(f'<line x1="{LEFT}" y1="{y.at(mark):.1f}" x2="{right}" y2="{y.at(mark):.1f}" stroke="#ddd"/>')
         out.append(f'<text x="{LEFT - 6}" y="{y.at(mark) + 4:.1f}" text-anchor="end">{text_of(mark)}</text>')
     out.append(f'<text x="{(LEFT + right) / 2}" y="{HEIGHT - 12}" text-anchor="middle">{html.escape(across)}</text>')
-    out.append(f'<text x="16" y="{(TOP + bottom) / 2}" text-anchor="middle" transform="rotate(-90 16 {(TOP + bottom) / 2})">{html.escape(up)}</text>')
+    middle = (TOP + bottom) / 2
+    out.append(f'<text x="16" y="{middle}" text-anchor="middle" transform="rotate(-90 16 {middle})">{html.escape(up)}</text>')
     for number, (name, found) in enumerate(lines):
-        out += line(name, sorted(found), COLOURS[number % len(COLOURS)], x, y, TOP + 6 + 19 * number)
+        out += line(name, sorted(found), stroke(name, number), x, y, TOP + 6 + 19 * number)
     return "\n".join([*out, "</svg>"]) + "\n"
 
 
-def line(name, points, colour, x, y, height):
+def stroke(name, number):
+    """How a line is drawn: ours are broad, and where colours come again they are dashed."""
+    colour = COLOURS[number % len(COLOURS)]
+    width, dashes = 4 if name.startswith("earliest") else 2, ' stroke-dasharray="6 3"' if number >= len(COLOURS) else ""
+    return f'stroke="{colour}" stroke-width="{width}"{dashes}'
+
+
+def line(name, points, drawn, x, y, height):
     """A line with its points and its name beside the chart."""
     places = [(x.at(a), y.at(b)) for a, b in points]
     path = " ".join(f"{a:.1f},{b:.1f}" for a, b in places)
-    out = [f'<polyline points="{path}" fill="none" stroke="{colour}" stroke-width="2"/>']
-    out += [f'<circle cx="{a:.1f}" cy="{b:.1f}" r="3.5" fill="{colour}"/>' for a, b in places]
+    out = [f'<polyline points="{path}" fill="none" {drawn}/>']
+    out += [f'<circle cx="{a:.1f}" cy="{b:.1f}" r="3" fill="white" {drawn}/>' for a, b in places]
     begin = WIDTH - RIGHT + 12
-    out.append(f'<line x1="{begin}" y1="{height}" x2="{begin + 18}" y2="{height}" stroke="{colour}" stroke-width="2"/>')
+    out.append(f'<line x1="{begin}" y1="{height}" x2="{begin + 18}" y2="{height}" {drawn}/>')
     out.append(f'<text x="{begin + 24}" y="{height + 4}">{html.escape(name)}</text>')
     return out

@@ -36,9 +36,9 @@ def rust(name, scratch):
 
 def python_with(module):
     """A Python that has a module and NumPy; None where none of those on the path has."""
-    for python in (sys.executable, "/usr/bin/python3", "python3"):
+    for python in filter(shutil.which, (sys.executable, "/usr/bin/python3", "python3")):
         found = subprocess.run([python, "-c", f"import numpy, {module}"], stdout=subprocess.DEVNULL, stderr=subprocess.DEVNULL)
-        if shutil.which(python) and found.returncode == 0:
+        if found.returncode == 0:
             return python
     return None
 

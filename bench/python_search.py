@@ -1,7 +1,7 @@
 """Searches from Python by the package, beside the engine's own: python3 bench/python_search.py GR SS [THREADS]
 
-As a module it measures. As a program it is what is measured: with THREADS it searches from all sources on one road by so many threads, without
-from the first source alone, five times, and prints microseconds, reading aside, and the sum of the arrivals.
+As a module it measures. As a program it is what is measured: with THREADS it searches from all sources on one road by so many threads,
+without from the first source alone, five times, and prints microseconds, reading aside, and the sum of the arrivals.
 """
 import os
 import re
@@ -92,10 +92,12 @@ def measured(network, programs, rounds):
     if len(sums) != 1:
         sys.exit("Python's searches give different arrivals")
     middle = {threads: statistics.median(found) for threads, found in many.items()}
-    rows = [(network.nodes, f"64 sources, threads: {threads}", f"{middle[threads]:.4f}", f"{middle[threads] / middle[1]:.2f}", "one thread of Python")
-            for threads in many]
-    single, own = statistics.median(one) / 1e6, statistics.median(engine) / 1e6 if engine else None
-    rows.append((network.nodes, "one search", f"{single:.4f}", f"{single / own:.2f}" if own else "", "the engine called from Rattle" if own else ""))
+    rows = []
+    for threads, took in middle.items():
+        rows.append((network.nodes, f"64 sources, threads: {threads}", f"{took:.4f}", f"{took / middle[1]:.2f}", "one thread of Python"))
+    single = statistics.median(one) / 1e6
+    ratio = f"{single / statistics.median(engine) * 1e6:.2f}" if engine else ""
+    rows.append((network.nodes, "one search", f"{single:.4f}", ratio, "the engine called from Rattle" if engine else ""))
     return rows
 
 

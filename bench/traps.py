@@ -1,8 +1,8 @@
 """Networks on which several workers have little to gain: python3 bench/traps.py [--settings N] [--rounds N] [--scratch FOLDER]
 
-Late rings (late_ring.py) are run with many settings of workers, heaps, seeds, turns and batches; a path and a star of 10^6 nodes and road-like
-networks of 1,000 nodes with four workers. Each is a whole run beside one worker's, in turns; the reports are compared. It writes
-bench/results/traps.csv, of which the page has a table.
+Late rings (late_ring.py) are run with many settings of workers, heaps, seeds, turns and batches; a path and a star of 10^6 nodes and a
+road-like network of 1,000 nodes with four workers. Each is a whole run beside one worker's, in turns; the reports are compared. It
+writes bench/results/traps.csv, of which the page has a table.
 """
 import argparse
 import os

@@ -3,7 +3,8 @@
     python3 bench/workspace.py NAME [SCRATCH] [-- WORD ..]
 
 It is run once, on the words. The last line printed is the path of the built program. What the repository's crates have proved already
-(crates/*/out) is taken along; JOBS in the environment is the number of processors that rt takes. The programs are Rattle sources, under names that the gate does not read.
+(crates/*/out) is taken along; JOBS in the environment is the number of processors that rt takes. The programs are Rattle sources, under
+names that the gate does not read.
 """
 import os
 import shutil
@@ -77,7 +78,8 @@ def built(name, scratch=SCRATCH, words=(), say=print):
     if shutil.which("rt") is None:
         return None
     jobs = ["--jobs", os.environ["JOBS"]] if "JOBS" in os.environ else []
-    ran = subprocess.run(["rt", "run", *jobs, "--", *words], cwd=folder, stdout=subprocess.PIPE, stderr=subprocess.STDOUT, text=True, errors="replace")
+    command = ["rt", "run", *jobs, "--", *words]
+    ran = subprocess.run(command, cwd=folder, stdout=subprocess.PIPE, stderr=subprocess.STDOUT, text=True, errors="replace")
     if ran.returncode:
         say(ran.stdout)
         return None
