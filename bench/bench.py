@@ -81,6 +81,7 @@ class Bench:
         rounds = self.options.rounds if network.nodes <= 1_000_000 else min(3, self.options.rounds)
         for kind in ("plain", "timetables", "patterns"):
             self.turns("whole", programs.whole(self.built, network, kind, THREADS), rounds)
+        self.turns("patterns", programs.plain_and_patterns(self.built, network), rounds)
         if network.nodes <= 1_000_000:
             self.turns("problems", programs.many(self.built, network, THREADS), min(3, rounds))
         self.turns("pairs", programs.pairs(self.built, network, 10_000 if network.nodes >= 1_000_000 else 1_000), rounds)

@@ -1,6 +1,7 @@
 """Programs are run side by side in turns, their answers compared, and the times written as rows."""
 import csv
 import filecmp
+import glob
 import os
 import re
 import statistics
@@ -45,38 +46,39 @@ def told(said):
 
 
 class Turns:
-    """Rounds of jobs that answer the same questions. The first job's report, and the first sum, are what all others have to give."""
+    """Rounds of jobs. The first report of an input, and the first sum of its arrivals, are what all others of this input have to give."""
 
     def __init__(self, jobs, rounds, by, same=True):
         self.jobs, self.rounds, self.by, self.same = jobs, rounds, by, same
-        self.report, self.sum, self.rows = None, None, []
+        self.reports, self.sums, self.rows = {}, {}, []
 
     def compare(self, job, total):
-        if total is not None and self.same:
-            self.sum = total if self.sum is None else self.sum
-            if total != self.sum:
-                sys.exit(f"{job.program}: the arrivals sum to {total}, and not to {self.sum}")
-        if job.report is not None and self.same:
-            if self.report is None:
-                self.report = f"{job.report}.first"
-                os.replace(job.report, self.report)
-            elif not filecmp.cmp(job.report, self.report, shallow=False):
-                sys.exit(f"{job.program} writes another report: {job.report} and {self.report} differ")
+        if total is not None and total != self.sums.setdefault(job.input, total):
+            sys.exit(f"{job.program}: the arrivals sum to {total}, and not to {self.sums[job.input]}")
+        if job.report is None:
+            return
+        first = self.reports.setdefault(job.input, f"{job.report}.{len(self.reports)}.first")
+        if not os.path.exists(first):
+            os.replace(job.report, first)
+        elif not filecmp.cmp(job.report, first, shallow=False):
+            sys.exit(f"{job.program} writes another report: {job.report} and {first} differ")
 
     def run(self):
+        for file in {job.report for job in self.jobs if job.report}:
+            for left in glob.glob(f"{file}.*.first"):
+                os.remove(left)
         for at in range(self.rounds):
             turned = self.jobs[at % len(self.jobs):] + self.jobs[:at % len(self.jobs)]
             for job in turned:
                 seconds, peak, said = ran(job, self.by)
                 solved, total = told(said)
-                self.compare(job, total)
+                if self.same:
+                    self.compare(job, total)
                 is_whole = job.report is not None or job.problems == 0
                 row = (job.input, job.nodes, job.program, job.threads, job.problems, at + 1)
                 whole = f"{seconds:.4f}" if is_whole else ""
                 self.rows.append((*row, whole, "" if solved is None else f"{solved:.6f}", peak if is_whole else ""))
-        if self.report:
-            os.remove(self.report)
-        for file in {job.report for job in self.jobs if job.report}:
+        for file in [*self.reports.values(), *{job.report for job in self.jobs if job.report}]:
             if os.path.exists(file):
                 os.remove(file)
         return self.rows

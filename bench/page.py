@@ -38,8 +38,9 @@ Ours are the proved engine's calls, timed by a proved program (`bench/several/pr
 thread it is the search of one thread, by several two heaps a worker and batches of 32.
 """
 
-PATTERNS = """**With traffic patterns beside plain weights.** The same network and source; the ratio of the middle times of the search
-alone.
+PATTERNS = """## Traffic patterns beside plain weights
+
+The same network and source; middle times of the search alone, taken in the same rounds, and their ratio.
 """
 
 MANY = """## 64 problems, so many at once
@@ -152,23 +153,20 @@ def runs(rows, rounds):
     out += ["![whole runs by nodes](pictures/time-by-nodes.svg)", "", "![memory by nodes](pictures/memory-by-nodes.svg)", "", SOLVING]
     for at, these in shown(solving):
         out += table(f"{at[1]:,} nodes, {KINDS[at[0]]}, {rounds(at)} rounds", these, these.get((BASE, 1)))
-    out += ["![searches by threads](pictures/time-by-threads.svg)", ""]
-    return out + patterns(solving)
+    return [*out, "![searches by threads](pictures/time-by-threads.svg)", ""]
 
 
-def patterns(solving):
+def patterns(rows, rounds):
     """How much longer a search takes with traffic patterns, on the same network."""
-    out = []
-    for (kind, nodes, problems), these in shown(solving):
-        plain = solving.get(("plain", nodes, problems))
-        if kind == "patterns" and plain:
-            for (program, threads), found in these.items():
-                if (is_ours(program) or program == BASE) and (program, threads) in plain:
-                    ratio = found.middle / plain[program, threads].middle
-                    out.append(f"| {nodes:,} | {program} | {threads} | {ratio:.2f} |")
-    if not out:
-        return []
-    return [PATTERNS, "| nodes | program | threads | patterns / plain |", "|---|---|---|---|", *out, ""]
+    out = [PATTERNS, "| nodes | program | threads | plain s | patterns s | ratio | rounds |", "|---|---|---|---|---|---|---|"]
+    solving = groups(rows, "solve_seconds")
+    for at, these in shown(solving):
+        for (program, threads), found in these.items() if at[0] == "patterns" else ():
+            plain = solving["plain", at[1], at[2]][program, threads]
+            ratio = f"{found.middle / plain.middle:.2f}"
+            cells = f"{at[1]:,}", program, str(threads), seconds(plain.middle), seconds(found.middle), ratio, str(rounds(at))
+            out.append("| " + " | ".join(cells) + " |")
+    return [*out, ""]
 
 
 def problems(rows, rounds):
@@ -266,7 +264,7 @@ def rounds_of(rows):
 def main():
     whole, many, paired, checked = (rows_of(name) for name in ("whole", "problems", "pairs", "check"))
     text = head(machine())
-    for part, rows in ((runs, whole), (problems, many), (pairs, paired), (checks, checked)):
+    for part, rows in ((runs, whole), (patterns, rows_of("patterns")), (problems, many), (pairs, paired), (checks, checked)):
         if rows:
             text += part(rows, rounds_of(rows))
     text += embedded(rows_of("python")) + rings(rows_of("traps"))

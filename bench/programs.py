@@ -123,6 +123,15 @@ def whole(programs, network, kind, threads):
     return jobs
 
 
+def plain_and_patterns(programs, network):
+    """Searches on one network with plain weights and with traffic patterns, side by side."""
+    jobs = []
+    for kind in ("plain", "patterns"):
+        found = whole(programs, network, kind, (1, 4))
+        jobs += [job for job in found if job.program == BASE or job.program.startswith("earliest,")]
+    return jobs
+
+
 def many(programs, network, threads):
     """64 sources with timetables, so many at once."""
     ours, tp = network.words("timetables")
