@@ -206,9 +206,10 @@ def rings(rows):
     """Networks that are hard for several workers."""
     if not rows:
         return []
-    out = [TRAPS, "| network | settings | one worker, s | worst, s | ratio | worst setting |", "|---|---|---|---|---|---|"]
+    out = [TRAPS, "| network | settings | one worker s | middle of them s | worst s | worst / one | worst setting |", "|" + "---|" * 7]
     for row in rows:
-        out.append("| " + " | ".join(row[name] for name in ("network", "settings", "one", "worst", "ratio")) + f" | `{row['setting']}` |")
+        cells = [row[name] for name in ("network", "settings", "one", "middle", "worst", "ratio")] + [f"`{row['setting']}`"]
+        out.append("| " + " | ".join(cells) + " |")
     return [*out, ""]
 
 

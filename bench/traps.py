@@ -2,11 +2,12 @@
 
 Late rings (late_ring.py) are run with many settings of workers, heaps, seeds, turns and batches; a path and a star of 10^6 nodes and a
 road-like network of 1,000 nodes with four workers. Each is a whole run beside one worker's, in turns; the reports are compared. It
-writes bench/results/traps.csv, of which the page has a table.
+writes bench/results/traps.csv, which the page shows, and traps_rounds.csv with each round.
 """
 import argparse
 import os
 import random
+import statistics
 import subprocess
 import sys
 
@@ -17,7 +18,7 @@ import page
 import programs
 import workspace
 
-FIELDS = ("network", "settings", "one", "worst", "ratio", "setting")
+FIELDS = ("network", "settings", "one", "middle", "worst", "ratio", "setting")
 
 
 def settings(count):
@@ -53,36 +54,37 @@ def ring(base, before, nodes):
 
 
 def compared(name, base, given, rounds, by):
-    """A row of the table: the network, with these settings beside one worker."""
+    """The network with these settings beside one worker: a row of the table, and the rows of all rounds."""
     with open(f"{base}.ss", "w", encoding="ascii") as file:
         file.write("p aux sp ss 1\ns 1\n")
     front, out = [programs.EARLIEST, "run", f"{base}.gr", f"{base}.ss"], f"{base}.report"
-    jobs = [measure.Job(name, 0, " ".join(words), 1, 1, [*front, *words], out, True) for words in (["--workers", "1"], *given)]
-    times = {}
-    for row in measure.Turns(jobs, rounds, by).run():
+    jobs = [measure.Job(name, 0, " ".join(words), int(words[1]), 1, [*front, *words], out, True) for words in (["--workers", "1"], *given)]
+    rows, times = measure.Turns(jobs, rounds, by).run(), {}
+    for row in rows:
         times.setdefault(row[2], []).append(row[6])
-    middle = {words: measure.spread(found).middle for words, found in times.items()}
-    one = middle.pop("--workers 1")
-    worst = max(middle, key=middle.get)
-    row = name, len(given), f"{one:.4f}", f"{middle[worst]:.4f}", f"{middle[worst] / one:.2f}", worst
+    took = {words: measure.spread(found).middle for words, found in times.items()}
+    one = took.pop("--workers 1")
+    worst, middle = max(took, key=took.get), statistics.median(took.values())
+    row = name, len(given), f"{one:.4f}", f"{middle:.4f}", f"{took[worst]:.4f}", f"{took[worst] / one:.2f}", worst
     print(*row, flush=True)
-    return row
+    return row, rows
 
 
 def measured(scratch, count, rounds):
-    """The rows of the table."""
-    base, four, rows = os.path.join(scratch, "trap"), [["--workers", "4"]], []
+    """Measures all networks, and writes the table and all rounds."""
+    base, four, found = os.path.join(scratch, "trap"), [["--workers", "4"]], []
     generate, by = (programs.rust(name, scratch) for name in ("generate", "measure"))
     for before in (100, 50_000):
         ring(base, before, 80_000)
-        rows.append(compared(f"a path of {before:,} nodes, then a ring of 80,000", base, settings(count), rounds, by))
+        found.append(compared(f"a path of {before:,} nodes, then a ring of 80,000", base, settings(count), rounds, by))
     path(base, 1_000_000)
-    rows.append(compared("a path of 1,000,000 nodes", base, four, rounds, by))
+    found.append(compared("a path of 1,000,000 nodes", base, four, rounds, by))
     star(base, 1_000_000)
-    rows.append(compared("a star of 1,000,000 arcs", base, four, rounds, by))
+    found.append(compared("a star of 1,000,000 arcs", base, four, rounds, by))
     subprocess.run([generate, "2500", base], check=True)
-    rows.append(compared("a road-like network of 1,000 nodes", base, four, 20 * rounds, by))
-    measure.written("traps", rows, FIELDS)
+    found.append(compared("a road-like network of 1,000 nodes", base, four, 20 * rounds, by))
+    measure.written("traps", [row for row, _ in found], FIELDS)
+    measure.written("traps_rounds", [row for _, rows in found for row in rows])
 
 
 def main():
