@@ -17,7 +17,7 @@ import programs
 import python_search
 import traps
 import workspace
-from measure import Turns, written
+from measure import Turns, cleared, written
 
 THREADS = (1, 2, 4)
 
@@ -121,6 +121,7 @@ def main():
     before, begun = load(), time.monotonic()
     bench = Bench(options)
     bench.make()
+    cleared()
     for network in bench.networks:
         bench.of_network(network)
     bench.python()

@@ -93,6 +93,12 @@ def written(name, rows, fields=FIELDS):
         table.writerows(rows)
 
 
+def cleared():
+    """Takes away what an earlier bench wrote, so that a page never shows two machines or two days."""
+    for file in glob.glob(os.path.join(RESULTS, "*.csv")):
+        os.remove(file)
+
+
 def rows_of(name):
     """The rows of bench/results/NAME.csv as dictionaries; none where there is no such file."""
     place = os.path.join(RESULTS, f"{name}.csv")

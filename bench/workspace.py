@@ -63,6 +63,8 @@ def placed(name, room):
 
 def built(name, scratch=SCRATCH, words=(), say=print):
     """The path of the built program; None where it isn't proved or there is no toolchain."""
+    if shutil.which("rt") is None:
+        return None
     room = os.path.join(scratch, "workspace")
     lines, uses = crates.listed()
     direct = [it for it in PROGRAMS[name].split() if it in lines]
@@ -75,8 +77,6 @@ def built(name, scratch=SCRATCH, words=(), say=print):
         file.writelines(lines[it] for it in lines if it in wanted)
         file.write(f"{name}_times: {PROGRAMS[name]}\n")
     program = os.path.join(folder, "out", f"{name}_times")
-    if shutil.which("rt") is None:
-        return None
     jobs = ["--jobs", os.environ["JOBS"]] if "JOBS" in os.environ else []
     command = ["rt", "run", *jobs, "--", *words]
     ran = subprocess.run(command, cwd=folder, stdout=subprocess.PIPE, stderr=subprocess.STDOUT, text=True, errors="replace")
