@@ -10,7 +10,7 @@ from measure import Job
 HERE = os.path.dirname(os.path.abspath(__file__))
 ROOT = os.path.dirname(HERE)
 EARLIEST = os.path.join(ROOT, "bin", "earliest")
-RUST = ["rustc", "--edition", "2024", "-C", "opt-level=3", "-C", "target-cpu=x86-64-v2", "-C", "codegen-units=1"]
+RUST = ["rustc", "--edition", "2024", "-C", "opt-level=3", "-C", "target-cpu=x86-64-v2", "-C", "codegen-units=1", "-C", "panic=abort"]
 CPP = ["g++", "-O3", "-march=x86-64-v2", "-std=c++17", "-DNDEBUG"]
 DEPART = 2_520_000
 ALONE = {"heap": "binary heap, by hand", "radix": "radix heap, by hand", "buckets": "buckets, by hand"}
