@@ -132,12 +132,17 @@ def plain_and_patterns(programs, network):
     return jobs
 
 
+def by_one(count):
+    """So many problems at once, each by one thread. (Where one is searched at a time the program picks several on large networks.)"""
+    return ["--at-once", str(count), "--workers", "1"]
+
+
 def many(programs, network, threads):
     """64 sources with timetables, so many at once."""
     ours, tp = network.words("timetables")
     out, at, jobs = programs.at("out.report"), ("timetables", network.nodes), []
     for count in threads:
-        words = [EARLIEST, "run", network.gr, network.many, *ours, "--depart", str(DEPART), "--at-once", str(count)]
+        words = [EARLIEST, "run", network.gr, network.many, *ours, "--depart", str(DEPART), *by_one(count)]
         jobs.append(Job(*at, "earliest", count, 64, words, out, True))
         for method, name in ALONE.items():
             if method != "radix":
@@ -151,7 +156,7 @@ def pairs(programs, network, count):
     out, at = programs.at("out.report"), ("plain", network.nodes)
     jobs = [Job(*at, BASE, 1, count, [programs.hand, "pairs", network.gr, network.pairs, "-", "0", out], out)]
     for threads in (1, 4):
-        words = [EARLIEST, "pairs", network.gr, network.pairs, "--at-once", str(threads)]
+        words = [EARLIEST, "pairs", network.gr, network.pairs, *by_one(threads)]
         jobs.append(Job(*at, "earliest", threads, count, words, out, True))
     if programs.pairs:
         jobs.append(Job(*at, "earliest, solving alone", 1, count, [programs.pairs, network.gr, network.pairs]))
