@@ -23,7 +23,8 @@ ratio is that of the middle times, beside the base: Dijkstra's method with a bin
 `earliest` reads networks by as many threads as there are processors, whatever `--workers` says; the others read by one thread.
 
 The networks are road-like grids with 2.5 arcs a node (`bench/generate.rs`). With timetables a third of the arcs have one of 16 kinds; with
-traffic patterns a third have one of 200 classes of 96 speeds. Searches begin at node 1, or at random nodes where there are many.
+traffic patterns a third have one of 200 classes of 96 speeds. Searches begin at node 1, or at random nodes where there are many, and
+depart at 2,520,000, which is seven in the morning where a unit is a hundredth of a second; pairs depart at 0.
 """
 
 WHOLE = """## One problem, from files to a report
@@ -45,8 +46,8 @@ The same network and source; middle times of the search alone, taken in the same
 
 MANY = """## 64 problems, so many at once
 
-64 sources, with timetables: `earliest run --at-once N` beside N threads of programs by hand that take the next source each and write the
-reports in their order. Ratios are to the base with one thread.
+64 sources, with timetables: `earliest run --at-once N --workers 1` beside N threads of programs by hand that take the next source each and
+write the reports in their order. Ratios are to the base with one thread.
 """
 
 PAIRS = """## Pairs
