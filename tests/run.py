@@ -18,6 +18,7 @@ import explained
 import large
 import opening
 import people
+import progress
 import road_network
 import scripts
 import threads
@@ -127,6 +128,7 @@ def run_all(program, room=None):
     results += alike(program)
     results += people.results(program)
     results += explained.results(program)
+    results += progress.results(program)
     results += road_network.results(program)
     results += travel_times.results(program)
     results += commuter_network.results(program)

@@ -14,6 +14,7 @@ use crate::starts::ordered_sources;
 use crate::verdict::judge;
 use ea_finish::{Open, find_links};
 use ea_road::{Network, Query, TravelTimes, is_problem};
+use ea_watch::{Silent, Watch};
 use std::alloc::Global;
 
 /// What is wrong with what a report says of a problem.
@@ -84,13 +85,33 @@ pub fn check<T: TravelTimes>(
     ensures { IsChecked network.now (T.answers times.now) (sources_of queries.now)
         (lines_of_report report.now) result }
 {
+    check_watched(alloc, network, times, queries, report, &mut Silent)
+}
+
+/// As `check`, and a watch is told of each problem that is done.
+pub fn check_watched<T: TravelTimes, V: Watch>(
+    alloc: Global,
+    network: &Network,
+    times: &T,
+    queries: &[Query],
+    report: &[u8],
+    watch: &mut V,
+) -> Result<(), CheckFault>
+    requires { AreCheckable network.now (T.classes times.now) queries.now }
+    ensures { IsChecked network.now (T.answers times.now) (sources_of queries.now)
+        (lines_of_report report.now) result }
+{
     let nodes = network.nodes();
     let mut next = look_ahead(report, 0);
     let mut verdict = Ok(());
+    let mut done = 0;
     for query in queries {
         let (reported, rest) = read_problem(alloc, nodes, query.sources(), next)?;
         verdict = check_next(verdict, alloc, network, times, query, &reported);
         next = rest;
+        done += 1;
+        watch.checked(nodes as usize, reported.walks());
+        watch.did(done, queries.len());
     }
     match next.line {
         None => verdict,

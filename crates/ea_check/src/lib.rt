@@ -14,7 +14,7 @@ mod says;
 mod starts;
 mod verdict;
 
-pub use checking::{check, is_checkable};
+pub use checking::{check, check_watched, is_checkable};
 pub use fault::CheckFault;
 
 #[cfg(test)]

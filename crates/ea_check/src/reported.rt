@@ -1,5 +1,5 @@
 //! What a report says of one problem.
-ghost use Rattle.std.specs.Prelude.{◌≡◌, length, map, MatchOption, None, Some};
+ghost use Rattle.std.specs.Prelude.{◌≡◌, ◌≤◌, length, map, MatchOption, None, Some};
 ghost use Rattle.ea_road.specs.Roads.{IsNode};
 ghost use Rattle.ea_text.specs.Text.{fields_of};
 ghost use Rattle.ea_check.specs.Form.{arcs_of};
@@ -73,6 +73,19 @@ impl<'a> Reported<'a> {
         ensures { (said : Said) → IsSaid self.now node said → result ≡ said.line }
     {
         self.said[node as usize - 1].line
+    }
+
+    /// How many nodes have a `w` line.
+    pub(crate) fn walks(&self) -> usize
+        ensures { result ≤ length self.now }
+    {
+        let mut walks = 0;
+        for said in &self.said {
+            if said.walk.is_some() {
+                walks += 1;
+            }
+        }
+        walks
     }
 
     /// The number of a node's `w` line and the text of its arcs, where it has one.

@@ -3,4 +3,4 @@
 
 mod ranking;
 
-pub use ranking::rank_report;
+pub use ranking::{rank_report, rank_watched};

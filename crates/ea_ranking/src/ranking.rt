@@ -19,6 +19,7 @@ use ea_outcomes::AnswerFault;
 use ea_rank::{Summary, ranks, record_run};
 use ea_report::{Direct, WriteFault};
 use ea_road::{Query, Source};
+use ea_watch::{Silent, Watch};
 use ea_words::RunOptions;
 use itoa::Buffer;
 use rand_core::SeedableRng;
@@ -129,14 +130,15 @@ fn rank_one<W: ByteOut>(
     }
 }
 
-/// Records a run from each source, and sends the lines of all as one text.
-fn rank_each<W: ByteOut>(
+/// Records a run from each source, and sends the lines of all as one text. The watch is told after each.
+fn rank_each<W: ByteOut, V: Watch>(
     alloc: Global,
     road: &Road,
     queries: &[Query],
     heaps: usize,
     seed: u64,
     out: &mut W,
+    watch: &mut V,
 ) -> Result<(), AnswerFault>
     requires problems { AreProblems road.now queries.now }
     requires one { All HasOneSource queries.now }
@@ -153,8 +155,11 @@ fn rank_each<W: ByteOut>(
         written: 0,
         interruptions: 0,
     };
+    let mut done = 0;
     for query in queries {
         rank_one(alloc, road, query, heaps, seed, &mut direct, out)?;
+        done += 1;
+        watch.did(done, queries.len());
     }
     Ok(())
 }
@@ -184,6 +189,27 @@ pub fn rank_report<G: ByteIn, S: ByteIn, T: ByteIn, W: ByteOut>(
         (files_of (reading G.seen gr.old gr.new) (reading S.seen ss.old ss.new) T.seen tp.old tp.new)
         (W.seen out.old) (W.seen out.new)) }
 {
+    rank_watched(alloc, gr, ss, tp, options, out, &mut Silent)
+}
+
+/// As `rank_report`, and a watch is told of each source that is done.
+pub fn rank_watched<G: ByteIn, S: ByteIn, T: ByteIn, W: ByteOut, V: Watch>(
+    alloc: Global,
+    gr: &mut G,
+    ss: &mut S,
+    tp: &mut Option<T>,
+    options: &RunOptions,
+    out: &mut W,
+    watch: &mut V,
+) -> Result<(), AnswerFault>
+    requires options { AreOptions options.now }
+    ensures ranked { IfOk result (IsAnswered (rank_asks options.now)
+        (files_of (reading G.seen gr.old gr.new) (reading S.seen ss.old ss.new) T.seen tp.old tp.new)
+        (W.seen out.old) (W.seen out.new)) }
+    ensures unranked { IfErr result (IsFailed (rank_asks options.now)
+        (files_of (reading G.seen gr.old gr.new) (reading S.seen ss.old ss.new) T.seen tp.old tp.new)
+        (W.seen out.old) (W.seen out.new)) }
+{
     let heaps = heaps_of_run(options);
     let files = read_run(alloc, gr, ss, tp)?;
     if !departures_fit(files.sources.len(), options.depart, options.gap) {
@@ -191,5 +217,13 @@ pub fn rank_report<G: ByteIn, S: ByteIn, T: ByteIn, W: ByteOut>(
     }
     // Each source is a problem of its own, whatever `joint` says.
     let queries = run_queries(alloc, &files.sources, false, options.depart, options.gap)?;
-    rank_each(alloc, &files.road, &queries, heaps, options.seed, out)
+    rank_each(
+        alloc,
+        &files.road,
+        &queries,
+        heaps,
+        options.seed,
+        out,
+        watch,
+    )
 }

@@ -24,9 +24,9 @@ output = record (valued (codes "output")) { short = Some 111 }
 abbrev pub with_output : App → App
 with_output app = with_rule app output
 
--- Whether a fault is explained.
-abbrev pub with_explain : App → App
-with_explain app = with_rule app (flag (codes "explain"))
+-- What is told on standard error: how far a run is, and what a fault means.
+abbrev pub with_telling : App → App
+with_telling app = with_rule (with_rule app (flag (codes "progress"))) (flag (codes "explain"))
 
 -- The file of timetables and the departures, which each command has.
 abbrev pub with_departures : App → App
@@ -44,19 +44,19 @@ with_report app = with_rule (with_rule (with_rule (with_rule (with_rule app
     (valued (codes "at-once"))) (valued (codes "batch"))) (valued (codes "turns"))) (flag (codes "walks"))) (flag (codes "stats"))
 
 unfoldable pub run_app : App
-run_app = with_explain (with_output (with_rule (with_report (with_workers (with_departures (with_rule (with_rule (new_app (codes "run"))
+run_app = with_telling (with_output (with_rule (with_report (with_workers (with_departures (with_rule (with_rule (new_app (codes "run"))
     (file (codes "gr"))) (file (codes "ss")))))) (flag (codes "joint"))))
 
 unfoldable pub pairs_app : App
-pairs_app = with_explain (with_output (with_report (with_workers (with_departures (with_rule (with_rule (new_app (codes "pairs"))
+pairs_app = with_telling (with_output (with_report (with_workers (with_departures (with_rule (with_rule (new_app (codes "pairs"))
     (file (codes "gr"))) (file (codes "p2p")))))))
 
 unfoldable pub rank_app : App
-rank_app = with_explain (with_output (with_workers (with_departures (with_rule (with_rule (new_app (codes "rank"))
+rank_app = with_telling (with_output (with_workers (with_departures (with_rule (with_rule (new_app (codes "rank"))
     (file (codes "gr"))) (file (codes "ss"))))))
 
 unfoldable pub check_app : App
-check_app = with_explain (with_rule (with_departures (with_rule (with_rule (with_rule (new_app (codes "check"))
+check_app = with_telling (with_rule (with_departures (with_rule (with_rule (with_rule (new_app (codes "check"))
     (file (codes "gr"))) (file (codes "ss"))) (file (codes "report")))) (flag (codes "joint")))
 
 -- The commands that need no files.

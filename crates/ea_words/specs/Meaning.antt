@@ -30,6 +30,7 @@ options_of rows = do
     joint = is_given (codes "joint") rows;
     walks = is_given (codes "walks") rows;
     stats = is_given (codes "stats") rows;
+    progress = is_given (codes "progress") rows;
     workers = workers;
     at_once = at_once;
     batch = batch;

@@ -2,7 +2,7 @@
 ghost use Rattle.std.specs.Prelude.{◌≡◌, IfOk, false};
 ghost use Rattle.clap.specs.Words.{app_of, rule_of, with_rule};
 ghost use Rattle.clap.specs.declared.builder.command.Command.TheViews.{out-Command as fields_of};
-ghost use Rattle.ea_words.specs.Grammar.{output, with_departures, with_explain, with_output, with_report, with_workers};
+ghost use Rattle.ea_words.specs.Grammar.{output, with_departures, with_output, with_report, with_telling, with_workers};
 
 use clap::{Arg, ArgAction, Command};
 use std::alloc::{AllocError, Global};
@@ -224,21 +224,30 @@ pub(crate) fn with_output<'a>(
     with_arg(command, output_file(alloc))
 }
 
-/// The option that asks for explanations.
-pub(crate) fn with_explain<'a>(
+/// The options that say what is told on standard error.
+pub(crate) fn with_telling<'a>(
     alloc: Global,
     command: Command<'a>,
 ) -> Result<Command<'a>, AllocError>
-    ensures app { IfOk result (λ c. app_of c ≡ with_explain (app_of command.entry)) }
+    ensures app { IfOk result (λ c. app_of c ≡ with_telling (app_of command.entry)) }
     ensures local { IfOk result
         (λ c. (fields_of command.entry).has_globals ≡ false → (fields_of c).has_globals ≡ false) }
 {
-    with_arg(
+    let command = with_arg(
+        command,
+        flag(
+            alloc,
+            "progress",
+            "Tells on standard error how many problems are done, at most once a second",
+        ),
+    )?;
+    let command = with_arg(
         command,
         flag(
             alloc,
             "explain",
             "Says after a fault what it means and what to do, as on a terminal",
         ),
-    )
+    )?;
+    Ok(command)
 }

@@ -5,7 +5,7 @@ ghost use Rattle.clap.specs.declared.builder.command.Command.TheViews.{out-Comma
 ghost use Rattle.ea_words.specs.Grammar.{run_app, pairs_app, rank_app, check_app, explain_app, formats_app, bare_program, program};
 
 use crate::arguments::{
-    file, flag, optional, with_arg, with_departures, with_explain, with_output, with_report,
+    file, flag, optional, with_arg, with_departures, with_output, with_report, with_telling,
     with_workers,
 };
 use clap::Command;
@@ -15,7 +15,7 @@ const ABOUT: &str =
     "Computes earliest arrivals in a road network whose travel times depend on the departure";
 
 const MORE: &str =
-    "Without any words the program answers a small network that is built in. Try then:\n  earliest run --help\n\nThe formats of the files are told by `earliest formats`, faults by `earliest explain`.";
+    "Without any words the program answers a small network that is built in. Try then:\n  earliest run --help\n\nThe formats of the files are told by `earliest formats`, faults by `earliest explain`, and all of it,\nwhere the program is installed, by `man earliest`.";
 
 const NETWORK: &str = "The network (.gr), or - for standard input";
 
@@ -72,7 +72,7 @@ pub(crate) fn run_command<'a>(alloc: Global) -> Result<Command<'a>, AllocError>
         flag(alloc, "joint", "Takes all sources as one problem"),
     )?;
     let command = with_output(alloc, command)?;
-    let command = with_explain(alloc, command)?;
+    let command = with_telling(alloc, command)?;
     Ok(command)
 }
 
@@ -94,7 +94,7 @@ pub(crate) fn pairs_command<'a>(alloc: Global) -> Result<Command<'a>, AllocError
     let command = with_workers(alloc, command)?;
     let command = with_report(alloc, command)?;
     let command = with_output(alloc, command)?;
-    let command = with_explain(alloc, command)?;
+    let command = with_telling(alloc, command)?;
     Ok(command)
 }
 
@@ -115,7 +115,7 @@ pub(crate) fn rank_command<'a>(alloc: Global) -> Result<Command<'a>, AllocError>
     let command = with_departures(alloc, command)?;
     let command = with_workers(alloc, command)?;
     let command = with_output(alloc, command)?;
-    let command = with_explain(alloc, command)?;
+    let command = with_telling(alloc, command)?;
     Ok(command)
 }
 
@@ -147,7 +147,7 @@ pub(crate) fn check_command<'a>(alloc: Global) -> Result<Command<'a>, AllocError
         command,
         flag(alloc, "joint", "Takes all sources as one problem"),
     )?;
-    let command = with_explain(alloc, command)?;
+    let command = with_telling(alloc, command)?;
     Ok(command)
 }
 

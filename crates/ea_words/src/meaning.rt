@@ -42,6 +42,7 @@ fn options_in(matches: &ArgMatches<'_>) -> Option<RunOptions>
         joint: has_flag(matches, "joint"),
         walks: has_flag(matches, "walks"),
         stats: has_flag(matches, "stats"),
+        progress: has_flag(matches, "progress"),
         workers,
         at_once,
         batch,

@@ -11,6 +11,8 @@ pub struct RunOptions {
     pub walks: bool,
     /// The report ends with totals of what the workers did.
     pub stats: bool,
+    /// Lines on standard error tell how far it is.
+    pub progress: bool,
     /// How many workers search each problem: 1 to 16; none leaves it to the program.
     pub workers: Option<u64>,
     /// How many problems are searched at once: 1 to 16; none leaves it to the program.

@@ -42,6 +42,7 @@ fn a_run(rt: HostRuntime) {
         "16",
         "--batch",
         "64",
+        "--progress",
     ];
     let Some(
         Command::Run {
@@ -63,6 +64,7 @@ fn a_run(rt: HostRuntime) {
                 joint: true,
                 walks: false,
                 stats: false,
+                progress: true,
                 workers: Some(3),
                 at_once: Some(16),
                 batch: Some(64),
@@ -139,6 +141,7 @@ fn a_rank(rt: HostRuntime) {
                 joint: false,
                 walks: false,
                 stats: false,
+                progress: false,
                 workers: Some(16),
                 at_once: None,
                 batch: None,
@@ -184,6 +187,7 @@ fn a_check(rt: HostRuntime) {
                 joint: true,
                 walks: false,
                 stats: false,
+                progress: false,
                 workers: None,
                 at_once: None,
                 batch: None,

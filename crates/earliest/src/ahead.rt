@@ -13,6 +13,7 @@ ghost use Rattle.earliest.specs.Fronts.{AreSent, IsCutShort, IsSent, IsStoppedBy
 ghost use Rattle.earliest.specs.Reported.{IsReportOf};
 ghost use Rattle.earliest.specs.Solved.{Serves};
 
+use crate::answering::Watched;
 use crate::drafts::{Draft, Job, Place, Plan, make_row, rows_of, take_drafts};
 use crate::progress::{Progress, fault_after};
 use ea_files::Road;
@@ -21,6 +22,7 @@ use ea_limits::MOST_AT_ONCE;
 use ea_outcomes::AnswerFault;
 use ea_report::write_pieces;
 use ea_road::Query;
+use ea_watch::Watch;
 use ea_words::RunOptions;
 use std::alloc::Global;
 use std::thread::{Threads, available_parallelism};
@@ -229,13 +231,13 @@ fn lines_of(road: &Road, query: &Query) -> usize
     }
 }
 
-/// Writes the reports of problems in their order, where so many threads search at once.
-pub(crate) fn report_ahead<H: Threads + Sync, W: ByteOut>(
+/// Writes the reports of problems in their order, where so many threads search at once. The watch is told after each row.
+pub(crate) fn report_ahead<H: Threads + Sync, W: ByteOut, V: Watch>(
     alloc: Global,
     rt: &H,
     road: &Road,
     queries: &[Query],
-    options: &RunOptions,
+    watched: Watched<'_, V>,
     threads: usize,
     out: &mut W,
 ) -> Result<Progress, AnswerFault>
@@ -244,13 +246,14 @@ pub(crate) fn report_ahead<H: Threads + Sync, W: ByteOut>(
     requires some { 0 < length queries.now }
     requires threads { (1 ≤ threads) × (threads ≤ MOST_AT_ONCE) }
     ensures ok { IfOk result (λ progress.
-        AreSent options.now.walks road.now.network (times_on road.now) queries.now
+        AreSent watched.entry.options.now.walks road.now.network (times_on road.now) queries.now
         (W.seen out.old) (W.seen out.new) progress.written) }
-    ensures err { IfErr result (IsCutShort options.now road.now.network (times_on road.now) queries.now
+    ensures err { IfErr result (IsCutShort watched.entry.options.now road.now.network (times_on road.now) queries.now
         (W.seen out.old) (W.seen out.new)) }
     ensures bound { IfOk result (λ progress. progress.written ≤ MOST_STARTS * 2 ^ 90) }
     ensures balanced { IfOk result (λ progress. AreBalanced progress.totals) }
 {
+    let Watched { options, watch } = watched;
     let mut progress = Progress::begin();
     let lines = lines_of(road, &queries[0]);
     let plan = plan_of(queries.len(), threads, lines, options.walks);
@@ -280,6 +283,7 @@ pub(crate) fn report_ahead<H: Threads + Sync, W: ByteOut>(
         };
         send_and_make(&mut progress, rt, job, span, ready, row, out)?;
         sent = span.to;
+        watch.did(sent, queries.len());
     }
     Ok(progress)
 }

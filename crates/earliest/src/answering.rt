@@ -10,9 +10,16 @@ use ea_files::{departures_fit, pair_queries, read_run_by, read_trips, run_querie
 use ea_input::{ByteIn, ByteOut};
 use ea_outcomes::AnswerFault;
 use ea_report::Totals;
+use ea_watch::{Silent, Watch};
 use ea_words::RunOptions;
 use std::alloc::Global;
 use std::thread::Threads;
+
+/// The options of a call, and who is told how far it is.
+pub(crate) struct Watched<'a, V: Watch> {
+    pub options: &'a RunOptions,
+    pub watch: &'a mut V,
+}
 
 /// Answers a run: reads the network, the sources and, where there are any, the timetables, and writes the report:
 /// for each source, or with `joint` for all together, the earliest arrival at each node, with `walks` a walk that
@@ -40,6 +47,39 @@ pub fn answer<H: Threads + Sync, G: ByteIn, S: ByteIn, T: ByteIn, W: ByteOut>(
         (files_of (reading G.seen gr.old gr.new) (reading S.seen ss.old ss.new) T.seen tp.old tp.new)
         (W.seen out.old) (W.seen out.new)) }
 {
+    let watched = Watched {
+        options,
+        watch: &mut Silent,
+    };
+    answer_watched(alloc, rt, gr, ss, tp, watched, out)
+}
+
+/// As `answer`, and a watch is told of the problems that are done.
+pub(crate) fn answer_watched<
+    H: Threads + Sync,
+    G: ByteIn,
+    S: ByteIn,
+    T: ByteIn,
+    W: ByteOut,
+    V: Watch,
+>(
+    alloc: Global,
+    rt: &H,
+    gr: &mut G,
+    ss: &mut S,
+    tp: &mut Option<T>,
+    watched: Watched<'_, V>,
+    out: &mut W,
+) -> Result<Totals, AnswerFault>
+    requires options { AreOptions watched.options.now }
+    ensures answered { IfOk result (IsAnswered (run_asks watched.entry.options.now)
+        (files_of (reading G.seen gr.old gr.new) (reading S.seen ss.old ss.new) T.seen tp.old tp.new)
+        (W.seen out.old) (W.seen out.new)) }
+    ensures failed { IfErr result (IsFailed (run_asks watched.entry.options.now)
+        (files_of (reading G.seen gr.old gr.new) (reading S.seen ss.old ss.new) T.seen tp.old tp.new)
+        (W.seen out.old) (W.seen out.new)) }
+{
+    let Watched { options, watch } = watched;
     let files = read_run_by(alloc, rt, gr, ss, tp)?;
     if !departures_fit(files.sources.len(), options.depart, options.gap) {
         return Err(AnswerFault::BadOption);
@@ -51,7 +91,7 @@ pub fn answer<H: Threads + Sync, G: ByteIn, S: ByteIn, T: ByteIn, W: ByteOut>(
         options.depart,
         options.gap,
     )?;
-    report_all(alloc, rt, &files.road, &queries, options, out)
+    report_all(alloc, rt, &files.road, &queries, options, out, watch)
 }
 
 /// Answers pairs: as `answer`, with the earliest arrival at the target of each pair alone. Pair i, from 0, departs at
@@ -73,10 +113,43 @@ pub fn answer_pairs<H: Threads + Sync, G: ByteIn, P: ByteIn, T: ByteIn, W: ByteO
         (files_of (reading G.seen gr.old gr.new) (reading P.seen p2p.old p2p.new) T.seen tp.old tp.new)
         (W.seen out.old) (W.seen out.new)) }
 {
+    let watched = Watched {
+        options,
+        watch: &mut Silent,
+    };
+    pairs_watched(alloc, rt, gr, p2p, tp, watched, out)
+}
+
+/// As `answer_pairs`, and a watch is told of the problems that are done.
+pub(crate) fn pairs_watched<
+    H: Threads + Sync,
+    G: ByteIn,
+    P: ByteIn,
+    T: ByteIn,
+    W: ByteOut,
+    V: Watch,
+>(
+    alloc: Global,
+    rt: &H,
+    gr: &mut G,
+    p2p: &mut P,
+    tp: &mut Option<T>,
+    watched: Watched<'_, V>,
+    out: &mut W,
+) -> Result<Totals, AnswerFault>
+    requires options { AreOptions watched.options.now }
+    ensures answered { IfOk result (IsAnswered (pair_asks watched.entry.options.now)
+        (files_of (reading G.seen gr.old gr.new) (reading P.seen p2p.old p2p.new) T.seen tp.old tp.new)
+        (W.seen out.old) (W.seen out.new)) }
+    ensures failed { IfErr result (IsFailed (pair_asks watched.entry.options.now)
+        (files_of (reading G.seen gr.old gr.new) (reading P.seen p2p.old p2p.new) T.seen tp.old tp.new)
+        (W.seen out.old) (W.seen out.new)) }
+{
+    let Watched { options, watch } = watched;
     let files = read_trips(alloc, rt, gr, p2p, tp)?;
     if !departures_fit(files.pairs.len(), options.depart, options.gap) {
         return Err(AnswerFault::BadOption);
     }
     let queries = pair_queries(alloc, &files.pairs, options.depart, options.gap)?;
-    report_all(alloc, rt, &files.road, &queries, options, out)
+    report_all(alloc, rt, &files.road, &queries, options, out, watch)
 }

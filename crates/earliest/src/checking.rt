@@ -5,10 +5,11 @@ ghost use Rattle.ea_outcomes.specs.Asked.{files_of};
 ghost use Rattle.ea_words.specs.Limits.{AreOptions};
 ghost use Rattle.earliest.specs.Checks.{IsJudged, IsUnjudged};
 
-use ea_check::{CheckFault, check};
+use ea_check::CheckFault;
 use ea_files::{departures_fit, read_report, read_run, run_queries};
 use ea_input::ByteIn;
 use ea_outcomes::AnswerFault;
+use ea_watch::{Silent, Watch};
 use ea_words::RunOptions;
 use std::alloc::Global;
 
@@ -37,6 +38,27 @@ pub fn check_report<G: ByteIn, S: ByteIn, T: ByteIn, R: ByteIn>(
         (files_of (reading G.seen gr.old gr.new) (reading S.seen ss.old ss.new) T.seen tp.old tp.new)
         (reading R.seen report.old report.new)) }
 {
+    check_watched(alloc, gr, ss, tp, options, report, &mut Silent)
+}
+
+/// As `check_report`, and a watch is told of each problem that is done.
+pub(crate) fn check_watched<G: ByteIn, S: ByteIn, T: ByteIn, R: ByteIn, V: Watch>(
+    alloc: Global,
+    gr: &mut G,
+    ss: &mut S,
+    tp: &mut Option<T>,
+    options: &RunOptions,
+    report: &mut R,
+    watch: &mut V,
+) -> Result<Result<(), CheckFault>, AnswerFault>
+    requires options { AreOptions options.now }
+    ensures judged { IfOk result (IsJudged options.now
+        (files_of (reading G.seen gr.old gr.new) (reading S.seen ss.old ss.new) T.seen tp.old tp.new)
+        (reading R.seen report.old report.new)) }
+    ensures unjudged { IfErr result (IsUnjudged options.now
+        (files_of (reading G.seen gr.old gr.new) (reading S.seen ss.old ss.new) T.seen tp.old tp.new)
+        (reading R.seen report.old report.new)) }
+{
     let files = read_run(alloc, gr, ss, tp)?;
     let text = read_report(alloc, report)?;
     if !departures_fit(files.sources.len(), options.depart, options.gap) {
@@ -50,5 +72,13 @@ pub fn check_report<G: ByteIn, S: ByteIn, T: ByteIn, R: ByteIn>(
         options.gap,
     )?;
     let road = &files.road;
-    Ok(check(alloc, &road.network, &road.times, &queries, &text))
+    let verdict = ea_check::check_watched(
+        alloc,
+        &road.network,
+        &road.times,
+        &queries,
+        &text,
+        watch,
+    );
+    Ok(verdict)
 }

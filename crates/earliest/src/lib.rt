@@ -19,5 +19,6 @@ pub use ea_files::{FileFault, FileWord};
 pub use ea_outcomes::{AnswerFault, Outcome, say, show};
 pub use ea_ranking::rank_report;
 pub use ea_report::Totals;
+pub use ea_watch::{Silent, Watch};
 pub use ea_words::{BadValue, Command, CommandFault, RunOptions, asks_to_explain, bad_value_of};
 pub use performing::{Opened, Performed, outcome_of, perform};

@@ -3,13 +3,14 @@ ghost use Rattle.std.specs.Prelude.{◌≡◌};
 ghost use Rattle.ea_words.specs.Limits.{HasLimits};
 ghost use Rattle.earliest.specs.Performed.{HasFiles, IsPerformed, outcome_by, performed_on};
 
-use crate::answering::{answer, answer_pairs};
-use crate::checking::check_report;
+use crate::answering::{Watched, answer_watched, pairs_watched};
+use crate::checking::check_watched;
 use ea_check::CheckFault;
 use ea_input::{ByteIn, ByteOut};
 use ea_outcomes::{AnswerFault, Outcome};
-use ea_ranking::rank_report;
+use ea_ranking::rank_watched;
 use ea_report::Totals;
+use ea_watch::Watch;
 use ea_words::Command;
 use std::alloc::Global;
 use std::thread::Threads;
@@ -36,13 +37,15 @@ pub enum Performed {
 }
 
 /// Carries out a command that names files, with these files: a run by `answer`, pairs by `answer_pairs`, rank errors by
-/// `rank_report` and a check by `check_report`, each with the command's own options. Its faults are those of that call.
-pub fn perform<H: Threads + Sync, R: ByteIn, W: ByteOut>(
+/// `rank_report` and a check by `check_report`, each with the command's own options. Its faults are those of that call. The watch
+/// is told how many problems are done; what it does with that is no matter to what goes out.
+pub fn perform<H: Threads + Sync, R: ByteIn, W: ByteOut, V: Watch>(
     alloc: Global,
     rt: &H,
     command: &Command<'_>,
     files: &mut Opened<R>,
     out: &mut W,
+    watch: &mut V,
 ) -> Result<Performed, AnswerFault>
     requires limits { HasLimits command.now }
     requires files { HasFiles command.now files.old.report }
@@ -52,13 +55,13 @@ pub fn perform<H: Threads + Sync, R: ByteIn, W: ByteOut>(
     match command {
         Command::Run { options, .. } => {
             let gr = &mut files.gr;
-            match answer(
+            match answer_watched(
                 alloc,
                 rt,
                 gr,
                 &mut files.starts,
                 &mut files.tp,
-                options,
+                Watched { options, watch },
                 out,
             ) {
                 Ok(totals) => Ok(Performed::Reported(totals)),
@@ -67,13 +70,13 @@ pub fn perform<H: Threads + Sync, R: ByteIn, W: ByteOut>(
         }
         Command::Pairs { options, .. } => {
             let gr = &mut files.gr;
-            match answer_pairs(
+            match pairs_watched(
                 alloc,
                 rt,
                 gr,
                 &mut files.starts,
                 &mut files.tp,
-                options,
+                Watched { options, watch },
                 out,
             ) {
                 Ok(totals) => Ok(Performed::Reported(totals)),
@@ -82,7 +85,8 @@ pub fn perform<H: Threads + Sync, R: ByteIn, W: ByteOut>(
         }
         Command::Rank { options, .. } => {
             let gr = &mut files.gr;
-            match rank_report(alloc, gr, &mut files.starts, &mut files.tp, options, out) {
+            let tp = &mut files.tp;
+            match rank_watched(alloc, gr, &mut files.starts, tp, options, out, watch) {
                 Ok(()) => Ok(Performed::Ranked),
                 Err(fault) => Err(fault),
             }
@@ -91,13 +95,14 @@ pub fn perform<H: Threads + Sync, R: ByteIn, W: ByteOut>(
             let gr = &mut files.gr;
             match &mut files.report {
                 Some(report) => {
-                    match check_report(
+                    match check_watched(
                         alloc,
                         gr,
                         &mut files.starts,
                         &mut files.tp,
                         options,
                         report,
+                        watch,
                     ) {
                         Ok(verdict) => Ok(Performed::Checked(verdict)),
                         Err(fault) => Err(fault),

@@ -16,6 +16,7 @@ ghost use Rattle.earliest.specs.Solved.{AnswersOn, ArrivesOn, Serves};
 ghost use Rattle.earliest.specs.Workers.{settings_by};
 
 use crate::ahead::{report_ahead, threads_at_once};
+use crate::answering::Watched;
 use crate::finding::{Found, find, search, workers_of};
 use crate::totals::{add_totals, no_totals};
 use ea_engine::Answer;
@@ -25,6 +26,7 @@ use ea_input::ByteOut;
 use ea_outcomes::AnswerFault;
 use ea_report::{ReportOptions, Totals, WriteFault, WriteFaultKind, write_problem, write_stats};
 use ea_road::Query;
+use ea_watch::Watch;
 use ea_words::RunOptions;
 use std::alloc::Global;
 use std::thread::Threads;
@@ -221,14 +223,15 @@ impl Progress {
     }
 }
 
-/// Writes the reports of problems in their order.
-fn report_each<H: Threads + Sync, W: ByteOut>(
+/// Writes the reports of problems in their order, and tells the watch after each.
+fn report_each<H: Threads + Sync, W: ByteOut, V: Watch>(
     alloc: Global,
     rt: &H,
     road: &Road,
     queries: &[Query],
     options: &RunOptions,
     out: &mut W,
+    watch: &mut V,
 ) -> Result<Progress, AnswerFault>
     requires problems { AreProblems road.now queries.now }
     requires few { (length queries.now ≤ MOST_STARTS) × (road.now.network.nodes ≤ MOST_NODES) }
@@ -246,20 +249,24 @@ fn report_each<H: Threads + Sync, W: ByteOut>(
     let mut progress = Progress::begin();
     // Tells that the count is one of 64 bits.
     let _ = out.interruptions();
+    let mut done = 0;
     for query in queries {
         progress.report(alloc, rt, road, query, options, out)?;
+        done += 1;
+        watch.did(done, queries.len());
     }
     Ok(progress)
 }
 
 /// Writes the reports of problems in their order: by several threads at once where the options or the processors say so.
-fn report_problems<H: Threads + Sync, W: ByteOut>(
+fn report_problems<H: Threads + Sync, W: ByteOut, V: Watch>(
     alloc: Global,
     rt: &H,
     road: &Road,
     queries: &[Query],
     options: &RunOptions,
     out: &mut W,
+    watch: &mut V,
 ) -> Result<Progress, AnswerFault>
     requires problems { AreProblems road.now queries.now }
     requires few { (length queries.now ≤ MOST_STARTS) × (road.now.network.nodes ≤ MOST_NODES) }
@@ -276,9 +283,10 @@ fn report_problems<H: Threads + Sync, W: ByteOut>(
 {
     let threads = threads_at_once(rt, options);
     if options.stats || options.workers.unwrap_or(1) > 1 || threads == 1 || queries.len() < 2 {
-        report_each(alloc, rt, road, queries, options, out)
+        report_each(alloc, rt, road, queries, options, out, watch)
     } else {
-        report_ahead(alloc, rt, road, queries, options, threads, out)
+        let watched = Watched { options, watch };
+        report_ahead(alloc, rt, road, queries, watched, threads, out)
     }
 }
 
@@ -311,13 +319,14 @@ fn write_totals<W: ByteOut>(
 }
 
 /// Writes the reports of problems in their order, and then with statistics the totals.
-pub(crate) fn report_all<H: Threads + Sync, W: ByteOut>(
+pub(crate) fn report_all<H: Threads + Sync, W: ByteOut, V: Watch>(
     alloc: Global,
     rt: &H,
     road: &Road,
     queries: &[Query],
     options: &RunOptions,
     out: &mut W,
+    watch: &mut V,
 ) -> Result<Totals, AnswerFault>
     requires problems { AreProblems road.now queries.now }
     requires few { (length queries.now ≤ MOST_STARTS) × (road.now.network.nodes ≤ MOST_NODES) }
@@ -327,7 +336,7 @@ pub(crate) fn report_all<H: Threads + Sync, W: ByteOut>(
     ensures err { IfErr result (IsCutShort options.now road.now.network (times_on road.now) queries.now
         (W.seen out.old) (W.seen out.new)) }
 {
-    let progress = report_problems(alloc, rt, road, queries, options, out)?;
+    let progress = report_problems(alloc, rt, road, queries, options, out, watch)?;
     match write_totals(&progress, options.stats, out) {
         Ok(()) => Ok(progress.totals),
         Err(fault) => Err(fault),

@@ -3,6 +3,7 @@
 
 mod explaining;
 mod files;
+mod line;
 mod output;
 mod pages;
 mod runs;

@@ -4,6 +4,7 @@ ghost use Rattle.earliest.specs.Performed.{HasFiles};
 
 use crate::explaining::{explain_outcome, explain_unopened, explain_write};
 use crate::files::{Names, Sources, Unopened, names_of, open_all};
+use crate::line::Line;
 use crate::output::Output;
 use crate::pages::{explain_fault, show_text};
 use crate::stored::stored;
@@ -34,6 +35,17 @@ pub fn carry_out<H: Threads + Sync>(
     }
 }
 
+/// Whether a command is to tell how far it is.
+fn tells_progress(command: &Command<'_>) -> bool {
+    match command {
+        Command::Run { options, .. }
+        | Command::Pairs { options, .. }
+        | Command::Rank { options, .. }
+        | Command::Check { options, .. } => options.progress,
+        Command::Stored | Command::Explain { .. } | Command::Formats => false,
+    }
+}
+
 /// Does what a command asks for that names files.
 fn carry_out_with<H: Threads + Sync>(
     rt: &HostRuntime,
@@ -60,12 +72,27 @@ fn carry_out_with<H: Threads + Sync>(
             return tell_unopened(rt, &unopened, explains);
         }
     };
+    let is_asked = tells_progress(command);
+    let mut line = Line::begin(rt, is_asked);
     let performed = {
         let mut files = sources.readers();
         let mut out = StdOut::new(&mut output);
-        perform(rt.alloc(), threads, command, &mut files, &mut out)
+        perform(
+            rt.alloc(),
+            threads,
+            command,
+            &mut files,
+            &mut out,
+            &mut line,
+        )
     };
-    tell_performed(rt, performed, &mut sources, &output, explains)
+    line.clear();
+    let is_accepted = matches!(performed, Ok(Performed::Checked(Ok(()))));
+    let status = tell_performed(rt, performed, &mut sources, &output, explains);
+    if is_accepted && status == 0 && (is_asked || explains) {
+        line.tell_checked();
+    }
+    status
 }
 
 /// Tells that a file can't be opened.

@@ -15,6 +15,7 @@ const DEFAULTS: RunOptions = RunOptions {
     joint: false,
     walks: false,
     stats: false,
+    progress: false,
     workers: None,
     at_once: None,
     batch: None,

@@ -10,6 +10,7 @@ pub const DEFAULTS: RunOptions = RunOptions {
     joint: false,
     walks: false,
     stats: false,
+    progress: false,
     workers: Some(4),
     at_once: None,
     batch: None,

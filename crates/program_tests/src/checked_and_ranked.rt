@@ -27,6 +27,7 @@ fn options_from(depart: u64, gap: u64) -> RunOptions
         joint: false,
         walks: false,
         stats: false,
+        progress: false,
         workers: Some(1),
         at_once: None,
         batch: None,

@@ -9,6 +9,8 @@ mod checked_and_ranked;
 #[cfg(test)]
 mod devices;
 #[cfg(test)]
+mod progress;
+#[cfg(test)]
 mod reports;
 #[cfg(test)]
 mod said;

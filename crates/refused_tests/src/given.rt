@@ -18,6 +18,7 @@ pub fn walks_by(many: bool) -> RunOptions
         joint: false,
         walks: true,
         stats: false,
+        progress: false,
         workers: Some(if many { 2 } else { 1 }),
         at_once: None,
         batch: None,

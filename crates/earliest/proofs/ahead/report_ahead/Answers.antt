@@ -11,7 +11,7 @@ use Rattle.earliest.proofs.ahead.report_ahead.Goals as goal
 pub returns-in-Err-clause-err : goal.returns-in-Err-clause-err
 returns-in-Err-clause-err g c =
     let first = g.W.Device.seen c.args.out.now in
-    stops c.args.options.now c.args.road.now.network (times_on c.args.road.now) c.args.queries.now 0 c.index-queries-0.result c.requires.some c.index-queries-0.is first _ _ _ (sent_none c.args.options.now c.args.road.now.network (times_on c.args.road.now) first) _ (inl (refl, refl))
+    stops c.args.watched.options.now c.args.road.now.network (times_on c.args.road.now) c.args.queries.now 0 c.index-queries-0.result c.requires.some c.index-queries-0.is first _ _ _ (sent_none c.args.watched.options.now c.args.road.now.network (times_on c.args.road.now) first) _ (inl (refl, refl))
 
 pub returns-in_err-send_and_make-clause-err : goal.returns-in_err-send_and_make-clause-err
 returns-in_err-send_and_make-clause-err g c =

@@ -16,10 +16,10 @@ invariant-loop-sent g l = record {
   ready : length l.ready ≡ l.count;
   serving : AreServing l.road.network l.job.plan.walks l.row;
   drafts : l.sent < length l.queries → AreDraftsFrom l.job.plan.walks l.road l.queries l.sent l.row;
-  sent : AreSent l.options.walks l.road.network (times_on l.road) (take l.sent l.queries) (g.W.Device.seen l.fn.out) (g.W.Device.seen l.out) l.progress.written;
+  sent : AreSent l.fn.watched.options.now.walks l.road.network (times_on l.road) (take l.sent l.queries) (g.W.Device.seen l.fn.out) (g.W.Device.seen l.out) l.progress.written;
   bound : l.progress.written ≤ l.sent * 2 ^ 90;
   totals : l.progress.totals ≡ totals_of [];
-  search : IfSome l.progress.search (Serves l.road.network l.options.walks);
+  search : IfSome l.progress.search (Serves l.road.network l.fn.watched.options.now.walks);
 }
 
 abbrev pub decreases-loop-sent : goal.decreases-loop-sent

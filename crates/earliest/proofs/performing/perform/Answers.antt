@@ -4,11 +4,11 @@ use Rattle.earliest.proofs.performing.perform.Goals as goal
 pub returns-in-Err : goal.returns-in-Err
 returns-in-Err g c = rw c.in-Run.is c.in-Err.ensures.failed
 
-pub returns-in-Err-answer_pairs : goal.returns-in-Err-answer_pairs
-returns-in-Err-answer_pairs g c = rw c.in-Pairs.is c.in-Err-answer_pairs.ensures.failed
+pub returns-in-Err-pairs_watched : goal.returns-in-Err-pairs_watched
+returns-in-Err-pairs_watched g c = rw c.in-Pairs.is c.in-Err-pairs_watched.ensures.failed
 
-pub returns-in-Err-rank_report : goal.returns-in-Err-rank_report
-returns-in-Err-rank_report g c = rw c.in-Rank.is c.in-Err-rank_report.ensures.unranked
+pub returns-in-Err-rank_watched : goal.returns-in-Err-rank_watched
+returns-in-Err-rank_watched g c = rw c.in-Rank.is c.in-Err-rank_watched.ensures.unranked
 
-pub returns-in-Err-check_report : goal.returns-in-Err-check_report
-returns-in-Err-check_report g c = rw (c.in-Check.is, c.in-Some.is) (refl, c.in-Err-check_report.ensures.unjudged)
+pub returns-in-Err-check_watched : goal.returns-in-Err-check_watched
+returns-in-Err-check_watched g c = rw (c.in-Check.is, c.in-Some.is) (refl, c.in-Err-check_watched.ensures.unjudged)

@@ -19,6 +19,7 @@ loop-query-preserved g c =
     let now = g.W.Device.seen c.report.new.out in
     let first = g.W.Device.seen c.args.out.now in
     record {
+      done = omega (arith, inv.done);
       fits = inv.fits;
       sent = sent_next c.args.options.now c.args.road.now.network (times_on c.args.road.now) c.args.queries.now i c.query-item.result c.loop-query-test.true c.query-item.is first _ now _ c.report.new.self.written inv.fits inv.sent c.in_ok-report.ensures.ok;
       bound = omega (arith, c.in_ok-report.ensures.bound, inv.bound);

@@ -8,6 +8,7 @@ use Rattle.earliest.proofs.progress.report_each.Given as goal
 
 abbrev pub invariant-loop-query : goal.invariant-loop-query
 invariant-loop-query g l = record {
+  done : l.done ≡ l.query-index;
   fits : (g.W.Device.seen l.fn.out).interrupted < 2 ^ 64;
   sent : AreSent l.options.walks l.road.network (times_on l.road) (take l.query-index l.queries) (g.W.Device.seen l.fn.out) (g.W.Device.seen l.out) l.progress.written;
   bound : l.progress.written ≤ l.query-index * 2 ^ 90;

@@ -16,7 +16,7 @@ use Rattle.earliest.specs.Checks.{in_report, in_run}
 use Rattle.earliest.specs.Runs.{run_asks}
 use Rattle.ea_outcomes.proofs.Posing.{run_is_posed}
 use Rattle.earliest.proofs.Verdicts.{judged, unread}
-use Rattle.earliest.proofs.checking.check_report.Goals as goal
+use Rattle.earliest.proofs.checking.check_watched.Goals as goal
 
 pub returns-in_err-files-clause-unjudged : goal.returns-in_err-files-clause-unjudged
 returns-in_err-files-clause-unjudged g c =
@@ -58,8 +58,8 @@ run_queries-requires-clause-nodes g c =
     let nodes = sources_are_nodes given.0.graph.nodes _ c.in_ok-files.files.sources.items given.1.starts_denoted in
     subst (All (λ node. 0 < node)) (sym c.deref.ensures.value) (λ k d lt. (nodes.0 k d lt).from_one)
 
-pub check-requires : goal.check-requires
-check-requires g c =
+pub check_watched-verdict-requires : goal.check_watched-verdict-requires
+check_watched-verdict-requires g c =
     let given = c.in_ok-files.ensures.given in
     let files = c.in_ok-files.files in
     let o = c.args.options.now in
@@ -84,7 +84,7 @@ returns-clause-judged g c =
     let report = reading g.R.Device.seen c.args.report.now c.read_report.new.report in
     let sound = sound_there (run_asks o) g.T.Device.seen gr ss c.args.tp.now c.read_run.new.tp given.0 found.sources.items given.1 c.in_ok-files.ensures.gr_borne c.in_ok-files.ensures.ss_borne c.in_ok-files.ensures.tp_borne in
     judged o files report given.0 found.sources.items c.in_ok-text.text.items sound within (record { is_text = c.in_ok-text.ensures.text; end = c.in_ok-text.ensures.end }) found.road given.2
-    c.deref-2.result.now queries c.deref-3.result.now c.deref-3.ensures.value c.check.result c.check.ensures
+    c.deref-2.result.now queries c.deref-3.result.now c.deref-3.ensures.value c.check_watched-verdict.result c.check_watched-verdict.ensures
 
 pub returns-then-not-departures_fit-clause-unjudged : goal.returns-then-not-departures_fit-clause-unjudged
 returns-then-not-departures_fit-clause-unjudged g c =

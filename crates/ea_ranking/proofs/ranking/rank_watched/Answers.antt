@@ -14,7 +14,7 @@ use Rattle.ea_outcomes.proofs.Outcomes.{answered, failed, files_failed, first_th
 use Rattle.ea_outcomes.proofs.Posing.{few_runs, run_is_posed}
 use Rattle.ea_ranking.specs.Ranks.{HasOneSource, IsRanking, IsRankingCut, heaps_of, rank_asks}
 use Rattle.ea_ranking.proofs.Ranked.{each_alone, on_ok, ranking_cuts}
-use Rattle.ea_ranking.proofs.ranking.rank_report.Goals as goal
+use Rattle.ea_ranking.proofs.ranking.rank_watched.Goals as goal
 
 pub returns-in_err-files-clause-unranked : goal.returns-in_err-files-clause-unranked
 returns-in_err-files-clause-unranked g c =

@@ -13,12 +13,12 @@ use Rattle.ea_outcomes.specs.Asked.{files_of}
 use Rattle.ea_outcomes.proofs.Outcomes.{answered, failed, files_failed, first_there, given_is_sound, sound_there}
 use Rattle.earliest.proofs.Sending.{cuts_short}
 use Rattle.ea_outcomes.proofs.Posing.{run_is_posed, few_runs, few_nodes}
-use Rattle.earliest.proofs.answering.answer.Goals as goal
+use Rattle.earliest.proofs.answering.answer_watched.Goals as goal
 
 pub returns-in_err-files-clause-failed : goal.returns-in_err-files-clause-failed
 returns-in_err-files-clause-failed g c =
     let p = err_from_is_err_and c.from_residual.result c.from_residual.ensures.1 in
-    let o = c.args.options.now in
+    let o = c.args.watched.options.now in
     let gr = reading g.G.Device.seen c.args.gr.now c.read_run_by.new.gr in
     let starts = reading g.S.Device.seen c.args.ss.now c.read_run_by.new.ss in
     rw (p.1, p.2) (files_failed (run_asks o) (files_of gr starts g.T.Device.seen c.args.tp.now c.read_run_by.new.tp) _ _
@@ -34,7 +34,7 @@ pub report_all-requires-clause-problems : goal.report_all-requires-clause-proble
 report_all-requires-clause-problems g c κs lent =
     let given = c.in_ok-files.ensures.given in
     let files = c.in_ok-files.files in
-    let o = c.args.options.now in
+    let o = c.args.watched.options.now in
     let nodes = sources_are_nodes given.0.graph.nodes _ files.sources.items given.1.starts_denoted in
     let sound = given_is_sound DenotesSources _ _ _ given.0 files.sources.items given.1 in
     let within : AreWithin o.depart o.gap (length files.sources.items) = search rules in
@@ -45,7 +45,7 @@ pub report_all-requires-clause-few : goal.report_all-requires-clause-few
 report_all-requires-clause-few g c κs lent =
     let given = c.in_ok-files.ensures.given in
     let files = c.in_ok-files.files in
-    let o = c.args.options.now in
+    let o = c.args.watched.options.now in
     let nodes = sources_are_nodes given.0.graph.nodes _ files.sources.items given.1.starts_denoted in
     let sound = given_is_sound DenotesSources _ _ _ given.0 files.sources.items given.1 in
     let queries = c.deref-2.ensures.value ∙ c.in_ok-queries.ensures ∙ ap (run_problems o.joint o.depart o.gap) c.deref.ensures.value in
@@ -55,7 +55,7 @@ pub returns-clause-answered : goal.returns-clause-answered
 returns-clause-answered g c =
     let given = c.in_ok-files.ensures.given in
     let found = c.in_ok-files.files in
-    let o = c.args.options.now in
+    let o = c.args.watched.options.now in
     let within : AreWithin o.depart o.gap (length found.sources.items) = search rules in
     let queries = c.deref-2.ensures.value ∙ c.in_ok-queries.ensures ∙ ap (run_problems o.joint o.depart o.gap) c.deref.ensures.value in
     let gr = reading g.G.Device.seen c.args.gr.now c.read_run_by.new.gr in
@@ -70,7 +70,7 @@ pub returns-clause-failed : goal.returns-clause-failed
 returns-clause-failed g c =
     let given = c.in_ok-files.ensures.given in
     let found = c.in_ok-files.files in
-    let o = c.args.options.now in
+    let o = c.args.watched.options.now in
     let within : AreWithin o.depart o.gap (length found.sources.items) = search rules in
     let queries = c.deref-2.ensures.value ∙ c.in_ok-queries.ensures ∙ ap (run_problems o.joint o.depart o.gap) c.deref.ensures.value in
     let gr = reading g.G.Device.seen c.args.gr.now c.read_run_by.new.gr in
@@ -85,7 +85,7 @@ pub returns-then-not-departures_fit-clause-failed : goal.returns-then-not-depart
 returns-then-not-departures_fit-clause-failed g c =
     let given = c.in_ok-files.ensures.given in
     let found = c.in_ok-files.files in
-    let o = c.args.options.now in
+    let o = c.args.watched.options.now in
     let gr = reading g.G.Device.seen c.args.gr.now c.read_run_by.new.gr in
     let starts = reading g.S.Device.seen c.args.ss.now c.read_run_by.new.ss in
     let late : AreWithin o.depart o.gap (length found.sources.items) → ⊥ =

@@ -1,4 +1,4 @@
-use Rattle.std.proofs.Common.{◌≡◌, ◌+◌, List, drop, sym, subst, arith}
+use Rattle.std.proofs.Common.{◌≡◌, ◌+◌, List, drop, refl, sym, subst, arith}
 use Rattle.std.proofs.lemmas.Result.{err_from_is_err_and}
 use Rattle.ea_road.specs.declared.source.Source.{Source}
 use Rattle.ea_text.specs.Text.{field_lines}
@@ -10,12 +10,13 @@ use Rattle.ea_check.proofs.Composing.{spoken_in_order, order_behind, formed_of, 
 use Rattle.ea_check.proofs.Onward.{Onward, onward_end, onward_more}
 use Rattle.ea_check.proofs.Reading.{wrong_more as fault_more}
 use Rattle.ea_check.proofs.Right.{task_of, faultless_right}
-use Rattle.ea_check.proofs.checking.check.Goals as goal
+use Rattle.ea_check.proofs.checking.check_watched.Goals as goal
 
 pub loop-query-init : goal.loop-query-init
 loop-query-init g c =
     let same : ahead c.look_ahead-next.result ≡ lines_of_report c.args.report.now = c.look_ahead-next.ensures.lines in
     record {
+      done = refl;
       wrong = λ number wrong. subst (λ (ls : List Line). ReportWrong c.args.network.now.nodes (sources_of c.args.queries.now) ls number) same wrong;
       onward = λ result form checked. subst (λ (ls : List Line). IsChecked c.args.network.now (g.T.TravelTimes.answers c.args.times.now) (sources_of c.args.queries.now) ls result) same checked;
       order = subst AreInOrder (sym same) (spoken_in_order 1 0 (field_lines c.args.report.now) (omega arith));
@@ -55,6 +56,7 @@ loop-query-preserved g c =
     let formed = formed_of read c.loop-query.invariant.order in
     let onward = subst (λ (qs : List (List Source)). Onward c.args.network.now answers queries lines qs (ahead c.loop-query.next) c.loop-query.verdict) next c.loop-query.invariant.onward in
     record {
+      done = omega (arith, c.loop-query.invariant.done);
       wrong = wrong_more c.args.network.now.nodes c.args.queries.now c.loop-query.query-index c.query-item.result c.loop-query-test.true c.query-item.is (ReportWrong c.args.network.now.nodes queries lines) read c.loop-query.invariant.wrong;
       onward = onward_more c.args.network.now answers queries lines (sources_of (drop (c.loop-query.query-index + 1) c.args.queries.now)) (ahead c.in_ok-reported.rest) c.loop-query.verdict c.check_next-verdict.result read (faultless_right c.args.network.now answers classes c.query-item.result.sources task (g.met.T.TravelTimes.fifo c.args.times.now) c.in_ok-reported.reported formed) c.check_next-verdict.ensures onward;
       order = order_behind read c.loop-query.invariant.order;
