@@ -1,9 +1,12 @@
 """What people do: pipes into the program, reports into files, texts that can't be written, and first mistakes with their answers."""
 import gzip
 import os
+import select
+import shutil
 import subprocess
 import sys
 import tempfile
+import time
 
 HERE = os.path.dirname(os.path.abspath(__file__))
 EXAMPLES = os.path.join(HERE, "..", "examples")
@@ -153,6 +156,45 @@ def on_terminal(program):
         yield f"on a terminal: {words}", (run.returncode, run.stdout, said.replace(b"\r\n", b"\n")), (status, out, says + b"end\n")
 
 
+def typed(shell, folder):
+    """What zsh makes of words that are begun, with a completion in a folder: whether it completes an option and a command."""
+    master, slave = os.openpty()
+    kept = {"PATH": os.environ["PATH"], "TERM": "dumb", "HOME": folder}
+    run = subprocess.Popen([shell, "-f", "-i"], stdin=slave, stdout=slave, stderr=slave, start_new_session=True, env=kept)
+    os.close(slave)
+    setting = f"fpath=({folder} $fpath); autoload -Uz compinit; compinit -u -D; bindkey '^I' complete-word; echo rea''dy\n"
+    found = []
+    for text, mark in ((setting, b"ready\r\n"), ("earliest run --wa\t", b"--walks"), ("\x15earliest pai\t", b"pairs")):
+        os.write(master, text.encode())
+        said, end = b"", time.monotonic() + 20
+        while mark not in said and time.monotonic() < end:
+            if select.select([master], [], [], 0.1)[0]:
+                said += os.read(master, 65536)
+        found.append(mark in said)
+    run.kill()
+    run.wait()
+    os.close(master)
+    return found
+
+
+def completed(program):
+    """The completions of zsh and fish, loaded by these where they are there."""
+    with tempfile.TemporaryDirectory() as folder:
+        pages.write_all(program, folder)
+        if shutil.which("zsh"):
+            yield "zsh completes", typed("zsh", os.path.join(folder, "share", "zsh", "site-functions")), [True, True, True]
+        else:
+            print("left out: the completion of zsh, which isn't there")
+        if shutil.which("fish"):
+            script = os.path.join(folder, "share", "fish", "vendor_completions.d", "earliest.fish")
+            asks = f"source {script}; complete -C 'earliest run --wa'; complete -C 'earliest pai'; complete -C 'earliest run -o x --jo'"
+            run = subprocess.run(["fish", "--no-config", "-c", asks], capture_output=True, timeout=60, env={**os.environ, "HOME": folder})
+            words = [line.split(b"\t")[0] for line in run.stdout.splitlines()]
+            yield "fish completes", (run.returncode, words, run.stderr), (0, [b"--walks", b"pairs", b"--joint"], b"")
+        else:
+            print("left out: the completion of fish, which isn't there")
+
+
 def paged(program):
     """The man page and the completions: each command and option is in each, and bash completes."""
     with tempfile.TemporaryDirectory() as folder:
@@ -176,5 +218,5 @@ def paged(program):
 def results(program):
     """All of these: name, what came, what was wanted."""
     program = os.path.abspath(program)
-    for some in (piped, filed, unwritten, mistaken, on_terminal, paged):
+    for some in (piped, filed, unwritten, mistaken, on_terminal, paged, completed):
         yield from some(program)
