@@ -51,11 +51,11 @@ impl Watch for Told {
 }
 
 /// What is told of a command that comes to its end, and whether what goes out is this text, which it is without a watch too.
-fn told_of<H: Threads + Sync>(
+fn told_of<'a, H: Threads + Sync>(
     rt: &HostRuntime,
     threads: &H,
     command: &Command<'_>,
-    files: (&[u8], Option<&[u8]>),
+    files: (&'a [u8], Option<&'a [u8]>),
     text: &[u8],
 ) -> (Told, bool)
     requires limits { HasLimits command.now }
@@ -78,11 +78,11 @@ fn told_of<H: Threads + Sync>(
 }
 
 /// Carries out a command on files from memory: whether it comes to its end.
-fn writes<H: Threads + Sync, V: Watch>(
+fn writes<'a, H: Threads + Sync, V: Watch>(
     rt: &HostRuntime,
     threads: &H,
     command: &Command<'_>,
-    files: (&[u8], Option<&[u8]>),
+    files: (&'a [u8], Option<&'a [u8]>),
     room: &mut [u8],
     watch: &mut V,
 ) -> bool
@@ -98,7 +98,7 @@ fn writes<H: Threads + Sync, V: Watch>(
             None => None,
         },
     };
-    let mut out = StdOut::new(&mut *room);
+    let mut out = StdOut::new(room);
     perform(rt.alloc(), threads, command, &mut files, &mut out, watch).is_ok()
 }
 
