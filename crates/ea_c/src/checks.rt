@@ -2,7 +2,7 @@
 ghost use Rattle.std.specs.Prelude.{◌≡◌, ◌↔◌, ◌<◌, ◌≤◌, All, IsTrue, Some, length};
 ghost use Rattle.ea_check.specs.Checked.{AreCheckable, IsChecked, sources_of};
 ghost use Rattle.ea_check.specs.Form.{lines_of_report};
-ghost use Rattle.ea_c.specs.Checks.{IsAnswerTo, IsJudged, IsToldOf, IsVerdict, problems_of, told_of_check};
+ghost use Rattle.ea_c.specs.Checks.{IsAnswerTo, IsJudged, IsToldOf, IsVerdict, refused_by, told_of_check};
 ghost use Rattle.ea_c.specs.States.{road_in};
 
 use crate::content::Content;
@@ -60,7 +60,7 @@ fn tell_of_check(fault: CheckFault) -> Fault
 
 /// A refusal with no text's fault.
 fn refusal(number: u32) -> Fault
-    ensures { result ≡ record { line = 0; number = number; text = 0 } }
+    ensures { result ≡ refused_by number }
 {
     Fault {
         line: 0,
@@ -82,7 +82,7 @@ fn verdict(alloc: Global, road: &Road, queries: &[Query], report: &[u8]) -> Faul
 
 /// What a report of queries on a road comes to, where they are queries on it.
 fn judge(alloc: Global, road: &Road, queries: &[Query], report: &[u8]) -> Fault
-    ensures { IsJudged road.now (sources_of queries.now) (lines_of_report report.now) result }
+    ensures { IsJudged road.now queries.now (lines_of_report report.now) result }
 {
     if !is_checkable(&road.network, road.times.classes(), queries) {
         return refusal(NO_SUCH_NODE);
@@ -92,15 +92,14 @@ fn judge(alloc: Global, road: &Road, queries: &[Query], report: &[u8]) -> Fault
 
 /// Whether numbers are from 1 on.
 fn are_numbered(nodes: &[u32]) -> bool
-    ensures { IsTrue result → All (λ node. 0 < node) nodes.now }
+    ensures { IsTrue result ↔ All (λ node. 0 < node) nodes.now }
 {
     nodes.iter().all(|node| *node > 0)
 }
 
 /// What a report comes to, of problems from nodes that depart one after the other, where these are problems on the road.
 fn judge_run(alloc: Global, road: &Road, nodes: &[u32], starts: &Starts, report: &[u8]) -> Fault
-    ensures { IsAnswerTo road.now (problems_of starts.now nodes.now)
-        (lines_of_report report.now) result }
+    ensures { IsAnswerTo road.now starts.now nodes.now (lines_of_report report.now) result }
 {
     let Starts { depart, gap, joint } = *starts;
     if depart > HORIZON || gap > HORIZON || !departures_fit(nodes.len(), depart, gap) {
@@ -123,7 +122,7 @@ fn judge_on(
     starts: &Starts,
     report: &[u8],
 ) -> Fault
-    ensures { IsToldOf (road_in (Some content.now)) (problems_of starts.now nodes.now)
+    ensures { IsToldOf (road_in (Some content.now)) starts.now nodes.now
         (lines_of_report report.now) result }
 {
     match content {
@@ -147,7 +146,7 @@ pub extern "C" fn earliest_check(
 ) -> u32
     ensures same { road.new.value ≡ road.old.value }
     ensures number { result ≡ fault.new.number }
-    ensures told { IsToldOf (road_in road.old.value) (problems_of starts.now nodes.now)
+    ensures told { IsToldOf (road_in road.old.value) starts.now nodes.now
         (lines_of_report report.now) fault.new }
 {
     let Some(content) = road.take(alloc) else {

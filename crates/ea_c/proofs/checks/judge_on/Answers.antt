@@ -5,13 +5,14 @@ use Rattle.ea_check.specs.Form.{lines_of_report}
 use Rattle.ea_files.specs.declared.road.Road.{Road}
 use Rattle.ea_c.specs.declared.content.Content.{Content}
 use Rattle.ea_c.specs.declared.content.Terrain.{Terrain}
-use Rattle.ea_c.specs.Checks.{IsAnswerTo, IsToldOf, problems_of}
+use Rattle.ea_c.specs.Checks.{IsAnswerTo, IsToldOf}
 use Rattle.ea_c.specs.States.{road_in}
 use Rattle.ea_c.proofs.checks.judge_on.Goals as goal
 
 pub returns-in-Road : goal.returns-in-Road
 returns-in-Road c =
-    let problems = problems_of c.args.starts.now c.args.nodes.now in
+    let starts = c.args.starts.now in
+    let nodes = c.args.nodes.now in
     let lines = lines_of_report c.args.report.now in
-    subst (λ (it : Content). IsToldOf (road_in (Some it)) problems lines c.judge_run.result) (sym c.in-Road.is)
-    (subst (λ (it : Terrain). IsAnswerTo it.road problems lines c.judge_run.result) c.deref.ensures c.judge_run.ensures)
+    subst (λ (it : Content). IsToldOf (road_in (Some it)) starts nodes lines c.judge_run.result) (sym c.in-Road.is)
+    (subst (λ (it : Terrain). IsAnswerTo it.road starts nodes lines c.judge_run.result) c.deref.ensures c.judge_run.ensures)
