@@ -82,6 +82,18 @@ typedef struct earliest_starts {
  * afterwards. `road` holds the road then, and what it held before is let go. Refusals: 1 to 9, with `fault` telling text and line, and
  * 13; `road` is as it was then. */
 uint32_t earliest_road_read(const char *gr, size_t gr_length, const char *tp, size_t tp_length, earliest_road *road, earliest_fault *fault);
+/* Makes the road of lists: of so many nodes, and of arcs with these tails, heads and weights, in this order, and with these classes of the
+ * timetables, where a list of 0 classes makes all arcs plain (class 0). The text of timetables (.tp) has kinds and assigns no arcs, as
+ * `p tp K 0` and K lines `k`; tp_length 0 means no timetables. Lists and text may go afterwards. `road` holds the road then, and what it
+ * held before is let go. Refusals, in this order, where `road` is as it was: EARLIEST_LENGTHS_DIFFER; EARLIEST_OUT_OF_RANGE, where `fault`
+ * tells the line that a text of the network would have it in (1 for the numbers of nodes and arcs, 2 for the first arc); 1 to 9 with the
+ * line of the timetables' text; EARLIEST_OUT_OF_RANGE with line 0 of that text, where it has no such class; 13, which may come before any of
+ * the timetables'. */
+uint32_t earliest_road_of_lists(uint32_t nodes, const uint32_t *tails, size_t tail_count, const uint32_t *heads, size_t head_count, const uint32_t *weights, size_t weight_count, const uint32_t *classes, size_t class_count, const char *tp, size_t tp_length, earliest_road *road, earliest_fault *fault);
+/* The same of arrays with `count` members each; `classes` may be NULL, which makes all arcs plain. */
+static inline uint32_t earliest_road_of_arcs(uint32_t nodes, const uint32_t *tails, const uint32_t *heads, const uint32_t *weights, const uint32_t *classes, size_t count, const char *tp, size_t tp_length, earliest_road *road, earliest_fault *fault) {
+    return earliest_road_of_lists(nodes, tails, count, heads, count, weights, count, classes ? classes : weights, classes ? count : 0, tp, tp_length, road, fault);
+}
 /* How many nodes, and how many arcs, a road has; 0 where the handle holds none. */
 uint32_t earliest_road_nodes(earliest_road *road);
 uint32_t earliest_road_arcs(earliest_road *road);

@@ -62,6 +62,18 @@ public:
         if (number && fault.text) throw input_failure(fault);
         test(number);
     }
+    /// The road of so many nodes and of arcs with these tails, heads, weights and classes, where no classes make all arcs plain; the text of
+    /// timetables has kinds and assigns no arcs.
+    static road of_arcs(std::uint32_t nodes, const std::vector<std::uint32_t> &tails, const std::vector<std::uint32_t> &heads,
+                        const std::vector<std::uint32_t> &weights, const std::vector<std::uint32_t> &classes = {}, std::string_view tp = {}) {
+        road made;
+        earliest_fault fault = {0, 0, 0};
+        std::uint32_t number = earliest_road_of_lists(nodes, at(tails), tails.size(), at(heads), heads.size(), at(weights), weights.size(),
+                                                      at(classes), classes.size(), at(tp), tp.size(), &made.handle_, &fault);
+        if (number && fault.text) throw input_failure(fault);
+        test(number);
+        return made;
+    }
     road(road &&other) noexcept : handle_(std::exchange(other.handle_, earliest_road EARLIEST_NOTHING)) {}
     road &operator=(road &&other) noexcept {
         std::swap(handle_, other.handle_);
@@ -74,16 +86,20 @@ public:
 
     /// Checks a report of searches from these nodes; one that isn't right is an input_failure with the line of its first fault.
     void check(const std::vector<std::uint32_t> &nodes, const earliest_starts &starts, std::string_view report) {
-        static const std::uint32_t none = 0;
         earliest_fault fault = {0, 0, 0};
-        std::uint32_t number = earliest_check(&handle_, nodes.empty() ? &none : nodes.data(), nodes.size(), &starts, at(report), report.size(), &fault);
+        std::uint32_t number = earliest_check(&handle_, at(nodes), nodes.size(), &starts, at(report), report.size(), &fault);
         if (number && fault.text) throw input_failure(fault);
         test(number);
     }
 
 private:
     friend class search;
+    road() = default;
     static const char *at(std::string_view text) { return text.data() ? text.data() : ""; }
+    static const std::uint32_t *at(const std::vector<std::uint32_t> &list) {
+        static const std::uint32_t none = 0;
+        return list.empty() ? &none : list.data();
+    }
     earliest_road handle_ = EARLIEST_NOTHING;
 };
 

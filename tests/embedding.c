@@ -135,6 +135,84 @@ static int four_nodes(const char *gr, size_t length) {
     return 0;
 }
 
+/* Whether two roads have the same arrivals and walks from a node. */
+static int alike(earliest_road *one, earliest_road *other, uint32_t from) {
+    earliest_road *roads[2] = {one, other};
+    uint64_t arrivals[2][16], departure = word() % 20, counts[2];
+    uint32_t walks[2][32], nodes = earliest_road_nodes(one);
+    earliest_search searches[2] = {EARLIEST_NOTHING, EARLIEST_NOTHING};
+    for (int i = 0; i < 2; i++) {
+        TEST(earliest_search_new(roads[i], 1, &searches[i]) == 0 && earliest_search_from(&searches[i], &from, 1, &departure, 1) == 0);
+        TEST(earliest_search_arrivals(&searches[i], arrivals[i], nodes) == 0);
+    }
+    TEST(memcmp(arrivals[0], arrivals[1], nodes * sizeof **arrivals) == 0);
+    for (uint32_t node = 1; node <= nodes; node++) {
+        uint32_t numbers[2];
+        for (int i = 0; i < 2; i++) counts[i] = 0, numbers[i] = earliest_search_walk(&searches[i], node, walks[i], 32, &counts[i]);
+        TEST(numbers[0] == numbers[1] && counts[0] == counts[1] && memcmp(walks[0], walks[1], counts[0] * sizeof **walks) == 0);
+    }
+    for (int i = 0; i < 2; i++) earliest_search_free(&searches[i]);
+    return 0;
+}
+
+/* Random networks of lists beside the same of texts, with timetables and without. */
+static int of_lists(void) {
+    static const char kinds[] = "k 1 every 10 3\nk 2 closed 4 9\nk 3 rush 2 12 5\n";
+    uint32_t tails[24], heads[24], weights[24], classes[24];
+    for (int turn = 0; turn < 300; turn++) {
+        earliest_road read = EARLIEST_NOTHING, made = EARLIEST_NOTHING;
+        earliest_fault fault;
+        char gr[2048], tp[2048], text[256];
+        uint32_t nodes = 1 + word() % 16, count = word() % 25, timed = word() % 2;
+        int gr_length = sprintf(gr, "p sp %u %u\n", (unsigned)nodes, (unsigned)count), length = sprintf(text, "p tp 3 0\n%s", kinds);
+        int tp_length = sprintf(tp, "p tp 3 %u\n%s", (unsigned)count, kinds);
+        for (uint32_t i = 0; i < count; i++) {
+            tails[i] = 1 + word() % nodes, heads[i] = 1 + word() % nodes, weights[i] = word() % 12, classes[i] = word() % 4;
+            gr_length += sprintf(gr + gr_length, "a %u %u %u\n", (unsigned)tails[i], (unsigned)heads[i], (unsigned)weights[i]);
+            tp_length += sprintf(tp + tp_length, "t %u %u\n", (unsigned)i + 1, (unsigned)classes[i]);
+        }
+        TEST(earliest_road_read(gr, gr_length, tp, timed ? tp_length : 0, &read, &fault) == 0);
+        TEST(earliest_road_of_arcs(nodes, tails, heads, weights, timed ? classes : NULL, count, text, timed ? length : 0, &made, &fault) == 0);
+        TEST(fault.line == 0 && fault.number == 0 && fault.text == 0);
+        TEST(earliest_road_nodes(&made) == nodes && earliest_road_arcs(&made) == count);
+        TEST(alike(&read, &made, 1 + word() % nodes) == 0);
+        earliest_road_free(&read), earliest_road_free(&made);
+    }
+    return 0;
+}
+
+/* Each refusal of a road of lists, by which the handle stays as it was. */
+static int no_lists(void) {
+    static const char two[] = "p tp 2 0\nk 1 plain\nk 2 plain\n", assigned[] = "p tp 1 1\nk 1 plain\nt 1 1\n";
+    earliest_road road = EARLIEST_NOTHING;
+    earliest_fault fault = {9, 9, 9};
+    uint32_t tails[3] = {1, 2, 3}, heads[3] = {2, 3, 1}, weights[3] = {4, 5, 6}, classes[3] = {0, 1, 2};
+    TEST(earliest_road_of_arcs(3, tails, heads, weights, classes, 3, two, sizeof two - 1, &road, &fault) == 0 && road.at != NULL);
+    void *at = road.at;
+    TEST(earliest_road_of_lists(3, tails, 3, heads, 2, weights, 3, classes, 0, "", 0, &road, &fault) == EARLIEST_LENGTHS_DIFFER);
+    TEST(fault.line == 0 && fault.number == EARLIEST_LENGTHS_DIFFER && fault.text == 0);
+    TEST(earliest_road_of_lists(3, tails, 3, heads, 3, weights, 2, classes, 0, "", 0, &road, &fault) == EARLIEST_LENGTHS_DIFFER);
+    TEST(earliest_road_of_lists(0, tails, 3, heads, 3, weights, 3, classes, 2, "", 0, &road, &fault) == EARLIEST_LENGTHS_DIFFER);
+    TEST(earliest_road_of_arcs(0, tails, heads, weights, NULL, 0, "", 0, &road, &fault) == EARLIEST_OUT_OF_RANGE && fault.line == 1 && fault.text == 1);
+    TEST(earliest_road_of_arcs(67108865, tails, heads, weights, NULL, 3, "", 0, &road, &fault) == EARLIEST_OUT_OF_RANGE && fault.line == 1);
+    TEST(earliest_road_of_arcs(2, tails, heads, weights, NULL, 3, "x", 1, &road, &fault) == EARLIEST_OUT_OF_RANGE && fault.line == 3 && fault.text == 1);
+    tails[0] = 0;
+    TEST(earliest_road_of_arcs(3, tails, heads, weights, NULL, 3, "", 0, &road, &fault) == EARLIEST_OUT_OF_RANGE && fault.line == 2);
+    tails[0] = 1, heads[2] = UINT32_MAX, weights[2] = UINT32_MAX;
+    TEST(earliest_road_of_arcs(3, tails, heads, weights, NULL, 3, "", 0, &road, &fault) == EARLIEST_OUT_OF_RANGE && fault.line == 4);
+    heads[2] = 1;
+    TEST(earliest_road_of_arcs(3, tails, heads, weights, classes, 3, "x\n", 2, &road, &fault) == EARLIEST_UNKNOWN_LINE && fault.line == 1 && fault.text == 2);
+    TEST(earliest_road_of_arcs(3, tails, heads, weights, classes, 3, assigned, sizeof assigned - 1, &road, &fault) == EARLIEST_OUT_OF_RANGE);
+    TEST(fault.line == 3 && fault.text == 2);
+    TEST(earliest_road_of_arcs(3, tails, heads, weights, classes, 3, "", 0, &road, &fault) == EARLIEST_OUT_OF_RANGE && fault.line == 0 && fault.text == 2);
+    classes[0] = 3;
+    TEST(earliest_road_of_arcs(3, tails, heads, weights, classes, 3, two, sizeof two - 1, &road, &fault) == EARLIEST_OUT_OF_RANGE && fault.text == 2);
+    TEST(road.at == at && earliest_road_arcs(&road) == 3);
+    TEST(earliest_road_of_arcs(1, tails, heads, weights, NULL, 0, "", 0, &road, &fault) == 0 && earliest_road_arcs(&road) == 0);
+    earliest_road_free(&road);
+    return 0;
+}
+
 /* A number that is bad more often than not. */
 static uint64_t any(uint64_t near) {
     switch (word() % 6) {
@@ -171,6 +249,7 @@ static int many(const char *gr, size_t gr_length, const char *tp, size_t tp_leng
         case 16: case 17: number = earliest_search_arrivals(search, all, word() % 2 ? size : word() % 4096); break;
         case 18: case 19: case 20: case 21: case 22: case 23: number = earliest_search_walk(search, nodes[0], out, word() % 65, &one); break;
         case 24: number = earliest_check(road, nodes, word() % 5, &(earliest_starts){any(9), any(9), (uint32_t)any(1)}, tp, word() % tp_length, &fault); break;
+        case 25: number = earliest_road_of_lists(nodes[0], nodes, word() % 5, nodes, word() % 5, nodes, word() % 5, nodes, word() % 5, tp, word() % 2, road, &fault); break;
         default: number = earliest_search_arrival(search, nodes[0], &one); break;
         }
         TEST(number <= 35);
@@ -185,7 +264,7 @@ int main(int count, char **words) {
     if (count != 4) return 2;
     size_t four_length, gr_length, tp_length;
     char *four = text_of(words[1], &four_length), *gr = text_of(words[2], &gr_length), *tp = text_of(words[3], &tp_length);
-    int failed = four_nodes(four, four_length) || many(gr, gr_length, tp, tp_length);
+    int failed = four_nodes(four, four_length) || of_lists() || no_lists() || many(gr, gr_length, tp, tp_length);
     free(four), free(gr), free(tp);
     return failed;
 }

@@ -3,6 +3,7 @@
 What can't be run for want of a compiler or of a checker of memory is told, and left out.
 """
 import os
+import random
 import re
 import shutil
 import subprocess
@@ -72,8 +73,11 @@ def in_c(room):
 
 
 def in_cpp(room):
-    """The example in C++: a road, and a search by each thread."""
-    example = os.path.join(room, "by_threads")
+    """Roads of vectors; the example in C++: a road, and a search by each thread."""
+    vectors, example = os.path.join(room, "vectors"), os.path.join(room, "by_threads")
+    said = built("c++", ["-std=c++17", "-g", "-fsanitize=address,undefined"], os.path.join(HERE, "embedding.cpp"), vectors)
+    yield "the classes of C++, compiled", said, None
+    yield "the classes of C++", ran([vectors]), (0, b"", b"")
     said = built("c++", ["-std=c++17", "-pthread", "-g", "-fsanitize=address,undefined"], os.path.join(EXAMPLES, "by_threads.cpp"), example)
     yield "by_threads.cpp, compiled", said, None
     told = b"from 1: 1880 nodes are reached\nfrom 2: 1880 nodes are reached\nfrom 9999: a number is not that of a node (18 NoSuchNode)\n"
@@ -99,6 +103,40 @@ def failure_of(call):
     except Exception as refused:
         return type(refused).__name__, str(refused)
     return None
+
+
+def of_arcs(earliest):
+    """Roads of lists and of NumPy's arrays beside the same of texts, and their failures."""
+    words = random.Random(26)
+    kinds = "k 1 every 10 3\nk 2 closed 4 9\n"
+    shapes = [("lists", list)]
+    if earliest._engine.numpy:
+        shapes += [("arrays of 64 bits", lambda it: earliest._engine.numpy.array(it, dtype="int64")), ("arrays of 32 bits", lambda it: earliest._engine.numpy.array(it, dtype="uint32"))]
+    for name, shape in shapes:
+        for timed in (False, True):
+            alike = []
+            for _ in range(20):
+                nodes, count = words.randint(1, 30), words.randint(0, 90)
+                arcs = [(words.randint(1, nodes), words.randint(1, nodes), words.randint(0, 20), words.randint(0, 2)) for _ in range(count)]
+                gr = f"p sp {nodes} {count}\n" + "".join(f"a {u} {v} {w}\n" for u, v, w, _ in arcs)
+                tp = f"p tp 2 {count}\n{kinds}" + "".join(f"t {at} {it[3]}\n" for at, it in enumerate(arcs, 1))
+                read = earliest.Road(gr.encode(), tp.encode() if timed else None)
+                lists = [shape([it[at] for it in arcs]) for at in range(4 if timed else 3)]
+                made = earliest.Road.of_arcs(nodes, *lists, tp=f"p tp 2 0\n{kinds}".encode() if timed else None)
+                alike.append((made.nodes, made.arcs) == (nodes, count) and all(report(road, 1, 0, earliest) == report(read, 1, 0, earliest) for road in (made,)))
+            yield f"roads of {name}, {'timed' if timed else 'plain'}", alike, [True] * 20
+    make = earliest.Road.of_arcs
+    for name, call, told in (
+        ("0 nodes", lambda: make(0, [], [], []), ("InputFailure", "gr 1: 6 OutOfRange")),
+        ("too many nodes", lambda: make(2**40, [], [], []), ("InputFailure", "gr 1: 6 OutOfRange")),
+        ("a head that isn't there", lambda: make(2, [1, 2], [2, 3], [1, 1]), ("InputFailure", "gr 3: 6 OutOfRange")),
+        ("two lengths", lambda: make(2, [1, 2], [2], [1, 1]), ("Failure", "23 LengthsDiffer")),
+        ("a class without timetables", lambda: make(2, [1], [2], [1], [1]), ("InputFailure", "tp 0: 6 OutOfRange")),
+        ("timetables that assign", lambda: make(2, [1], [2], [1], [1], b"p tp 1 1\nk 1 plain\nt 1 1\n"), ("InputFailure", "tp 3: 6 OutOfRange")),
+        ("timetables without a line", lambda: make(2, [1], [2], [1], [0], b""), ("InputFailure", "tp 0: 1 NoProblemLine")),
+    ):
+        yield f"a road of lists: {name}", failure_of(call), told
+    yield "a road of lists: a weight of 33 bits", failure_of(lambda: make(2, [1], [2], [2**32]))[0], "OverflowError"
 
 
 def in_python(program):
@@ -137,6 +175,7 @@ def in_python(program):
     yield "a text's fault", failure_of(lambda: earliest.Road(b"p sp 2 1\na 1 3 1\n")), ("InputFailure", "gr 2: 6 OutOfRange")
     yield "no timetables in their text", failure_of(lambda: earliest.Road(b"p sp 1 0\n", b"")), ("InputFailure", "tp 0: 1 NoProblemLine")
     yield from with_numpy(four, earliest)
+    yield from of_arcs(earliest)
     run = ran([sys.executable, "many_sources.py"], env={**os.environ, "PYTHONPATH": os.path.join(ROOT, "python")})
     yield "many_sources.py", (run[0], run[1].splitlines()[0], run[2]), (0, b"2025 nodes, 5000 arcs", b"")
 

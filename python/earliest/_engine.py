@@ -41,6 +41,7 @@ def _loaded():
     size, handle, number = ctypes.c_size_t, ctypes.POINTER(_Handle), ctypes.c_uint32
     for name, result, words in (
         ("road_read", number, [ctypes.c_char_p, size, ctypes.c_char_p, size, handle, ctypes.POINTER(_Fault)]),
+        ("road_of_lists", number, [number, *[ctypes.c_void_p, size] * 4, ctypes.c_char_p, size, handle, ctypes.POINTER(_Fault)]),
         ("road_nodes", number, [handle]),
         ("road_arcs", number, [handle]),
         ("road_free", None, [handle]),
@@ -117,7 +118,10 @@ class Road:
         self._handle, self._lock, fault = _Handle(), threading.Lock(), _Fault()
         # To the library an empty text means that there is none: a line without fields has the fault that an empty file has.
         times = b"" if tp is None else tp or b"\n"
-        number = _library.earliest_road_read(gr, len(gr), times, len(times), self._handle, fault)
+        self._filled(_library.earliest_road_read(gr, len(gr), times, len(times), self._handle, fault), fault, files)
+
+    def _filled(self, number, fault, files):
+        """What a call that fills the handle came to."""
         if number and fault.text:
             raise InputFailure(files[fault.text - 1], fault.line, number)
         _test(number)
@@ -130,6 +134,23 @@ class Road:
     def read(cls, gr: Union[str, os.PathLike], tp: Union[str, os.PathLike, None] = None) -> "Road":
         """The road of files: a network (.gr) and, where there are some, its timetables (.tp)."""
         return cls(_bytes(gr), None if tp is None else _bytes(tp), (os.fspath(gr), os.fspath(tp) if tp is not None else "tp"))
+
+    @classmethod
+    def of_arcs(cls, nodes: int, tails: Iterable[int], heads: Iterable[int], weights: Iterable[int], classes: Optional[Iterable[int]] = None,
+                tp: Optional[bytes] = None) -> "Road":
+        """The road of so many nodes and of arcs with these tails, heads and weights, in this order: lists of one length, or NumPy arrays of
+        whole numbers with one dimension. `classes` has the class of each arc, 0 the plain one; without them all are plain. `tp` is a text
+        of timetables that has kinds and assigns no arcs. A failure names the line that a text of the network would have it in."""
+        if not 0 <= nodes < 2**32:
+            raise InputFailure("gr", 1, 6)
+        given = [_list("I", 2**32 - 1, values) for values in (tails, heads, weights, () if classes is None else classes)]
+        road, fault = cls.__new__(cls), _Fault()
+        road._handle, road._lock = _Handle(), threading.Lock()
+        times = b"" if tp is None else tp or b"\n"
+        lists = [word for _, at, count in given for word in (at, count)]
+        number = _library.earliest_road_of_lists(nodes, *lists, times, len(times), road._handle, fault)
+        road._filled(number, fault, ("gr", "tp"))
+        return road
 
     def searcher(self, walks: bool = True) -> "Search":
         """A search whose arrays serve query after query, for one thread at a time."""

@@ -2,7 +2,6 @@
 use Rattle.std.proofs.Common.{◌≡◌, ◌<◌, ℕ, List, length, subst}
 use Rattle.std.specs.Prelude.{All}
 use Rattle.ea_road.specs.Queries.{Asking}
-use Rattle.ea_check.specs.Checked.{sources_of}
 use Rattle.ea_check.specs.Form.{Line}
 use Rattle.ea_files.specs.declared.road.Road.{Road}
 use Rattle.ea_c.specs.declared.checks.Starts.{Starts}

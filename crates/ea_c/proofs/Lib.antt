@@ -6,3 +6,4 @@ mod Querying
 mod Asking
 mod Begun
 mod Judged
+mod Listing

@@ -5,3 +5,4 @@ pub mod Sessions
 pub mod States
 pub mod Calls
 pub mod Checks
+pub mod Lists

@@ -59,7 +59,7 @@ fn tell_of_check(fault: CheckFault) -> Fault
 }
 
 /// A refusal with no text's fault.
-fn refusal(number: u32) -> Fault
+pub(crate) fn refusal(number: u32) -> Fault
     ensures { result ≡ refused_by number }
 {
     Fault {

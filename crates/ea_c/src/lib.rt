@@ -5,6 +5,7 @@ mod begin;
 mod checks;
 mod content;
 mod handle;
+mod lists;
 mod loose;
 mod numbers;
 mod queries;

@@ -6,6 +6,8 @@ use ea_files::{FileFault, FileWord};
 
 /// It is done.
 pub const DONE: u32 = 0;
+/// A number is out of its range.
+pub const OUT_OF_RANGE: u32 = 6;
 /// A text couldn't be read, which no text in memory comes to.
 pub const READ_FAILED: u32 = 11;
 /// Memory was refused.
@@ -28,8 +30,6 @@ pub const NOT_REACHED: u32 = 22;
 pub const LENGTHS_DIFFER: u32 = 23;
 /// There is no room for the result.
 pub const ROOM_TOO_SMALL: u32 = 24;
-/// The numbers make no network.
-pub const NO_NETWORK: u32 = 25;
 
 /// What is wrong with a text that a caller passed.
 #[repr(C)]

@@ -21,7 +21,7 @@ fn boxed(alloc: Global, road: Road) -> Result<Box<Content, Global>, AllocError>
 }
 
 /// Puts a road into a handle.
-fn keep(alloc: Global, road: Road, handle: &mut Handle) -> u32
+pub(crate) fn keep(alloc: Global, road: Road, handle: &mut Handle) -> u32
     requires { top_class road.network.arcs ≤ length road.times.list.items }
     ensures { IsKept road handle.old.value handle.new.value result }
 {

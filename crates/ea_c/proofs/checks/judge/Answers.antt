@@ -1,6 +1,6 @@
 use Rattle.ea_c.specs.Checks.{told, unasked}
 use Rattle.std.specs.Prelude.{IsTrue}
-use Rattle.std.proofs.Common.{rules, sym, Bool, true, false, ◌≡◌, length, subst, ℕ}
+use Rattle.std.proofs.Common.{rules, sym, subst, ℕ}
 use Rattle.ea_check.specs.Checked.{AreCheckable}
 use Rattle.ea_c.proofs.checks.judge.Goals as goal
 

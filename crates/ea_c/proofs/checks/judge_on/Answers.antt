@@ -1,8 +1,6 @@
-use Rattle.std.proofs.Common.{◌≡◌, List, sym, subst}
-use Rattle.std.specs.Prelude.{Option, Some}
-use Rattle.std.specs.Arc.{arc_value}
+use Rattle.std.proofs.Common.{sym, subst}
+use Rattle.std.specs.Prelude.{Some}
 use Rattle.ea_check.specs.Form.{lines_of_report}
-use Rattle.ea_files.specs.declared.road.Road.{Road}
 use Rattle.ea_c.specs.declared.content.Content.{Content}
 use Rattle.ea_c.specs.declared.content.Terrain.{Terrain}
 use Rattle.ea_c.specs.Checks.{IsAnswerTo, IsToldOf}

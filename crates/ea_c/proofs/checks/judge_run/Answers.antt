@@ -1,5 +1,5 @@
-use Rattle.std.proofs.Common.{rules, ◌∙◌, ◌<◌, ◌≤◌, length, true, false, ◌≡◌}
-use Rattle.std.specs.Prelude.{All, IsTrue}
+use Rattle.std.proofs.Common.{rules, ◌∙◌, ◌<◌, length}
+use Rattle.std.specs.Prelude.{All}
 use Rattle.ea_check.specs.Form.{lines_of_report}
 use Rattle.ea_c.specs.Checks.{AreTimely}
 use Rattle.ea_c.proofs.Judged.{answer_of}

@@ -1,0 +1,38 @@
+// Roads of vectors by include/earliest.hpp: the example four-nodes, with timetables and without, and refusals. Exits with 1 where a test fails.
+#include <cstdio>
+
+#include "earliest.hpp"
+
+static int failed = 0;
+
+static void test(bool holds, int line) {
+    if (!holds) std::fprintf(stderr, "line %d\n", line), failed = 1;
+}
+#define TEST(holds) test((holds), __LINE__)
+
+int main() {
+    const std::vector<std::uint32_t> tails = {1, 1, 3, 2, 3}, heads = {2, 3, 2, 4, 4}, weights = {7, 2, 3, 1, 9}, classes = {0, 0, 0, 1, 0};
+    earliest::road plain = earliest::road::of_arcs(4, tails, heads, weights);
+    TEST(plain.nodes() == 4 && plain.arcs() == 5);
+    earliest::search search(plain);
+    TEST(search.from({{1, 0}}).arrivals() == (std::vector<std::uint64_t>{0, 5, 2, 6}));
+    TEST(search.walk(4) == (std::vector<std::uint32_t>{2, 3, 4}));
+    earliest::road timed = earliest::road::of_arcs(4, tails, heads, weights, classes, "p tp 1 0\nk 1 every 10 0\n");
+    earliest::search other(timed);
+    // The arc from 2 to 4 is left at 10, so the one from 3 to 4, which takes 9, is as early.
+    TEST(other.to({1, 0}, 4) == std::optional<std::uint64_t>(11));
+    TEST(earliest::road::of_arcs(1, {}, {}, {}).arcs() == 0);
+    try {
+        earliest::road::of_arcs(3, tails, heads, weights);
+        TEST(false);
+    } catch (const earliest::input_failure &fault) {
+        TEST(fault.number() == EARLIEST_OUT_OF_RANGE && fault.line() == 5 && fault.text() == 1);
+    }
+    try {
+        earliest::road::of_arcs(4, tails, heads, {1});
+        TEST(false);
+    } catch (const earliest::failure &refused) {
+        TEST(refused.number() == EARLIEST_LENGTHS_DIFFER);
+    }
+    return failed;
+}
