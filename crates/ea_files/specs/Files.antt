@@ -10,6 +10,8 @@ use Rattle.ea_input.specs.Formats.{graph_format, table_format}
 use Rattle.ea_input.specs.Graph.{Graph, DenotesGraph}
 use Rattle.ea_input.specs.Fault.{out_of_memory}
 use Rattle.ea_input.specs.declared.fault.InputFault.{InputFault}
+use Rattle.ea_input.specs.declared.streams.StreamFault.{StreamFault}
+use Rattle.ea_input.specs.declared.streams.StreamFault.TheVariants.{Read as FromDevice, Input as FromText}
 use Rattle.ea_input.specs.declared.fault.FaultKind.TheVariants as kind
 use Rattle.ea_files.specs.declared.fault.FileWord.{FileWord}
 use Rattle.ea_files.specs.declared.fault.FileWord.TheVariants.{Gr, Tp}
@@ -89,6 +91,11 @@ abbrev pub IsReadFaultAs : FileWord → ReadFault → FileFault → Type 0
 IsReadFaultAs file found (Read word fault) = (word ≡ file) × (fault ≡ found) × ((found ≡ no_memory) → ⊥)
 IsReadFaultAs file found (Input word fault) = ⊥
 IsReadFaultAs file found OutOfMemory = found ≡ no_memory
+
+-- The same of a text that is read as its bytes come.
+abbrev pub IsStreamFaultAs : FileWord → StreamFault → FileFault → Type 0
+IsStreamFaultAs file (FromDevice found) told = IsReadFaultAs file found told
+IsStreamFaultAs file (FromText found) told = IsFaultAs file found told
 
 -- The fault of a file that may be left out: memory was refused, or it is that of the file, which is there.
 abbrev pub IsFaultThere : {R : Type 0} → (R → Seen) → FileWord → Format → Option R → Option R → FileFault → Type 0

@@ -4,7 +4,6 @@ use Rattle.ea_text.specs.Text.{field_lines}
 use Rattle.ea_input.specs.Checks.{IsFaultOf}
 use Rattle.ea_input.specs.Formats.{graph_format, table_format}
 use Rattle.ea_input.specs.Graph.{Graph, DenotesGraph}
-use Rattle.ea_files.specs.declared.fault.FileWord.{FileWord}
 use Rattle.ea_files.specs.declared.fault.FileWord.TheVariants.{Gr, Tp}
 use Rattle.ea_files.specs.declared.fault.FileFault.{FileFault}
 use Rattle.ea_files.specs.declared.fault.FileFault.TheVariants.{Read, Input, OutOfMemory}

@@ -8,9 +8,9 @@ ghost use Rattle.ea_files.specs.Files.{bytes_there, IsBorneIfThere, IsFirstFault
 ghost use Rattle.ea_files.specs.Given.{AreGiven, Given, IsRoadOf};
 
 use crate::fault::{FileFault, FileWord};
-use crate::reading::{read_graph, read_pairs, read_sources};
+use crate::reading::{read_graph, read_sources};
 use crate::road::{Road, read_road};
-use crate::together::{read_graph_by, read_road_by};
+use crate::together::{read_graph_by, read_pairs_by, read_road_by};
 use ea_input::ByteIn;
 use std::alloc::Global;
 use std::thread::Threads;
@@ -78,7 +78,7 @@ pub fn read_trips<H: Threads + Sync, G: ByteIn, P: ByteIn, T: ByteIn>(
         (tables T.seen tp.old tp.new)) }
 {
     let graph = read_graph_by(alloc, rt, gr)?;
-    let pairs = read_pairs(alloc, p2p, graph.nodes)?;
+    let pairs = read_pairs_by(alloc, rt, p2p, graph.nodes)?;
     let road = read_road_by(alloc, rt, graph, tp)?;
     Ok(PairFiles { road, pairs })
 }

@@ -2,10 +2,9 @@
 ghost use Rattle.std.specs.Prelude.{◌≡◌, ℕ, List, Option, Some, IfOk, IfErr, OnOk};
 ghost use Rattle.std.specs.Io.KnownBytes.{IsAtEnd};
 ghost use Rattle.ea_text.specs.Text.{field_lines};
-ghost use Rattle.ea_input.specs.Formats.{graph_format, source_format, pair_format, table_format};
+ghost use Rattle.ea_input.specs.Formats.{graph_format, source_format, table_format};
 ghost use Rattle.ea_input.specs.Graph.{DenotesGraph};
 ghost use Rattle.ea_input.specs.Sources.{DenotesSources};
-ghost use Rattle.ea_input.specs.Pairs.{DenotesPairs};
 ghost use Rattle.ea_input.specs.Views.{graph};
 ghost use Rattle.ea_input.specs.TableViews.{table};
 ghost use Rattle.ea_files.specs.Files.{IsFaultAs, IsFaultIfThere, IsFaultIn, IsFileText, IsReadFaultAs, IsTextIfThere, IsUnreadBy, reading};
@@ -13,8 +12,8 @@ ghost use Rattle.ea_files.specs.Given.{IsTableOf, no_table as none_given};
 
 use crate::fault::{FileFault, FileWord};
 use ea_input::{
-    ByteIn, FaultKind, InputFault, RawGraph, RawTable, ReadFault, read_all, read_gr, read_p2p,
-    read_ss, read_tp,
+    ByteIn, FaultKind, InputFault, RawGraph, RawTable, ReadFault, read_all, read_gr, read_ss,
+    read_tp,
 };
 use ea_limits::MOST_BYTES;
 use std::alloc::Global;
@@ -37,7 +36,7 @@ pub(crate) fn text_of<R: ByteIn>(
 }
 
 /// A fault of reading as one of its file.
-fn read_fault_of(file: FileWord, fault: ReadFault) -> FileFault
+pub(crate) fn read_fault_of(file: FileWord, fault: ReadFault) -> FileFault
     ensures { IsReadFaultAs file fault result }
 {
     match fault {
@@ -88,25 +87,6 @@ pub(crate) fn read_sources<R: ByteIn>(
     match read_ss(alloc, &text, nodes) {
         Ok(sources) => Ok(sources),
         Err(fault) => Err(fault_of(FileWord::Ss, fault)),
-    }
-}
-
-/// The pairs of a file.
-pub(crate) fn read_pairs<R: ByteIn>(
-    alloc: Global,
-    p2p: &mut R,
-    nodes: u32,
-) -> Result<Vec<(u32, u32)>, FileFault>
-    ensures denoted { IfOk result
-        (λ found. (text : List ℕ) × IsFileText (reading R.seen p2p.old p2p.new) text
-        × DenotesPairs nodes (field_lines text) found.items) }
-    ensures fault { IfErr result
-        (IsFaultIn FileWord.P2p (pair_format nodes) (reading R.seen p2p.old p2p.new)) }
-{
-    let text = text_of(alloc, FileWord::P2p, p2p)?;
-    match read_p2p(alloc, &text, nodes) {
-        Ok(pairs) => Ok(pairs),
-        Err(fault) => Err(fault_of(FileWord::P2p, fault)),
     }
 }
 

@@ -1,21 +1,27 @@
 //! Files, of which the network's is read by several threads.
-ghost use Rattle.std.specs.Prelude.{◌≡◌, ℕ, List, IfOk, IfErr, OnOk, Option, length};
+ghost use Rattle.std.specs.Prelude.{◌≡◌, ℕ, List, IfOk, IfErr, OnOk, Option, Some, length};
 ghost use Rattle.ea_text.specs.Device.{BearsOn};
 ghost use Rattle.ea_text.specs.Text.{field_lines};
-ghost use Rattle.ea_input.specs.Formats.{graph_format, source_format};
+ghost use Rattle.ea_input.specs.Formats.{graph_format, pair_format, source_format, table_format};
 ghost use Rattle.ea_input.specs.Graph.{DenotesGraph};
+ghost use Rattle.ea_input.specs.Pairs.{DenotesPairs};
 ghost use Rattle.ea_input.specs.Sources.{DenotesSources};
 ghost use Rattle.ea_input.specs.Table.{Table};
+ghost use Rattle.ea_input.specs.TableViews.{table};
 ghost use Rattle.ea_input.specs.Views.{graph as graph_of};
-ghost use Rattle.ea_files.specs.Files.{bytes_there, IsBorneIfThere, IsFaultIn, IsFileText, IsFirstFault, IsTextIfThere, reading, tables};
+ghost use Rattle.ea_files.specs.Files.{bytes_there, IsBorneIfThere, IsFaultIfThere, IsFaultIn, IsFileText, IsFirstFault, IsStreamFaultAs, IsTextIfThere, reading, tables};
 ghost use Rattle.ea_files.specs.Given.{AreGiven, Given, IsRoadOf, IsTableOf, given_by, roads_of};
 ghost use Rattle.ea_files.specs.Sound.{IsSound};
 
 use crate::fault::{FileFault, FileWord};
 use crate::files::RunFiles;
-use crate::reading::{fault_of, read_sources, read_table, text_of};
+use crate::reading::{fault_of, no_table, read_fault_of};
 use crate::road::{Road, classed_arcs};
-use ea_input::{ByteIn, RawGraph, RawTable, read_gr_by};
+use ea_input::{
+    ByteIn, RawGraph, RawTable, StreamFault, read_gr_from, read_p2p_from, read_ss_from,
+    read_tp_from,
+};
+use ea_limits::MOST_BYTES;
 use ea_road::{Network, Timetables};
 use std::alloc::{AllocError, Global};
 use std::thread::{Threads, available_parallelism};
@@ -31,7 +37,17 @@ fn readers<H: Threads>(rt: &H) -> usize {
     }
 }
 
-/// The graph of a file, as `read_graph` reads it, by several threads.
+/// A fault of a device's text as one of its file.
+fn fault_from(file: FileWord, fault: StreamFault) -> FileFault
+    ensures { IsStreamFaultAs file fault result }
+{
+    match fault {
+        StreamFault::Read(fault) => read_fault_of(file, fault),
+        StreamFault::Input(fault) => fault_of(file, fault),
+    }
+}
+
+/// The graph of a file, as `read_graph` reads it, block by block and by several threads.
 pub(crate) fn read_graph_by<H: Threads + Sync, R: ByteIn>(
     alloc: Global,
     rt: &H,
@@ -43,10 +59,85 @@ pub(crate) fn read_graph_by<H: Threads + Sync, R: ByteIn>(
     ensures fault { IfErr result
         (IsFaultIn FileWord.Gr graph_format (reading R.seen gr.old gr.new)) }
 {
-    let text = text_of(alloc, FileWord::Gr, gr)?;
-    match read_gr_by(alloc, rt, readers(rt), &text) {
+    match read_gr_from(alloc, rt, readers(rt), MOST_BYTES, gr) {
         Ok(graph) => Ok(graph),
-        Err(fault) => Err(fault_of(FileWord::Gr, fault)),
+        Err(fault) => Err(fault_from(FileWord::Gr, fault)),
+    }
+}
+
+/// The sources of a file, as `read_sources` reads them, block by block.
+fn read_sources_by<H: Threads + Sync, R: ByteIn>(
+    alloc: Global,
+    rt: &H,
+    ss: &mut R,
+    nodes: u32,
+) -> Result<Vec<u32>, FileFault>
+    ensures denoted { IfOk result
+        (λ found. (text : List ℕ) × IsFileText (reading R.seen ss.old ss.new) text
+        × DenotesSources nodes (field_lines text) found.items) }
+    ensures fault { IfErr result
+        (IsFaultIn FileWord.Ss (source_format nodes) (reading R.seen ss.old ss.new)) }
+{
+    match read_ss_from(alloc, rt, readers(rt), MOST_BYTES, ss, nodes) {
+        Ok(sources) => Ok(sources),
+        Err(fault) => Err(fault_from(FileWord::Ss, fault)),
+    }
+}
+
+/// The pairs of a file, as `read_pairs` reads them, block by block.
+pub(crate) fn read_pairs_by<H: Threads + Sync, R: ByteIn>(
+    alloc: Global,
+    rt: &H,
+    p2p: &mut R,
+    nodes: u32,
+) -> Result<Vec<(u32, u32)>, FileFault>
+    ensures denoted { IfOk result
+        (λ found. (text : List ℕ) × IsFileText (reading R.seen p2p.old p2p.new) text
+        × DenotesPairs nodes (field_lines text) found.items) }
+    ensures fault { IfErr result
+        (IsFaultIn FileWord.P2p (pair_format nodes) (reading R.seen p2p.old p2p.new)) }
+{
+    match read_p2p_from(alloc, rt, readers(rt), MOST_BYTES, p2p, nodes) {
+        Ok(pairs) => Ok(pairs),
+        Err(fault) => Err(fault_from(FileWord::P2p, fault)),
+    }
+}
+
+/// The timetables of a file, block by block.
+fn read_timetables_by<H: Threads + Sync, R: ByteIn>(
+    alloc: Global,
+    rt: &H,
+    tp: &mut R,
+    arcs: u32,
+) -> Result<RawTable, FileFault>
+    ensures denoted { IfOk result
+        (λ found. (text : List ℕ) × IsFileText (reading R.seen tp.old tp.new) text
+        × IsTableOf arcs (Some text) (table found)) }
+    ensures fault { IfErr result
+        (IsFaultIn FileWord.Tp (table_format arcs) (reading R.seen tp.old tp.new)) }
+{
+    match read_tp_from(alloc, rt, readers(rt), MOST_BYTES, tp, arcs) {
+        Ok(table) => Ok(table),
+        Err(fault) => Err(fault_from(FileWord::Tp, fault)),
+    }
+}
+
+/// The timetables of a file that may be left out, as `read_table` reads them, block by block.
+fn read_table_by<H: Threads + Sync, R: ByteIn>(
+    alloc: Global,
+    rt: &H,
+    tp: &mut Option<R>,
+    arcs: u32,
+) -> Result<RawTable, FileFault>
+    ensures denoted { IfOk result
+        (λ found. (text : Option (List ℕ)) × IsTextIfThere R.seen tp.old tp.new text
+        × IsTableOf arcs text (table found)) }
+    ensures fault { IfErr result
+        (IsFaultIfThere R.seen FileWord.Tp (table_format arcs) tp.old tp.new) }
+{
+    match tp {
+        None => Ok(no_table(alloc)),
+        Some(tp) => read_timetables_by(alloc, rt, tp, arcs),
     }
 }
 
@@ -80,7 +171,7 @@ pub(crate) fn read_road_by<H: Threads + Sync, T: ByteIn>(
         × IsRoadOf (record { graph = graph_of graph; table = table }) road) }
     ensures fault { IfErr result ((tables T.seen tp.old tp.new).IsFault (length graph.arcs.items)) }
 {
-    let table = read_table(alloc, tp, graph.arcs.len() as u32)?;
+    let table = read_table_by(alloc, rt, tp, graph.arcs.len() as u32)?;
     let road = road_of_by(alloc, rt, graph, table)?;
     Ok(road)
 }
@@ -106,7 +197,7 @@ pub fn read_run_by<H: Threads + Sync, G: ByteIn, S: ByteIn, T: ByteIn>(
         (tables T.seen tp.old tp.new)) }
 {
     let graph = read_graph_by(alloc, rt, gr)?;
-    let sources = read_sources(alloc, ss, graph.nodes)?;
+    let sources = read_sources_by(alloc, rt, ss, graph.nodes)?;
     let road = read_road_by(alloc, rt, graph, tp)?;
     Ok(RunFiles { road, sources })
 }

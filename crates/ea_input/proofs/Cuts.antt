@@ -1,8 +1,12 @@
 -- Texts that are cut after a line feed.
-use Rattle.std.proofs.Common.{◌≡◌, ℕ, suc, zero, ◌<◌, cond, List, [], ◌∷◌, ◌++◌, length, get_or, take, drop, refl, ap, ◌∙◌, arith, inl, inr}
+use Rattle.std.proofs.Common.{◌≡◌, ℕ, suc, zero, ◌<◌, cond, List, [], ◌∷◌, ◌++◌, append_assoc, length, length-append, get_or, take, drop, refl, ap, sym, ◌∙◌, arith, inl, inr}
+use Rattle.std.proofs.Math.ListN.{length-take}
+use Rattle.std.proofs.Math.Seq.{drop-append_seam, take-append_seam}
+use Rattle.std.proofs.lemmas.List.{get_or-take, get_or_append_left}
 use Rattle.std.specs.Prelude.{◌==◌}
 use Rattle.std.specs.List.{onto_first}
 use Rattle.ea_text.specs.Text.{lines_of}
+use Rattle.ea_input.specs.Streams.{EndsLine}
 use Rattle.ea_input.proofs.Denoted.{two_ways}
 
 -- Lines of which there is one.
@@ -39,3 +43,23 @@ cut (b ∷ bs) (suc i) h e =
       | inl is ↦ rw is (ap (λ lines. [] ∷ lines) rest)
       | inr is ↦ rw is (ap (onto_first b) rest ∙ onto_both b (lines_of (take (suc i) bs)) (lines_of (drop (suc i) bs)) (front_some bs i (omega arith)))
     ]
+
+-- After a line feed a new line begins.
+pub ends_line : (text : List ℕ) (i : ℕ) → i < length text → get_or text i 0 ≡ 10 → EndsLine (take (suc i) text)
+ends_line text i h e = λ more.
+    let front = take (suc i) text in
+    let all = front ++ more in
+    let size : length front ≡ suc i = rw length-take (omega (arith, h)) in
+    let here : get_or all i 0 ≡ 10 = get_or_append_left front more 0 i (omega (arith, size)) ∙ get_or-take (suc i) text i 0 (omega arith) ∙ e in
+    cut all i (omega (arith, size, length-append front more)) here
+    ∙ ap (λ l. lines_of l ++ lines_of (drop (suc i) all)) (ap (λ n. take n all) (sym size) ∙ take-append_seam front more)
+    ∙ ap (λ l. lines_of front ++ lines_of l) (ap (λ n. drop n all) (sym size) ∙ drop-append_seam front more)
+
+pub nothing_ends : EndsLine []
+nothing_ends = λ more. refl
+
+-- A text whose back ends a line.
+pub both_end : (front back : List ℕ) → EndsLine front → EndsLine back → EndsLine (front ++ back)
+both_end front back p q = λ more.
+    ap lines_of (append_assoc front back more) ∙ p (back ++ more) ∙ ap (λ l. lines_of front ++ l) (q more)
+    ∙ sym (append_assoc (lines_of front) (lines_of back) (lines_of more)) ∙ ap (λ l. l ++ lines_of more) (sym (p back))

@@ -1,6 +1,6 @@
 -- The laws of the four grammars, and what their readers answer.
 use Rattle.std.proofs.Common.{◌≡◌, ◌⊎◌, inl, inr, ℕ, ◌<◌, ◌^◌, refl, subst, cond, ltb, List, [], ◌∷◌, length, arith, tests}
-use Rattle.std.specs.Prelude.{false, ◌==◌, Result, Ok, Err, IfErr, MatchResult}
+use Rattle.std.specs.Prelude.{false, ◌==◌, Result, Ok, Err, IfErr, IfOk, MatchResult}
 use Rattle.ea_input.specs.Fault.{◌>>=◌, Gives, out_of_memory}
 use Rattle.ea_input.specs.Reading.{text_after}
 use Rattle.ea_input.specs.Listing.{only_number, list_end, nothing_listed}
@@ -8,9 +8,14 @@ use Rattle.ea_input.specs.Sources.{DenotesSources, source_of, source_step}
 use Rattle.ea_input.specs.Pairs.{DenotesPairs, pair_of, pair_read, pair_step}
 use Rattle.ea_input.specs.Graph.{Graph, DenotesGraph, graph_step, graph_end, no_graph}
 use Rattle.ea_input.specs.Table.{Table, DenotesTable, table_step, table_end, no_table}
-use Rattle.ea_input.specs.Checks.{Line, Format, value_of, first_failing, IsFaultOf}
+use Rattle.ea_input.specs.Checks.{Line, Format, value_of, first_failing, IsFaultOf, IsFaultTold}
 use Rattle.ea_input.specs.Formats.{graph_format, source_format, pair_format, table_format}
+use Rattle.ea_text.specs.Device.{Seen}
+use Rattle.ea_text.specs.Text.{field_lines}
 use Rattle.ea_input.specs.Grammar.{IsGrammar}
+use Rattle.ea_input.specs.Streams.{DenotesWhole, GivesWhole, IsStreamFault}
+use Rattle.ea_input.specs.declared.streams.StreamFault.{StreamFault}
+use Rattle.ea_input.specs.declared.streams.StreamFault.TheVariants.{Read, Input}
 use Rattle.ea_input.proofs.Denoted as graphs
 use Rattle.ea_input.proofs.Items as items
 use Rattle.ea_input.proofs.TableDenoted as tables
@@ -68,6 +73,20 @@ pub gives_that_fault : {X Y : Type 0} (g : Grammar X) (view : Y → X) (r : Resu
 gives_that_fault g view (Ok y) lines h fault is = g.sound lines (view y) fault h is
 gives_that_fault g view (Err found) lines (inl refused) fault is = inl refused
 gives_that_fault g view (Err found) lines (inr said) fault is = inr (one_fault g.format lines found fault (g.faulty lines found said) is)
+
+-- The same of a reader that takes a device's text block by block.
+pub whole_denoted : {X Y : Type 0} (g : Grammar X) (view : Y → X) (limit : ℕ) (old new : Seen) (r : Result Y StreamFault) → GivesWhole view g.read limit old new r → IfOk r (λ y. DenotesWhole g.Denotes limit old new (view y))
+whole_denoted g view limit old new (Ok y) given = (given.0, given.1, g.denoted (field_lines given.0) (view y) given.2)
+whole_denoted g view limit old new (Err fault) given = tt
+
+told : {X : Type 0} (g : Grammar X) (fault : InputFault) (lines : List Line) → (fault ≡ out_of_memory) ⊎ (g.read lines ≡ Err fault) → IsFaultTold g.format lines fault
+told g fault lines (inl refused) = inl refused
+told g fault lines (inr said) = inr (g.faulty lines fault said)
+
+pub whole_fault : {X Y : Type 0} (g : Grammar X) (view : Y → X) (limit : ℕ) (old new : Seen) (r : Result Y StreamFault) → GivesWhole view g.read limit old new r → IfErr r (IsStreamFault g.format limit old new)
+whole_fault g view limit old new (Ok y) given = tt
+whole_fault g view limit old new (Err (Read fault)) given = given
+whole_fault g view limit old new (Err (Input fault)) given = (given.0, given.1, told g fault (field_lines given.0) given.2)
 
 -- ---- the four files
 

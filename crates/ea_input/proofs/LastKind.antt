@@ -1,6 +1,5 @@
 -- The last kind of a timetable.
-use Rattle.std.proofs.Common.{◌≡◌, ℕ, suc, ◌-◌, ◌≤◌, refl, ap, sym, ◌∙◌, arith, List, [], ◌∷◌, ◌++◌, length, drop, slice_index_or}
-use Rattle.std.proofs.lemmas.List.{drop_min}
+use Rattle.std.proofs.Common.{◌≡◌, suc, ◌-◌, refl, ap, ◌∙◌, arith, List, [], ◌∷◌, ◌++◌, length, slice_index_or}
 use Rattle.ea_input.specs.Table.{last_kind}
 use Rattle.ea_input.specs.declared.table.RawKind.{RawKind}
 use Rattle.ea_input.specs.declared.table.RawKind.TheVariants.{Plain}

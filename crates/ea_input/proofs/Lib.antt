@@ -21,3 +21,6 @@ pub mod Grammars
 pub mod QuickEntry
 pub mod Cuts
 pub mod Piecewise
+pub mod Joined
+pub mod Fed
+pub mod Underway

@@ -1,18 +1,17 @@
 -- The text of a graph, read in pieces.
-use Rattle.std.proofs.Common.{◌≡◌, ℕ, ◌+◌, ◌<◌, ◌^◌, refl, ap, sym, ◌∙◌, subst, List, [], ◌∷◌, ◌++◌, length, map, append-nil, append_assoc, arith}
-use Rattle.std.specs.Prelude.{Option, Some, None, IfSome, IsSomeAnd, Ok, not}
-use Rattle.std.specs.Str.Lines.{strip_carriage_return}
-use Rattle.std.proofs.lemmas.List.{map-append}
-use Rattle.std.proofs.lemmas.List.Elements.{filter-append}
-use Rattle.ea_text.specs.Text.{lines_of, fields_of, field_lines, is_silent, speaking}
+use Rattle.std.proofs.Common.{◌≡◌, ℕ, ◌+◌, ◌<◌, ◌≤◌, ◌^◌, ap, sym, ◌∙◌, subst, inl, inr, List, [], ◌∷◌, ◌++◌, length, length-append, append-nil, append_assoc, arith}
+use Rattle.std.specs.Prelude.{IfSome, Option, Some, Result, Ok}
+use Rattle.ea_text.specs.Text.{lines_of, field_lines, is_silent, speaking}
 use Rattle.ea_input.specs.Fault.{◌>>=◌, in_line}
-use Rattle.ea_input.specs.Graph.{IsArcLine, AreArcLines, GraphRead, no_graph, with_line, after_said, graph_step, graph_line, graph_end, graph_of}
-use Rattle.ea_input.specs.Pieces.{AreArcsOf, GoesOn}
-use Rattle.ea_input.specs.Reading.{lines_after, text_after}
-use Rattle.ea_input.proofs.Denoted.{some_of, speaking_loud, speaking_silent}
+use Rattle.ea_input.specs.Graph.{IsArcLine, AreArcLines, GraphRead, with_line, after_said, graph_step, graph_line}
+use Rattle.ea_input.specs.Pieces.{AreArcsOf, IsAppended}
+use Rattle.ea_input.specs.Reading.{lines_after}
+use Rattle.ea_input.proofs.Denoted.{speaking_loud, speaking_silent, two_ways}
 use Rattle.ea_input.proofs.Numbered.{bind_ok}
 use Rattle.ea_input.proofs.OneByOne.{in_line_ok}
-use Rattle.ea_input.proofs.Said.{Says, graph_line_says}
+use Rattle.ea_input.proofs.Joined.{Came, count_on, text_on}
+use Rattle.ea_input.proofs.Said.{Says, arc_line_of, graph_line_says, silent_line}
+use Rattle.ea_input.specs.declared.fault.InputFault.{InputFault}
 use Rattle.ea_input.specs.declared.graph.RawArc.{RawArc}
 use Rattle.ea_input.specs.declared.graph.GraphSize.{GraphSize}
 use Rattle.ea_input.specs.declared.graph.GraphLine.{GraphLine}
@@ -72,49 +71,67 @@ arcs_of_piece text size none last empty small e =
     let all = are_read (field_lines text) 0 size [] last small (subst (λ known. lines_after graph_step 0 (reader size known) (field_lines text) ≡ Ok last) empty e) in
     subst (λ arcs. AreArcLines size.nodes (speaking (field_lines text)) arcs) (sym all.all) all.lists
 
--- ---- two pieces
+-- ---- a piece after those before it
 
-both_lists : (nodes : ℕ) (lines more : List (List (List ℕ))) (xs ys : List RawArc) → AreArcLines nodes lines xs → AreArcLines nodes more ys → AreArcLines nodes (lines ++ more) (xs ++ ys)
-both_lists nodes [] more [] ys front back = back
-both_lists nodes [] more (x ∷ xs) ys front back = absurd front
-both_lists nodes (line ∷ lines) more [] ys front back = absurd front
-both_lists nodes (line ∷ lines) more (x ∷ xs) ys front back = (front.0, both_lists nodes lines more xs ys front.1 back)
+-- A line is read, and the rest after it.
+read_on : (n : ℕ) (read : GraphRead) (line : List (List ℕ)) (lines : List (List (List ℕ))) (said : GraphLine) → graph_line read.size (length read.arcs) line ≡ Ok said
+    → lines_after graph_step n read (line ∷ lines) ≡ lines_after graph_step (n + 1) (with_line read said) lines
+unfolding lines_after graph_step after_said
+read_on n read line lines said e = ap (λ r. in_line (n + 1) (r >>= λ s. Ok (with_line read s)) >>= λ next. lines_after graph_step (n + 1) next lines) e
 
-speaking_both : (text front back : List ℕ) → lines_of text ≡ lines_of front ++ lines_of back → speaking (field_lines text) ≡ speaking (field_lines front) ++ speaking (field_lines back)
-speaking_both text front back cut =
-    ap (λ lines. speaking (map (λ line. fields_of (strip_carriage_return line)) lines)) cut
-    ∙ ap speaking (map-append (λ line. fields_of (strip_carriage_return line)) (lines_of front) (lines_of back))
-    ∙ filter-append (λ line. not (is_silent line)) (field_lines front) (field_lines back)
+none_more : (n : ℕ) (size : GraphSize) (arcs more : List RawArc) → AreArcLines size.nodes [] more → lines_after graph_step n (reader size arcs) [] ≡ Ok (reader size (arcs ++ more))
+unfolding lines_after
+none_more n size arcs [] lists = ap (λ (known : List RawArc). Ok (reader size known)) (sym (append-nil arcs))
+none_more n size arcs (arc ∷ more) lists = absurd lists
 
--- The arcs of a text that is cut are those of its pieces.
-pub arcs_of_both : (nodes : ℕ) (text front back : List ℕ) (xs ys : List RawArc) → lines_of text ≡ lines_of front ++ lines_of back → AreArcsOf nodes front xs → AreArcsOf nodes back ys → AreArcsOf nodes text (xs ++ ys)
-arcs_of_both nodes text front back xs ys cut first second =
-    subst (λ lines. AreArcLines nodes lines (xs ++ ys)) (sym (speaking_both text front back cut)) (both_lists nodes (speaking (field_lines front)) (speaking (field_lines back)) xs ys first second)
+arc_more : (line : List (List ℕ)) (lines : List (List (List ℕ))) (n : ℕ) (size : GraphSize) (arcs more : List RawArc) → size.nodes < 2 ^ 64 → length arcs + length more ≤ size.arcs → AreArcLines size.nodes (line ∷ speaking lines) more
+    → ((known others : List RawArc) → length known + length others ≤ size.arcs → AreArcLines size.nodes (speaking lines) others → lines_after graph_step (n + 1) (reader size known) lines ≡ Ok (reader size (known ++ others)))
+    → lines_after graph_step n (reader size arcs) (line ∷ lines) ≡ Ok (reader size (arcs ++ more))
+arc_more line lines n size arcs [] small fits lists rest = absurd lists
+arc_more line lines n size arcs (arc ∷ more) small fits lists rest =
+    let room : length arcs < size.arcs = omega (arith, fits) in
+    read_on n (reader size arcs) line lines (Arc arc) (arc_line_of size (length arcs) line arc small room lists.0)
+    ∙ rest (arcs ++ arc ∷ []) more (omega (arith, fits, length-append arcs (arc ∷ []))) lists.1
+    ∙ ap (λ (known : List RawArc). Ok (reader size known)) (append_assoc arcs (arc ∷ []) more)
 
--- The same where each of both may have none, and then there is none.
-pub both_pieces : {V : Type 0} (items : V → List RawArc) (nodes : ℕ) (text front back : List ℕ) (all first second : Option V) → lines_of text ≡ lines_of front ++ lines_of back
-    → IfSome first (λ xs. AreArcsOf nodes front (items xs)) → IfSome second (λ ys. AreArcsOf nodes back (items ys))
-    → IfSome all (λ arcs. IsSomeAnd first (λ xs. IsSomeAnd second (λ ys. items arcs ≡ items xs ++ items ys))) → IfSome all (λ arcs. AreArcsOf nodes text (items arcs))
-both_pieces items nodes text front back None first second cut p q joined = tt
-both_pieces items nodes text front back (Some arcs) None second cut p q joined = absurd joined
-both_pieces items nodes text front back (Some arcs) (Some xs) None cut p q joined = absurd joined
-both_pieces items nodes text front back (Some arcs) (Some xs) (Some ys) cut p q joined =
-    subst (λ known. AreArcsOf nodes text known) (sym joined) (arcs_of_both nodes text front back (items xs) (items ys) cut p q)
+-- The arcs of a piece come behind those before it, where no more are announced.
+pub read_behind : (lines : List (List (List ℕ))) (n : ℕ) (size : GraphSize) (arcs more : List RawArc) → size.nodes < 2 ^ 64 → length arcs + length more ≤ size.arcs → AreArcLines size.nodes (speaking lines) more
+    → lines_after graph_step n (reader size arcs) lines ≡ Ok (reader size (arcs ++ more))
+read_behind [] n size arcs more small fits lists = none_more n size arcs more lists
+read_behind (line ∷ lines) n size arcs more small fits lists =
+    let P : List (List (List ℕ)) → Type 0 = λ ls. AreArcLines size.nodes ls more in
+    elim (two_ways (is_silent line)) [
+      | inl silent ↦ read_on n (reader size arcs) line lines Silent (silent_line (Some size) (length arcs) line silent) ∙ read_behind lines (n + 1) size arcs more small fits (subst P (speaking_silent line lines silent) lists)
+      | inr loud ↦ arc_more line lines n size arcs more small fits (subst P (speaking_loud line lines loud) lists) (λ known others c l. read_behind lines (n + 1) size known others small c l)
+    ]
 
--- ---- all pieces
+-- ---- both pieces
 
-length-nil : {X : Type 0} (xs : List X) → length xs ≡ 0 → xs ≡ []
-length-nil [] e = refl
-length-nil (x ∷ xs) e = absurd (omega (arith, e))
+-- What was read of the front, and then of the back where a thread of its own read it.
+pub both_read : (text front back : List ℕ) (n : ℕ) (size : GraphSize) (start mid last : GraphRead) (more : List RawArc) (lines : ℕ) → lines_of text ≡ lines_of front ++ lines_of back
+    → lines_after graph_step n start (field_lines front) ≡ Ok mid → size.nodes < 2 ^ 64 → AreArcsOf size.nodes back more → IsAppended size mid more last (Some lines)
+    → lines_after graph_step n start (field_lines text) ≡ Ok last
+both_read text front back n size start mid last more lines cut first small lists is =
+    let now = is.0 in
+    let kept : AreArcLines now.nodes (speaking (field_lines back)) more = subst (λ nodes. AreArcLines nodes (speaking (field_lines back)) more) (sym is.2) lists in
+    let tiny : now.nodes < 2 ^ 64 = subst (λ nodes. nodes < 2 ^ 64) (sym is.2) small in
+    let mid_is : mid ≡ reader now mid.arcs = ap (λ o. record { size = o; arcs = mid.arcs }) is.1 in
+    let last_is : last ≡ reader now (mid.arcs ++ more) = is.4 ∙ ap (λ o. record { size = o; arcs = mid.arcs ++ more }) is.1 in
+    let behind = read_behind (field_lines back) (n + length (field_lines front)) now mid.arcs more tiny is.3 kept in
+    text_on graph_step n start text front back cut
+    ∙ ap (λ r. r >>= λ t. lines_after graph_step (n + length (field_lines front)) t (field_lines back)) first
+    ∙ ap (λ (t : GraphRead). lines_after graph_step (n + length (field_lines front)) t (field_lines back)) mid_is
+    ∙ behind ∙ ap (λ (t : GraphRead). Ok t) (sym last_is)
 
--- The graph of a text whose lines after the problem line have the arcs that are announced.
-pub whole : (text rest : List ℕ) (head : GraphRead) (size : GraphSize) (none arcs : List RawArc) → none ≡ [] → head.size ≡ Some size → length head.arcs ≡ 0 → size.nodes < 2 ^ 64 → length arcs ≡ size.arcs → AreArcsOf size.nodes rest arcs
-    → GoesOn (record { size = None; arcs = none }) text head rest → graph_of (field_lines text) ≡ Ok (record { nodes = size.nodes; arcs = arcs })
-unfolding text_after
-whole text rest head size none arcs empty announced no_arc small count lists goes_on =
-    let from_start : lines_after graph_step goes_on.0 head (field_lines rest) ≡ lines_after graph_step 0 no_graph (field_lines text) =
-    subst (λ known. lines_after graph_step goes_on.0 head (field_lines rest) ≡ lines_after graph_step 0 (record { size = None; arcs = known }) (field_lines text)) empty goes_on.1 in
-    let same : lines_after graph_step goes_on.0 (reader size []) (field_lines rest) ≡ lines_after graph_step 0 no_graph (field_lines text) =
-    subst (λ known. lines_after graph_step goes_on.0 (record { size = Some size; arcs = known }) (field_lines rest) ≡ lines_after graph_step 0 no_graph (field_lines text)) (length-nil head.arcs no_arc)
-    (subst (λ known. lines_after graph_step goes_on.0 (record { size = known; arcs = head.arcs }) (field_lines rest) ≡ lines_after graph_step 0 no_graph (field_lines text)) announced from_start) in
-    sym (ap (λ r. r >>= λ s. in_line 0 (graph_end s)) same) ∙ some_of (field_lines rest) goes_on.0 size [] arcs small count lists
+-- The same with how many lines there are.
+pub halves_read : (text front back : List ℕ) (n line count : ℕ) (size : GraphSize) (start mid last : GraphRead) (more : List RawArc) (aside : Option ℕ) (read : Result ℕ InputFault)
+    → lines_of text ≡ lines_of front ++ lines_of back → text ≡ front ++ back → read ≡ Ok line → Came (λ _. mid) n front (lines_after graph_step n start (field_lines front)) read → size.nodes < 2 ^ 64
+    → aside ≡ Some count → IfSome aside (λ _. AreArcsOf size.nodes back more) → IfSome aside (λ lines. (lines ≡ length (field_lines back)) × (lines ≤ length back)) → IsAppended size mid more last (Some count)
+    → Came (λ _. last) n text (lines_after graph_step n start (field_lines text)) (Ok (line + count))
+halves_read text front back n line count size start mid last more aside read cut whole e came small there arcs lines put =
+    let got = subst (λ r. Came (λ _. mid) n front (lines_after graph_step n start (field_lines front)) r) e came in
+    let listed = subst (λ o. IfSome o (λ _. AreArcsOf size.nodes back more)) there arcs in
+    let counted = subst (λ o. IfSome o (λ l. (l ≡ length (field_lines back)) × (l ≤ length back))) there lines in (
+      both_read text front back n size start mid last more count cut got.0 small listed put,
+      (omega (arith, got.1.0, counted.0, count_on text front back cut), omega (arith, got.1.1, counted.1, ap length whole, length-append front back)),
+    )

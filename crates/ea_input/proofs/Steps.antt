@@ -9,7 +9,7 @@ use Rattle.ea_input.specs.declared.fault.FaultKind.{FaultKind}
 use Rattle.ea_input.specs.declared.fault.FaultKind.TheVariants.{NoProblemLine, SecondProblemLine, UnknownLine, FieldCount, BadNumber, OutOfRange, TooManyLines, TooFewLines, BadKind, OutOfMemory}
 use Rattle.ea_input.specs.declared.fault.InputFault.{InputFault}
 
-abbrev Step : Type 0 → Type 0
+abbrev pub Step : Type 0 → Type 0
 Step S = S → List (List ℕ) → Result S FaultKind
 
 -- After a line comes what is read after it.

@@ -19,3 +19,4 @@ pub mod Checks
 pub mod Formats
 pub mod Grammar
 pub mod FaultNames
+pub mod Streams

@@ -1,9 +1,9 @@
 -- Texts, read line by line.
-use Rattle.std.specs.Prelude.{◌≡◌, ◌⊎◌, ℕ, ◌+◌, ◌<◌, List, [], ◌∷◌, length, Result, Ok, Err}
+use Rattle.std.specs.Prelude.{◌≡◌, ◌⊎◌, ℕ, ◌+◌, ◌<◌, ◌≤◌, List, [], ◌∷◌, length, IfOk, Result, Ok, Err}
 use Rattle.std.specs.Borrow.{Bor}
 use Rattle.std.specs.Str.Lines.{strip_carriage_return}
-use Rattle.ea_text.specs.Text.{lines_of, fields_of}
-use Rattle.ea_input.specs.Fault.{◌>>=◌, in_line}
+use Rattle.ea_text.specs.Text.{lines_of, fields_of, field_lines}
+use Rattle.ea_input.specs.Fault.{◌>>=◌, in_line, Gives}
 use Rattle.ea_input.specs.declared.fault.FaultKind.{FaultKind}
 use Rattle.ea_input.specs.declared.fault.FaultKind.TheVariants.{OutOfMemory}
 use Rattle.ea_input.specs.declared.fault.InputFault.{InputFault}
@@ -28,3 +28,9 @@ ReadsFront step text before after (Ok rest) =
     (line : List ℕ) × (lines_of text ≡ line ∷ lines_of rest.now) × (length rest.now < length text) × (step before (fields_of (strip_carriage_return line)) ≡ Ok after)
 ReadsFront step text before after (Err kind) =
     (line : List ℕ) × (rest : List ℕ) × (lines_of text ≡ line ∷ lines_of rest) × ((kind ≡ OutOfMemory) ⊎ (step before (fields_of (strip_carriage_return line)) ≡ Err kind))
+
+-- All lines of a text were read, before which so many stood, and what came of it: how many stand before what follows it.
+abbrev pub ReadsAll : {S T : Type 0} → (S → List (List ℕ) → Result S FaultKind) → (T → S) → ℕ → T → T → List ℕ → Result ℕ InputFault → Type 0
+ReadsAll step state before old new text read =
+    Gives (λ _. state new) read (lines_after step before (state old) (field_lines text))
+    × IfOk read (λ line. (line ≡ before + length (field_lines text)) × (line ≤ before + length text))

@@ -1,5 +1,5 @@
 -- Lines `v T X`: the steps of a class of speeds or of trips, one after the other.
-use Rattle.std.specs.Prelude.{◌≡◌, ℕ, ◌+◌, ◌-◌, ◌&&◌, ◌==◌, Bool, false, List, [], ◌∷◌, ◌++◌, length, drop, min, codes, nat_lt, slice_index_or, if◌then◌else◌, Result, Ok, Err}
+use Rattle.std.specs.Prelude.{◌≡◌, ℕ, ◌+◌, ◌-◌, ◌&&◌, ◌==◌, Bool, false, List, [], ◌∷◌, ◌++◌, length, min, codes, nat_lt, slice_index_or, if◌then◌else◌, Result, Ok, Err}
 use Rattle.std.specs.List.{list_all}
 use Rattle.ea_limits.specs.declared.TheConstants.{HORIZON, MOST_PERIOD}
 use Rattle.ea_input.specs.Fault.{◌>>=◌, numeral, within}

@@ -12,14 +12,19 @@ ghost use Rattle.ea_input.specs.Reading.{GivesLine};
 ghost use Rattle.ea_input.specs.Views.{graph, read_of};
 ghost use Rattle.ea_text.specs.Text.{field_lines};
 ghost use Rattle.ea_input.specs.Borrowed.{texts_now};
+ghost use Rattle.ea_input.specs.Streams.{DenotesWhole, GivesWhole, IsStreamFault};
 
 use crate::fault::{FaultKind, InputFault};
+use crate::pieces::read_halves;
 use crate::plain::{ArcNumbers, leading_arc};
 use crate::range::{numeral, within};
 use crate::reading::{LineReader, read_text};
+use crate::streams::{BlockReader, StreamFault, read_device, way_of};
 use ea_limits::{MOST_ARCS, MOST_NODES};
 use ea_text as text;
+use ea_text::ByteIn;
 use std::alloc::Global;
+use std::thread::Threads;
 
 /// An arc of a graph's text: from `tail` to `head`, nodes counted from 1, of `weight`.
 #[derive(Clone, Copy, Debug, PartialEq, Eq)]
@@ -188,6 +193,8 @@ pub struct RawGraph {
 pub(crate) struct GraphReader {
     pub size: Option<GraphSize>,
     pub arcs: Vec<RawArc>,
+    /// Room for the arcs of a piece that another thread reads.
+    pub spare: Vec<RawArc>,
 }
 
 impl GraphReader {
@@ -260,15 +267,41 @@ impl LineReader for GraphReader {
     ghost front = { graph_step-front };
 }
 
+impl BlockReader for GraphReader {
+    fn read_aside<H: Threads + Sync>(
+        &mut self,
+        alloc: Global,
+        rt: &H,
+        threads: usize,
+        before: u64,
+        text: &[u8],
+    ) -> Option<Result<u64, InputFault>> {
+        if threads < 2 {
+            return None;
+        }
+        let Some(size) = self.size else {
+            return None;
+        };
+        Some(read_halves(alloc, rt, self, size, before, text))
+    }
+}
+
+/// A reader of a text of which no line was read yet.
+fn start(alloc: Global) -> GraphReader
+    ensures { read_of result ≡ spec.no_graph }
+{
+    GraphReader {
+        size: None,
+        arcs: Vec::new(alloc),
+        spare: Vec::new(alloc),
+    }
+}
+
 /// The same with one clause, which says what the lines come to step by step.
 pub(crate) fn read_graph(alloc: Global, text: &[u8]) -> Result<RawGraph, InputFault>
     ensures exact { Gives graph result (graph_of (field_lines text.now)) }
 {
-    let start = GraphReader {
-        size: None,
-        arcs: Vec::new(alloc),
-    };
-    read_text(alloc, start, text)
+    read_text(alloc, start(alloc), text)
 }
 
 /// The graph that a text denotes, or the text's first fault. `OutOfMemory`, in line 0, says nothing of the text.
@@ -286,6 +319,39 @@ pub fn read_gr(alloc: Global, text: &[u8]) -> Result<RawGraph, InputFault>
         MatchResult result (λ _. ⊥) (λ found. (found ≡ out_of_memory) ⊎ (found ≡ fault)) }
 {
     read_graph(alloc, text)
+}
+
+/// What a device's text is read to, with one clause, which says it step by step.
+fn read_graph_from<H: Threads + Sync, D: ByteIn>(
+    alloc: Global,
+    rt: &H,
+    threads: usize,
+    limit: u64,
+    device: &mut D,
+) -> Result<RawGraph, StreamFault>
+    ensures exact { GivesWhole graph graph_of limit (D.seen device.old) (D.seen device.new) result }
+{
+    let start = start(alloc);
+    read_device(rt, way_of(alloc, threads), limit, start, device)
+}
+
+/// The graph of a device's text, or why it gave none, as `read_gr` reads a text; at most so many
+/// bytes, by at most so many threads. The text is read block by block as its bytes come, so it lies nowhere in memory whole. After
+/// the text's first fault the device is read to its end. `OutOfMemory` says nothing of the text.
+pub fn read_gr_from<H: Threads + Sync, D: ByteIn>(
+    alloc: Global,
+    rt: &H,
+    threads: usize,
+    limit: u64,
+    device: &mut D,
+) -> Result<RawGraph, StreamFault>
+    // What is read is what the text denotes.
+    ensures denoted { IfOk result (λ read. DenotesWhole DenotesGraph limit (D.seen device.old) (D.seen device.new)
+        (graph read)) }
+    // A fault is the device's or the text's, unless memory is refused.
+    ensures fault { IfErr result (IsStreamFault graph_format limit (D.seen device.old) (D.seen device.new)) }
+{
+    read_graph_from(alloc, rt, threads, limit, device)
 }
 
 /// The law of the texts of graphs: a text denotes at most one graph and has at most one fault, and

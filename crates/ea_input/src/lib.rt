@@ -12,20 +12,19 @@ mod range;
 mod reading;
 mod sources;
 mod step_lines;
+mod streams;
 mod table;
 
 pub use ea_text::{
     ByteIn, ByteOut, Device, DeviceFault, ReadFault, StdIn, StdOut, number, read_all,
 };
 pub use fault::{FaultKind, InputFault};
-pub use graph::{RawArc, RawGraph, graph_law, read_gr};
-pub use pairs::{pair_law, read_p2p};
-pub use pieces::read_gr_by;
-pub use sources::{read_ss, source_law};
+pub use graph::{RawArc, RawGraph, graph_law, read_gr, read_gr_from};
+pub use pairs::{pair_law, read_p2p, read_p2p_from};
+pub use sources::{read_ss, read_ss_from, source_law};
 pub use step_lines::{MOST_SPEED, MOST_STEPS, step_limits_are_these};
-pub use table::{RawKind, RawTable, read_tp, table_law};
+pub use streams::StreamFault;
+pub use table::{RawKind, RawTable, read_tp, read_tp_from, table_law};
 
-#[cfg(test)]
-mod piece_tests;
 #[cfg(test)]
 mod tests;

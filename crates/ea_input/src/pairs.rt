@@ -7,18 +7,22 @@ ghost use Rattle.ea_input.specs.Grammar.{IsGrammar};
 ghost use Rattle.ea_input.specs.declared.fault.InputFault.{InputFault as FaultType};
 ghost use Rattle.ea_input.specs.Fronts.{pair_step-front};
 ghost use Rattle.ea_input.specs.Listing as spec;
-ghost use Rattle.ea_input.specs.Listing.{Listed, list_end};
+ghost use Rattle.ea_input.specs.Listing.{Listed, list_end, nothing_listed};
 ghost use Rattle.ea_input.specs.Pairs.{DenotesPairs, pair_step, pairs_of};
 ghost use Rattle.ea_text.specs.Text.{field_lines};
 ghost use Rattle.ea_input.specs.Reading.{GivesLine};
 ghost use Rattle.ea_input.specs.Borrowed.{texts_now};
+ghost use Rattle.ea_input.specs.Streams.{DenotesWhole, GivesWhole, IsStreamFault};
 
 use crate::fault::{FaultKind, InputFault};
 use crate::listing::{ListLine, problem_line};
 use crate::range::{numeral, within};
 use crate::reading::{LineReader, read_text};
+use crate::streams::{BlockReader, StreamFault, read_device, way_of};
 use ea_text as text;
+use ea_text::ByteIn;
 use std::alloc::Global;
+use std::thread::Threads;
 
 #[tactic(auto, unfolding(crate::specs::Pairs::pair_read))]
 fn pair_read(nodes: u32, source: &[u8], target: &[u8]) -> Result<(u32, u32), FaultKind>
@@ -129,15 +133,23 @@ impl LineReader for PairReader {
     ghost front = { pair_step-front };
 }
 
-fn read_pairs(alloc: Global, text: &[u8], nodes: u32) -> Result<Vec<(u32, u32)>, InputFault>
-    ensures exact { Gives (λ pairs. pairs.items) result (pairs_of nodes (field_lines text.now)) }
+impl BlockReader for PairReader {}
+
+/// A reader of a text of which no line was read yet.
+fn start(alloc: Global, nodes: u32) -> PairReader
+    ensures { (record { nodes = result.nodes; size = result.size; items = result.pairs.items }) ≡ nothing_listed nodes }
 {
-    let start = PairReader {
+    PairReader {
         nodes,
         size: None,
         pairs: Vec::new(alloc),
-    };
-    read_text(alloc, start, text)
+    }
+}
+
+fn read_pairs(alloc: Global, text: &[u8], nodes: u32) -> Result<Vec<(u32, u32)>, InputFault>
+    ensures exact { Gives (λ pairs. pairs.items) result (pairs_of nodes (field_lines text.now)) }
+{
+    read_text(alloc, start(alloc, nodes), text)
 }
 
 /// The pairs of source and target of a text, in their order, or the text's first fault; nodes are numbered from 1 up to
@@ -158,6 +170,41 @@ pub fn read_p2p(alloc: Global, text: &[u8], nodes: u32) -> Result<Vec<(u32, u32)
         MatchResult result (λ _. ⊥) (λ found. (found ≡ out_of_memory) ⊎ (found ≡ fault)) }
 {
     read_pairs(alloc, text, nodes)
+}
+
+/// What a device's text is read to, with one clause, which says it step by step.
+fn read_pairs_from<H: Threads + Sync, D: ByteIn>(
+    alloc: Global,
+    rt: &H,
+    threads: usize,
+    limit: u64,
+    device: &mut D,
+    nodes: u32,
+) -> Result<Vec<(u32, u32)>, StreamFault>
+    ensures exact { GivesWhole (λ pairs. pairs.items) (pairs_of nodes) limit (D.seen device.old) (D.seen device.new) result }
+{
+    let start = start(alloc, nodes);
+    read_device(rt, way_of(alloc, threads), limit, start, device)
+}
+
+/// The pairs of a device's text, or why it gave none, as `read_p2p` reads a text; at most so many
+/// bytes, by at most so many threads. The text is read block by block as its bytes come, so it lies nowhere in memory whole. After
+/// the text's first fault the device is read to its end. `OutOfMemory` says nothing of the text.
+pub fn read_p2p_from<H: Threads + Sync, D: ByteIn>(
+    alloc: Global,
+    rt: &H,
+    threads: usize,
+    limit: u64,
+    device: &mut D,
+    nodes: u32,
+) -> Result<Vec<(u32, u32)>, StreamFault>
+    // What is read is what the text denotes.
+    ensures denoted { IfOk result (λ read. DenotesWhole (DenotesPairs nodes) limit (D.seen device.old) (D.seen device.new)
+        read.items) }
+    // A fault is the device's or the text's, unless memory is refused.
+    ensures fault { IfErr result (IsStreamFault (pair_format nodes) limit (D.seen device.old) (D.seen device.new)) }
+{
+    read_pairs_from(alloc, rt, threads, limit, device, nodes)
 }
 
 /// The law of the texts of pairs: a text denotes at most one list of pairs and has at most one

@@ -1,32 +1,25 @@
-//! The text of a graph, read by several threads: the text after the problem line is cut after line feeds into pieces, and each
-//! thread reads one. Where a piece has a fault, or the pieces together have another number of arcs than is announced, the
-//! text is read again from its start by one thread, which finds the first fault.
-ghost use Rattle.std.specs.Prelude.{◌≡◌, ◌++◌, ◌⊎◌, IfErr, IfOk, IfSome, IsSomeAnd, MatchResult, Ok};
-ghost use Rattle.std.specs.Thread.{IsSync};
-ghost use Rattle.ea_input.specs.Checks.{IsFaultOf, IsFaultTold};
-ghost use Rattle.ea_input.specs.Fault.{Gives, out_of_memory};
-ghost use Rattle.ea_input.specs.Formats.{graph_format};
-ghost use Rattle.ea_input.specs.declared.fault.InputFault.{InputFault as FaultType};
-ghost use Rattle.ea_input.specs.Graph.{Graph, DenotesGraph, graph_of};
-ghost use Rattle.ea_input.specs.Pieces.{AreArcsOf, GoesOn};
-ghost use Rattle.ea_input.specs.Views.{graph, read_of};
+//! Arcs of a graph's text, read by two threads: a text after the problem line is cut after a line feed, and each thread reads a
+//! piece. The first goes on where the lines before ended. Where the second has a fault, or both have more arcs than are announced,
+//! the first reads the second piece too, and finds the first fault.
+ghost use Rattle.std.specs.Prelude.{◌≡◌, ◌<◌, ◌≤◌, ◌+◌, ◌^◌, ◌++◌, IfErr, IfOk, IfSome, IsSome, length, take};
+ghost use Rattle.ea_input.specs.Graph.{graph_step};
+ghost use Rattle.ea_input.specs.Pieces.{AreArcsOf, IsAppended};
+ghost use Rattle.ea_input.specs.Reading.{ReadsAll};
+ghost use Rattle.ea_input.specs.Streams.{EndsLine};
+ghost use Rattle.ea_input.specs.Views.{read_of};
 ghost use Rattle.ea_text.specs.Text.{field_lines, lines_of};
 
 use crate::fault::InputFault;
-use crate::graph::{GraphReader, GraphSize, RawArc, RawGraph, read_graph};
-use crate::reading::{read_front, read_lines};
+use crate::graph::{GraphReader, GraphSize, RawArc};
+use crate::reading::read_lines;
 use std::alloc::Global;
-use std::thread::{Threads, join};
-
-/// How many bytes a piece has at least, but where the text has less.
-const LEAST_PIECE: usize = 524_288;
-
-/// How many bytes a line has about, in a guess of the lines of a text.
-const ABOUT_A_LINE: usize = 14;
+use std::mem;
+use std::thread::{Threads, join_mut};
 
 /// A text in two, cut after the first line feed that stands at this place or later.
 fn cut_after(text: &[u8], from: usize) -> (&[u8], &[u8])
-    ensures { lines_of text.now ≡ lines_of result.0.now ++ lines_of result.1.now }
+    ensures lines { lines_of text.now ≡ lines_of result.0.now ++ lines_of result.1.now }
+    ensures whole { text.now ≡ result.0.now ++ result.1.now }
 {
     for at in from..text.len() {
         if text[at] == b'\n' {
@@ -36,156 +29,128 @@ fn cut_after(text: &[u8], from: usize) -> (&[u8], &[u8])
     (text, &text[text.len()..])
 }
 
-/// Reads the lines up to the problem line, and gives the bytes after it; none where a line has a fault.
-fn read_head<'a>(alloc: Global, reader: &mut GraphReader, text: &'a [u8]) -> Option<&'a [u8]>
-    ensures { IfSome result
-        (λ rest. GoesOn (read_of reader.old) text.now (read_of reader.new) rest.now) }
+/// How many bytes a text has up to its last line feed, with that; none where it has no line feed.
+pub(crate) fn end_of_lines(text: &[u8]) -> usize
+    ensures inside { result ≤ length text.now }
+    ensures ends { EndsLine (take result text.now) }
 {
-    let mut rest = text;
-    while reader.size.is_none() && !rest.is_empty() {
-        match read_front(alloc, reader, rest) {
-            Ok(after) => rest = after,
-            Err(_) => return None,
+    let mut end = text.len();
+    while end > 0 {
+        if text[end - 1] == b'\n' {
+            return end;
         }
+        end -= 1;
     }
-    Some(rest)
+    0
 }
 
-/// The arcs of a piece of the text after the problem line, in a list with room for so many; none where it has a fault or memory
-/// was refused.
-fn read_piece(alloc: Global, size: GraphSize, text: &[u8], room: usize) -> Option<Vec<RawArc>>
-    ensures { IfSome result (λ arcs. AreArcsOf size.nodes text.now arcs.items) }
+/// The arcs of a piece of the text after the problem line, put into a list in place of what it had, and how many lines the piece
+/// has; none where it has a fault or memory was refused.
+fn read_piece(alloc: Global, size: GraphSize, text: &[u8], arcs: &mut Vec<RawArc>) -> Option<u64>
+    ensures arcs { IfSome result (λ _. AreArcsOf size.nodes text.now arcs.new.items) }
+    ensures count { IfSome result (λ lines. (lines ≡ length (field_lines text.now)) × (lines ≤ length text.now)) }
 {
-    let Ok(arcs) = Vec::with_capacity(alloc, room) else {
-        return None;
-    };
+    let mut room = mem::replace(arcs, Vec::new(alloc));
+    room.clear();
     let mut reader = GraphReader {
         size: Some(size),
-        arcs,
+        arcs: room,
+        spare: Vec::new(alloc),
     };
-    match read_lines(alloc, &mut reader, text) {
-        Ok(()) => Some(reader.arcs),
+    let read = read_lines(alloc, &mut reader, 0, text);
+    *arcs = reader.arcs;
+    match read {
+        Ok(lines) => Some(lines),
         Err(_) => None,
     }
 }
 
-/// The arcs of two pieces, one after the other; none where one of them has none or memory was refused.
-fn joined(front: Option<Vec<RawArc>>, back: Option<Vec<RawArc>>) -> Option<Vec<RawArc>>
-    ensures { IfSome result (λ arcs. IsSomeAnd front (λ xs.
-        IsSomeAnd back (λ ys. arcs.items ≡ xs.items ++ ys.items))) }
-{
-    let Some(mut arcs) = front else {
-        return None;
-    };
-    let Some(mut more) = back else {
-        return None;
-    };
-    match arcs.append(&mut more) {
-        Ok(()) => Some(arcs),
-        Err(_) => None,
-    }
+/// A text in two, before which so many lines stood.
+#[derive(Clone, Copy)]
+struct Halves<'a> {
+    front: &'a [u8],
+    back: &'a [u8],
+    before: u64,
 }
 
-/// The arcs of the text after the problem line, by so many threads, each of which reads a piece of it. The list has room for so
-/// many, into which the arcs of later pieces are put behind those of the first.
-fn read_pieces<H: Threads + Sync>(
+/// Reads the front of a text after the lines before it, while another thread reads the arcs of its back into a list.
+fn read_both<H: Threads + Sync>(
     alloc: Global,
     rt: &H,
     size: GraphSize,
-    text: &[u8],
-    threads: usize,
-    room: usize,
-) -> Option<Vec<RawArc>>
-    ensures { IfSome result (λ arcs. AreArcsOf size.nodes text.now arcs.items) }
+    halves: Halves<'_>,
+    reader: &mut GraphReader,
+    arcs: &mut Vec<RawArc>,
+) -> (Option<u64>, Result<u64, InputFault>)
+    requires few { halves.before + length halves.front.now < 2 ^ 64 }
+    ensures arcs { IfSome result.0 (λ _. AreArcsOf size.nodes halves.entry.back.now arcs.new.items) }
+    ensures count { IfSome result.0 (λ lines. (lines ≡ length (field_lines halves.entry.back.now))
+        × (lines ≤ length halves.entry.back.now)) }
+    ensures read { ReadsAll graph_step read_of halves.entry.before reader.old reader.new
+        halves.entry.front.now result.1 }
 {
-    if threads < 2 {
-        return read_piece(alloc, size, text, room);
-    }
-    let low = threads / 2;
-    let high = threads - low;
-    let (front, back) = cut_after(text, text.len() / threads * low);
-    let first = move || -> Option<Vec<RawArc>>
-        requires { IsSync H.row }
-        ensures { IfSome result (λ arcs. AreArcsOf size.nodes front.entry.now arcs.items) }
-    { read_pieces(alloc, rt, size, front, low, room) };
-    let second = move || -> Option<Vec<RawArc>>
-        requires { IsSync H.row }
-        ensures { IfSome result (λ arcs. AreArcsOf size.nodes back.entry.now arcs.items) }
-    { read_pieces(alloc, rt, size, back, high, back.len() / ABOUT_A_LINE) };
-    let (arcs, more) = join(rt, first, second);
-    joined(arcs, more)
+    let Halves {
+        front,
+        back,
+        before,
+    } = halves;
+    let mut aside = || -> Option<u64> { read_piece(alloc, size, back, arcs) };
+    let mut going_on = || -> Result<u64, InputFault> { read_lines(alloc, reader, before, front) };
+    join_mut(rt, &mut aside, &mut going_on)
 }
 
-/// The graph of a text by so many threads; none where the text has a fault or memory was refused.
-pub(crate) fn read_quickly<H: Threads + Sync>(
-    alloc: Global,
-    rt: &H,
-    threads: usize,
-    text: &[u8],
-) -> Option<RawGraph>
-    ensures { IfSome result (λ g. graph_of (field_lines text.now) ≡ Ok (graph g)) }
+/// Puts the arcs of a piece of so many lines behind those before it, where it was read, has as many nodes and no more arcs than are
+/// announced: its lines, or none where they are not put there.
+fn append(
+    reader: &mut GraphReader,
+    size: GraphSize,
+    lines: Option<u64>,
+    more: &mut Vec<RawArc>,
+) -> Option<u64>
+    ensures put { IsAppended size (read_of reader.old) more.old.items (read_of reader.new) result }
+    ensures lines { IsSome result → result ≡ lines }
 {
-    let mut reader = GraphReader {
-        size: None,
-        arcs: Vec::new(alloc),
-    };
-    let Some(rest) = read_head(alloc, &mut reader, text) else {
+    let now = reader.size?;
+    lines?;
+    let announced = now.arcs as usize;
+    let count = reader.arcs.len();
+    if now.nodes != size.nodes || count > announced || more.len() > announced - count {
         return None;
-    };
-    let Some(size) = reader.size else {
-        return None;
-    };
-    let room = rest.len() / ABOUT_A_LINE;
-    let Some(arcs) = read_pieces(alloc, rt, size, rest, threads, room) else {
-        return None;
-    };
-    if reader.arcs.is_empty() && arcs.len() == size.arcs as usize {
-        Some(RawGraph {
-            nodes: size.nodes,
-            arcs,
-        })
-    } else {
-        None
+    }
+    match reader.arcs.append(more) {
+        Ok(()) => lines,
+        Err(_) => None,
     }
 }
 
-/// What `read_gr_by` reads, with one clause, which says what the lines come to step by step.
-fn read_graph_by<H: Threads + Sync>(
+/// Reads the lines of a text as `read_lines` does, by two threads, each of which reads about half of it.
+pub(crate) fn read_halves<H: Threads + Sync>(
     alloc: Global,
     rt: &H,
-    threads: usize,
+    reader: &mut GraphReader,
+    size: GraphSize,
+    before: u64,
     text: &[u8],
-) -> Result<RawGraph, InputFault>
-    ensures exact { Gives graph result (graph_of (field_lines text.now)) }
+) -> Result<u64, InputFault>
+    requires few { before + length text.now < 2 ^ 64 }
+    ensures { ReadsAll graph_step read_of before reader.old reader.new text.now result }
 {
-    let pieces = threads.min(text.len() / LEAST_PIECE);
-    if pieces > 0 {
-        if let Some(graph) = read_quickly(alloc, rt, pieces, text) {
-            return Ok(graph);
-        }
+    let (front, back) = cut_after(text, text.len() / 2);
+    let mut arcs = mem::replace(&mut reader.spare, Vec::new(alloc));
+    let halves = Halves {
+        front,
+        back,
+        before,
+    };
+    let (aside, read) = read_both(alloc, rt, size, halves, reader, &mut arcs);
+    let between = match read {
+        Ok(line) => line,
+        Err(fault) => return Err(fault),
+    };
+    let lines = append(reader, size, aside, &mut arcs);
+    reader.spare = arcs;
+    match lines {
+        Some(count) => Ok(between + count),
+        None => read_lines(alloc, reader, between, back),
     }
-    read_graph(alloc, text)
-}
-
-/// The graph that a text denotes, or the text's first fault, as `read_gr` reads it, by at most so many threads; a text of less than
-/// a megabyte is read by one. `OutOfMemory`, in line 0, says nothing of the text.
-pub fn read_gr_by<H: Threads + Sync>(
-    alloc: Global,
-    rt: &H,
-    threads: usize,
-    text: &[u8],
-) -> Result<RawGraph, InputFault>
-    // What is read is what the text denotes.
-    ensures denoted { IfOk result (λ g. DenotesGraph (field_lines text.now) (graph g)) }
-    // What the text denotes is read, unless memory is refused.
-    ensures only { (g : Graph) → DenotesGraph (field_lines text.now) g →
-        MatchResult result (λ read. graph read ≡ g) (λ fault. fault ≡ out_of_memory) }
-
-    // A fault is the text's, unless memory is refused.
-    ensures fault { IfErr result (IsFaultTold graph_format (field_lines text.now)) }
-    // The text's fault is answered, unless memory is refused.
-    ensures faulty { (fault : FaultType) → IsFaultOf graph_format (field_lines text.now) fault →
-        MatchResult result (λ _. ⊥) (λ found. (found ≡ out_of_memory) ⊎ (found ≡ fault)) }
-{
-    read_graph_by(alloc, rt, threads, text)
 }

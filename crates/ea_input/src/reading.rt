@@ -1,8 +1,8 @@
 //! Texts, read line by line.
-ghost use Rattle.std.specs.Prelude.{◌≡◌, ◌<◌, ◌≤◌, ◌+◌, ◌^◌, ℕ, List, Result, MatchOption, map, length, take};
+ghost use Rattle.std.specs.Prelude.{◌≡◌, ◌<◌, ◌≤◌, ◌+◌, ◌^◌, ℕ, List, IfOk, Result, MatchOption, map, length, take};
 ghost use Rattle.std.specs.Str.Lines.{strip_carriage_return};
 ghost use Rattle.ea_input.specs.Fault.{Gives};
-ghost use Rattle.ea_input.specs.Reading.{GivesLine, ReadsFront, lines_after, text_after};
+ghost use Rattle.ea_input.specs.Reading.{GivesLine, ReadsAll, ReadsFront, lines_after, text_after};
 ghost use Rattle.ea_text.specs.Text.{fields_of, field_lines};
 ghost use Rattle.ea_input.specs.declared.fault.FaultKind.{FaultKind as FaultKindType};
 ghost use Rattle.ea_input.specs.Borrowed.{texts_now};
@@ -83,16 +83,17 @@ pub(crate) fn read_front<'a, R: LineReader>(
     }
 }
 
-/// Reads all lines of a text.
+/// Reads all lines of a text, before which so many lines stood: how many stand before what follows it.
 pub(crate) fn read_lines<R: LineReader>(
     alloc: Global,
     reader: &mut R,
+    before: u64,
     text: &[u8],
-) -> Result<(), InputFault>
-    ensures { Gives (λ _. R.state reader.new) result
-        (lines_after R.step 0 (R.state reader.old) (field_lines text.now)) }
+) -> Result<u64, InputFault>
+    requires few { before + length text.now < 2 ^ 64 }
+    ensures { ReadsAll R.step R.state before reader.old reader.new text.now result }
 {
-    let mut line: u64 = 0;
+    let mut line = before;
     let mut rest = text;
     while !rest.is_empty() {
         line += 1;
@@ -101,7 +102,7 @@ pub(crate) fn read_lines<R: LineReader>(
             Err(kind) => return Err(fault_in(line, kind)),
         }
     }
-    Ok(())
+    Ok(line)
 }
 
 /// What a text is read to.
@@ -113,9 +114,9 @@ pub(crate) fn read_text<R: LineReader>(
     ensures { Gives R.view result (text_after R.step R.end (R.state start) (field_lines text.now)) }
 {
     let mut reader = start;
-    match read_lines(alloc, &mut reader, text) {
+    match read_lines(alloc, &mut reader, 0, text) {
         Err(fault) => Err(fault),
-        Ok(()) => match reader.finish() {
+        Ok(_) => match reader.finish() {
             Ok(read) => Ok(read),
             Err(kind) => Err(fault_in(0, kind)),
         },

@@ -7,17 +7,21 @@ ghost use Rattle.ea_input.specs.Grammar.{IsGrammar};
 ghost use Rattle.ea_input.specs.declared.fault.InputFault.{InputFault as FaultType};
 ghost use Rattle.ea_input.specs.Fronts.{source_step-front};
 ghost use Rattle.ea_input.specs.Listing as spec;
-ghost use Rattle.ea_input.specs.Listing.{Listed, list_end};
+ghost use Rattle.ea_input.specs.Listing.{Listed, list_end, nothing_listed};
 ghost use Rattle.ea_input.specs.Sources.{DenotesSources, source_of, source_step, sources_of};
 ghost use Rattle.ea_text.specs.Text.{field_lines};
 ghost use Rattle.ea_input.specs.Reading.{GivesLine};
 ghost use Rattle.ea_input.specs.Borrowed.{texts_now};
+ghost use Rattle.ea_input.specs.Streams.{DenotesWhole, GivesWhole, IsStreamFault};
 
 use crate::fault::{FaultKind, InputFault};
 use crate::listing::{ListLine, only_number, problem_line};
 use crate::reading::{LineReader, read_text};
+use crate::streams::{BlockReader, StreamFault, read_device, way_of};
 use ea_text as text;
+use ea_text::ByteIn;
 use std::alloc::Global;
+use std::thread::Threads;
 
 #[tactic(auto, unfolding(crate::specs::Listing::item_line))]
 fn source_line(
@@ -106,16 +110,24 @@ impl LineReader for SourceReader {
     ghost front = { source_step-front };
 }
 
+impl BlockReader for SourceReader {}
+
+/// A reader of a text of which no line was read yet.
+fn start(alloc: Global, nodes: u32) -> SourceReader
+    ensures { (record { nodes = result.nodes; size = result.size; items = result.sources.items }) ≡ nothing_listed nodes }
+{
+    SourceReader {
+        nodes,
+        size: None,
+        sources: Vec::new(alloc),
+    }
+}
+
 fn read_sources(alloc: Global, text: &[u8], nodes: u32) -> Result<Vec<u32>, InputFault>
     ensures exact { Gives (λ sources. sources.items) result
         (sources_of nodes (field_lines text.now)) }
 {
-    let start = SourceReader {
-        nodes,
-        size: None,
-        sources: Vec::new(alloc),
-    };
-    read_text(alloc, start, text)
+    read_text(alloc, start(alloc, nodes), text)
 }
 
 /// The sources of a text, in their order, or the text's first fault; nodes are numbered from 1 up to `nodes`. `OutOfMemory`,
@@ -136,6 +148,41 @@ pub fn read_ss(alloc: Global, text: &[u8], nodes: u32) -> Result<Vec<u32>, Input
         MatchResult result (λ _. ⊥) (λ found. (found ≡ out_of_memory) ⊎ (found ≡ fault)) }
 {
     read_sources(alloc, text, nodes)
+}
+
+/// What a device's text is read to, with one clause, which says it step by step.
+fn read_sources_from<H: Threads + Sync, D: ByteIn>(
+    alloc: Global,
+    rt: &H,
+    threads: usize,
+    limit: u64,
+    device: &mut D,
+    nodes: u32,
+) -> Result<Vec<u32>, StreamFault>
+    ensures exact { GivesWhole (λ sources. sources.items) (sources_of nodes) limit (D.seen device.old) (D.seen device.new) result }
+{
+    let start = start(alloc, nodes);
+    read_device(rt, way_of(alloc, threads), limit, start, device)
+}
+
+/// The sources of a device's text, or why it gave none, as `read_ss` reads a text; at most so many
+/// bytes, by at most so many threads. The text is read block by block as its bytes come, so it lies nowhere in memory whole. After
+/// the text's first fault the device is read to its end. `OutOfMemory` says nothing of the text.
+pub fn read_ss_from<H: Threads + Sync, D: ByteIn>(
+    alloc: Global,
+    rt: &H,
+    threads: usize,
+    limit: u64,
+    device: &mut D,
+    nodes: u32,
+) -> Result<Vec<u32>, StreamFault>
+    // What is read is what the text denotes.
+    ensures denoted { IfOk result (λ read. DenotesWhole (DenotesSources nodes) limit (D.seen device.old) (D.seen device.new)
+        read.items) }
+    // A fault is the device's or the text's, unless memory is refused.
+    ensures fault { IfErr result (IsStreamFault (source_format nodes) limit (D.seen device.old) (D.seen device.new)) }
+{
+    read_sources_from(alloc, rt, threads, limit, device, nodes)
 }
 
 /// The law of the texts of sources: a text denotes at most one list of sources and has at most one

@@ -13,6 +13,7 @@ ghost use Rattle.ea_input.specs.Reading.{GivesLine};
 ghost use Rattle.ea_input.specs.TableViews.{read_of, table};
 ghost use Rattle.ea_text.specs.Text.{field_lines};
 ghost use Rattle.ea_input.specs.Borrowed.{texts_now};
+ghost use Rattle.ea_input.specs.Streams.{DenotesWhole, GivesWhole, IsStreamFault};
 
 use crate::fault::{FaultKind, InputFault};
 use crate::kinds::{kind_of, two_read};
@@ -21,9 +22,12 @@ use crate::plain::{leading_entry, leading_step};
 use crate::range::{numeral, within};
 use crate::reading::{LineReader, read_text};
 use crate::step_lines::{StepClass, step_of, step_within};
+use crate::streams::{BlockReader, StreamFault, read_device, way_of};
 use ea_limits::{MOST_ARCS, MOST_CLASSES};
 use ea_text as text;
+use ea_text::ByteIn;
 use std::alloc::Global;
+use std::thread::Threads;
 
 /// How the arcs of a class are left. Times are at most 281,474,976,710,655.
 #[derive(Clone, Copy, Debug, PartialEq, Eq)]
@@ -476,10 +480,13 @@ impl LineReader for TableReader {
     ghost front = { table_step-front };
 }
 
-fn read_table(alloc: Global, text: &[u8], arcs: u32) -> Result<RawTable, InputFault>
-    ensures exact { Gives table result (table_of arcs (field_lines text.now)) }
+impl BlockReader for TableReader {}
+
+/// A reader of a text of which no line was read yet.
+fn start(alloc: Global, arcs: u32) -> TableReader
+    ensures { read_of result ≡ spec.no_table arcs }
 {
-    let start = TableReader {
+    TableReader {
         arcs,
         size: None,
         table: RawTable {
@@ -487,8 +494,13 @@ fn read_table(alloc: Global, text: &[u8], arcs: u32) -> Result<RawTable, InputFa
             assigned: Vec::new(alloc),
             steps: Vec::new(alloc),
         },
-    };
-    read_text(alloc, start, text)
+    }
+}
+
+fn read_table(alloc: Global, text: &[u8], arcs: u32) -> Result<RawTable, InputFault>
+    ensures exact { Gives table result (table_of arcs (field_lines text.now)) }
+{
+    read_text(alloc, start(alloc, arcs), text)
 }
 
 /// The timetable of a text, or the text's first fault; arcs are numbered from 1 up to `arcs`. `OutOfMemory`, in line 0, says
@@ -509,6 +521,41 @@ pub fn read_tp(alloc: Global, text: &[u8], arcs: u32) -> Result<RawTable, InputF
         MatchResult result (λ _. ⊥) (λ found. (found ≡ out_of_memory) ⊎ (found ≡ fault)) }
 {
     read_table(alloc, text, arcs)
+}
+
+/// What a device's text is read to, with one clause, which says it step by step.
+fn read_table_from<H: Threads + Sync, D: ByteIn>(
+    alloc: Global,
+    rt: &H,
+    threads: usize,
+    limit: u64,
+    device: &mut D,
+    arcs: u32,
+) -> Result<RawTable, StreamFault>
+    ensures exact { GivesWhole table (table_of arcs) limit (D.seen device.old) (D.seen device.new) result }
+{
+    let start = start(alloc, arcs);
+    read_device(rt, way_of(alloc, threads), limit, start, device)
+}
+
+/// The timetables of a device's text, or why it gave none, as `read_tp` reads a text; at most so many
+/// bytes, by at most so many threads. The text is read block by block as its bytes come, so it lies nowhere in memory whole. After
+/// the text's first fault the device is read to its end. `OutOfMemory` says nothing of the text.
+pub fn read_tp_from<H: Threads + Sync, D: ByteIn>(
+    alloc: Global,
+    rt: &H,
+    threads: usize,
+    limit: u64,
+    device: &mut D,
+    arcs: u32,
+) -> Result<RawTable, StreamFault>
+    // What is read is what the text denotes.
+    ensures denoted { IfOk result (λ read. DenotesWhole (DenotesTable arcs) limit (D.seen device.old) (D.seen device.new)
+        (table read)) }
+    // A fault is the device's or the text's, unless memory is refused.
+    ensures fault { IfErr result (IsStreamFault (table_format arcs) limit (D.seen device.old) (D.seen device.new)) }
+{
+    read_table_from(alloc, rt, threads, limit, device, arcs)
 }
 
 /// The law of the texts of timetables: a text denotes at most one timetable and has at most one

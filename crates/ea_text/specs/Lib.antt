@@ -4,3 +4,4 @@ pub mod Piece
 pub mod Outcome
 pub mod Opened
 pub mod Errors
+pub mod Taking

@@ -5,10 +5,14 @@ use Rattle.ea_text.specs.declared.whole.ReadFault.{ReadFault}
 use Rattle.ea_text.specs.declared.whole.ReadFault.TheVariants.{TooLarge, ReadFailed, OutOfMemory}
 
 -- Only a read that failed, or one interruption too many, is ReadFailed; all else was borne.
+abbrev pub FaultCounts : ReadFault → Seen → Seen → Type 0
+FaultCounts ReadFailed old new = GivesUp old new
+FaultCounts TooLarge old new = BearsOn old new
+FaultCounts OutOfMemory old new = BearsOn old new
+
+-- The same where all may have been read.
 abbrev pub CountsAfter : {X : Type 0} → Result X ReadFault → Seen → Seen → Type 0
-CountsAfter (Err ReadFailed) old new = GivesUp old new
-CountsAfter (Err TooLarge) old new = BearsOn old new
-CountsAfter (Err OutOfMemory) old new = BearsOn old new
+CountsAfter (Err fault) old new = FaultCounts fault old new
 CountsAfter (Ok bytes) old new = BearsOn old new
 
 -- The number and the name of a fault in messages.

@@ -15,7 +15,7 @@ pub use field::{KEPT_FIELDS, fields, first_field, is_blank, is_comment};
 pub use line::{first_line, without_return};
 pub use numeral::number;
 pub use reader::StdIn;
-pub use whole::{ReadFault, read_all};
+pub use whole::{Blocks, ReadFault, read_all};
 pub use writer::StdOut;
 
 #[cfg(test)]

@@ -1,9 +1,10 @@
 //! All bytes of a device.
-ghost use Rattle.std.specs.Prelude.{◌≡◌, ◌<◌, ◌≤◌, ◌^◌, ◌+◌, IfOk, ◌≢◌, List, ℕ, Option, IfErr, IfSome, IsOkAnd, OnErr, OnOk, vec_len, IsErrOf, length};
+ghost use Rattle.std.specs.Prelude.{◌≡◌, ◌<◌, ◌≤◌, ◌^◌, ◌+◌, IfOk, ◌≢◌, List, [], ℕ, Option, IfErr, IfSome, IsOkAnd, OnErr, OnOk, vec_len, IsErrOf, length, true, false};
 ghost use Rattle.std.specs.Io.KnownBytes.{Consumes, IsAtEnd};
-ghost use Rattle.ea_text.specs.Device.{AreAlike, HasGivenUp, TakesAtMost};
+ghost use Rattle.ea_text.specs.Device.{AreAlike, HasGivenUp, Seen, TakesAtMost};
 ghost use Rattle.ea_text.specs.Outcome.{CountsAfter, fault_name, fault_number};
 ghost use Rattle.ea_text.specs.Piece.{failures_with, interruptions_with};
+ghost use Rattle.ea_text.specs.Taking.{GoesOnTaking, HasRoom, IsTakenBy, StopsTaking, Takes};
 ghost use Rattle.ea_text.specs.declared.whole.ReadFault.TheVariants.{OutOfMemory};
 
 use crate::device::{ByteIn, DeviceFault};
@@ -99,6 +100,8 @@ fn read_piece<R: ByteIn>(
     ensures taken { IfOk result (λ _. (first : Option (List ℕ)) →
         Consumes first (R.seen reader.old).bytes bytes.old.items →
         Consumes first (R.seen reader.new).bytes bytes.new.items) }
+    ensures more { IfOk result (λ _. Takes (R.seen reader.old) (R.seen reader.new)
+        bytes.old.items bytes.new.items) }
     ensures some { IsOkAnd result (λ p. p ≡ Piece.Some)
         → length bytes.old.items < length bytes.new.items }
     ensures most { length bytes.new.items ≤ length bytes.old.items + length piece.old }
@@ -120,6 +123,74 @@ fn read_piece<R: ByteIn>(
             Ok(Piece::Some)
         }
         Err(fault) => Ok(Piece::Fault(fault)),
+    }
+}
+
+/// What reads a device block by block, up to a limit: room for one read, how many bytes may still be taken, and how often the device
+/// was interrupted.
+#[derive(Drop)]
+pub struct Blocks {
+    piece: Vec<u8>,
+    left: u64,
+    interruptions: u64,
+}
+
+impl Blocks {
+    /// Blocks of a device that was not read yet, of which at most so many bytes are taken.
+    pub fn new(alloc: Global, limit: u64) -> Result<Blocks, AllocError>
+        ensures { IfOk result (λ blocks. HasRoom blocks × ((first : Seen) → IsTakenBy blocks limit first first [])) }
+    {
+        Ok(Blocks {
+            piece: room(alloc, PIECE)?,
+            left: limit,
+            interruptions: 0,
+        })
+    }
+
+    /// Appends bytes of the device to a block until it has `size` or more, or the device ends: whether it ended.
+    ///
+    /// `TooLarge` where the device had more bytes than the limit, of which one more is taken then; `ReadFailed` where a read failed, or
+    /// was interrupted for the 1,001st time in all; `OutOfMemory` where memory for the bytes was refused.
+    pub fn fill<R: ByteIn>(
+        &mut self,
+        reader: &mut R,
+        block: &mut Vec<u8>,
+        size: usize,
+    ) -> Result<bool, ReadFault>
+        requires { HasRoom self.old }
+        ensures room { HasRoom self.new }
+        ensures more { IfOk result (λ _. GoesOnTaking (R.seen reader.old) self.old (R.seen reader.new) self.new
+            block.old.items block.new.items) }
+        ensures left { OnOk result
+            (length block.new.items + self.new.left ≡ length block.old.items + self.old.left) }
+        ensures full { IfOk result (λ ended. ended ≡ false → size ≤ length block.new.items) }
+        ensures end { IfOk result (λ ended. ended ≡ true → IsAtEnd (R.seen reader.new).bytes) }
+        ensures fault { IfErr result (StopsTaking (R.seen reader.old) self.old (R.seen reader.new)) }
+    {
+        while block.len() < size {
+            let before = block.len();
+            let wanted = self.left.min(PIECE as u64 - 1) as usize + 1;
+            let piece = &mut self.piece.as_mut_slice()[..wanted];
+            let Ok(read) = read_piece(reader, piece, block) else {
+                return Err(ReadFault::OutOfMemory);
+            };
+            match read {
+                Piece::Some => {
+                    let count = (block.len() - before) as u64;
+                    if count > self.left {
+                        return Err(ReadFault::TooLarge);
+                    }
+                    self.left -= count;
+                }
+                Piece::End => return Ok(true),
+                Piece::Fault(DeviceFault::Interrupted) if self.interruptions < MOST_INTERRUPTIONS =>
+                    {
+                        self.interruptions += 1;
+                    }
+                Piece::Fault(_) => return Err(ReadFault::ReadFailed),
+            }
+        }
+        Ok(false)
     }
 }
 
@@ -145,19 +216,10 @@ pub fn read_all<R: ByteIn>(alloc: Global, reader: &mut R, limit: u64) -> Result<
     // A failure or the 1,001st interruption is a fault at once, and nothing else is ReadFailed.
     ensures counts { CountsAfter result (R.seen reader.old) (R.seen reader.new) }
 {
-    let mut piece = room(alloc, PIECE)?;
+    let mut blocks = Blocks::new(alloc, limit)?;
     let mut bytes = Vec::new(alloc);
-    let mut interruptions = 0;
-    while bytes.len() as u64 <= limit {
-        let wanted = (limit - bytes.len() as u64).min(PIECE as u64 - 1) as usize + 1;
-        match read_piece(reader, &mut piece.as_mut_slice()[..wanted], &mut bytes)? {
-            Piece::Some => {}
-            Piece::End => return Ok(bytes),
-            Piece::Fault(DeviceFault::Interrupted) if interruptions < MOST_INTERRUPTIONS => {
-                interruptions += 1;
-            }
-            Piece::Fault(_) => return Err(ReadFault::ReadFailed),
-        }
+    match blocks.fill(reader, &mut bytes, usize::MAX) {
+        Ok(_) => Ok(bytes),
+        Err(fault) => Err(fault),
     }
-    Err(ReadFault::TooLarge)
 }

@@ -1,6 +1,5 @@
-use Rattle.std.proofs.Common.{◌≡◌, ◌≤◌, ℕ, length, arith, subst}
+use Rattle.std.proofs.Common.{◌≡◌, ℕ, length, arith, subst}
 use Rattle.ea_input.specs.TableViews.{table as table_of}
-use Rattle.ea_road.specs.Roads.{top_class}
 use Rattle.ea_files.specs.Given.{given_by, IsTableOf}
 use Rattle.ea_files.specs.Sound.{IsSound}
 use Rattle.ea_files.specs.Texts.{text_if_any}

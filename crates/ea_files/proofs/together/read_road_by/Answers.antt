@@ -16,4 +16,4 @@ pub returns-in_err-road-clause-fault : goal.returns-in_err-road-clause-fault
 returns-in_err-road-clause-fault g c =
     let p = err_from_is_err_and c.from_residual-in_err-road.result c.from_residual-in_err-road.ensures.1 in
     let denoted = c.in_ok-table.ensures.denoted in
-    rw (p.1, p.2) (inl (refl, borne_there g.T.Device.seen c.args.tp.now c.read_table.new.tp denoted.0 denoted.1))
+    rw (p.1, p.2) (inl (refl, borne_there g.T.Device.seen c.args.tp.now c.read_table_by.new.tp denoted.0 denoted.1))

@@ -5,8 +5,9 @@ use Rattle.ea_input.proofs.reading.read_lines.Given as goal
 
 abbrev pub invariant-loop-rest : goal.invariant-loop-rest
 invariant-loop-rest g l = record {
-  same : lines_after g.R.LineReader.step l.line (g.R.LineReader.state l.reader) (field_lines l.rest) ≡ lines_after g.R.LineReader.step 0 (g.R.LineReader.state l.fn.reader) (field_lines l.text);
-  fewer : l.line + length l.rest ≤ length l.text;
+  same : lines_after g.R.LineReader.step l.line (g.R.LineReader.state l.reader) (field_lines l.rest) ≡ lines_after g.R.LineReader.step l.before (g.R.LineReader.state l.fn.reader) (field_lines l.text);
+  count : l.line + length (field_lines l.rest) ≡ l.before + length (field_lines l.text);
+  fewer : l.line + length l.rest ≤ l.before + length l.text;
 }
 
 abbrev pub decreases-loop-rest : goal.decreases-loop-rest

@@ -1,0 +1,269 @@
+//! Texts of devices, read line by line as their bytes come, so that no text lies in memory whole: while the whole lines of a block
+//! are read, the next block is filled.
+ghost use Rattle.std.specs.Prelude.{MatchOption, ◌≡◌, ◌<◌, ◌+◌, ◌^◌, ◌++◌, IfSome, length};
+ghost use Rattle.std.specs.Thread.{IsSync};
+ghost use Rattle.ea_input.specs.Reading.{ReadsAll, text_after};
+ghost use Rattle.ea_input.specs.Streams.{EndsLine, FeedsOn, Finishes, GivesWhole, IsFilled};
+ghost use Rattle.ea_text.specs.Taking.{HasRoom};
+
+use crate::fault::{InputFault, fault_in};
+use crate::pieces::end_of_lines;
+use crate::reading::{LineReader, read_lines};
+use ea_text::{Blocks, ByteIn, ReadFault};
+use std::alloc::Global;
+use std::mem;
+use std::thread::{Threads, join_mut};
+use thiserror::Error;
+
+/// Why the text of a device gave nothing.
+#[derive(Clone, Copy, Debug, PartialEq, Eq, Error)]
+pub enum StreamFault {
+    /// The device couldn't be read, or has more bytes than are allowed.
+    #[error("{0}")]
+    Read(ReadFault),
+    /// Its text has a fault, or memory was refused as it was read.
+    #[error("{0}")]
+    Input(InputFault),
+}
+
+/// A reader of lines whose texts come block by block.
+pub(crate) trait BlockReader: LineReader + Send {
+    /// Reads all lines of a text by several threads, before which so many lines stood, as `read_lines` does; none where the
+    /// text is better read by one.
+    fn read_aside<H: Threads + Sync>(
+        &mut self,
+        _alloc: Global,
+        _rt: &H,
+        _threads: usize,
+        _before: u64,
+        _text: &[u8],
+    ) -> Option<Result<u64, InputFault>>
+        requires few { _before + length _text.now < 2 ^ 64 }
+        requires sync { IsSync H.row }
+        ensures { MatchOption result (Self.state self.new ≡ Self.state self.old)
+            (λ read. ReadsAll Self.step Self.state _before self.old self.new _text.entry.now read) }
+    {
+        None
+    }
+}
+
+/// Reads all lines of a text, before which so many lines stood, by several threads where the reader can.
+fn read_more<H: Threads + Sync, R: BlockReader>(
+    alloc: Global,
+    rt: &H,
+    threads: usize,
+    reader: &mut R,
+    before: u64,
+    text: &[u8],
+) -> Result<u64, InputFault>
+    requires few { before + length text.now < 2 ^ 64 }
+    ensures { ReadsAll R.step R.state before reader.old reader.new text.now result }
+{
+    match reader.read_aside(alloc, rt, threads, before, text) {
+        Some(read) => read,
+        None => read_lines(alloc, reader, before, text),
+    }
+}
+
+/// A reader of lines, how many it was given, and their first fault.
+#[derive(Drop)]
+pub(crate) struct Feed<R: BlockReader> {
+    reader: R,
+    lines: u64,
+    fault: Option<InputFault>,
+}
+
+impl<R: BlockReader> Feed<R> {
+    /// Gives the reader the lines of one more text, where those before it have no fault.
+    fn take<H: Threads + Sync>(&mut self, alloc: Global, rt: &H, threads: usize, text: &[u8])
+        requires few { self.old.lines + length text.now < 2 ^ 64 }
+        ensures { FeedsOn R.step (R.state self.old.reader) self.old.lines self.old.fault
+            (R.state self.new.reader) self.new.lines self.new.fault text.now }
+    {
+        if self.fault.is_some() {
+            return;
+        }
+        match read_more(alloc, rt, threads, &mut self.reader, self.lines, text) {
+            Ok(lines) => self.lines = lines,
+            Err(fault) => self.fault = Some(fault),
+        }
+    }
+
+    /// What the lines so far are read to, if they are all.
+    fn finish(self) -> Result<R::Text, InputFault>
+        ensures { Finishes R.step R.end R.view (R.state self.reader) self.lines self.fault result }
+    {
+        if let Some(fault) = self.fault {
+            return Err(fault);
+        }
+        match self.reader.finish() {
+            Ok(read) => Ok(read),
+            Err(kind) => Err(fault_in(0, kind)),
+        }
+    }
+}
+
+/// How many bytes a block has that one thread fills and reads.
+const BLOCK: usize = 1_048_576;
+
+/// How many it has where it is read while the next one is filled.
+const LARGE_BLOCK: usize = 4_194_304;
+
+/// How a device is read by so many threads.
+pub(crate) fn way_of(alloc: Global, threads: usize) -> Way
+    ensures { 0 < result.size }
+{
+    let size = if threads < 2 { BLOCK } else { LARGE_BLOCK };
+    Way {
+        alloc,
+        threads,
+        size,
+    }
+}
+
+/// How a device is read: by how many threads, and of how many bytes a block has to be.
+#[derive(Clone, Copy)]
+pub(crate) struct Way {
+    pub alloc: Global,
+    pub threads: usize,
+    pub size: usize,
+}
+
+/// Fills a block until it has so many bytes, or the device ends: whether it ended.
+fn fill<D: ByteIn>(
+    device: &mut D,
+    blocks: &mut Blocks,
+    block: &mut Vec<u8>,
+    size: usize,
+) -> Result<bool, ReadFault>
+    requires room { HasRoom blocks.old }
+    ensures { IsFilled size (D.seen device.old) blocks.old (D.seen device.new) blocks.new
+        block.old.items block.new.items result }
+{
+    blocks.fill(device, block, size)
+}
+
+/// Gives lines to a reader, while a block is filled with what follows them: whether the device ended.
+fn take_and_fill<H: Threads + Sync, R: BlockReader, D: ByteIn>(
+    rt: &H,
+    way: Way,
+    feed: &mut Feed<R>,
+    lines: &[u8],
+    blocks: &mut Blocks,
+    device: &mut D,
+    block: &mut Vec<u8>,
+) -> Result<bool, ReadFault>
+    requires few { feed.old.lines + length lines.now < 2 ^ 64 }
+    requires room { HasRoom blocks.old }
+    ensures fed { FeedsOn R.step (R.state feed.old.reader) feed.old.lines feed.old.fault
+        (R.state feed.new.reader) feed.new.lines feed.new.fault lines.entry.now }
+    ensures filled { IsFilled way.size (D.seen device.old) blocks.old (D.seen device.new) blocks.new
+        block.old.items block.new.items result }
+{
+    let Way {
+        alloc,
+        threads,
+        size,
+    } = way;
+    let mut taking = ||
+        requires { (feed.now.lines + length lines.now < 2 ^ 64) × IsSync H.row }
+        ensures { FeedsOn R.step (R.state feed.entry.now.reader) feed.entry.now.lines feed.entry.now.fault
+            (R.state feed.exit.now.reader) feed.exit.now.lines feed.exit.now.fault lines.entry.now }
+    { feed.take(alloc, rt, threads, lines) };
+    // A block has no fewer bytes than the lines before it.
+    let mut filling = || -> Result<bool, ReadFault>
+        requires { HasRoom blocks.now }
+        ensures { IsFilled size (D.seen device.entry.now) blocks.entry.now (D.seen device.exit.now) blocks.exit.now
+            block.entry.now.items block.exit.now.items result }
+    { fill(device, blocks, block, size.max(lines.len())) };
+    let (_, ended) = join_mut(rt, &mut taking, &mut filling);
+    ended
+}
+
+/// Gives lines to a reader, and fills a block with what follows them, both at once where there are several threads: whether the
+/// device ended.
+fn go_on<H: Threads + Sync, R: BlockReader, D: ByteIn>(
+    rt: &H,
+    way: Way,
+    feed: &mut Feed<R>,
+    lines: &[u8],
+    blocks: &mut Blocks,
+    device: &mut D,
+    block: &mut Vec<u8>,
+) -> Result<bool, ReadFault>
+    requires few { feed.old.lines + length lines.now < 2 ^ 64 }
+    requires room { HasRoom blocks.old }
+    ensures fed { FeedsOn R.step (R.state feed.old.reader) feed.old.lines feed.old.fault
+        (R.state feed.new.reader) feed.new.lines feed.new.fault lines.entry.now }
+    ensures filled { IsFilled way.size (D.seen device.old) blocks.old (D.seen device.new) blocks.new
+        block.old.items block.new.items result }
+{
+    if way.threads < 2 {
+        feed.take(way.alloc, rt, way.threads, lines);
+        fill(device, blocks, block, way.size)
+    } else {
+        take_and_fill(rt, way, feed, lines, blocks, device, block)
+    }
+}
+
+/// The lines of a block, and room for the block after it, into which what follows the last line feed is put; none where memory was
+/// refused.
+fn lines_and_rest<'a>(block: &'a [u8], next: &mut Vec<u8>) -> Option<&'a [u8]>
+    ensures { IfSome result (λ lines. EndsLine lines.now × (block.entry.now ≡ lines.now ++ next.new.items)) }
+{
+    let (lines, rest) = block.split_at(end_of_lines(block));
+    next.clear();
+    match next.extend_from_slice(rest) {
+        Ok(()) => Some(lines),
+        Err(_) => None,
+    }
+}
+
+/// What a device's text is read to, whose bytes are taken up to a limit.
+pub(crate) fn read_device<H: Threads + Sync, R: BlockReader, D: ByteIn>(
+    rt: &H,
+    way: Way,
+    limit: u64,
+    start: R,
+    device: &mut D,
+) -> Result<R::Text, StreamFault>
+    requires { 0 < way.size }
+    ensures { GivesWhole R.view (text_after R.step R.end (R.state start)) limit
+        (D.seen device.old) (D.seen device.new) result }
+{
+    let alloc = way.alloc;
+    let Ok(mut blocks) = Blocks::new(alloc, limit) else {
+        return Err(StreamFault::Read(ReadFault::OutOfMemory));
+    };
+    let mut feed = Feed {
+        reader: start,
+        lines: 0,
+        fault: None,
+    };
+    let mut block = Vec::new(alloc);
+    let mut next = Vec::new(alloc);
+    let mut ended = match fill(device, &mut blocks, &mut block, way.size) {
+        Ok(ended) => ended,
+        Err(fault) => return Err(StreamFault::Read(fault)),
+    };
+    while !ended {
+        let Some(lines) = lines_and_rest(&block, &mut next) else {
+            return Err(StreamFault::Read(ReadFault::OutOfMemory));
+        };
+        // A line that is longer than a block makes longer blocks.
+        let wanted = Way {
+            size: next.len().saturating_mul(2).max(way.size),
+            ..way
+        };
+        ended = match go_on(rt, wanted, &mut feed, lines, &mut blocks, device, &mut next) {
+            Ok(ended) => ended,
+            Err(fault) => return Err(StreamFault::Read(fault)),
+        };
+        mem::swap(&mut block, &mut next);
+    }
+    feed.take(alloc, rt, way.threads, &block);
+    match feed.finish() {
+        Ok(read) => Ok(read),
+        Err(fault) => Err(StreamFault::Input(fault)),
+    }
+}
