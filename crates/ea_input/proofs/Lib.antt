@@ -24,3 +24,4 @@ pub mod Piecewise
 pub mod Joined
 pub mod Fed
 pub mod Underway
+pub mod Digits

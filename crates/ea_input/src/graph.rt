@@ -267,6 +267,9 @@ impl LineReader for GraphReader {
     ghost front = { graph_step-front };
 }
 
+/// How many bytes a text has at least that is read by two threads.
+const LEAST_TEXT: usize = 65_536;
+
 impl BlockReader for GraphReader {
     fn read_aside<H: Threads + Sync>(
         &mut self,
@@ -276,7 +279,7 @@ impl BlockReader for GraphReader {
         before: u64,
         text: &[u8],
     ) -> Option<Result<u64, InputFault>> {
-        if threads < 2 {
+        if threads < 2 || text.len() < LEAST_TEXT {
             return None;
         }
         let Some(size) = self.size else {
@@ -287,7 +290,7 @@ impl BlockReader for GraphReader {
 }
 
 /// A reader of a text of which no line was read yet.
-fn start(alloc: Global) -> GraphReader
+pub(crate) fn start(alloc: Global) -> GraphReader
     ensures { read_of result ≡ spec.no_graph }
 {
     GraphReader {

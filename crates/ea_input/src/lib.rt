@@ -27,4 +27,6 @@ pub use streams::StreamFault;
 pub use table::{RawKind, RawTable, read_tp, read_tp_from, table_law};
 
 #[cfg(test)]
+mod stream_tests;
+#[cfg(test)]
 mod tests;

@@ -4,20 +4,21 @@ ghost use Rattle.std.specs.Prelude.{◌≡◌, IfSome, codes, false};
 ghost use Rattle.std.specs.Char.{is_ascii_digit};
 ghost use Rattle.ea_input.specs.Ahead.{ArcThen, NumberThen, PairThen, TwoThen};
 
-/// The number at the front of a text, where it ends in `stop` and is not very large, and the
+/// A number of so many digits is less than 2^64.
+const MOST_DIGITS: usize = 19;
+
+/// The number at the front of a text, where it ends in `stop` and has less than 19 digits, and the
 /// bytes after that.
 fn leading_number(text: &[u8], stop: u8) -> Option<(u64, &[u8])>
     requires { is_ascii_digit stop ≡ false }
     ensures { IfSome result (λ x. NumberThen text.now stop x.0 x.1.now) }
 {
     let mut value: u64 = 0;
-    for (i, b) in text.iter().enumerate() {
+    for i in 0..text.len().min(MOST_DIGITS) {
+        let b = text[i];
         if b.is_ascii_digit() {
-            if value >= 1 << 58 {
-                return None;
-            }
-            value = value * 10 + u64::from(*b - b'0');
-        } else if *b == stop && i > 0 {
+            value = value * 10 + u64::from(b - b'0');
+        } else if b == stop && i > 0 {
             return Some((value, &text[i + 1..]));
         } else {
             return None;
