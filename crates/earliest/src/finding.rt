@@ -43,12 +43,17 @@ pub(crate) struct Found {
 /// Workers are not worth starting on fewer nodes.
 const FEW_NODES: u32 = 10_000;
 
-/// Several workers are quicker than the search of one thread from so many nodes on, where no walks are asked for.
+/// Several workers are quicker than the search of one thread from so many nodes on, where all nodes are asked for without walks.
 const MANY_NODES: u32 = 2_000_000;
 
 /// How many workers search a problem. With statistics it is those that are counted. Else those that are asked for, and where the
 /// program may choose, one for each processor where that is quicker; one is the search of one thread.
-pub(crate) fn workers_of<H: Threads>(rt: &H, road: &Road, options: &RunOptions) -> u32
+pub(crate) fn workers_of<H: Threads>(
+    rt: &H,
+    road: &Road,
+    query: &Query,
+    options: &RunOptions,
+) -> u32
     requires { AreOptions options.now }
     ensures some { (1 ≤ result) × (result ≤ MOST_WORKERS) }
     ensures counted { options.now.stats ≡ true → result ≡ counted_workers options.now }
@@ -59,10 +64,12 @@ pub(crate) fn workers_of<H: Threads>(rt: &H, road: &Road, options: &RunOptions) 
     let nodes = road.network.nodes();
     match options.workers {
         Some(workers) if nodes >= FEW_NODES => workers as u32,
-        None if nodes >= MANY_NODES && !options.walks => match available_parallelism(rt) {
-            Ok(processors) => processors.get().min(MOST_WORKERS as usize) as u32,
-            Err(_) => 1,
-        },
+        None if nodes >= MANY_NODES && !options.walks && query.target().is_none() => {
+            match available_parallelism(rt) {
+                Ok(processors) => processors.get().min(MOST_WORKERS as usize) as u32,
+                Err(_) => 1,
+            }
+        }
         _ => 1,
     }
 }

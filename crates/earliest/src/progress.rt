@@ -210,7 +210,7 @@ impl Progress {
             AreSmall problems self.old.totals → AreSmall (problems + 1) self.new.totals) }
         ensures search { IfSome self.new.search (Serves road.now.network options.now.walks) }
     {
-        let workers = workers_of(rt, road, options);
+        let workers = workers_of(rt, road, query, options);
         if workers == 1 && !options.stats {
             return self.report_alone(alloc, road, query, options.walks, out);
         }
