@@ -1,6 +1,6 @@
 -- What is left in a closed pool, heap by heap.
-use Rattle.std.proofs.Common.{◌≡◌, ℕ, ◌+◌, ◌<◌, ◌≤◌, Bool, true, false, cond, ltb, ltb-true, ltb-false, List, [], ◌∷◌, ◌++◌, length, get_or, set, take, sym, refl, ap, ◌∙◌, arith, subst, append-nil, append_assoc, Option, Some, None, MatchOption}
-use Rattle.std.proofs.lemmas.List.{set-get_or, take_more}
+use Rattle.std.proofs.Common.{◌≡◌, ℕ, ◌+◌, ◌<◌, ◌≤◌, Bool, true, false, cond, ltb, ltb-true, ltb-false, List, [], ◌∷◌, ◌++◌, length, length-set, get_or, set, take, sym, refl, ap, ◌∙◌, arith, subst, append-nil, append_assoc, Option, Some, None, MatchOption}
+use Rattle.std.proofs.lemmas.List.{length-take-le, set-get_or, take_all, take_more}
 use mathlib.Core.Option.{some}
 use Rattle.std.specs.Prelude.{IfSome}
 use Rattle.std.specs.List.{AllByRecursion}
@@ -98,13 +98,20 @@ weighs_changed f heaps place h h' near is = omega (
   total-set (total f) heaps place h h' (at_value heaps place h near ∙ ap some (sym is)),
 )
 
--- a heap with no entry is looked at, and those before had none
-pub still_none : (heaps heaps₀ : List (List Entry)) (place : ℕ) (h h' : List Entry) → place < length heaps → h ≡ get_or heaps place h → h ≡ [] → h' ≡ [] → heaps ≡ heaps₀ → gathered (take place heaps) ≡ []
-    → (set heaps place h' ≡ heaps₀) × (gathered (take (place + 1) (set heaps place h')) ≡ [])
-still_none heaps heaps₀ place h h' near is none none' same before =
-    let here : content heaps place ≡ [] = content_is heaps place h near is ∙ none in
-    let still : set heaps place h' ≡ heaps = ap (set heaps place) (none' ∙ sym here) ∙ set-get_or heaps place [] in (
-      still ∙ same,
-      ap (λ (hs : List (List Entry)). gathered (take (place + 1) hs)) still
-          ∙ (ap gathered (take_more heaps place [] near) ∙ (gathered_snoc (take place heaps) (content heaps place) ∙ (ap (λ (l : List Entry). l ++ content heaps place) before ∙ here))),
-    )
+-- the last heap, which has no entry, is taken off
+pub took_off : (heaps : List (List Entry)) (n : ℕ) (h h' : List Entry) → length heaps ≡ n + 1 → h ≡ get_or heaps n h → h ≡ [] → h' ≡ [] → (f : Entry → ℕ)
+    → total f (gathered heaps) ≡ total f (gathered (take n (set heaps n h')))
+took_off heaps n h h' len is none none' f =
+    let near : n < length heaps = omega (arith, len) in
+    let here : content heaps n ≡ [] = content_is heaps n h near is ∙ none in
+    let still : set heaps n h' ≡ heaps = ap (set heaps n) (none' ∙ sym here) ∙ set-get_or heaps n [] in
+    let whole : gathered heaps ≡ gathered (take n heaps) ++ content heaps n =
+    ap gathered (sym (take_all (n + 1) heaps (omega (arith, len)))) ∙ (ap gathered (take_more heaps n [] near) ∙ gathered_snoc (take n heaps) (content heaps n)) in
+    ap (total f) (whole ∙ (ap (λ (l : List Entry). gathered (take n heaps) ++ l) here ∙ (append-nil (gathered (take n heaps)) ∙ ap (λ (hs : List (List Entry)). gathered (take n hs)) (sym still))))
+
+pub one_fewer : (heaps : List (List Entry)) (n : ℕ) (h' : List Entry) → length heaps ≡ n + 1 → length (take n (set heaps n h')) ≡ n
+one_fewer heaps n h' len = length-take-le n (set heaps n h') (omega (arith, len, length-set heaps n h'))
+
+pub no_heaps : (heaps : List (List Entry)) → length heaps ≡ 0 → gathered heaps ≡ []
+no_heaps [] e = refl
+no_heaps (h ∷ heaps) e = absurd (omega (arith, e))

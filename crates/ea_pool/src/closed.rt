@@ -75,11 +75,14 @@ impl<A: Allocator, H: EntryHeap> ClosedPool<A, H> {
         ensures { MatchOption result ((self.old ≡ []) × (self.new ≡ []))
             (λ entry. SameEntries self.old (entry ∷ self.new)) }
     {
-        for place in 0..self.heaps.len() {
-            let heap = &mut self.heaps[place];
+        'emptied: for _ in 0..self.heaps.len() {
+            let Some(heap) = self.heaps.last_mut() else {
+                return None;
+            };
             if let Some(entry) = heap.pop() {
                 return Some(entry);
             }
+            self.heaps.pop();
         }
         None
     }

@@ -1,35 +1,41 @@
-use Rattle.std.proofs.Common.{◌≡◌, List, [], length, refl, sym, ap, ◌∙◌, arith}
-use Rattle.std.proofs.lemmas.List.{take_all}
+use Rattle.std.proofs.Common.{◌≡◌, ◌+◌, ◌-◌, List, [], length, sym, ap, ◌∙◌, arith}
+use Rattle.std.specs.Prelude.{vec_len}
 use Rattle.ea_lists.specs.Totals.{total}
 use Rattle.ea_pool.specs.declared.entry.Entry.{Entry}
 use Rattle.ea_pool.specs.Entries.{gathered}
-use Rattle.ea_pool.proofs.Leaving.{still_none, weighs_changed}
+use Rattle.ea_pool.proofs.Gathered.{no_weight}
+use Rattle.ea_pool.proofs.Leaving.{no_heaps, one_fewer, took_off, weighs_changed}
 use Rattle.ea_pool.proofs.Shown.{given_one}
 use Rattle.ea_pool.proofs.closed.ClosedPool.next_of_any.Goals as goal
 
-pub loop-place-init : goal.loop-place-init
-loop-place-init g c = (refl, refl)
-
-pub returns-in-Some : goal.returns-in-Some
-returns-in-Some g c = λ f.
-    let heaps : List (List Entry) = c.loop-place.self-inside.heaps.items in
-    let is = c.index_mut-heap.ensures.value in
+pub returns-in-Some-pop : goal.returns-in-Some-pop
+returns-in-Some-pop g c = λ f.
+    let heaps : List (List Entry) = c.emptied.self-inside.heaps.items in
+    let some = c.in-Some.ensures in
     omega (
       arith,
       ap (total f) (sym c.self.view_is),
-      ap (λ (hs : List (List Entry)). total f (gathered hs)) c.loop-place.invariant.0,
-      weighs_changed f heaps c.loop-place.place c.index_mut-heap.result.now c.pop.new.self (omega (arith, c.loop-place-test.true, c.len-place-end.ensures, c.self.inside.heaps.ok.0, ap length c.loop-place.invariant.0)) is,
-      given_one g.H.EntryHeap.kind c.in-Some.entry c.index_mut-heap.result.now c.pop.new.self c.in-Some.ensures f,
+      c.emptied.invariant.0 f,
+      weighs_changed f heaps (vec_len c.emptied.self-inside.heaps - 1) c.in-Some.heap.now c.pop.new.self (omega (arith, some.variant.0, c.emptied.self-inside.heaps.ok.0)) some.value,
+      given_one g.H.EntryHeap.kind c.in-Some-pop.entry c.in-Some.heap.now c.pop.new.self c.in-Some-pop.ensures f,
     )
 
-pub loop-place-preserved : goal.loop-place-preserved
-loop-place-preserved g c =
-    let heaps : List (List Entry) = c.loop-place.self-inside.heaps.items in
-    still_none heaps c.self.inside.heaps.items c.loop-place.place c.index_mut-heap.result.now c.pop.new.self (omega (arith, c.loop-place-test.true, c.len-place-end.ensures, c.self.inside.heaps.ok.0, ap length c.loop-place.invariant.0)) c.index_mut-heap.ensures.value c.in_default.ensures.0 c.in_default.ensures.1 c.loop-place.invariant.0 c.loop-place.invariant.1
+pub emptied-preserved : goal.emptied-preserved
+emptied-preserved g c =
+    let heaps : List (List Entry) = c.emptied.self-inside.heaps.items in
+    let i = c.emptied.invariant in
+    let some = c.in-Some.ensures in
+    let none = c.in_default-pop.ensures in
+    let len : length heaps ≡ (vec_len c.emptied.self-inside.heaps - 1) + 1 = omega (arith, some.variant.0, c.emptied.self-inside.heaps.ok.0) in
+    let popped = c.pop-in-emptied.ensures in (
+      λ f. i.0 f ∙ (took_off heaps (vec_len c.emptied.self-inside.heaps - 1) c.in-Some.heap.now c.pop.new.self len some.value none.0 none.1 f
+          ∙ ap (λ (hs : List (List Entry)). total f (gathered hs)) (sym popped.rest)),
+      omega (arith, i.1, len, ap length popped.rest, one_fewer heaps (vec_len c.emptied.self-inside.heaps - 1) c.pop.new.self len),
+    )
 
 pub returns : goal.returns
 returns g c =
-    let i = c.loop-place.invariant in
-    let heaps : List (List Entry) = c.loop-place.self-inside.heaps.items in
-    let all : gathered heaps ≡ [] = ap gathered (sym (take_all c.loop-place.place heaps (omega (arith, c.loop-place-test.false, c.len-place-end.ensures, c.self.inside.heaps.ok.0, ap length i.0)))) ∙ i.1 in
-    (sym c.self.view_is ∙ (ap gathered (sym i.0) ∙ all), all)
+    let i = c.emptied.invariant in
+    let heaps : List (List Entry) = c.emptied.self-inside.heaps.items in
+    let none : gathered heaps ≡ [] = no_heaps heaps (omega (arith, i.1, c.emptied-test.false, c.len-end.ensures, c.self.inside.heaps.ok.0)) in
+    (sym c.self.view_is ∙ no_weight (gathered c.self.inside.heaps.items) (λ f. omega (arith, i.0 f, ap (total f) none)), none)
