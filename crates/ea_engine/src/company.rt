@@ -1,10 +1,10 @@
 //! Workers that notice together that nothing is left to do.
-ghost use Rattle.std.specs.Prelude.{◌≡◌, ◌%◌, ◌≤◌};
+ghost use Rattle.std.specs.Prelude.{◌≡◌, ◌+◌, ◌*◌, ◌%◌, ◌<◌, ◌≤◌, ◌⊎◌, false};
 ghost use Rattle.ea_engine.specs.Companies.{LeavesAs};
 
 use crate::turn::{Flow, Turn, TurnKind};
 use std::sync::atomic::Ordering::SeqCst;
-use std::sync::atomic::{AtomicBool, AtomicUsize};
+use std::sync::atomic::{AtomicBool, AtomicU64, AtomicUsize};
 use std::thread::yield_now;
 
 /// After how many turns in a row that found nothing a worker counts as idle.
@@ -22,14 +22,32 @@ const ALONE_AFTER: u32 = 256;
 /// Every how many visits a worker looks whether the others are idle.
 const LOOKS_EVERY: u64 = 64;
 
-/// How many workers of a run are not idle. It saves them time, and nothing of an answer rests on it: a worker's member is asked
-/// by its tracer after each turn.
+/// How many labels may fall, however few nodes there are.
+const FEW_FALLS: u64 = 16_384;
+
+/// How many pauses workers may make, however few entries they visit. A pause is a spin.
+const FEW_PAUSES: u64 = 65_536;
+
+/// How many pauses workers may make for each entry that they visit.
+const PAUSES_A_VISIT: u64 = 2;
+
+/// Labels may fall as often as they will.
+const NO_LIMIT: u64 = u64::MAX;
+
+/// How many workers of a run are not idle, and what they did. It saves them time, and nothing of an answer rests on it: a worker's
+/// member is asked by its tracer after each turn.
 #[derive(Drop)]
 pub struct Company {
     /// Those that are not idle; before the first of them has found an entry, one.
     active: AtomicUsize,
     /// Whether a worker has found an entry.
     begun: AtomicBool,
+    /// How many labels fell, how many entries were visited, and how many pauses were made, up to each worker's last look.
+    falls: AtomicU64,
+    visits: AtomicU64,
+    pauses: AtomicU64,
+    /// Where more labels fell, all leave.
+    most_falls: u64,
 }
 
 /// What a worker knows of its company.
@@ -43,14 +61,44 @@ pub struct Member<'a> {
     quiet: u32,
     /// How many looks in a row found that all others were idle.
     alone: u32,
+    /// What it did since its last look, as its company counts it.
+    falls: u64,
+    visits: u64,
+    pauses: u64,
+}
+
+/// Adds to a count: what it is then.
+fn told(count: &AtomicU64, more: u64) -> u64 {
+    count.fetch_add(more, SeqCst).wrapping_add(more)
 }
 
 impl Company {
-    /// No worker has begun.
-    pub fn new() -> Company {
+    /// No worker has begun, and labels may fall as often as they will.
+    pub fn new() -> Company
+        ensures { result.most_falls ≡ NO_LIMIT }
+    {
+        Company::with(NO_LIMIT)
+    }
+
+    /// No worker has begun on a network of so many nodes. Where labels fall far more often than there are nodes, or where the
+    /// workers wait longer than they visit entries, all leave: one thread is quicker.
+    pub fn on(nodes: u32) -> Company
+        ensures { result.most_falls ≡ 2 * nodes + FEW_FALLS }
+    {
+        Company::with(2 * u64::from(nodes) + FEW_FALLS)
+    }
+
+    /// No worker has begun, and so many labels may fall.
+    fn with(most_falls: u64) -> Company
+        ensures { result.most_falls ≡ most_falls }
+    {
         Company {
             active: AtomicUsize::new(1),
             begun: AtomicBool::new(false),
+            falls: AtomicU64::new(0),
+            visits: AtomicU64::new(0),
+            pauses: AtomicU64::new(0),
+            most_falls,
         }
     }
 
@@ -62,6 +110,9 @@ impl Company {
             idle: 0,
             quiet: 0,
             alone: 0,
+            falls: 0,
+            visits: 0,
+            pauses: 0,
         }
     }
 }
@@ -73,7 +124,10 @@ impl Member<'_> {
     {
         match turn.kind {
             TurnKind::Empty | TurnKind::Busy => self.found_nothing(),
-            TurnKind::Stale | TurnKind::Scanned | TurnKind::Cut => self.found_entry(turn.number),
+            TurnKind::Stale | TurnKind::Scanned | TurnKind::Cut => {
+                self.falls = self.falls.wrapping_add(turn.lowered);
+                self.found_entry(turn.number)
+            }
             TurnKind::Refused => {
                 self.rest();
                 Flow::Leave
@@ -93,7 +147,8 @@ impl Member<'_> {
 
     /// It is idle no longer.
     fn rise(&mut self)
-        ensures { (self.new.quiet ≡ self.old.quiet) × (self.new.alone ≡ self.old.alone) }
+        ensures rest { (self.new.quiet ≡ self.old.quiet) × (self.new.alone ≡ self.old.alone) }
+        ensures limit { self.new.company.now.most_falls ≡ self.old.company.now.most_falls }
     {
         if !self.is_active {
             self.is_active = true;
@@ -107,6 +162,7 @@ impl Member<'_> {
         ensures { result ≡ Flow.Leave → 32 ≤ self.old.quiet }
     {
         self.idle = self.idle.saturating_add(1);
+        self.pauses = self.pauses.wrapping_add(1 << self.idle.min(6));
         if self.idle < IDLE_AFTER {
             return Flow::Go;
         }
@@ -125,14 +181,41 @@ impl Member<'_> {
         Flow::Go
     }
 
+    /// Tells the company what it did since its last look: whether several workers still gain time.
+    fn gains(&mut self) -> bool
+        ensures limit { result ≡ false → self.old.company.now.most_falls < NO_LIMIT }
+        ensures rest { (self.new.quiet ≡ self.old.quiet) × (self.new.alone ≡ self.old.alone) }
+    {
+        if self.company.most_falls == NO_LIMIT {
+            return true;
+        }
+        let falls = told(&self.company.falls, self.falls);
+        let visits = told(&self.company.visits, self.visits);
+        let pauses = told(&self.company.pauses, self.pauses);
+        self.falls = 0;
+        self.visits = 0;
+        self.pauses = 0;
+        falls <= self.company.most_falls
+            && pauses
+                <= visits
+                    .saturating_mul(PAUSES_A_VISIT)
+                    .saturating_add(FEW_PAUSES)
+    }
+
     fn found_entry(&mut self, number: u64) -> Flow
-        ensures { result ≡ Flow.Leave → (number % 64 ≡ 0) × (255 ≤ self.old.alone) }
+        ensures { result ≡ Flow.Leave → (number % 64 ≡ 0)
+            × ((255 ≤ self.old.alone) ⊎ (self.old.company.now.most_falls < NO_LIMIT)) }
     {
         self.idle = 0;
         self.quiet = 0;
+        self.visits = self.visits.wrapping_add(1);
         self.rise();
         if number % LOOKS_EVERY > 0 {
             return Flow::Go;
+        }
+        if !self.gains() {
+            self.rest();
+            return Flow::Leave;
         }
         if self.company.active.load(SeqCst) > 1 {
             self.alone = 0;

@@ -333,7 +333,7 @@ pub(crate) fn find<H: Threads + Sync>(
         });
     }
     let rngs = homing_generators(alloc, options.seed, settings)?;
-    let company = Company::new();
+    let company = Company::on(road.network.nodes());
     let mut member = company.member();
     find_by(
         alloc,

@@ -2,12 +2,17 @@
 use ea_engine::{Company, Flow, Member, Turn, TurnKind};
 
 fn after(member: &mut Member<'_>, number: u64, kind: TurnKind) -> bool {
+    after_falls(member, number, kind, 0)
+}
+
+/// Whether a worker goes on after a turn in which so many labels fell.
+fn after_falls(member: &mut Member<'_>, number: u64, kind: TurnKind, lowered: u64) -> bool {
     let turn = Turn {
         number,
         kind,
         node: 0,
         key: 0,
-        lowered: 0,
+        lowered,
     };
     matches!(member.after(turn), Flow::Go)
 }
@@ -81,4 +86,46 @@ fn a_worker_that_is_long_alone_leaves(rt: HostRuntime) {
     let mut other = company.member();
     assert!(rt; after(&mut other, 0, TurnKind::Scanned));
     assert!(rt; visits_alone(&mut one, 100_000) == 100_000);
+}
+
+/// After how many visits a worker leaves in each of which ten labels fall, while another is active; at most 10,000.
+fn visits_of_ten_falls(company: &Company) -> u64 {
+    let mut one = company.member();
+    let mut other = company.member();
+    let mut goes = after(&mut other, 1, TurnKind::Scanned);
+    for number in 0..10_000 {
+        goes = goes && after_falls(&mut one, number, TurnKind::Scanned, 10);
+        if !goes {
+            return number;
+        }
+    }
+    10_000
+}
+
+#[test]
+fn workers_leave_where_labels_fall_too_often(rt: HostRuntime) {
+    // 2 * 100 + 16,384 labels may fall. After visit 1,600 16,010 fell, and after visit 1,664 16,650.
+    assert_eq!(rt; visits_of_ten_falls(&Company::on(100)), 1_664);
+    // 2 * 1,000 + 16,384: after visit 1,792 17,930 fell, and after visit 1,856 18,570.
+    assert_eq!(rt; visits_of_ten_falls(&Company::on(1_000)), 1_856);
+    assert_eq!(rt; visits_of_ten_falls(&Company::on(1_000_000)), 10_000);
+    assert_eq!(rt; visits_of_ten_falls(&Company::new()), 10_000);
+}
+
+/// Whether a worker still goes on that found nothing in so many turns after 1,000 such ones, beside an active one.
+fn goes_on_after_waits(company: &Company, turns: u32) -> bool {
+    let mut one = company.member();
+    let mut other = company.member();
+    let mut goes = after(&mut other, 1, TurnKind::Scanned);
+    // 2 + 4 + .. + 64 pauses in the first 6 turns, and 64 in each of the 994 others: 63,742.
+    goes = goes && goes_on(&mut one, 1_000) && after(&mut one, 0, TurnKind::Scanned);
+    goes && goes_on(&mut one, turns) && after(&mut one, 64, TurnKind::Scanned)
+}
+
+#[test]
+fn workers_leave_where_they_wait_too_long(rt: HostRuntime) {
+    // 65,536 pauses may be made, and 2 for each of the 2 visits. After 33 more turns 65,596 are made, after 32 more 65,532.
+    assert!(rt; goes_on_after_waits(&Company::on(1_000_000), 32));
+    assert!(rt; !goes_on_after_waits(&Company::on(1_000_000), 33));
+    assert!(rt; goes_on_after_waits(&Company::new(), 10_000));
 }

@@ -17,6 +17,8 @@ mod homed;
 #[cfg(test)]
 mod large;
 #[cfg(test)]
+mod late;
+#[cfg(test)]
 mod left;
 #[cfg(test)]
 mod met;
