@@ -1,5 +1,5 @@
 //! Workers that notice together that nothing is left to do.
-ghost use Rattle.std.specs.Prelude.{◌≡◌, ◌+◌, ◌*◌, ◌%◌, ◌<◌, ◌≤◌, ◌⊎◌, false};
+ghost use Rattle.std.specs.Prelude.{◌≡◌, ◌+◌, ◌/◌, ◌%◌, ◌<◌, ◌≤◌, ◌⊎◌, false};
 ghost use Rattle.ea_engine.specs.Companies.{LeavesAs};
 
 use crate::turn::{Flow, Turn, TurnKind};
@@ -83,9 +83,9 @@ impl Company {
     /// No worker has begun on a network of so many nodes. Where labels fall far more often than there are nodes, or where the
     /// workers wait longer than they visit entries, all leave: one thread is quicker.
     pub fn on(nodes: u32) -> Company
-        ensures { result.most_falls ≡ 2 * nodes + FEW_FALLS }
+        ensures { result.most_falls ≡ nodes + nodes / 2 + FEW_FALLS }
     {
-        Company::with(2 * u64::from(nodes) + FEW_FALLS)
+        Company::with(u64::from(nodes) + u64::from(nodes / 2) + FEW_FALLS)
     }
 
     /// No worker has begun, and so many labels may fall.

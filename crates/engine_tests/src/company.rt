@@ -104,10 +104,10 @@ fn visits_of_ten_falls(company: &Company) -> u64 {
 
 #[test]
 fn workers_leave_where_labels_fall_too_often(rt: HostRuntime) {
-    // 2 * 100 + 16,384 labels may fall. After visit 1,600 16,010 fell, and after visit 1,664 16,650.
+    // 100 + 50 + 16,384 labels may fall. After visit 1,600 16,010 fell, and after visit 1,664 16,650.
     assert_eq!(rt; visits_of_ten_falls(&Company::on(100)), 1_664);
-    // 2 * 1,000 + 16,384: after visit 1,792 17,930 fell, and after visit 1,856 18,570.
-    assert_eq!(rt; visits_of_ten_falls(&Company::on(1_000)), 1_856);
+    // 1,000 + 500 + 16,384: after visit 1,728 17,290 fell, and after visit 1,792 17,930.
+    assert_eq!(rt; visits_of_ten_falls(&Company::on(1_000)), 1_792);
     assert_eq!(rt; visits_of_ten_falls(&Company::on(1_000_000)), 10_000);
     assert_eq!(rt; visits_of_ten_falls(&Company::new()), 10_000);
 }
