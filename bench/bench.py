@@ -1,8 +1,9 @@
 """Measures the program beside its peers and writes bench/results/*.csv, docs/performance.md and its pictures.
 
-    python3 bench/bench.py [--large] [--rounds N] [--nodes N ..] [--no-traps] [--scratch FOLDER]
+    python3 bench/bench.py [--large] [--rounds N] [--nodes N ..] [--no-traps] [--others-stopped] [--scratch FOLDER]
 
-`make bench` builds the program and calls this. Networks have 10^4, 10^5 and 10^6 nodes, with --large 10^7 too.
+`make bench` builds the program and calls this. Who has stopped all other work of the machine says so by --others-stopped, since the
+load before is that of the minutes before. Networks have 10^4, 10^5 and 10^6 nodes, with --large 10^7 too.
 """
 import argparse
 import os
@@ -43,12 +44,13 @@ def load():
     return " ".join(f"{it:.2f}" for it in os.getloadavg())
 
 
-def machine(built, before):
+def machine(built, before, stopped):
     """What a reader has to know of the machine and of the run."""
     return [
         ("processor", field_of("/proc/cpuinfo", "model name")), ("processors", len(os.sched_getaffinity(0))),
         ("memory", field_of("/proc/meminfo", "MemTotal")), ("system", f"{platform.system()} {platform.release()}"),
-        ("load before", before), ("load after", load()), ("date", time.strftime("%Y-%m-%d")),
+        ("load before", before), ("load after", load()),
+        ("other work", page.STOPPED if stopped else "as the loads tell"), ("date", time.strftime("%Y-%m-%d")),
         ("program", first_line([programs.EARLIEST, "--version"])), ("kit", first_line(["rt", "version"])),
         ("rustc", first_line(["rustc", "--version"])), ("g++", first_line(["g++", "--version"])),
         ("left out", "; ".join(built.left_out) or "nothing"),
@@ -113,6 +115,7 @@ def main():
     words.add_argument("--rounds", type=int, default=5)
     words.add_argument("--nodes", type=int, nargs="+", default=[10_000, 100_000, 1_000_000])
     words.add_argument("--no-traps", action="store_true")
+    words.add_argument("--others-stopped", action="store_true")
     words.add_argument("--scratch", default=workspace.SCRATCH)
     options = words.parse_args()
     options.nodes += [10_000_000] if options.large else []
@@ -127,7 +130,7 @@ def main():
     bench.python()
     if not options.no_traps:
         traps.measured(options.scratch, 60, min(3, options.rounds))
-    written("machine", machine(bench.built, before), ("name", "value"))
+    written("machine", machine(bench.built, before, options.others_stopped), ("name", "value"))
     page.main()
     print(f"docs/performance.md is written, after {time.monotonic() - begun:.0f} s")
 

@@ -136,11 +136,17 @@ def machine():
     return {row["name"]: row["value"] for row in rows_of("machine")}
 
 
+# What is said of other work that was stopped for the bench.
+STOPPED = "stopped while it ran"
+
+
 def head(about):
     out = [HEAD]
     out += ["| | |", "|---|---|"] + [f"| {name} | {value} |" for name, value in about.items()] + [""]
     loads = [float(about.get(name, "0").split()[0]) for name in ("load before", "load after")]
-    if loads[0] > 1:
+    if about.get("other work") == STOPPED:
+        out += ["The machine's other work was stopped while the bench ran; the load before is that of the minutes before.", ""]
+    elif loads[0] > 1:
         out += [f"**The machine did other work when the bench began (a load of {loads[0]}), so these figures are rough.**", ""]
     return out
 
