@@ -1,4 +1,4 @@
-//! Files, of which the network's is read by several threads.
+//! Files that are read block by block, by several threads.
 ghost use Rattle.std.specs.Prelude.{◌≡◌, ℕ, List, IfOk, IfErr, OnOk, Option, Some, length};
 ghost use Rattle.ea_text.specs.Device.{BearsOn};
 ghost use Rattle.ea_text.specs.Text.{field_lines};
@@ -29,7 +29,7 @@ use std::thread::{Threads, available_parallelism};
 /// The most threads that read a text.
 const MOST_READERS: usize = 16;
 
-/// How many threads read a text: as many as there are processors, and one where they can't be counted.
+/// How many threads may read a text: as many as there are processors, and one where they can't be counted.
 fn readers<H: Threads>(rt: &H) -> usize {
     match available_parallelism(rt) {
         Ok(processors) => processors.get().min(MOST_READERS),
@@ -176,7 +176,7 @@ pub(crate) fn read_road_by<H: Threads + Sync, T: ByteIn>(
     Ok(road)
 }
 
-/// Reads the files of a run as `read_run` does, the network by as many threads as there are processors, at most 16.
+/// Reads the files of a run as `read_run` does, block by block, and by up to three threads at once where there are several processors.
 pub fn read_run_by<H: Threads + Sync, G: ByteIn, S: ByteIn, T: ByteIn>(
     alloc: Global,
     rt: &H,

