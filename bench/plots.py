@@ -3,6 +3,7 @@ import html
 import math
 
 COLOURS = ("#0b6e4f", "#c0392b", "#2c5aa0", "#b8860b", "#6c3483", "#5d6d7e", "#d35400", "#148f77", "#7b241c", "#1a5276")
+OURS = ("#111111", "#8e8e8e")
 WIDTH, HEIGHT = 790, 420
 LEFT, RIGHT, TOP, BOTTOM = 70, 300, 40, 50
 
@@ -52,16 +53,24 @@ def chart(title, across, up, lines):
     out.append(f'<text x="{(LEFT + right) / 2}" y="{HEIGHT - 12}" text-anchor="middle">{html.escape(across)}</text>')
     middle = (TOP + bottom) / 2
     out.append(f'<text x="16" y="{middle}" text-anchor="middle" transform="rotate(-90 16 {middle})">{html.escape(up)}</text>')
+    drawn = strokes([name for name, _ in lines])
     for number, (name, found) in enumerate(lines):
-        out += line(name, sorted(found), stroke(name, number), x, y, TOP + 6 + 19 * number)
+        out += line(name, sorted(found), drawn[number], x, y, TOP + 6 + 19 * number)
     return "\n".join([*out, "</svg>"]) + "\n"
 
 
-def stroke(name, number):
-    """How a line is drawn: ours are broad, and where colours come again they are dashed."""
-    colour = COLOURS[number % len(COLOURS)]
-    width, dashes = 4 if name.startswith("earliest") else 2, ' stroke-dasharray="6 3"' if number >= len(COLOURS) else ""
-    return f'stroke="{colour}" stroke-width="{width}"{dashes}'
+def strokes(names):
+    """How the lines are drawn: ours are broad, in colours that no other has, and where the others' colours come again they are dashed."""
+    drawn, ours, others = [], 0, 0
+    for name in names:
+        if name.startswith("earliest"):
+            drawn.append(f'stroke="{OURS[ours % len(OURS)]}" stroke-width="4"')
+            ours += 1
+        else:
+            dashes = ' stroke-dasharray="6 3"' if others >= len(COLOURS) else ""
+            drawn.append(f'stroke="{COLOURS[others % len(COLOURS)]}" stroke-width="2"{dashes}')
+            others += 1
+    return drawn
 
 
 def line(name, points, drawn, x, y, height):
