@@ -3,6 +3,7 @@ import html
 import math
 
 COLOURS = ("#0b6e4f", "#c0392b", "#2c5aa0", "#b8860b", "#6c3483", "#5d6d7e", "#d35400", "#148f77", "#7b241c", "#1a5276")
+# Of lines of ours, in the same order on each chart.
 OURS = ("#111111", "#8e8e8e")
 WIDTH, HEIGHT = 790, 420
 LEFT, RIGHT, TOP, BOTTOM = 70, 300, 40, 50
