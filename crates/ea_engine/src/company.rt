@@ -158,6 +158,7 @@ impl Member<'_> {
         }
     }
 
+    #[inline(never)]
     fn found_nothing(&mut self) -> Flow
         ensures { result ≡ Flow.Leave → 32 ≤ self.old.quiet }
     {
@@ -182,6 +183,7 @@ impl Member<'_> {
     }
 
     /// Tells the company what it did since its last look: whether several workers still gain time.
+    #[inline(never)]
     fn gains(&mut self) -> bool
         ensures limit { result ≡ false → self.old.company.now.most_falls < NO_LIMIT }
         ensures rest { (self.new.quiet ≡ self.old.quiet) × (self.new.alone ≡ self.old.alone) }

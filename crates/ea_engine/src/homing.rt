@@ -7,25 +7,31 @@ ghost use Rattle.ea_limits.specs.declared.TheConstants.{LEAST_HEAPS, MOST_HEAPS,
 use rand_core::utils::NextWord;
 use rand_core::{Rng, utils};
 
-/// Words below this are passed on: every fourth one. A remainder would pass on words of a few heaps alone.
+/// Words of the generator below this, every fourth one, make a random word.
 const RANDOM: u64 = 1 << 62;
+
+/// So many numbers of them are told apart.
+const SPAN: u64 = 1 << 28;
 
 /// How many words are kept.
 const WORDS: usize = 8;
 
-/// A generator whose words draw the heaps of one worker, each in turn, but for every fourth word or so, which is the next one of
-/// the generator below. So what a processor wrote mostly stays with it. What is promised of workers holds for any words.
+/// A generator whose words draw the heaps of one worker, each in turn: as a push's word or the first of a pop each draws one of
+/// them. As the second word of a pop three of four lead to the next of them, and about every fourth, by the generator below, to
+/// any other heap. So what a processor wrote mostly stays with it. What is promised of workers holds for any words.
 #[derive(Drop)]
 pub struct Homing<R> {
     below: R,
-    words: [u64; WORDS],
+    words: [u32; WORDS],
+    /// How many heaps all workers have together.
+    heaps: u32,
     /// Which of the words is next.
     place: usize,
 }
 
 /// The word that is `step` modulo one less than the heaps, and `heap` modulo the heaps: as the first word of a pop it draws that
 /// heap, and as the second one the heap that is so many and one behind the first.
-fn word_at(heaps: u64, step: u64, heap: u64) -> u64
+fn word_at(heaps: u32, step: u32, heap: u32) -> u32
     requires { (heap < heaps) × (step + 1 < heaps) × (heaps ≤ 128) }
     ensures draws { result % heaps ≡ heap }
     ensures leads { result % (heaps - 1) ≡ step }
@@ -40,18 +46,18 @@ impl<R> Homing<R> {
         requires heaps { (LEAST_HEAPS ≤ heaps) × (heaps ≤ MOST_HEAPS) }
         ensures { IsAtHome below worker workers heaps result }
     {
-        let own = u64::from(heaps);
-        let all = u64::from(workers) * own;
-        let first = u64::from(worker) * own;
+        let all = workers * heaps;
+        let first = worker * heaps;
         let mut words = [0; WORDS];
         for place in 0..WORDS {
-            let at = place as u64 % own;
-            let step = if at == 0 { all - own } else { 0 };
+            let at = place as u32 % heaps;
+            let step = if at == 0 { all - heaps } else { 0 };
             words[place] = word_at(all, step, first + at);
         }
         Homing {
             below,
             words,
+            heaps: all,
             place: 0,
         }
     }
@@ -62,17 +68,18 @@ impl<R: NextWord<u64>> NextWord<u64> for Homing<R> {
 
     #[tactic(auto, unfolding(crate::specs::Homes::homing_step))]
     fn next_word(&mut self) -> u64 {
-        let word = self.below.next_word();
-        if word < RANDOM {
-            return word;
-        }
-        let own = self.words[self.place % WORDS];
+        let drawn = self.below.next_word();
+        let own = u64::from(self.words[self.place % WORDS]);
         self.place = if self.place < WORDS - 1 {
             self.place + 1
         } else {
             0
         };
-        own
+        if drawn < RANDOM {
+            own + u64::from(self.heaps) * (drawn % SPAN)
+        } else {
+            own
+        }
     }
 }
 

@@ -40,6 +40,7 @@ pub struct ScanEnd {
 }
 
 /// Follows one arc from a popped entry. Where it lowers the head and a batch is fresh then, it is pushed.
+#[inline(always)]
 pub fn follow<K: Known + Posed, E: EntryHeap, T: TravelTimes, R: Rng>(
     ground: &Ground<'_, K, T, E>,
     means: &mut Means<K, R, E>,
@@ -92,6 +93,7 @@ pub fn follow<K: Known + Posed, E: EntryHeap, T: TravelTimes, R: Rng>(
 }
 
 /// Scans a popped entry: follows each arc from its node, until the pool refuses a push.
+#[inline(always)]
 pub fn scan_entry<K: Known + Posed, E: EntryHeap, T: TravelTimes, R: Rng>(
     ground: &Ground<'_, K, T, E>,
     means: &mut Means<K, R, E>,

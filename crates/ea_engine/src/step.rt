@@ -121,6 +121,7 @@ fn visited_turn(number: u64, kind: TurnKind, entry: Entry) -> TurnEnd
 
 /// Reads the label of a popped entry, and scans the entry if the label isn't below its key and its key isn't above the
 /// target's label.
+#[inline(always)]
 pub fn visit<K: Known + Posed, E: EntryHeap, T: TravelTimes, R: Rng>(
     ground: &Ground<'_, K, T, E>,
     target: Option<u32>,

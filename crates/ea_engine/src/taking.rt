@@ -76,6 +76,7 @@ fn pop_drawn<K: Known, E: EntryHeap, R: Rng>(
 }
 
 // Visits the least of the taken entries.
+#[inline(always)]
 fn visit_taken<K: Known + Posed, E: EntryHeap, T: TravelTimes, R: Rng>(
     ground: &Ground<'_, K, T, E>,
     target: Option<u32>,

@@ -76,6 +76,7 @@ impl<H: EntryHeap> Slot<H> {
     }
 
     /// Takes an entry out.
+    #[inline(always)]
     pub(crate) fn pop(&mut self) -> Option<Entry>
         ensures { MatchOption result ((self.old ≡ []) × (self.new ≡ []))
             (λ entry. GivesOne H.kind entry self.old self.new) }

@@ -1,8 +1,7 @@
 //! Entries in no order, with a time that none of them comes before.
-ghost use Rattle.std.specs.Prelude.{◌≡◌, ◌≤◌, [], ◌∷◌, ◌++◌, List, true, false, MatchOption};
-ghost use Rattle.ea_pool.specs.Entries.{face};
+ghost use Rattle.std.specs.Prelude.{◌≡◌, [], ◌∷◌, ◌++◌, List, true, false, length, MatchOption};
+ghost use Rattle.ea_pool.specs.Windows.{IsFloorOf};
 ghost use Rattle.ea_pool.specs.declared.entry.Entry.{Entry as Inside};
-ghost use Rattle.ea_pool.specs.declared.words.TheConstants.{EMPTY};
 
 use crate::entry::Entry;
 use crate::words::EMPTY;
@@ -14,20 +13,20 @@ use std::marker::Model;
 #[derive(Drop)]
 pub(crate) struct Window<A: Allocator> {
     entries: Vec<Entry, A>,
-    /// No key is below it since the list was last empty.
+    /// A time that no key is below, and EMPTY exactly where there is no entry.
     floor: u64,
 }
 
 impl<A: Allocator> Model for Window<A> {
-    ghost use Rattle.std.specs.Prelude.{◌≤◌, List};
+    ghost use Rattle.std.specs.Prelude.{List};
     ghost use Rattle.ea_pool.specs.declared.entry.Entry.{Entry};
-    ghost use Rattle.ea_pool.specs.Entries.{face};
+    ghost use Rattle.ea_pool.specs.Windows.{IsFloorOf};
 
     ghost Value = { List Entry };
 
     ghost view = { λ w. w.entries.items };
 
-    ghost invariant = { λ w. w.floor ≤ face w.entries.items };
+    ghost invariant = { λ w. IsFloorOf w.floor w.entries.items };
 }
 
 impl<A: Allocator> Window<A> {
@@ -42,7 +41,9 @@ impl<A: Allocator> Window<A> {
     }
 
     /// How many entries there are.
-    pub(crate) fn len(&self) -> usize {
+    pub(crate) fn len(&self) -> usize
+        ensures { result ≡ length self.now }
+    {
         self.entries.len()
     }
 
@@ -56,15 +57,9 @@ impl<A: Allocator> Window<A> {
 
     /// A time that no key is below, and EMPTY exactly where there is no entry.
     pub(crate) fn floor(&self) -> u64
-        ensures low { result ≤ face self.now }
-        ensures none { self.now ≡ [] → result ≡ EMPTY }
-        ensures some { result ≡ EMPTY → self.now ≡ [] }
+        ensures { IsFloorOf result self.now }
     {
-        if self.entries.is_empty() {
-            EMPTY
-        } else {
-            self.floor.min(HORIZON)
-        }
+        self.floor
     }
 
     /// Puts an entry at the end. False where there is no memory: then nothing has changed.
@@ -72,7 +67,7 @@ impl<A: Allocator> Window<A> {
         ensures pushed { result ≡ true → self.new ≡ self.old ++ entry ∷ [] }
         ensures refused { result ≡ false → self.new ≡ self.old }
     {
-        let floor = self.floor.min(entry.key);
+        let floor = self.floor.min(entry.key.min(HORIZON));
         match self.entries.push(entry) {
             Ok(()) => {
                 self.floor = floor;

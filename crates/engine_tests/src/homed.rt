@@ -1,6 +1,7 @@
 //! Words that keep a worker at its own heaps.
 use ea_engine::Homing;
-use rand_core::Rng;
+use rand_core::{Rng, SeedableRng};
+use rand_xoshiro::Xoshiro256PlusPlus;
 use tests_given::constant::Constant;
 
 /// Whether two words in a row draw two different heaps of a worker's own, as a pop draws them.
@@ -52,8 +53,36 @@ fn every_own_heap_is_drawn(rt: HostRuntime) {
 }
 
 #[test]
-fn words_of_the_generator_below_come_through(rt: HostRuntime) {
-    let mut words = Homing::new(Constant(12), 0, 2, 2);
-    assert!(rt; words.next_u64() == 12);
-    assert!(rt; words.next_u32() == 12);
+fn random_words_draw_an_own_heap_first_and_then_any_other(rt: HostRuntime) {
+    for heaps in [2u32, 4, 8] {
+        let all = 3 * u64::from(heaps);
+        let mut reached = [false; 24];
+        for random in 0..all - 1 {
+            let mut words = Homing::new(Constant(random), 1, 3, heaps);
+            let first = words.next_u64() % all;
+            let second = first
+                .wrapping_add(1)
+                .wrapping_add(words.next_u64() % (all - 1))
+                % all;
+            assert!(rt; first == u64::from(heaps) && second != first);
+            if second < 24 {
+                reached[second as usize] = true;
+            }
+        }
+        let many = reached.iter().filter(|place| **place).count();
+        assert!(rt; many as u64 == all - 1);
+    }
+}
+
+#[test]
+fn one_word_in_four_is_random(rt: HostRuntime) {
+    let mut words = Homing::new(Xoshiro256PlusPlus::seed_from_u64(1), 2, 4, 2);
+    let mut own = Homing::new(Constant(u64::MAX), 2, 4, 2);
+    let mut random = 0u32;
+    for _ in 0..10_000 {
+        if words.next_u64() != own.next_u64() {
+            random = random.wrapping_add(1);
+        }
+    }
+    assert!(rt; 2_300 < random && random < 2_700);
 }
