@@ -122,7 +122,8 @@ pub fn scan_entry<K: Known + Posed, E: EntryHeap, T: TravelTimes, R: Rng>(
     let mut pushes = 0;
     let Leaving { numbers: _, arcs } = ground.network.leaving(entry.node);
     for arc in arcs {
-        match follow(ground, means, fresh, batch, entry, *arc) {
+        let arc = arc.with_tail(entry.node);
+        match follow(ground, means, fresh, batch, entry, arc) {
             Followed::Unchanged => {}
             Followed::Lowered => lowered += 1,
             Followed::Pushed => {

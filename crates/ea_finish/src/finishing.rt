@@ -131,7 +131,7 @@ pub(crate) fn scan<T: TravelTimes, K: Track, W: Opens>(
             network,
             times,
             numbers[place],
-            arcs[place],
+            arcs[place].with_tail(node),
             departure,
             track,
             table,

@@ -2,7 +2,7 @@
 //! them are under way at once. Of the numbers that come back nothing is promised.
 
 use crate::link::Link;
-use ea_road::{Arc, Network};
+use ea_road::{LeavingArc, Network};
 
 /// How many nodes are read ahead at once.
 pub(crate) const AHEAD: usize = 16;
@@ -22,7 +22,7 @@ pub(crate) fn nodes_of(entries: &[(u64, u32)]) -> Nodes {
 }
 
 /// The arcs from a node.
-fn arcs_from(network: &Network, node: u32) -> &[Arc] {
+fn arcs_from(network: &Network, node: u32) -> &[LeavingArc] {
     if 0 < node && node <= network.nodes() {
         return network.leaving(node).arcs;
     }

@@ -116,7 +116,7 @@ fn spread<T: TravelTimes>(
             network,
             times,
             table,
-            arcs[place],
+            arcs[place].with_tail(node),
             departure,
             new,
             links,

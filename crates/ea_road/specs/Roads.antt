@@ -1,6 +1,7 @@
 -- A network as contracts see it: its number of nodes, and its arcs in their order.
 use Rattle.std.specs.Prelude.{◌≡◌, ℕ, ◌+◌, ◌-◌, ◌^◌, ◌<◌, ◌≤◌, ◌==◌, max, List, [], ◌∷◌, length, Some, slice_get, slice_index, if◌then◌else◌}
 use Rattle.ea_road.specs.declared.arc.Arc.{Arc}
+use Rattle.ea_road.specs.declared.leaving_arc.LeavingArc.{LeavingArc}
 
 pub record Roads : Type 0 where
   pub nodes : ℕ
@@ -43,7 +44,11 @@ leaving_from node number (arc ∷ arcs) =
 abbrev pub leaving : Roads → ℕ → List ℕ
 leaving roads node = leaving_from node 1 roads.arcs
 
--- Numbers of arcs and the arcs themselves, side by side.
-pub record AreSideBySide (roads : Roads) (numbers : List ℕ) (arcs : List Arc) : Type 0 where
+-- An arc that leaves a node, with this node as its tail.
+abbrev pub with_tail : LeavingArc → ℕ → Arc
+with_tail arc node = record { tail = node; head = arc.head; weight = arc.weight; class = arc.class }
+
+-- Numbers of arcs that leave a node and the arcs themselves, side by side.
+pub record AreSideBySide (roads : Roads) (node : ℕ) (numbers : List ℕ) (arcs : List LeavingArc) : Type 0 where
   pub lengths : length arcs ≡ length numbers
-  pub each : (place : ℕ) (arc : Arc) → slice_get arcs place ≡ Some arc → IsArc roads (slice_index numbers place) arc
+  pub each : (place : ℕ) (arc : LeavingArc) → slice_get arcs place ≡ Some arc → IsArc roads (slice_index numbers place) (with_tail arc node)

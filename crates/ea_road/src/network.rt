@@ -4,6 +4,7 @@ ghost use Rattle.ea_road.specs.Roads.{AreSideBySide, FitsNodes, IsArc, IsNetwork
 
 use crate::arc::Arc;
 use crate::index::{Room, Sums, place_by_tail, room_for, sums_of};
+use crate::leaving_arc::LeavingArc;
 use ea_limits::{MOST_ARCS, MOST_NODES};
 use std::alloc::{AllocError, Global};
 use std::marker::Model;
@@ -23,7 +24,7 @@ pub struct Network {
     /// The numbers of the arcs by their tails, ascending for each tail.
     numbers: Vec<u32>,
     /// The arcs themselves, in the order of `numbers`.
-    by_tail: Vec<Arc>,
+    by_tail: Vec<LeavingArc>,
     /// The greatest class of an arc.
     top: u32,
     /// The mean weight of the arcs.
@@ -48,7 +49,7 @@ impl Model for Network {
 #[derive(Clone, Copy)]
 pub struct Leaving<'a> {
     pub numbers: &'a [u32],
-    pub arcs: &'a [Arc],
+    pub arcs: &'a [LeavingArc],
 }
 
 impl Network {
@@ -160,7 +161,7 @@ impl Network {
     pub fn leaving(&self, node: u32) -> Leaving<'_>
         requires { IsNode self.now.nodes node }
         ensures numbers { result.numbers.now ≡ leaving self.now node }
-        ensures arcs { AreSideBySide self.now result.numbers.now result.arcs.now }
+        ensures arcs { AreSideBySide self.now node result.numbers.now result.arcs.now }
         ensures network { IsNetwork self.now }
     {
         let from = self.starts[node as usize - 1] as usize;

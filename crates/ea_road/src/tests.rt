@@ -176,10 +176,13 @@ fn arcs_lie_by_tail(rt: HostRuntime) -> Result<(), Fail> {
     assert_eq!(rt; network.out(3), [1, 3].as_slice());
     let from_three = network.leaving(3);
     assert_eq!(rt; from_three.numbers, [1, 3].as_slice());
+    let (first, second) = (arc(3, 1, 1, 0), arc(3, 2, 3, 0));
     assert_eq!(rt;
         from_three.arcs,
-        [arc(3, 1, 1, 0), arc(3, 2, 3, 0)].as_slice()
+        [LeavingArc::of(first), LeavingArc::of(second)].as_slice()
     );
+    assert_eq!(rt; from_three.arcs[1].with_tail(3), second);
+    assert_eq!(rt; size_of::<LeavingArc>(), 12);
     Ok(())
 }
 

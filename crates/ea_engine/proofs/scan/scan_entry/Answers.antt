@@ -1,7 +1,9 @@
-use Rattle.std.proofs.Common.{ℕ, ◌<◌, ◌≤◌, ◌+◌, [], length, get_or, refl, sym, arith, subst, below_more}
+use Rattle.std.proofs.Common.{ℕ, ◌<◌, ◌≤◌, ◌+◌, [], length, get_or, refl, sym, ap, arith, subst, below_more}
 use Rattle.ea_road.specs.declared.arc.Arc.{Arc}
-use Rattle.ea_road.specs.Roads.{Roads, IsNode, AreSideBySide, leaving}
-use Rattle.ea_road.proofs.ByTail.{arc_beside, tail_beside, place_beside, leaving_few}
+use Rattle.ea_road.specs.declared.leaving_arc.LeavingArc.{LeavingArc}
+use Rattle.ea_road.specs.Roads.{Roads, IsNode, AreSideBySide, leaving, with_tail}
+use Rattle.ea_road.proofs.Beside.{no_leaving}
+use Rattle.ea_road.proofs.ByTail.{arc_beside, place_beside, leaving_few}
 use Rattle.ea_road.proofs.Lists.{any_default}
 use Rattle.ea_engine.proofs.GroundLemmas.{node_of}
 use Rattle.ea_engine.specs.Closed.{IsFollowed}
@@ -16,10 +18,10 @@ leaving-requires g c =
     subst (λ (n : Roads). IsNode n.nodes c.args.entry.node) (sym ground.named.network_is) (node_of g.K.Known.is_known g.K.Posed.problem ground.posed c.args.entry.node c.args.entry.key c.requires.entry)
 
 -- the arcs lie beside the numbers of those that leave the node
-beside : (g : _) (c : After-leaving g) → AreSideBySide g.K.Posed.problem.network (leaving g.K.Posed.problem.network c.args.entry.node) c.leaving.result.arcs.now
+beside : (g : _) (c : After-leaving g) → AreSideBySide g.K.Posed.problem.network c.args.entry.node (leaving g.K.Posed.problem.network c.args.entry.node) c.leaving.result.arcs.now
 beside g c =
-    subst (λ (n : Roads). AreSideBySide n (leaving n c.args.entry.node) c.leaving.result.arcs.now) c.requires.ground.named.network_is
-    (subst (λ numbers. AreSideBySide c.args.ground.now.network.now numbers c.leaving.result.arcs.now) c.leaving.ensures.numbers c.leaving.ensures.arcs)
+    subst (λ (n : Roads). AreSideBySide n c.args.entry.node (leaving n c.args.entry.node) c.leaving.result.arcs.now) c.requires.ground.named.network_is
+    (subst (λ numbers. AreSideBySide c.args.ground.now.network.now c.args.entry.node numbers c.leaving.result.arcs.now) c.leaving.ensures.numbers c.leaving.ensures.arcs)
 
 pub loop-arc-init : goal.loop-arc-init
 loop-arc-init g c = record {
@@ -36,25 +38,24 @@ loop-arc-init g c = record {
 pub follow-requires-clause-arc : goal.follow-requires-clause-arc
 follow-requires-clause-arc g c κs outlives =
     let d = (goal.at.follow-requires-clause-arc g c).After-leaving in
-    (_, arc_beside g.K.Posed.problem.network (leaving g.K.Posed.problem.network c.args.entry.node) c.leaving.result.arcs.now c.loop-arc.arc-index _ (beside g d) c.loop-arc-test.true)
+    (get_or (leaving g.K.Posed.problem.network c.args.entry.node) c.loop-arc.arc-index 0, rw c.with_tail-arc.ensures (arc_beside g.K.Posed.problem.network c.args.entry.node (leaving g.K.Posed.problem.network c.args.entry.node) c.leaving.result.arcs.now c.loop-arc.arc-index no_leaving (beside g d) c.loop-arc-test.true))
 
 pub follow-requires-clause-tail : goal.follow-requires-clause-tail
 follow-requires-clause-tail g c κs outlives =
-    let d = (goal.at.follow-requires-clause-tail g c).After-leaving in
-    tail_beside g.K.Posed.problem.network c.args.entry.node c.leaving.result.arcs.now c.loop-arc.arc-index _ (beside g d) c.loop-arc-test.true
+    ap (λ (arc : Arc). arc.tail) c.with_tail-arc.ensures
 
 -- the arc that was followed last is spent, and those before it stay so
-spent : (g : _) (c : After-follow g) (k : ℕ) (default : Arc) → k < c.loop-arc.arc-index + 1
-    → IsFollowed g.K.Posed.problem c.follow.new.means.label_seat.history.bounds c.args.entry.key (get_or c.leaving.result.arcs.now k default)
+spent : (g : _) (c : After-follow g) (k : ℕ) (default : LeavingArc) → k < c.loop-arc.arc-index + 1
+    → IsFollowed g.K.Posed.problem c.follow.new.means.label_seat.history.bounds c.args.entry.key (with_tail (get_or c.leaving.result.arcs.now k default) c.args.entry.node)
 spent g c k default lt =
     let arcs = c.leaving.result.arcs.now in
     let problem = g.K.Posed.problem in
     let before = c.loop-arc.means.label_seat.history.bounds in
     let after = c.follow.new.means.label_seat.history.bounds in
-    let P : ℕ → Type 0 = λ j. IsFollowed problem after c.args.entry.key (get_or arcs j default) in
+    let P : ℕ → Type 0 = λ j. IsFollowed problem after c.args.entry.key (with_tail (get_or arcs j default) c.args.entry.node) in
     below_more P c.loop-arc.arc-index
-    (λ j lower. IsFollowed-more before after c.follow.ensures.progress.bounds_stay problem c.args.entry.key (get_or arcs j default) (c.loop-arc.invariant.spent j default lower))
-    (subst (λ (a : Arc). IsFollowed problem after c.args.entry.key a) (any_default arcs c.loop-arc.arc-index _ default c.loop-arc-test.true) c.follow.ensures.spent)
+    (λ j lower. IsFollowed-more before after c.follow.ensures.progress.bounds_stay problem c.args.entry.key (with_tail (get_or arcs j default) c.args.entry.node) (c.loop-arc.invariant.spent j default lower))
+    (subst (λ (a : LeavingArc). IsFollowed problem after c.args.entry.key (with_tail a c.args.entry.node)) (any_default arcs c.loop-arc.arc-index _ default c.loop-arc-test.true) (rw c.with_tail-arc.ensures at c.follow.ensures.spent))
     k lt
 
 pub returns-in-Refused-clause-progress : goal.returns-in-Refused-clause-progress
@@ -103,9 +104,9 @@ returns-clause-scanned g c =
     λ whole number arc is_arc tail.
     let d = (goal.at.returns-clause-scanned g c).After-leaving in
     let roads = g.K.Posed.problem.network in
-    let at = place_beside roads c.args.entry.node number arc arc c.leaving.result.arcs.now (beside g d) is_arc tail in
+    let at = place_beside roads c.args.entry.node number arc no_leaving c.leaving.result.arcs.now (beside g d) is_arc tail in
     subst (λ (a : Arc). IsFollowed g.K.Posed.problem c.loop-arc.means.label_seat.history.bounds c.args.entry.key a) at.3
-    (c.loop-arc.invariant.spent at.0 arc (omega (arith, at.1)))
+    (c.loop-arc.invariant.spent at.0 no_leaving (omega (arith, at.1)))
 
 pub returns-in-Refused-clause-one : goal.returns-in-Refused-clause-one
 returns-in-Refused-clause-one g c = λ is. omega (arith, c.loop-arc.invariant.one is)

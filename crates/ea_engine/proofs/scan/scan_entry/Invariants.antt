@@ -1,5 +1,6 @@
 use Rattle.std.proofs.Common.{◌≡◌, ℕ, ◌<◌, ◌≤◌, [], length, get_or}
-use Rattle.ea_road.specs.declared.arc.Arc.{Arc}
+use Rattle.ea_road.specs.declared.leaving_arc.LeavingArc.{LeavingArc}
+use Rattle.ea_road.specs.Roads.{with_tail}
 use Rattle.ea_pool.specs.Entries.{AreKnown}
 use Rattle.ea_engine.specs.Grounds.{tables_of}
 use Rattle.ea_engine.specs.Seated.{AreSeatsOf, kit_of}
@@ -13,8 +14,8 @@ invariant-loop-arc g l = record {
   known : AreKnown g.K.Known.is_known l.fresh.items;
   room : length l.fresh.items < l.batch;
   progress : Progress (kit_of g.R.Rng.stream l.fn.means [] l.fn.fresh.items) (kit_of g.R.Rng.stream l.means [] l.fresh.items) [] l.pushes l.lowered;
-  spent : (k : ℕ) (default : Arc) → k < l.arc-index
-      → IsFollowed g.K.Posed.problem l.means.label_seat.history.bounds l.entry.key (get_or l.arcs k default);
+  spent : (k : ℕ) (default : LeavingArc) → k < l.arc-index
+      → IsFollowed g.K.Posed.problem l.means.label_seat.history.bounds l.entry.key (with_tail (get_or l.arcs k default) l.entry.node);
   few : l.lowered ≤ l.arc-index;
   pushes : l.pushes ≤ l.lowered;
   one : l.batch ≡ 1 → l.pushes ≡ l.lowered;

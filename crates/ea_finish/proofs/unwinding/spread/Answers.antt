@@ -2,15 +2,16 @@ use Rattle.std.proofs.Common.{◌≡◌, ℕ, ◌+◌, ◌<◌, List, ◌∷◌,
 use Rattle.std.proofs.lemmas.List.{take_more, take_all}
 use Rattle.std.proofs.lemmas.List.Elements.{Contains-append_cases}
 use Rattle.ea_road.specs.declared.arc.Arc.{Arc}
-use Rattle.ea_road.proofs.ByTail.{arc_beside, tail_beside, leaving_has}
+use Rattle.ea_road.specs.declared.leaving_arc.LeavingArc.{LeavingArc}
+use Rattle.ea_road.proofs.ByTail.{arc_beside, leaving_has}
 use Rattle.ea_finish.specs.declared.link.Link.{Link}
 use Rattle.ea_finish.specs.Links.{link}
 use Rattle.ea_finish.proofs.Entries.{Contains-one}
 use Rattle.ea_finish.proofs.Linkings.{link_read, bound_of_read, Offers-more, Offers-passed, passed-number}
 use Rattle.ea_finish.proofs.unwinding.spread.Goals as goal
 
-abbrev none : Arc
-none = record { tail = 0; head = 0; weight = 0; class = 0 }
+abbrev none : LeavingArc
+none = record { head = 0; weight = 0; class = 0 }
 
 pub overflow_add-level : goal.overflow_add-level
 overflow_add-level g c =
@@ -19,12 +20,11 @@ overflow_add-level g c =
 
 pub pass-requires-clause-arc : goal.pass-requires-clause-arc
 pass-requires-clause-arc g c =
-    arc_beside c.args.network.now c.leaving-leaving.result.numbers.now c.leaving-leaving.result.arcs.now c.loop-place.place none c.leaving-leaving.ensures.arcs c.loop-place-test.true
+    rw c.with_tail.ensures (arc_beside c.args.network.now c.args.node c.leaving-leaving.result.numbers.now c.leaving-leaving.result.arcs.now c.loop-place.place none c.leaving-leaving.ensures.arcs c.loop-place-test.true)
 
 pub pass-requires-clause-tail : goal.pass-requires-clause-tail
 pass-requires-clause-tail g c =
-    let beside = rw c.leaving-leaving.ensures.numbers at c.leaving-leaving.ensures.arcs in
-    tail_beside c.args.network.now c.args.node c.leaving-leaving.result.arcs.now c.loop-place.place none beside c.loop-place-test.true
+    ap (λ (arc : Arc). arc.tail) c.with_tail.ensures
 
 pub pass-requires-clause-departure : goal.pass-requires-clause-departure
 pass-requires-clause-departure g c =

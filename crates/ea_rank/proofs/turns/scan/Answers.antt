@@ -1,11 +1,11 @@
 use Rattle.std.proofs.Common.{◌<◌, ◌≤◌, ◌+◌, ◌⊎◌, length, get_or, drop, take, refl, ◌∙◌, arith, inl, inr}
 use Rattle.std.proofs.lemmas.List.{drop_more, take_more}
 use Rattle.ea_limits.specs.declared.TheConstants.{HORIZON}
-use Rattle.ea_road.specs.declared.arc.Arc.{Arc}
+use Rattle.ea_road.specs.declared.leaving_arc.LeavingArc.{LeavingArc}
 use Rattle.ea_road.specs.Labels.{label_of}
-use Rattle.ea_road.specs.Roads.{leaving}
+use Rattle.ea_road.specs.Roads.{leaving, with_tail}
 use Rattle.ea_road.proofs.Arcs.{is_question}
-use Rattle.ea_road.proofs.ByTail.{arc_beside, tail_beside}
+use Rattle.ea_road.proofs.ByTail.{arc_beside}
 use Rattle.ea_rank.specs.Courses.Scans.{begins, passes}
 use Rattle.ea_rank.specs.States.{state_of}
 use Rattle.ea_rank.proofs.Coursing.{scan_pushes}
@@ -14,15 +14,15 @@ use Rattle.ea_rank.proofs.Underways.{pass-lowers, pass-keeps, less-lowers}
 use Rattle.ea_rank.proofs.turns.scan.Goals as goal
 use Rattle.ea_rank.proofs.turns.scan.Goals.{then-arrival-le-HORIZON+then-arrival-label+in_ok-lower, else-arrival-le-HORIZON, else-arrival-le-HORIZON-via-then-arrival-le-HORIZON+else-arrival-label, else-arrival-le-HORIZON-via-else-arrival-le-HORIZON}
 
-abbrev none : Arc
-none = record { tail = 0; head = 0; weight = 0; class = 0 }
+abbrev none : LeavingArc
+none = record { head = 0; weight = 0; class = 0 }
 
 pub arrive-arrival-requires : goal.arrive-arrival-requires
 arrive-arrival-requires g c =
     let roads = c.args.network.now in
     let arcs = c.leaving.result.arcs.now in
-    let is_arc = arc_beside roads c.leaving.result.numbers.now arcs c.loop-place.place none c.leaving.ensures.arcs c.loop-place-test.true in
-    rw c.from.ensures (is_question roads _ _ c.args.departure (get_or arcs c.loop-place.place none) c.leaving.ensures.network c.requires.problem.classed is_arc c.requires.departure)
+    let is_arc = arc_beside roads c.args.node c.leaving.result.numbers.now arcs c.loop-place.place none c.leaving.ensures.arcs c.loop-place-test.true in
+    rw c.from.ensures (is_question roads _ _ c.args.departure (with_tail (get_or arcs c.loop-place.place none) c.args.node) c.leaving.ensures.network c.requires.problem.classed is_arc c.requires.departure)
 
 pub loop-place-preserved : goal.loop-place-preserved
 loop-place-preserved g c =
@@ -33,9 +33,8 @@ loop-place-preserved g c =
     let i = c.loop-place.place in
     let numbers = leaving roads node in
     let beside = rw c.leaving.ensures.numbers at c.leaving.ensures.arcs in
-    let arc = get_or arcs i none in
-    let is_arc = arc_beside roads numbers arcs i none beside c.loop-place-test.true in
-    let tail = tail_beside roads node arcs i none beside c.loop-place-test.true in
+    let arc = with_tail (get_or arcs i none) node in
+    let is_arc = arc_beside roads node numbers arcs i none beside c.loop-place-test.true in
     let near : i < length numbers = omega (arith, beside.lengths, c.loop-place-test.true) in
     let number = get_or numbers i 0 in
     let rest = drop (i + 1) numbers in
@@ -55,7 +54,7 @@ loop-place-preserved g c =
           let low : arrival < label_of c.loop-place.run.labels.items arc.head = omega (arith, w.label.ensures, w.if-arrival-label.true) in
           let later = fifo.not_before arc.class arc.weight c.args.departure arrival (is_question roads _ number c.args.departure arc network classed is_arc c.requires.departure) answer in
           let passed = pass-lowers roads _ sources network _ fifo classed rest popped number node c.args.departure arrival arc (state_of c.loop-place.run) (state_of w.lower.new.self)
-          c.requires.node c.requires.departure inv.label is_arc tail answer later w.if-arrival-le-HORIZON.true low was moved in
+          c.requires.node c.requires.departure inv.label is_arc refl answer later w.if-arrival-le-HORIZON.true low was moved in
           let head = (network.each_fits number arc is_arc).head in
           let course = scan_pushes roads _ c.args.departure (take i numbers) _ _ _ (state_of c.args.run.now) (state_of c.loop-place.run) (state_of w.lower.new.self) number arrival _ arc inv.course is_arc answer w.if-arrival-le-HORIZON.true low by w.next_u64.ensures in
           rw (w.run-is, w.rng-is) (record {
@@ -73,7 +72,7 @@ loop-place-preserved g c =
           rw (w.run-is, w.rng-is) (record {
             underway = (
               popped,
-              pass-keeps roads _ sources network _ fifo classed rest popped number node c.args.departure arrival arc (state_of c.loop-place.run) c.requires.departure inv.label is_arc tail answer why was,
+              pass-keeps roads _ sources network _ fifo classed rest popped number node c.args.departure arrival arc (state_of c.loop-place.run) c.requires.departure inv.label is_arc refl answer why was,
               inv.underway.2,
             );
             label = inv.label;
@@ -85,13 +84,13 @@ loop-place-preserved g c =
 
 pub label-requires : goal.label-requires
 label-requires g c =
-    let is_arc = arc_beside c.args.network.now c.leaving.result.numbers.now c.leaving.result.arcs.now c.loop-place.place none c.leaving.ensures.arcs c.loop-place-test.true in
+    let is_arc = arc_beside c.args.network.now c.args.node c.leaving.result.numbers.now c.leaving.result.arcs.now c.loop-place.place none c.leaving.ensures.arcs c.loop-place-test.true in
     let head = (c.leaving.ensures.network.each_fits _ _ is_arc).head in
     (head.from_one, omega (arith, head.to_last, c.loop-place.invariant.underway.1.places))
 
 pub lower-requires-clause-node : goal.lower-requires-clause-node
 lower-requires-clause-node g c =
-    let is_arc = arc_beside c.args.network.now c.leaving.result.numbers.now c.leaving.result.arcs.now c.loop-place.place none c.leaving.ensures.arcs c.loop-place-test.true in
+    let is_arc = arc_beside c.args.network.now c.args.node c.leaving.result.numbers.now c.leaving.result.arcs.now c.loop-place.place none c.leaving.ensures.arcs c.loop-place-test.true in
     let head = (c.leaving.ensures.network.each_fits _ _ is_arc).head in
     (head.from_one, omega (arith, head.to_last, c.loop-place.invariant.underway.1.places))
 
