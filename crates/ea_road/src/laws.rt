@@ -1,6 +1,7 @@
 //! Laws of networks, travel times and walks, as functions that do nothing.
-ghost use Rattle.std.specs.Prelude.{◌≡◌, ◌<◌, ◌≤◌, ◌+◌, ◌-◌, ◌↔◌, ◌∷◌, ◌++◌, [], ℕ};
+ghost use Rattle.std.specs.Prelude.{◌≡◌, ◌<◌, ◌≤◌, ◌+◌, ◌-◌, ◌^◌, ◌↔◌, ◌∷◌, ◌++◌, [], ℕ};
 ghost use Rattle.std.specs.Prelude.{Contains, List, Option, length, slice_index};
+ghost use Rattle.ea_limits.specs.declared.TheConstants.{HORIZON};
 ghost use Rattle.ea_road.specs.Answers.{IsFifo};
 ghost use Rattle.ea_road.specs.Arrivals.{Attains, IsLeast, IsLeastAt};
 ghost use Rattle.ea_road.specs.Labels.{IsFixed, label_of, limit, time_of};
@@ -14,7 +15,9 @@ ghost use Rattle.ea_road.specs.Timetables.{KindAnswers};
 ghost use Rattle.ea_road.specs.Trips.{AreTrips, IsArrivalByTrips};
 
 use crate::arc::Arc;
+use crate::known::{AnyPair, Known};
 use crate::network::Network;
+use crate::profile::Profile;
 use crate::query::Query;
 use crate::timetable::Timetable;
 use crate::timetables::Timetables;
@@ -125,6 +128,17 @@ pub fn last_arcs_are_lowest<T: TravelTimes>(network: &Network, times: &T, query:
         → IsTight network.now (T.answers times.now)
         (IsLeastAt network.now (T.answers times.now) query.now.sources) other from node
         → number ≤ other }
+{}
+
+/// `AnyPair` knows each node at each time within the horizon, and nothing else.
+pub fn any_pair_is_within_the_horizon()
+    ensures { (node time : ℕ) → ⟦<AnyPair as Known>⟧.is_known node time ↔ (time ≤ HORIZON) }
+{}
+
+/// One timetable by itself, or one profile, serves every class that an arc can have: the greatest is 2^32 - 1.
+pub fn one_for_all_classes(table: &Timetable, profile: &Profile)
+    ensures timetable { ⟦<Timetable as TravelTimes>⟧.classes table.now ≡ 2 ^ 32 - 1 }
+    ensures profile { ⟦<Profile as TravelTimes>⟧.classes profile.now ≡ 2 ^ 32 - 1 }
 {}
 
 /// Travel times by one timetable, of whichever kind, are first in, first out.

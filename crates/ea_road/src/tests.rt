@@ -1,4 +1,5 @@
-ghost use Rattle.std.specs.Prelude.{◌≡◌, ◌+◌, ◌*◌, ◌^◌, ◌<◌, ◌↔◌, ℕ, length};
+ghost use Rattle.std.specs.Prelude.{◌≡◌, ◌+◌, ◌*◌, ◌^◌, ◌<◌, ◌≤◌, ◌↔◌, ℕ, length};
+ghost use Rattle.ea_limits.specs.declared.TheConstants.{HORIZON};
 ghost use Rattle.ea_road.specs.Answers.{IsFifoFunction};
 ghost use Rattle.ea_road.specs.Arrivals.{Reaches};
 
@@ -381,5 +382,48 @@ fn a_call_picks_its_known_pairs(rt: HostRuntime) -> Result<(), Fail> {
         &query,
     );
     assert_eq!(rt; first, 5);
+    Ok(())
+}
+
+/// A pair that anyone may offer: any node, and any time within the horizon.
+fn held_by_any(node: u32, time: u64) -> Held<AnyPair>
+    requires { time ≤ HORIZON }
+    ensures { (result.node ≡ node) × (result.time ≡ time) }
+{
+    Held {
+        node,
+        time,
+        of: PhantomData,
+    }
+}
+
+#[test]
+fn any_pair_is_known_up_to_the_horizon(rt: HostRuntime) -> Result<(), Fail> {
+    for (node, time) in [(0, 0), (1, HORIZON), (u32::MAX, HORIZON)] {
+        let held = held_by_any(node, time.min(HORIZON));
+        assert_eq!(rt; held.node, node);
+        assert_eq!(rt; time_held(&held), time);
+    }
+    Ok(())
+}
+
+/// Where one timetable for all classes leads over an arc of the greatest class that there can be.
+fn over_the_last_class(network: &Network) -> Option<(u32, u64)>
+    requires { network.now.nodes ≡ 2 }
+{
+    if network.top_class() < u32::MAX {
+        return None;
+    }
+    let plain = Timetable::of(RawKind::Plain);
+    run_walk(network, &plain, 1, &[1], 5)
+}
+
+#[test]
+fn one_timetable_serves_the_last_class(rt: HostRuntime) -> Result<(), Fail> {
+    let arcs = vec![in rt.alloc(); arc(1, 2, 3, u32::MAX)]?;
+    assert!(rt; Network::fits(2, &arcs));
+    let network = Network::new(rt.alloc(), 2, arcs)?;
+    assert_eq!(rt; network.top_class(), u32::MAX);
+    assert_eq!(rt; over_the_last_class(&network), Some((2, 8)));
     Ok(())
 }
