@@ -231,6 +231,7 @@ impl Frontier {
 
     /// Fills the hand from a window that has many entries. What the scans of the hand's entries will read is read ahead, so that
     /// many loads are under way at once.
+    #[inline(never)]
     fn refill(&mut self, network: &Network, table: &[u64])
         requires { length table.now ≡ self.old.todo.nodes }
         ensures { KeepsWaiting (bound_of table.now) self.old self.new }
@@ -254,6 +255,7 @@ impl Frontier {
     }
 
     /// Takes an entry out, of nearly the least time; none where there is none, but for those whose label fell since.
+    #[inline(always)]
     pub(crate) fn take(&mut self, network: &Network, table: &[u64]) -> Option<(u64, u32)>
         requires { length table.now ≡ self.old.todo.nodes }
         ensures { MatchOption result

@@ -77,6 +77,7 @@ impl Timetables {
     }
 
     /// When an arc of a class and a weight arrives that is left at a departure.
+    #[inline(always)]
     pub fn arrive(&self, class: u32, weight: u64, departure: u64) -> u64
         requires { IsQuestion (length self.now.list.items) class weight departure }
         ensures answer { TimetablesAnswer self.now.list.items (steps_in self.now.steps)
@@ -95,6 +96,7 @@ impl Timetables {
 }
 
 /// The arrival of a kind, with the steps of those that have some.
+#[inline(never)]
 fn arrive_in(steps: &Option<StepTable>, kind: RawKind, weight: u64, departure: u64) -> u64
     requires class { IsClass (steps_in steps.now) kind }
     requires weight { weight < 2 ^ 32 }
@@ -133,6 +135,7 @@ impl TravelTimes for Timetables {
     ghost answers = { λ times class weight departure arrival.
         TimetablesAnswer times.list.items (steps_in times.steps) class weight departure arrival };
 
+    #[inline(always)]
     fn arrive(&self, class: u32, weight: u64, departure: u64) -> u64 {
         Timetables::arrive(self, class, weight, departure)
     }
