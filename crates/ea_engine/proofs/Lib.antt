@@ -14,3 +14,4 @@ pub mod Settling
 pub mod SeedLemmas
 pub mod JoinLemmas
 pub mod GroundLemmas
+pub mod Staying

@@ -1,17 +1,22 @@
 -- When a worker leaves its company.
-use Rattle.std.specs.Prelude.{◌≡◌, ℕ, ◌%◌, ◌<◌, ◌≤◌, ◌⊎◌}
+use Rattle.std.specs.Prelude.{◌≡◌, ℕ, ◌+◌, ◌%◌, ◌<◌, ◌≤◌, ◌⊎◌, List, [], ◌∷◌, if◌then◌else◌}
 use Rattle.ea_engine.specs.declared.company.Member.{Member}
 use Rattle.ea_engine.specs.declared.company.TheConstants.{NO_LIMIT}
 use Rattle.ea_engine.specs.declared.turn.Flow.{Flow}
 use Rattle.ea_engine.specs.declared.turn.Flow.TheVariants.{Go, Leave}
 use Rattle.ea_engine.specs.declared.turn.TurnKind.{TurnKind}
 use Rattle.ea_engine.specs.declared.turn.TurnKind.TheVariants.{Empty, Busy, Stale, Scanned, Refused, Cut}
+use Rattle.ea_engine.specs.Turns.{Told, is_idle}
 
--- At every 64th visit, where 255 such looks in a row found all others idle, or in a company with a limit.
+-- A worker looks at the others at every 64th turn, from turn 256 on.
+abbrev pub IsLook : ℕ → Type 0
+IsLook number = (256 ≤ number) × (number % 64 ≡ 0)
+
+-- At a look, where 255 looks in a row found all others idle, or in a company with a limit.
 abbrev pub MayLeaveAt : ℕ → Member → Type 0
-MayLeaveAt number member = (number % 64 ≡ 0) × ((255 ≤ member.alone) ⊎ (member.company.now.most_falls < NO_LIMIT))
+MayLeaveAt number member = IsLook number × ((255 ≤ member.alone) ⊎ (member.company.now.most_falls < NO_LIMIT))
 
--- After a turn of each kind: where 32 idle turns in a row found no worker active; at such a visit; or where a push was refused.
+-- After a turn of each kind: where 32 idle turns in a row found no worker active; at such a look; or where a push was refused.
 abbrev pub MayLeaveAs : TurnKind → ℕ → Member → Type 0
 MayLeaveAs Empty number member = 32 ≤ member.quiet
 MayLeaveAs Busy number member = 32 ≤ member.quiet
@@ -29,3 +34,38 @@ LeavesAs Scanned number member Go = Unit {0}
 LeavesAs Refused number member Go = ⊥
 LeavesAs Cut number member Go = Unit {0}
 LeavesAs kind number member Leave = MayLeaveAs kind number member
+
+-- What a member counts is no more than the turns in a row that found nothing: none was quiet before the 16th of them.
+pub record IsIdleFor (member : Member) (turns : ℕ) : Type 0 where
+  pub idle : member.idle ≤ turns
+  pub quiet : (member.quiet ≡ 0) ⊎ (member.quiet + 15 ≤ turns)
+
+-- how many turns in a row found nothing, after one more turn
+abbrev pub idle_with : ℕ → TurnKind → ℕ
+idle_with idle kind = if is_idle kind then idle + 1 else 0
+
+-- A worker leaves after so many turns in a row that found nothing, the last one among them: after 48 of them; at a look; or where a
+-- push was refused.
+abbrev pub LeavesAfter : TurnKind → ℕ → ℕ → Type 0
+LeavesAfter Empty number idle = 48 ≤ idle
+LeavesAfter Busy number idle = 48 ≤ idle
+LeavesAfter Stale number idle = IsLook number
+LeavesAfter Scanned number idle = IsLook number
+LeavesAfter Refused number idle = Unit {0}
+LeavesAfter Cut number idle = IsLook number
+
+-- It goes on, or leaves after these.
+abbrev pub StaysAs : TurnKind → ℕ → ℕ → Flow → Type 0
+StaysAs kind number idle Go = Unit {0}
+StaysAs kind number idle Leave = LeavesAfter kind number idle
+
+-- Turn after turn it leaves just so, where so many in a row had found nothing before the first.
+abbrev pub StaysOn : ℕ → List Told → Type 0
+StaysOn idle [] = Unit {0}
+StaysOn idle (t ∷ ts) = StaysAs t.0.kind t.0.number (idle_with idle t.0.kind) t.1 × StaysOn (idle_with idle t.0.kind) ts
+
+-- What a member counts in a row stays.
+pub record KeepsCounts (old new : Member) : Type 0 where
+  pub idle : new.idle ≡ old.idle
+  pub quiet : new.quiet ≡ old.quiet
+  pub alone : new.alone ≡ old.alone

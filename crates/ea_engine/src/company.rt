@@ -1,6 +1,6 @@
 //! Workers that notice together that nothing is left to do.
-ghost use Rattle.std.specs.Prelude.{◌≡◌, ◌+◌, ◌/◌, ◌%◌, ◌<◌, ◌≤◌, ◌⊎◌, false};
-ghost use Rattle.ea_engine.specs.Companies.{LeavesAs};
+ghost use Rattle.std.specs.Prelude.{◌≡◌, ℕ, ◌+◌, ◌/◌, ◌<◌, ◌≤◌, ◌⊎◌, false};
+ghost use Rattle.ea_engine.specs.Companies.{idle_with, IsIdleFor, IsLook, KeepsCounts, LeavesAs};
 
 use crate::turn::{Flow, Turn, TurnKind};
 use std::sync::atomic::Ordering::SeqCst;
@@ -19,7 +19,10 @@ const YIELDS_AFTER: u32 = 64;
 /// After how many visits while all others were idle a worker leaves: what is left is quicker searched by one thread.
 const ALONE_AFTER: u32 = 256;
 
-/// Every how many visits a worker looks whether the others are idle.
+/// From which turn on a worker looks at the others, at every 64th turn that visits an entry.
+const LOOKS_FROM: u64 = 256;
+
+/// At every how many turns it looks.
 const LOOKS_EVERY: u64 = 64;
 
 /// How many labels may fall, however few nodes there are.
@@ -103,7 +106,11 @@ impl Company {
     }
 
     /// A worker that has not begun.
-    pub fn member(&self) -> Member<'_> {
+    pub fn member(&self) -> Member<'_>
+        ensures idle { IsIdleFor result 0 }
+        ensures alone { result.alone ≡ 0 }
+        ensures limit { result.company.now.most_falls ≡ self.now.most_falls }
+    {
         Member {
             company: self,
             is_active: false,
@@ -120,7 +127,9 @@ impl Company {
 impl Member<'_> {
     /// Whether the worker goes on after a turn: it leaves when no worker has anything to do, or when it alone has for long.
     pub fn after(&mut self, turn: Turn) -> Flow
-        ensures { LeavesAs turn.kind turn.number self.old result }
+        ensures leaves { LeavesAs turn.kind turn.number self.old result }
+        ensures idle { (turns : ℕ) → IsIdleFor self.old turns
+            → IsIdleFor self.new (idle_with turns turn.kind) }
     {
         match turn.kind {
             TurnKind::Empty | TurnKind::Busy => self.found_nothing(),
@@ -129,6 +138,8 @@ impl Member<'_> {
                 self.found_entry(turn.number)
             }
             TurnKind::Refused => {
+                self.idle = 0;
+                self.quiet = 0;
                 self.rest();
                 Flow::Leave
             }
@@ -137,7 +148,7 @@ impl Member<'_> {
 
     /// It is idle from now on.
     fn rest(&mut self)
-        ensures { (self.new.quiet ≡ self.old.quiet) × (self.new.alone ≡ self.old.alone) }
+        ensures { KeepsCounts self.old self.new }
     {
         if self.is_active {
             self.is_active = false;
@@ -147,7 +158,7 @@ impl Member<'_> {
 
     /// It is idle no longer.
     fn rise(&mut self)
-        ensures rest { (self.new.quiet ≡ self.old.quiet) × (self.new.alone ≡ self.old.alone) }
+        ensures rest { KeepsCounts self.old self.new }
         ensures limit { self.new.company.now.most_falls ≡ self.old.company.now.most_falls }
     {
         if !self.is_active {
@@ -160,7 +171,10 @@ impl Member<'_> {
 
     #[inline(never)]
     fn found_nothing(&mut self) -> Flow
-        ensures { result ≡ Flow.Leave → 32 ≤ self.old.quiet }
+        ensures leaves { result ≡ Flow.Leave → 32 ≤ self.old.quiet }
+        ensures idle { self.new.idle ≤ self.old.idle + 1 }
+        ensures quiet { (self.new.quiet ≡ 0) ⊎ (self.new.quiet ≡ self.old.quiet)
+            ⊎ ((self.new.quiet ≤ self.old.quiet + 1) × (15 ≤ self.old.idle)) }
     {
         self.idle = self.idle.saturating_add(1);
         self.pauses = self.pauses.wrapping_add(1 << self.idle.min(6));
@@ -186,7 +200,7 @@ impl Member<'_> {
     #[inline(never)]
     fn gains(&mut self) -> bool
         ensures limit { result ≡ false → self.old.company.now.most_falls < NO_LIMIT }
-        ensures rest { (self.new.quiet ≡ self.old.quiet) × (self.new.alone ≡ self.old.alone) }
+        ensures rest { KeepsCounts self.old self.new }
     {
         if self.company.most_falls == NO_LIMIT {
             return true;
@@ -205,14 +219,15 @@ impl Member<'_> {
     }
 
     fn found_entry(&mut self, number: u64) -> Flow
-        ensures { result ≡ Flow.Leave → (number % 64 ≡ 0)
+        ensures leaves { result ≡ Flow.Leave → IsLook number
             × ((255 ≤ self.old.alone) ⊎ (self.old.company.now.most_falls < NO_LIMIT)) }
+        ensures idle { (self.new.idle ≡ 0) × (self.new.quiet ≡ 0) }
     {
         self.idle = 0;
         self.quiet = 0;
         self.visits = self.visits.wrapping_add(1);
         self.rise();
-        if number % LOOKS_EVERY > 0 {
+        if number < LOOKS_FROM || number % LOOKS_EVERY > 0 {
             return Flow::Go;
         }
         if !self.gains() {

@@ -1,9 +1,13 @@
 -- What was counted while problems were solved, and their totals.
 use Rattle.std.specs.Prelude.{◌≡◌, ℕ, ◌+◌, ◌*◌, ◌^◌, ◌≤◌, List, [], ◌∷◌, All, length, sum_by}
+use Rattle.std.specs.List.{FoldsTo}
 use Rattle.ea_road.specs.Queries.{Asking}
 use Rattle.ea_engine.specs.declared.counters.Counters.{Counters}
-use Rattle.ea_engine.specs.declared.settings.Pace.{Pace}
 use Rattle.ea_engine.specs.declared.settings.Settings.{Settings}
+use Rattle.ea_engine.specs.declared.turn.Flow.{Flow}
+use Rattle.ea_engine.specs.declared.turn.Flow.TheVariants.{Go}
+use Rattle.ea_engine.specs.declared.turn.Turn.{Turn}
+use Rattle.ea_engine.specs.Companies.{StaysOn}
 use Rattle.ea_engine.specs.Limits.{pace_of}
 use Rattle.ea_engine.specs.Tallies.{IsTally, IsLoneTally, pushed_by_all, popped_by_all}
 use Rattle.ea_engine.specs.Turns.{Told, IsTurnList, AreCounters}
@@ -18,14 +22,25 @@ pub record Counts : Type 0 where
   pub finish : ℕ
   pub workers : List Counters
 
--- A worker counted the turns of a lawful list of turns.
-abbrev pub CountsTurns : Pace → Counters → Type 0
-CountsTurns pace counters = (turns : List Told) × IsTurnList pace turns × AreCounters pace.batch turns counters
+-- A worker alone goes on after each turn; one of several leaves as one of a company may.
+abbrev pub StaysAmong : ℕ → List Told → Type 0
+StaysAmong workers turns = StaysOn 0 turns × (workers ≡ 1 → All (λ t. t.1 ≡ Go) turns)
+
+-- Whatever turns a tracer is shown, its worker stays on.
+abbrev pub KeepsOn : {T : Type 0} → (T → Turn → Flow → T → Type 0) → ℕ → T → Type 0
+KeepsOn {T} shows workers tracer = (turns : List Told) (last : T) → FoldsTo (λ p t q. shows p t.0 t.1 q) tracer turns last → StaysAmong workers turns
+
+-- A worker counted the turns of a lawful list of turns, and stayed on.
+pub record CountsTurns (settings : Settings) (counters : Counters) : Type 0 where
+  pub turns : List Told
+  pub lawful : IsTurnList (pace_of settings) turns
+  pub counted : AreCounters settings.batch turns counters
+  pub stays : StaysAmong settings.workers turns
 
 -- A run of a problem with these settings counts so.
 pub record AreCountsOf (settings : Settings) (query : Asking) (counts : Counts) : Type 0 where
   pub one_each : length counts.workers ≡ settings.workers
-  pub turns : All (CountsTurns (pace_of settings)) counts.workers
+  pub turns : All (CountsTurns settings) counts.workers
   pub tally : IsTally (length query.sources) counts.seeded counts.returned counts.drained counts.finish counts.workers
   pub lone : IsLoneTally settings.batch (settings.workers * settings.heaps) counts.drained counts.workers
 

@@ -2,10 +2,11 @@
 ghost use Rattle.std.specs.Prelude.{◌≡◌, ◌≤◌, ℕ, All, IfOk, IfSome, length, replicate, true, vec_len};
 ghost use Rattle.ea_limits.specs.declared.TheConstants.{MOST_STARTS, MOST_WORKERS};
 ghost use Rattle.ea_road.specs.Queries.{IsProblem};
+ghost use Rattle.ea_engine.specs.Companies.{idle_with, IsIdleFor, LeavesAs};
 ghost use Rattle.ea_engine.specs.Limits.{AreSettings};
 ghost use Rattle.ea_engine.specs.Tallies.{IsTally};
 ghost use Rattle.ea_words.specs.Limits.{AreOptions, counted_workers};
-ghost use Rattle.earliest.specs.Counted.{AreBalanced, AreSmall, IsTotal, totals_by};
+ghost use Rattle.earliest.specs.Counted.{AreBalanced, AreSmall, IsTotal, KeepsOn, totals_by};
 ghost use Rattle.ea_ranking.specs.Generators.{generators_from};
 ghost use Rattle.earliest.specs.Solved.{AnswersOn, ArrivesOn, Serves};
 ghost use Rattle.earliest.specs.Workers.{settings_with};
@@ -196,6 +197,7 @@ fn find_walks<H: Threads + Sync, R: Rng + Send + Drop, T: FnMut(Turn) -> Flow + 
     requires settings { AreSettings settings }
     requires workers { (vec_len rngs ≡ settings.workers) × (vec_len tracers ≡ settings.workers) }
     requires tracers { All T.IsAlwaysCallable tracers.items }
+    requires stays { All (KeepsOn T.step settings.workers) tracers.items }
     ensures answer { IfOk result (λ found. AnswersOn road.now query.now found.answer) }
     ensures counted { IfOk result (λ found. IsTotal settings query.now found.totals) }
     ensures balanced { IfOk result (λ found. AreBalanced found.totals) }
@@ -241,6 +243,7 @@ fn find_arrivals<H: Threads + Sync, R: Rng + Send + Drop, T: FnMut(Turn) -> Flow
     requires settings { AreSettings settings }
     requires workers { (vec_len rngs ≡ settings.workers) × (vec_len tracers ≡ settings.workers) }
     requires tracers { All T.IsAlwaysCallable tracers.items }
+    requires stays { All (KeepsOn T.step settings.workers) tracers.items }
     ensures answer { IfOk result (λ found. ArrivesOn road.now query.now found.answer) }
     ensures counted { IfOk result (λ found. IsTotal settings query.now found.totals) }
     ensures balanced { IfOk result (λ found. AreBalanced found.totals) }
@@ -285,6 +288,7 @@ fn find_by<H: Threads + Sync, R: Rng + Send + Drop, T: FnMut(Turn) -> Flow + Sen
     requires settings { AreSettings settings }
     requires workers { vec_len rngs ≡ settings.workers }
     requires tracer { T.IsAlwaysCallable tracer }
+    requires stays { KeepsOn T.step settings.workers tracer }
     ensures arrivals { IfOk result (λ found. ArrivesOn asked.entry.road.now asked.entry.query.now found.answer) }
     ensures walks { IfOk result (λ found. asked.entry.walks ≡ true → AnswersOn asked.entry.road.now asked.entry.query.now found.answer) }
     ensures counted { IfOk result (λ found. IsTotal settings asked.entry.query.now found.totals) }
@@ -328,9 +332,16 @@ pub(crate) fn find<H: Threads + Sync>(
     };
     if workers == 1 {
         let rngs = generators(alloc, options.seed, workers)?;
-        return find_by(alloc, rt, asked, settings, rngs, |_turn: Turn| -> Flow {
-            Flow::Go
-        });
+        return find_by(
+            alloc,
+            rt,
+            asked,
+            settings,
+            rngs,
+            |_turn: Turn| -> Flow
+                ensures { result ≡ Flow.Go }
+            { Flow::Go },
+        );
     }
     let rngs = homing_generators(alloc, options.seed, settings)?;
     let company = Company::on(road.network.nodes());
@@ -341,7 +352,11 @@ pub(crate) fn find<H: Threads + Sync>(
         asked,
         settings,
         rngs,
-        move |turn: Turn| -> Flow { member.after(turn) },
+        move |turn: Turn| -> Flow
+            ensures leaves { LeavesAs turn.kind turn.number member.entry result }
+            ensures idle { (turns : ℕ) → IsIdleFor member.entry turns
+                → IsIdleFor member.exit (idle_with turns turn.kind) }
+        { member.after(turn) },
     )
 }
 

@@ -112,14 +112,26 @@ fn workers_leave_where_labels_fall_too_often(rt: HostRuntime) {
     assert_eq!(rt; visits_of_ten_falls(&Company::new()), 10_000);
 }
 
+#[test]
+fn workers_look_from_turn_256_on(rt: HostRuntime) {
+    let company = Company::on(100);
+    let mut one = company.member();
+    let mut goes = true;
+    for number in 0..256 {
+        goes = goes && after_falls(&mut one, number, TurnKind::Scanned, 1_000_000);
+    }
+    assert!(rt; goes);
+    assert!(rt; !after_falls(&mut one, 256, TurnKind::Scanned, 1_000_000));
+}
+
 /// Whether a worker still goes on that found nothing in so many turns after 1,000 such ones, beside an active one.
 fn goes_on_after_waits(company: &Company, turns: u32) -> bool {
     let mut one = company.member();
     let mut other = company.member();
     let mut goes = after(&mut other, 1, TurnKind::Scanned);
     // 2 + 4 + .. + 64 pauses in the first 6 turns, and 64 in each of the 994 others: 63,742.
-    goes = goes && goes_on(&mut one, 1_000) && after(&mut one, 0, TurnKind::Scanned);
-    goes && goes_on(&mut one, turns) && after(&mut one, 64, TurnKind::Scanned)
+    goes = goes && goes_on(&mut one, 1_000) && after(&mut one, 1_024, TurnKind::Scanned);
+    goes && goes_on(&mut one, turns) && after(&mut one, 1_088, TurnKind::Scanned)
 }
 
 #[test]

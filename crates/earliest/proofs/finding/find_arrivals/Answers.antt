@@ -20,7 +20,12 @@ returns-clause-counted g c =
             let inside : k < length c.args.rngs.items = omega (arith, lt, rngs) in
             let traced : k < length c.args.tracers.items = omega (arith, lt, tracers) in
             let report = made.reports k d (one_of c.args.rngs.items k inside) (one_of c.args.tracers.items k traced) inside in
-            (report.turns, report.lawful, report.counted);
+            record {
+              turns = report.turns;
+              lawful = report.lawful;
+              counted = report.counted;
+              stays = c.requires.stays k (one_of c.args.tracers.items k traced) traced report.turns _ report.shown;
+            };
         tally = made.tally;
         lone = made.lone;
       },
