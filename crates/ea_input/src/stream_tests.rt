@@ -349,3 +349,32 @@ fn other_files(rt: HostRuntime) -> Result<(), Fail> {
     }
     Ok(())
 }
+
+#[test]
+fn each_fault_of_a_stream_has_the_text_of_what_it_holds(rt: HostRuntime) -> Result<(), Fail> {
+    let fault = InputFault {
+        line: 4,
+        kind: FaultKind::BadKind,
+    };
+    for (fault, text) in [
+        (
+            StreamFault::Read(ReadFault::TooLarge),
+            "there are more bytes than are allowed (10 TooLarge)",
+        ),
+        (
+            StreamFault::Read(ReadFault::ReadFailed),
+            "the input could not be read (11 ReadFailed)",
+        ),
+        (
+            StreamFault::Read(ReadFault::OutOfMemory),
+            "there is not enough memory (13 OutOfMemory)",
+        ),
+        (
+            StreamFault::Input(fault),
+            "line 4: a kind word is not the one expected here (9 BadKind)",
+        ),
+    ] {
+        assert_eq!(rt; format!(in rt.alloc(); "{fault}")?.as_str(), text);
+    }
+    Ok(())
+}

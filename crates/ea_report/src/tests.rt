@@ -329,5 +329,30 @@ fn messages(rt: HostRuntime) -> Result<(), Fail> {
         format!(in rt.alloc(); "{fault}")?.as_str(),
         "after 7 bytes the output could not be written (12 WriteFailed)"
     );
+    let fault = WriteFault {
+        written: 0,
+        kind: WriteFaultKind::OutOfMemory,
+    };
+    assert_eq!(rt;
+        format!(in rt.alloc(); "{fault}")?.as_str(),
+        "after 0 bytes there is not enough memory (13 OutOfMemory)"
+    );
+    Ok(())
+}
+
+#[test]
+fn each_kind_has_its_text(rt: HostRuntime) -> Result<(), Fail> {
+    for (kind, text) in [
+        (
+            WriteFaultKind::WriteFailed,
+            "the output could not be written (12 WriteFailed)",
+        ),
+        (
+            WriteFaultKind::OutOfMemory,
+            "there is not enough memory (13 OutOfMemory)",
+        ),
+    ] {
+        assert_eq!(rt; format!(in rt.alloc(); "{kind}")?.as_str(), text);
+    }
     Ok(())
 }

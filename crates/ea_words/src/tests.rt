@@ -1,5 +1,7 @@
 //! The example `words`, and texts that no clause speaks of.
 use super::*;
+use std::alloc::Global;
+use std::test::Fail;
 
 fn asked<'a>(rt: &HostRuntime, words: &'a [&'a str]) -> Option<Command<'a>> {
     RunOptions::of_words(rt.alloc(), words).ok()
@@ -556,4 +558,23 @@ fn words_that_ask_for_explanations(rt: HostRuntime) {
     assert!(rt; !asks_to_explain(["run", "--explain=1", "explain"].as_slice()));
     let words = ["run", "g", "s", "--explain"];
     assert!(rt; asked(&rt, words.as_slice()).is_some());
+}
+
+/// Whether a fault of the words is shown by this text.
+fn shows(alloc: Global, fault: CommandFault, text: &str) -> Result<bool, Fail> {
+    let shown = format!(in alloc; "{fault}")?;
+    Ok(shown.as_str() == text)
+}
+
+#[test]
+fn each_fault_has_its_text(rt: HostRuntime) -> Result<(), Fail> {
+    let words = CommandFault::Words {
+        help: false,
+        text: String::from_str(rt.alloc(), "a text for\nthe user")?,
+    };
+    assert!(rt; shows(rt.alloc(), words, "a text for\nthe user")?);
+    let option = "an option's value is no number or is out of its limits";
+    assert!(rt; shows(rt.alloc(), CommandFault::BadOption, option)?);
+    assert!(rt; shows(rt.alloc(), CommandFault::OutOfMemory, "memory was refused")?);
+    Ok(())
 }

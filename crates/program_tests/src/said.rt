@@ -197,3 +197,48 @@ fn faults_of_files_understood(rt: HostRuntime) -> Result<(), Fail> {
     }
     Ok(())
 }
+
+/// Whether a fault of a run is shown by this text.
+fn shows_answer(alloc: Global, fault: AnswerFault, text: &str) -> Result<bool, Fail> {
+    let shown = format!(in alloc; "{fault}")?;
+    Ok(shown.as_str() == text)
+}
+
+#[test]
+fn faults_of_answers(rt: HostRuntime) -> Result<(), Fail> {
+    let bad_number = InputFault {
+        line: 9,
+        kind: FaultKind::BadNumber,
+    };
+    for (fault, text) in [
+        (
+            AnswerFault::Read {
+                file: FileWord::Tp,
+                fault: ReadFault::TooLarge,
+            },
+            "tp: there are more bytes than are allowed (10 TooLarge)",
+        ),
+        (
+            AnswerFault::Input {
+                file: FileWord::Ss,
+                fault: bad_number,
+            },
+            "ss: line 9: a field is not a number (5 BadNumber)",
+        ),
+        (
+            AnswerFault::BadOption,
+            "a departure is beyond the last time (14 BadOption)",
+        ),
+        (
+            AnswerFault::Write { written: 65_536 },
+            "the output could not be written after 65536 bytes (12 WriteFailed)",
+        ),
+        (
+            AnswerFault::OutOfMemory { written: 7 },
+            "there is not enough memory (13 OutOfMemory)",
+        ),
+    ] {
+        assert!(rt; shows_answer(rt.alloc(), fault, text)?, "{text}");
+    }
+    Ok(())
+}
