@@ -5,6 +5,7 @@ pub mod Reached
 pub mod Same
 pub mod WalkLaws
 pub mod Counting
+pub mod Looking
 pub mod Beside
 pub mod Ascending
 pub mod Placing

@@ -1,5 +1,5 @@
 -- A network as contracts see it: its number of nodes, and its arcs in their order.
-use Rattle.std.specs.Prelude.{◌≡◌, ℕ, ◌+◌, ◌-◌, ◌^◌, ◌<◌, ◌≤◌, ◌==◌, max, List, [], ◌∷◌, length, Some, slice_get, slice_index, if◌then◌else◌}
+use Rattle.std.specs.Prelude.{◌≡◌, ℕ, ◌+◌, ◌-◌, ◌/◌, ◌^◌, ◌<◌, ◌≤◌, ◌==◌, max, List, [], ◌∷◌, length, Some, slice_get, slice_index, if◌then◌else◌}
 use Rattle.ea_road.specs.declared.arc.Arc.{Arc}
 use Rattle.ea_road.specs.declared.leaving_arc.LeavingArc.{LeavingArc}
 
@@ -34,6 +34,15 @@ pub record IsNetwork (roads : Roads) : Type 0 where
 abbrev pub top_class : List Arc → ℕ
 top_class [] = 0
 top_class (arc ∷ arcs) = max arc.class (top_class arcs)
+
+-- The weights of all arcs together.
+abbrev pub total_weight : List Arc → ℕ
+total_weight [] = 0
+total_weight (arc ∷ arcs) = arc.weight + total_weight arcs
+
+-- The mean weight of the arcs, rounded down; 0 with no arc.
+abbrev pub mean_weight : List Arc → ℕ
+mean_weight arcs = total_weight arcs / max (length arcs) 1
 
 -- The numbers of the arcs that leave a node, ascending, where the first arc of the list has the number given.
 abbrev pub leaving_from : ℕ → ℕ → List Arc → List ℕ

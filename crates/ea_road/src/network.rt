@@ -1,6 +1,6 @@
 ghost use Rattle.std.specs.Prelude.{◌≡◌, ◌≤◌, ◌<◌, ◌↔◌, IfOk, IsTrue, length};
 ghost use Rattle.ea_road.specs.Index.{AreSums, IsRoom};
-ghost use Rattle.ea_road.specs.Roads.{AreSideBySide, FitsNodes, IsArc, IsNetwork, IsNode, leaving, top_class};
+ghost use Rattle.ea_road.specs.Roads.{AreSideBySide, FitsNodes, IsArc, IsNetwork, IsNode, leaving, mean_weight, top_class};
 
 use crate::arc::Arc;
 use crate::index::{Room, Sums, place_by_tail, room_for, sums_of};
@@ -33,7 +33,7 @@ pub struct Network {
 
 impl Model for Network {
     ghost use Rattle.std.specs.Prelude.{◌≡◌};
-    ghost use Rattle.ea_road.specs.Roads.{Roads, top_class};
+    ghost use Rattle.ea_road.specs.Roads.{Roads, mean_weight, top_class};
     ghost use Rattle.ea_road.specs.Index.{IsStoredNetwork};
 
     ghost Value = { Roads };
@@ -41,6 +41,7 @@ impl Model for Network {
     ghost view = { λ n. record { nodes = n.nodes; arcs = n.arcs.items } };
 
     ghost invariant = { λ n. (n.top ≡ top_class n.arcs.items)
+        × (n.mean ≡ mean_weight n.arcs.items)
         × IsStoredNetwork (record { nodes = n.nodes; arcs = n.arcs.items })
         n.starts.items n.numbers.items n.by_tail.items };
 }
@@ -107,9 +108,10 @@ impl Network {
         self.top
     }
 
-    /// The mean weight of the arcs, rounded down; 0 with no arc. A search may choose by it how it goes on; nothing is promised
-    /// of it.
-    pub fn mean_weight(&self) -> u64 {
+    /// The mean weight of the arcs, rounded down; 0 with no arc. A search may choose by it how it goes on.
+    pub fn mean_weight(&self) -> u64
+        ensures { result ≡ mean_weight self.now.arcs }
+    {
         self.mean
     }
 
@@ -205,6 +207,7 @@ fn indexed(nodes: u32, arcs: Vec<Arc>, sums: Sums, room: Room) -> Network
     let Sums {
         top,
         mean,
+        ascending: _,
         ends: mut starts,
     } = sums;
     let Room { numbers, by_tail } = place_by_tail(nodes, &arcs, &mut starts, room);

@@ -172,6 +172,7 @@ fn arcs_lie_by_tail(rt: HostRuntime) -> Result<(), Fail> {
     assert_eq!(rt; network.arcs().len(), 4);
     assert_eq!(rt; network.arc(4), arc(1, 3, 4, 2));
     assert_eq!(rt; network.top_class(), 2);
+    assert_eq!(rt; network.mean_weight(), 2);
     assert_eq!(rt; network.out(1), [2, 4].as_slice());
     assert_eq!(rt; network.out(2), [].as_slice());
     assert_eq!(rt; network.out(3), [1, 3].as_slice());
