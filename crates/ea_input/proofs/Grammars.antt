@@ -6,7 +6,7 @@ use Rattle.ea_input.specs.Reading.{text_after}
 use Rattle.ea_input.specs.Listing.{only_number, list_end, nothing_listed}
 use Rattle.ea_input.specs.Sources.{DenotesSources, source_of, source_step}
 use Rattle.ea_input.specs.Pairs.{DenotesPairs, pair_of, pair_read, pair_step}
-use Rattle.ea_input.specs.Graph.{Graph, DenotesGraph, graph_step, graph_end, no_graph}
+use Rattle.ea_input.specs.Graph.{Graph, as_is, DenotesGraph, graph_of, graph_step, graph_end, no_graph}
 use Rattle.ea_input.specs.Table.{Table, DenotesTable, table_step, table_end, no_table}
 use Rattle.ea_input.specs.Checks.{Line, Format, value_of, first_failing, IsFaultOf, IsFaultTold}
 use Rattle.ea_input.specs.Formats.{graph_format, source_format, pair_format, table_format}
@@ -64,6 +64,15 @@ grammar_law g = record {
 
 -- ---- a reader's answer
 
+pub gives_denoted : {X Y : Type 0} (g : Grammar X) (view : Y → X) (r : Result Y InputFault) (lines : List Line) → Gives view r (g.read lines) → IfOk r (λ y. g.Denotes lines (view y))
+gives_denoted g view (Ok y) lines h = g.denoted lines (view y) h
+gives_denoted g view (Err fault) lines h = tt
+
+pub gives_only : {X Y : Type 0} (g : Grammar X) (view : Y → X) (r : Result Y InputFault) (lines : List Line) → Gives view r (g.read lines) → (x : X) → g.Denotes lines x → MatchResult r (λ y. view y ≡ x) (λ fault. fault ≡ out_of_memory)
+gives_only g view (Ok y) lines h x is = same_answer (g.read lines) (view y) x h (g.taken lines x is)
+gives_only g view (Err fault) lines (inl refused) x is = refused
+gives_only g view (Err fault) lines (inr said) x is = let e = g.taken lines x is in cc
+
 pub gives_fault : {X Y : Type 0} (g : Grammar X) (view : Y → X) (r : Result Y InputFault) (lines : List Line) → Gives view r (g.read lines) → IfErr r (λ fault. (fault ≡ out_of_memory) ⊎ IsFaultOf g.format lines fault)
 gives_fault g view (Ok y) lines h = tt
 gives_fault g view (Err fault) lines (inl refused) = inl refused
@@ -94,11 +103,11 @@ abbrev pub graph_grammar : Grammar Graph
 graph_grammar = record {
   Denotes = DenotesGraph;
   format = graph_format;
-  read = text_after graph_step graph_end no_graph;
+  read = graph_of;
   denoted = graphs.denoted;
   taken = graphs.read_of_denoted;
-  faulty = faulty_text graph_format graph_step graph_end no_graph graph_follows;
-  sound = sound_reading graph_format graph_step graph_end no_graph graph_follows;
+  faulty = faulty_text graph_format (graph_step as_is) graph_end no_graph graph_follows;
+  sound = sound_reading graph_format (graph_step as_is) graph_end no_graph graph_follows;
 }
 
 pub source_checked : (nodes : ℕ) (small : nodes < 2 ^ 64) (others : Line) (size count : ℕ) → (a : ℕ) × Matches (first_failing (item_checks 1 nodes others size count)) (source_of nodes others >>= λ a. cond (ltb count size) (Ok (Item a)) (Err TooManyLines)) (Item a)

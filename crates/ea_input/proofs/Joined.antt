@@ -83,3 +83,20 @@ back_read step view last n line s mid now text front back read result cut whole 
     let got = subst (λ r. Came view n front (lines_after step n s (field_lines front)) r) e came in
     let first : lines_after step n s (field_lines front) ≡ Ok now = got.0 ∙ ap (λ t. Ok t) (is ∙ sym same) in
     (back_on step last n line s now text front back result cut first got.1.0 later.0, back_counts n line text front back result cut whole got.1.0 got.1.1 later.1)
+
+-- The same where a thread of its own read the back, which was put behind the front.
+pub both_read : {S : Type 0} (step : Step S) (n line count : ℕ) (s mid last : S) (text front back : List ℕ) (read : Result ℕ InputFault) → lines_of text ≡ lines_of front ++ lines_of back → text ≡ front ++ back
+    → read ≡ Ok line → Came (λ _. mid) n front (lines_after step n s (field_lines front)) read → lines_after step line mid (field_lines back) ≡ Ok last → (count ≡ length (field_lines back)) × (count ≤ length back)
+    → Came (λ _. last) n text (lines_after step n s (field_lines text)) (Ok (line + count))
+both_read step n line count s mid last text front back read cut whole e came later counted =
+    let got = subst (λ r. Came (λ _. mid) n front (lines_after step n s (field_lines front)) r) e came in (
+      back_on step (λ _. last) n line s mid text front back (Ok count) cut got.0 got.1.0 later,
+      (omega (arith, got.1.0, counted.0, count_on text front back cut), omega (arith, got.1.1, counted.1, ap length whole, length-append front back)),
+    )
+
+-- A text that a thread of its own read.
+pub read_aside : {S : Type 0} (step : Step S) (s last : S) (back : List ℕ) (read : Result ℕ InputFault) (count : ℕ) → read ≡ Ok count → Came (λ _. last) 0 back (lines_after step 0 s (field_lines back)) read
+    → (lines_after step 0 s (field_lines back) ≡ Ok last) × (count ≡ length (field_lines back)) × (count ≤ length back)
+read_aside step s last back read count e came =
+    let got = subst (λ r. Came (λ _. last) 0 back (lines_after step 0 s (field_lines back)) r) e came in
+    (got.0, omega (arith, got.1.0), omega (arith, got.1.1))

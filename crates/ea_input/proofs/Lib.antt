@@ -25,3 +25,4 @@ pub mod Joined
 pub mod Fed
 pub mod Underway
 pub mod Digits
+pub mod Made

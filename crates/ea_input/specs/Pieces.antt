@@ -1,18 +1,28 @@
--- The text of a graph, read in pieces.
-use Rattle.std.specs.Prelude.{◌≡◌, ◌≤◌, ◌+◌, ℕ, List, ◌++◌, length, Option, Some, None}
-use Rattle.ea_text.specs.Text.{field_lines, speaking}
-use Rattle.ea_input.specs.Graph.{AreArcLines, GraphRead}
+-- Texts that are read in pieces.
+use Rattle.std.specs.Prelude.{◌≡◌, ◌≤◌, ◌<◌, ◌+◌, ◌^◌, ℕ, List, [], ◌++◌, length, Bool, true, false, Some, Result, Ok}
+use Rattle.ea_input.specs.Graph.{ReadOf}
+use Rattle.ea_input.specs.Reading.{lines_after}
+use Rattle.ea_input.specs.declared.fault.FaultKind.{FaultKind}
 use Rattle.ea_input.specs.declared.graph.GraphSize.{GraphSize}
-use Rattle.ea_input.specs.declared.graph.RawArc.{RawArc}
 
--- The lines of a piece of text are those of arcs among so many nodes, but for lines that say nothing.
-abbrev pub AreArcsOf : ℕ → List ℕ → List RawArc → Type 0
-AreArcsOf nodes text arcs = AreArcLines nodes (speaking (field_lines text)) arcs
+-- What a reader aside read was put behind what stood before, so that it is as if its lines had been read there. Else all is as it was.
+abbrev pub IsTakenUp : {S T : Type 0} → (S → List (List ℕ) → Result S FaultKind) → (T → S) → (T → Type 0) → T → T → T → Bool → Type 0
+IsTakenUp {S} {T} step state IsAside before aside after true =
+    (start : T) (n m : ℕ) (lines : List (List (List ℕ))) → IsAside start → lines_after step n (state start) lines ≡ Ok (state aside)
+    → lines_after step m (state before) lines ≡ Ok (state after)
+IsTakenUp step state IsAside before aside after false = state after ≡ state before
 
--- The arcs of a piece are put behind those before it where they fit: as many nodes, and no more arcs than are announced. Else all is
--- as it was.
-abbrev pub IsAppended : GraphSize → GraphRead → List RawArc → GraphRead → Option ℕ → Type 0
-IsAppended size before more after (Some lines) =
-    (now : GraphSize) × (before.size ≡ Some now) × (now.nodes ≡ size.nodes) × (length before.arcs + length more ≤ now.arcs)
-    × (after ≡ record before { arcs = before.arcs ++ more })
-IsAppended size before more after None = after ≡ before
+-- A reader of a graph that begins behind the problem line, with no arcs.
+pub record BeginsAside {A : Type 0} (read : ReadOf A) : Type 0 where
+  pub size : GraphSize
+  pub sized : read.size ≡ Some size
+  pub small : size.nodes < 2 ^ 64
+  pub none : read.arcs ≡ []
+
+-- The arcs of a reader aside are put behind those of another where they fit: as many nodes, and no more arcs than are announced. Else
+-- all is as it was.
+abbrev pub IsAppended : {A : Type 0} → ReadOf A → ReadOf A → ReadOf A → Bool → Type 0
+IsAppended before aside after true =
+    (now : GraphSize) × (size : GraphSize) × (before.size ≡ Some now) × (aside.size ≡ Some size) × (now.nodes ≡ size.nodes)
+    × (length before.arcs + length aside.arcs ≤ now.arcs) × (after ≡ record before { arcs = before.arcs ++ aside.arcs })
+IsAppended before aside after false = after ≡ before

@@ -6,7 +6,7 @@ ghost use Rattle.ea_input.specs.Formats.{graph_format};
 ghost use Rattle.ea_input.specs.Grammar.{IsGrammar};
 ghost use Rattle.ea_input.specs.declared.fault.InputFault.{InputFault as FaultType};
 ghost use Rattle.ea_input.specs.Graph as spec;
-ghost use Rattle.ea_input.specs.Graph.{Graph, DenotesGraph, graph_of};
+ghost use Rattle.ea_input.specs.Graph.{DenotesGraph, DenotesMade, Graph, GraphOf, graph_made, made_graph};
 ghost use Rattle.ea_input.specs.GraphFronts.{graph_step-front};
 ghost use Rattle.ea_input.specs.Reading.{GivesLine};
 ghost use Rattle.ea_input.specs.Views.{graph, read_of};
@@ -15,11 +15,11 @@ ghost use Rattle.ea_input.specs.Borrowed.{texts_now};
 ghost use Rattle.ea_input.specs.Streams.{DenotesWhole, GivesWhole, IsStreamFault};
 
 use crate::fault::{FaultKind, InputFault};
-use crate::pieces::read_halves;
+use crate::made_arc::MadeArc;
 use crate::plain::{ArcNumbers, leading_arc};
 use crate::range::{numeral, within};
 use crate::reading::{LineReader, read_text};
-use crate::streams::{BlockReader, StreamFault, read_device, way_of};
+use crate::streams::{StreamFault, read_device, way_of};
 use ea_limits::{MOST_ARCS, MOST_NODES};
 use ea_text as text;
 use ea_text::ByteIn;
@@ -181,23 +181,23 @@ fn graph_line(
     }
 }
 
-/// The graph of a text: its number of nodes, and its arcs in the order of their lines.
+/// The graph of a text: its number of nodes, and its arcs in the order of their lines, or what is made of each.
 #[derive(Debug, Drop)]
-pub struct RawGraph {
+pub struct RawGraph<A = RawArc> {
     pub nodes: u32,
-    pub arcs: Vec<RawArc>,
+    pub arcs: Vec<A>,
 }
 
 /// What the lines of a text said so far.
 #[derive(Drop)]
-pub(crate) struct GraphReader {
+pub(crate) struct GraphReader<A> {
     pub size: Option<GraphSize>,
-    pub arcs: Vec<RawArc>,
+    pub arcs: Vec<A>,
     /// Room for the arcs of a piece that another thread reads.
-    pub spare: Vec<RawArc>,
+    pub spare: Vec<A>,
 }
 
-impl GraphReader {
+impl<A: MadeArc> GraphReader<A> {
     /// How many arcs the lines so far have.
     fn count(&self) -> usize
         ensures { result ≡ length (self.now).arcs.items }
@@ -209,29 +209,29 @@ impl GraphReader {
     #[tactic(auto, unfolding(crate::specs::Graph::after_said))]
     fn add(&mut self, said: Result<GraphLine, FaultKind>) -> Result<(), FaultKind>
         ensures { GivesLine (λ _. read_of self.new) result
-            (spec.after_said (read_of self.old) said) }
+            (spec.after_said A.made (read_of self.old) said) }
     {
         match said? {
             GraphLine::Silent => {}
             GraphLine::Problem(size) => self.size = Some(size),
-            GraphLine::Arc(arc) => self.arcs.push(arc)?,
+            GraphLine::Arc(arc) => self.arcs.push(A::of_raw(arc))?,
         }
         Ok(())
     }
 }
 
-impl LineReader for GraphReader {
-    type Text = RawGraph;
+impl<A: MadeArc> LineReader for GraphReader<A> {
+    type Text = RawGraph<A>;
 
-    ghost Denoted = { Graph };
+    ghost Denoted = { GraphOf A };
 
     ghost view = { graph };
 
-    ghost State = { spec.GraphRead };
+    ghost State = { spec.ReadOf A };
 
     ghost state = { read_of };
 
-    ghost step = { spec.graph_step };
+    ghost step = { spec.graph_step A.made };
 
     #[tactic(auto, unfolding(crate::specs::Graph::graph_step, crate::specs::Graph::after_said))]
     fn read_fields(&mut self, fields: &[&[u8]]) -> Result<(), FaultKind> {
@@ -253,7 +253,7 @@ impl LineReader for GraphReader {
     ghost end = { spec.graph_end };
 
     #[tactic(auto, unfolding(crate::specs::Graph::graph_end))]
-    fn finish(self) -> Result<RawGraph, FaultKind> {
+    fn finish(self) -> Result<RawGraph<A>, FaultKind> {
         let size = self.size.ok_or(FaultKind::NoProblemLine)?;
         if self.arcs.len() < size.arcs as usize {
             return Err(FaultKind::TooFewLines);
@@ -264,33 +264,11 @@ impl LineReader for GraphReader {
         })
     }
 
-    ghost front = { graph_step-front };
-}
-
-/// How many bytes a text has at least that is read by two threads.
-const LEAST_TEXT: usize = 65_536;
-
-impl BlockReader for GraphReader {
-    fn read_aside<H: Threads + Sync>(
-        &mut self,
-        alloc: Global,
-        rt: &H,
-        threads: usize,
-        before: u64,
-        text: &[u8],
-    ) -> Option<Result<u64, InputFault>> {
-        if threads < 2 || text.len() < LEAST_TEXT {
-            return None;
-        }
-        let Some(size) = self.size else {
-            return None;
-        };
-        Some(read_halves(alloc, rt, self, size, before, text))
-    }
+    ghost front = { graph_step-front A.made };
 }
 
 /// A reader of a text of which no line was read yet.
-pub(crate) fn start(alloc: Global) -> GraphReader
+pub(crate) fn start<A: MadeArc>(alloc: Global) -> GraphReader<A>
     ensures { read_of result ≡ spec.no_graph }
 {
     GraphReader {
@@ -300,11 +278,11 @@ pub(crate) fn start(alloc: Global) -> GraphReader
     }
 }
 
-/// The same with one clause, which says what the lines come to step by step.
-pub(crate) fn read_graph(alloc: Global, text: &[u8]) -> Result<RawGraph, InputFault>
-    ensures exact { Gives graph result (graph_of (field_lines text.now)) }
+/// What a text is read to, with one clause, which says what the lines come to step by step.
+fn read_graph<A: MadeArc>(alloc: Global, text: &[u8]) -> Result<RawGraph<A>, InputFault>
+    ensures exact { Gives graph result (graph_made A.made (field_lines text.now)) }
 {
-    read_text(alloc, start(alloc), text)
+    read_text(alloc, start::<A>(alloc), text)
 }
 
 /// The graph that a text denotes, or the text's first fault. `OutOfMemory`, in line 0, says nothing of the text.
@@ -321,20 +299,38 @@ pub fn read_gr(alloc: Global, text: &[u8]) -> Result<RawGraph, InputFault>
     ensures faulty { (fault : FaultType) → IsFaultOf graph_format (field_lines text.now) fault →
         MatchResult result (λ _. ⊥) (λ found. (found ≡ out_of_memory) ⊎ (found ≡ fault)) }
 {
-    read_graph(alloc, text)
+    read_graph::<RawArc>(alloc, text)
+}
+
+/// The graph that a text denotes, as `read_gr` reads it, each arc as it is made of the text's.
+pub fn read_gr_as<A: MadeArc>(alloc: Global, text: &[u8]) -> Result<RawGraph<A>, InputFault>
+    // What is read is what the text denotes.
+    ensures denoted { IfOk result (λ g. DenotesMade A.made (field_lines text.now) (graph g)) }
+    // What the text denotes is read, unless memory is refused.
+    ensures only { (g : Graph) → DenotesGraph (field_lines text.now) g →
+        MatchResult result (λ read. graph read ≡ made_graph A.made g) (λ fault. fault ≡ out_of_memory) }
+
+    // A fault is the text's, unless memory is refused.
+    ensures fault { IfErr result (IsFaultTold graph_format (field_lines text.now)) }
+    // The text's fault is answered, unless memory is refused.
+    ensures faulty { (fault : FaultType) → IsFaultOf graph_format (field_lines text.now) fault →
+        MatchResult result (λ _. ⊥) (λ found. (found ≡ out_of_memory) ⊎ (found ≡ fault)) }
+{
+    read_graph::<A>(alloc, text)
 }
 
 /// What a device's text is read to, with one clause, which says it step by step.
-fn read_graph_from<H: Threads + Sync, D: ByteIn>(
+fn read_graph_from<A: MadeArc + Send, H: Threads + Sync, D: ByteIn>(
     alloc: Global,
     rt: &H,
     threads: usize,
     limit: u64,
     device: &mut D,
-) -> Result<RawGraph, StreamFault>
-    ensures exact { GivesWhole graph graph_of limit (D.seen device.old) (D.seen device.new) result }
+) -> Result<RawGraph<A>, StreamFault>
+    ensures exact { GivesWhole graph (graph_made A.made) limit
+        (D.seen device.old) (D.seen device.new) result }
 {
-    let start = start(alloc);
+    let start = start::<A>(alloc);
     read_device(rt, way_of(alloc, threads), limit, start, device)
 }
 
@@ -354,7 +350,24 @@ pub fn read_gr_from<H: Threads + Sync, D: ByteIn>(
     // A fault is the device's or the text's, unless memory is refused.
     ensures fault { IfErr result (IsStreamFault graph_format limit (D.seen device.old) (D.seen device.new)) }
 {
-    read_graph_from(alloc, rt, threads, limit, device)
+    read_graph_from::<RawArc, H, D>(alloc, rt, threads, limit, device)
+}
+
+/// The graph of a device's text, as `read_gr_from` reads it, each arc as it is made of the text's.
+pub fn read_gr_from_as<A: MadeArc + Send, H: Threads + Sync, D: ByteIn>(
+    alloc: Global,
+    rt: &H,
+    threads: usize,
+    limit: u64,
+    device: &mut D,
+) -> Result<RawGraph<A>, StreamFault>
+    // What is read is what the text denotes.
+    ensures denoted { IfOk result (λ read. DenotesWhole (DenotesMade A.made) limit
+        (D.seen device.old) (D.seen device.new) (graph read)) }
+    // A fault is the device's or the text's, unless memory is refused.
+    ensures fault { IfErr result (IsStreamFault graph_format limit (D.seen device.old) (D.seen device.new)) }
+{
+    read_graph_from::<A, H, D>(alloc, rt, threads, limit, device)
 }
 
 /// The law of the texts of graphs: a text denotes at most one graph and has at most one fault, and

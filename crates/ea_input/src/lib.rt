@@ -3,8 +3,10 @@
 
 mod fault;
 mod graph;
+mod graph_pieces;
 mod kinds;
 mod listing;
+mod made_arc;
 mod pairs;
 mod pieces;
 mod plain;
@@ -19,13 +21,16 @@ pub use ea_text::{
     ByteIn, ByteOut, Device, DeviceFault, ReadFault, StdIn, StdOut, number, read_all,
 };
 pub use fault::{FaultKind, InputFault};
-pub use graph::{RawArc, RawGraph, graph_law, read_gr, read_gr_from};
+pub use graph::{RawArc, RawGraph, graph_law, read_gr, read_gr_as, read_gr_from, read_gr_from_as};
+pub use made_arc::MadeArc;
 pub use pairs::{pair_law, read_p2p, read_p2p_from};
 pub use sources::{read_ss, read_ss_from, source_law};
 pub use step_lines::{MOST_SPEED, MOST_STEPS, step_limits_are_these};
 pub use streams::StreamFault;
 pub use table::{RawKind, RawTable, read_tp, read_tp_from, table_law};
 
+#[cfg(test)]
+mod made_tests;
 #[cfg(test)]
 mod stream_tests;
 #[cfg(test)]

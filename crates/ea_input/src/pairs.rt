@@ -16,9 +16,10 @@ ghost use Rattle.ea_input.specs.Streams.{DenotesWhole, GivesWhole, IsStreamFault
 
 use crate::fault::{FaultKind, InputFault};
 use crate::listing::{ListLine, problem_line};
+use crate::pieces::BlockReader;
 use crate::range::{numeral, within};
 use crate::reading::{LineReader, read_text};
-use crate::streams::{BlockReader, StreamFault, read_device, way_of};
+use crate::streams::{StreamFault, read_device, way_of};
 use ea_text as text;
 use ea_text::ByteIn;
 use std::alloc::Global;
@@ -133,7 +134,9 @@ impl LineReader for PairReader {
     ghost front = { pair_step-front };
 }
 
-impl BlockReader for PairReader {}
+impl BlockReader for PairReader {
+    ghost IsAside = { λ _. Unit {0} };
+}
 
 /// A reader of a text of which no line was read yet.
 fn start(alloc: Global, nodes: u32) -> PairReader

@@ -1,20 +1,37 @@
-//! Arcs of a graph's text, read by two threads: a text after the problem line is cut after a line feed, and each thread reads a
-//! piece. The first goes on where the lines before ended. Where the second has a fault, or both have more arcs than are announced,
-//! the first reads the second piece too, and finds the first fault.
-ghost use Rattle.std.specs.Prelude.{◌≡◌, ◌<◌, ◌≤◌, ◌+◌, ◌^◌, ◌++◌, IfErr, IfOk, IfSome, IsSome, length, take};
-ghost use Rattle.ea_input.specs.Graph.{graph_step};
-ghost use Rattle.ea_input.specs.Pieces.{AreArcsOf, IsAppended};
+//! Lines that are read by two threads: a text is cut after a line feed, and each thread reads a piece. The first goes on where the
+//! lines before ended, the second begins aside. Where the second has a fault, or what it read can't be put behind what the first
+//! read, the first reads the second piece too, and finds the first fault.
+ghost use Rattle.std.specs.Prelude.{◌≡◌, ◌<◌, ◌≤◌, ◌+◌, ◌^◌, ◌++◌, IfNone, IfSome, Ok, length, take, true};
+ghost use Rattle.ea_input.specs.Pieces.{IsTakenUp};
 ghost use Rattle.ea_input.specs.Reading.{ReadsAll};
 ghost use Rattle.ea_input.specs.Streams.{EndsLine};
-ghost use Rattle.ea_input.specs.Views.{read_of};
-ghost use Rattle.ea_text.specs.Text.{field_lines, lines_of};
+ghost use Rattle.ea_text.specs.Text.{lines_of};
 
 use crate::fault::InputFault;
-use crate::graph::{GraphReader, GraphSize, RawArc};
-use crate::reading::read_lines;
+use crate::reading::{LineReader, read_lines};
 use std::alloc::Global;
-use std::mem;
 use std::thread::{Threads, join_mut};
+
+/// A reader of lines whose texts come block by block.
+pub(crate) trait BlockReader: LineReader + Send + Sized {
+    /// Where a reader stands that is to read a later piece of the text.
+    ghost IsAside: { Self → Type 0 };
+
+    /// A reader for a later piece of the text; none where the lines are better read by one thread.
+    fn aside(&mut self, _alloc: Global) -> Option<Self>
+        ensures kept { Self.state self.new ≡ Self.state self.old }
+        ensures aside { IfSome result IsAside }
+    {
+        None
+    }
+
+    /// Puts what a reader aside read behind what this one read: whether it fits there.
+    fn take_aside(&mut self, _aside: Self) -> bool
+        ensures { IsTakenUp Self.step Self.state IsAside self.old _aside self.new result }
+    {
+        false
+    }
+}
 
 /// A text in two, cut after the first line feed that stands at this place or later.
 fn cut_after(text: &[u8], from: usize) -> (&[u8], &[u8])
@@ -44,27 +61,6 @@ pub(crate) fn end_of_lines(text: &[u8]) -> usize
     0
 }
 
-/// The arcs of a piece of the text after the problem line, put into a list in place of what it had, and how many lines the piece
-/// has; none where it has a fault or memory was refused.
-fn read_piece(alloc: Global, size: GraphSize, text: &[u8], arcs: &mut Vec<RawArc>) -> Option<u64>
-    ensures arcs { IfSome result (λ _. AreArcsOf size.nodes text.now arcs.new.items) }
-    ensures count { IfSome result (λ lines. (lines ≡ length (field_lines text.now)) × (lines ≤ length text.now)) }
-{
-    let mut room = mem::replace(arcs, Vec::new(alloc));
-    room.clear();
-    let mut reader = GraphReader {
-        size: Some(size),
-        arcs: room,
-        spare: Vec::new(alloc),
-    };
-    let read = read_lines(alloc, &mut reader, 0, text);
-    *arcs = reader.arcs;
-    match read {
-        Ok(lines) => Some(lines),
-        Err(_) => None,
-    }
-}
-
 /// A text in two, before which so many lines stood.
 #[derive(Clone, Copy)]
 struct Halves<'a> {
@@ -73,20 +69,18 @@ struct Halves<'a> {
     before: u64,
 }
 
-/// Reads the front of a text after the lines before it, while another thread reads the arcs of its back into a list.
-fn read_both<H: Threads + Sync>(
+/// Reads the front of a text after the lines before it, while another thread reads its back aside.
+fn read_both<R: BlockReader, H: Threads + Sync>(
     alloc: Global,
     rt: &H,
-    size: GraphSize,
     halves: Halves<'_>,
-    reader: &mut GraphReader,
-    arcs: &mut Vec<RawArc>,
-) -> (Option<u64>, Result<u64, InputFault>)
+    reader: &mut R,
+    aside: &mut R,
+) -> (Result<u64, InputFault>, Result<u64, InputFault>)
     requires few { halves.before + length halves.front.now < 2 ^ 64 }
-    ensures arcs { IfSome result.0 (λ _. AreArcsOf size.nodes halves.entry.back.now arcs.new.items) }
-    ensures count { IfSome result.0 (λ lines. (lines ≡ length (field_lines halves.entry.back.now))
-        × (lines ≤ length halves.entry.back.now)) }
-    ensures read { ReadsAll graph_step read_of halves.entry.before reader.old reader.new
+    ensures aside { ReadsAll R.step R.state 0 aside.old aside.new
+        halves.entry.back.now result.0 }
+    ensures read { ReadsAll R.step R.state halves.entry.before reader.old reader.new
         halves.entry.front.now result.1 }
 {
     let Halves {
@@ -94,63 +88,81 @@ fn read_both<H: Threads + Sync>(
         back,
         before,
     } = halves;
-    let mut aside = || -> Option<u64> { read_piece(alloc, size, back, arcs) };
-    let mut going_on = || -> Result<u64, InputFault> { read_lines(alloc, reader, before, front) };
-    join_mut(rt, &mut aside, &mut going_on)
+    let mut beside = move || -> Result<u64, InputFault> { read_lines(alloc, aside, 0, back) };
+    let mut going_on = move || -> Result<u64, InputFault> {
+        read_lines(alloc, reader, before, front)
+    };
+    join_mut(rt, &mut beside, &mut going_on)
 }
 
-/// Puts the arcs of a piece of so many lines behind those before it, where it was read, has as many nodes and no more arcs than are
-/// announced: its lines, or none where they are not put there.
-fn append(
-    reader: &mut GraphReader,
-    size: GraphSize,
-    lines: Option<u64>,
-    more: &mut Vec<RawArc>,
-) -> Option<u64>
-    ensures put { IsAppended size (read_of reader.old) more.old.items (read_of reader.new) result }
-    ensures lines { IsSome result → result ≡ lines }
+/// Puts what a reader aside read behind what stands before it, where it read all its lines and they fit: how many they are.
+fn take_up<R: BlockReader>(reader: &mut R, aside: R, read: Result<u64, InputFault>) -> Option<u64>
+    ensures none { IfNone result (R.state reader.new ≡ R.state reader.old) }
+    ensures some { IfSome result (λ count. read ≡ Ok count) }
+    ensures taken { IfSome result (λ _. IsTakenUp R.step R.state R.IsAside reader.old aside
+        reader.new true) }
 {
-    let now = reader.size?;
-    lines?;
-    let announced = now.arcs as usize;
-    let count = reader.arcs.len();
-    if now.nodes != size.nodes || count > announced || more.len() > announced - count {
+    let Ok(count) = read else {
         return None;
-    }
-    match reader.arcs.append(more) {
-        Ok(()) => lines,
-        Err(_) => None,
+    };
+    if reader.take_aside(aside) {
+        Some(count)
+    } else {
+        None
     }
 }
 
 /// Reads the lines of a text as `read_lines` does, by two threads, each of which reads about half of it.
-pub(crate) fn read_halves<H: Threads + Sync>(
+pub(crate) fn read_halves<R: BlockReader, H: Threads + Sync>(
     alloc: Global,
     rt: &H,
-    reader: &mut GraphReader,
-    size: GraphSize,
+    reader: &mut R,
+    aside: R,
     before: u64,
     text: &[u8],
 ) -> Result<u64, InputFault>
     requires few { before + length text.now < 2 ^ 64 }
-    ensures { ReadsAll graph_step read_of before reader.old reader.new text.now result }
+    requires aside { R.IsAside aside }
+    ensures { ReadsAll R.step R.state before reader.old reader.new text.now result }
 {
     let (front, back) = cut_after(text, text.len() / 2);
-    let mut arcs = mem::replace(&mut reader.spare, Vec::new(alloc));
     let halves = Halves {
         front,
         back,
         before,
     };
-    let (aside, read) = read_both(alloc, rt, size, halves, reader, &mut arcs);
+    let mut beside = aside;
+    let (there, read) = read_both(alloc, rt, halves, reader, &mut beside);
     let between = match read {
         Ok(line) => line,
         Err(fault) => return Err(fault),
     };
-    let lines = append(reader, size, aside, &mut arcs);
-    reader.spare = arcs;
-    match lines {
+    match take_up(reader, beside, there) {
         Some(count) => Ok(between + count),
         None => read_lines(alloc, reader, between, back),
+    }
+}
+
+/// How many bytes a text has at least that is read by two threads.
+const LEAST_TEXT: usize = 65_536;
+
+/// Reads all lines of a text, before which so many lines stood, by two threads where there are as many and that is better.
+pub(crate) fn read_more<R: BlockReader, H: Threads + Sync>(
+    alloc: Global,
+    rt: &H,
+    threads: usize,
+    reader: &mut R,
+    before: u64,
+    text: &[u8],
+) -> Result<u64, InputFault>
+    requires few { before + length text.now < 2 ^ 64 }
+    ensures { ReadsAll R.step R.state before reader.old reader.new text.now result }
+{
+    if threads < 2 || text.len() < LEAST_TEXT {
+        return read_lines(alloc, reader, before, text);
+    }
+    match reader.aside(alloc) {
+        Some(aside) => read_halves(alloc, rt, reader, aside, before, text),
+        None => read_lines(alloc, reader, before, text),
     }
 }

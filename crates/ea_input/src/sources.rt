@@ -16,8 +16,9 @@ ghost use Rattle.ea_input.specs.Streams.{DenotesWhole, GivesWhole, IsStreamFault
 
 use crate::fault::{FaultKind, InputFault};
 use crate::listing::{ListLine, only_number, problem_line};
+use crate::pieces::BlockReader;
 use crate::reading::{LineReader, read_text};
-use crate::streams::{BlockReader, StreamFault, read_device, way_of};
+use crate::streams::{StreamFault, read_device, way_of};
 use ea_text as text;
 use ea_text::ByteIn;
 use std::alloc::Global;
@@ -110,7 +111,9 @@ impl LineReader for SourceReader {
     ghost front = { source_step-front };
 }
 
-impl BlockReader for SourceReader {}
+impl BlockReader for SourceReader {
+    ghost IsAside = { λ _. Unit {0} };
+}
 
 /// A reader of a text of which no line was read yet.
 fn start(alloc: Global, nodes: u32) -> SourceReader

@@ -1,7 +1,7 @@
 //! Texts of devices, block by block and by several threads: each gives what it gives as a text in memory.
 use super::*;
 use crate::graph;
-use crate::pieces::read_halves;
+use crate::pieces::{BlockReader, read_halves};
 use crate::reading::{LineReader, read_lines};
 use crate::streams::{Way, read_device};
 use std::alloc::Global;
@@ -12,7 +12,7 @@ use std::thread::Threads;
 const PLAIN: &[u8] = b"p sp 4 5\na 1 2 7\na 1 3 2\na 3 2 3\na 2 4 1\na 3 4 9\n";
 
 /// How many bytes a device may have here.
-const LIMIT: u64 = 1 << 33;
+pub(crate) const LIMIT: u64 = 1 << 33;
 
 /// A device that gives a text by pieces, is interrupted before each second read, and fails once so many bytes were given.
 #[derive(Drop)]
@@ -94,18 +94,18 @@ fn is_read_as_text<H: Threads + Sync>(
 /// Whether the lines after a text's problem line give by two threads what they give by one: the same arcs and lines, or the same
 /// fault.
 fn halves_are_read_as_one<H: Threads + Sync>(alloc: Global, rt: &H, text: &[u8]) -> bool {
-    let mut one = graph::start(alloc);
-    let mut two = graph::start(alloc);
+    let mut one = graph::start::<RawArc>(alloc);
+    let mut two = graph::start::<RawArc>(alloc);
     if read_lines(alloc, &mut one, 0, b"p sp 4 5\n").is_err()
         || read_lines(alloc, &mut two, 0, b"p sp 4 5\n").is_err()
     {
         return false;
     }
-    let Some(size) = two.size else {
+    let Some(aside) = two.aside(alloc) else {
         return false;
     };
     let by_one = read_lines(alloc, &mut one, 1, text);
-    let by_two = read_halves(alloc, rt, &mut two, size, 1, text);
+    let by_two = read_halves(alloc, rt, &mut two, aside, 1, text);
     let same = by_one == by_two;
     same && (by_one.is_err() || one.arcs.as_slice() == two.arcs.as_slice())
 }
@@ -206,7 +206,7 @@ fn halves_of_lines(rt: HostRuntime) {
 const MANY: u32 = 80_000;
 
 /// A text of many arcs, among as many nodes, and then this line.
-fn large_text(alloc: Global, last: &str) -> Result<Vec<u8>, Fail> {
+pub(crate) fn large_text(alloc: Global, last: &str) -> Result<Vec<u8>, Fail> {
     let mut text = Vec::new(alloc);
     let head = format!(in alloc; "c\np sp {MANY} {MANY}\n")?;
     text.extend_from_slice(head.as_bytes())?;
@@ -290,7 +290,13 @@ fn devices_that_fail(rt: HostRuntime) {
                         reads: 0,
                         fails_after,
                     });
-                    let read = read_device(&rt, way, LIMIT, graph::start(rt.alloc()), &mut device);
+                    let read = read_device(
+                        &rt,
+                        way,
+                        LIMIT,
+                        graph::start::<RawArc>(rt.alloc()),
+                        &mut device,
+                    );
                     let failed = Some(StreamFault::Read(ReadFault::ReadFailed));
                     assert_eq!(rt; fault_of(read), failed, "{fails_after}");
                     assert_eq!(rt; device.failures(), 1);
@@ -310,11 +316,23 @@ fn limits_of_bytes(rt: HostRuntime) {
             size,
         };
         let mut whole = StdIn::new(PLAIN);
-        let read = read_device(&rt, way, count, graph::start(rt.alloc()), &mut whole);
+        let read = read_device(
+            &rt,
+            way,
+            count,
+            graph::start::<RawArc>(rt.alloc()),
+            &mut whole,
+        );
         assert!(rt; read.is_ok());
         for limit in 0..count {
             let mut device = StdIn::new(PLAIN);
-            let read = read_device(&rt, way, limit, graph::start(rt.alloc()), &mut device);
+            let read = read_device(
+                &rt,
+                way,
+                limit,
+                graph::start::<RawArc>(rt.alloc()),
+                &mut device,
+            );
             let large = Some(StreamFault::Read(ReadFault::TooLarge));
             assert_eq!(rt; fault_of(read), large, "{limit}");
         }

@@ -1,14 +1,13 @@
 //! Texts of devices, read line by line as their bytes come, so that no text lies in memory whole: while the whole lines of a block
 //! are read, the next block is filled.
-ghost use Rattle.std.specs.Prelude.{MatchOption, ◌≡◌, ◌<◌, ◌+◌, ◌^◌, ◌++◌, IfSome, length};
+ghost use Rattle.std.specs.Prelude.{◌≡◌, ◌<◌, ◌+◌, ◌^◌, ◌++◌, IfSome, length};
 ghost use Rattle.std.specs.Thread.{IsSync};
-ghost use Rattle.ea_input.specs.Reading.{ReadsAll, text_after};
+ghost use Rattle.ea_input.specs.Reading.{text_after};
 ghost use Rattle.ea_input.specs.Streams.{EndsLine, FeedsOn, Finishes, GivesWhole, IsFilled};
 ghost use Rattle.ea_text.specs.Taking.{HasRoom};
 
 use crate::fault::{InputFault, fault_in};
-use crate::pieces::end_of_lines;
-use crate::reading::{LineReader, read_lines};
+use crate::pieces::{BlockReader, end_of_lines, read_more};
 use ea_text::{Blocks, ByteIn, ReadFault};
 use std::alloc::Global;
 use std::mem;
@@ -24,45 +23,6 @@ pub enum StreamFault {
     /// Its text has a fault, or memory was refused as it was read.
     #[error("{0}")]
     Input(InputFault),
-}
-
-/// A reader of lines whose texts come block by block.
-pub(crate) trait BlockReader: LineReader + Send {
-    /// Reads all lines of a text by several threads, before which so many lines stood, as `read_lines` does; none where the
-    /// text is better read by one.
-    fn read_aside<H: Threads + Sync>(
-        &mut self,
-        _alloc: Global,
-        _rt: &H,
-        _threads: usize,
-        _before: u64,
-        _text: &[u8],
-    ) -> Option<Result<u64, InputFault>>
-        requires few { _before + length _text.now < 2 ^ 64 }
-        requires sync { IsSync H.row }
-        ensures { MatchOption result (Self.state self.new ≡ Self.state self.old)
-            (λ read. ReadsAll Self.step Self.state _before self.old self.new _text.entry.now read) }
-    {
-        None
-    }
-}
-
-/// Reads all lines of a text, before which so many lines stood, by several threads where the reader can.
-fn read_more<H: Threads + Sync, R: BlockReader>(
-    alloc: Global,
-    rt: &H,
-    threads: usize,
-    reader: &mut R,
-    before: u64,
-    text: &[u8],
-) -> Result<u64, InputFault>
-    requires few { before + length text.now < 2 ^ 64 }
-    ensures { ReadsAll R.step R.state before reader.old reader.new text.now result }
-{
-    match reader.read_aside(alloc, rt, threads, before, text) {
-        Some(read) => read,
-        None => read_lines(alloc, reader, before, text),
-    }
 }
 
 /// A reader of lines, how many it was given, and their first fault.

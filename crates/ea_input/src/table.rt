@@ -18,11 +18,12 @@ ghost use Rattle.ea_input.specs.Streams.{DenotesWhole, GivesWhole, IsStreamFault
 use crate::fault::{FaultKind, InputFault};
 use crate::kinds::{kind_of, two_read};
 use crate::listing::after_kind;
+use crate::pieces::BlockReader;
 use crate::plain::{leading_entry, leading_step};
 use crate::range::{numeral, within};
 use crate::reading::{LineReader, read_text};
 use crate::step_lines::{StepClass, step_of, step_within};
-use crate::streams::{BlockReader, StreamFault, read_device, way_of};
+use crate::streams::{StreamFault, read_device, way_of};
 use ea_limits::{MOST_ARCS, MOST_CLASSES};
 use ea_text as text;
 use ea_text::ByteIn;
@@ -480,7 +481,9 @@ impl LineReader for TableReader {
     ghost front = { table_step-front };
 }
 
-impl BlockReader for TableReader {}
+impl BlockReader for TableReader {
+    ghost IsAside = { λ _. Unit {0} };
+}
 
 /// A reader of a text of which no line was read yet.
 fn start(alloc: Global, arcs: u32) -> TableReader

@@ -1,22 +1,25 @@
-use Rattle.std.proofs.Common.{refl, arith, sym}
-use Rattle.ea_input.specs.Graph.{graph_step}
-use Rattle.ea_input.specs.Views.{read_of}
-use Rattle.ea_input.proofs.Joined.{back_read, front_fails}
-use Rattle.ea_input.proofs.Piecewise.{halves_read}
+use Rattle.std.proofs.Common.{refl}
+use Rattle.ea_text.specs.Text.{field_lines}
+use Rattle.ea_input.proofs.Joined.{back_read, both_read, front_fails, read_aside}
 use Rattle.ea_input.proofs.pieces.read_halves.Goals as goal
 
 pub returns-in-Err : goal.returns-in-Err
 returns-in-Err g c =
-    let cut = c.cut_after.ensures in
-    front_fails graph_step (λ _. read_of c.read_both-aside.new.reader) (λ _. read_of c.read_both-aside.new.reader) c.args.before (read_of c.args.reader.now) c.args.text.now c.cut_after.result.0.now c.cut_after.result.1.now c.read_both-aside.result.1 c.in-Err.fault cut.lines c.in-Err.is c.read_both-aside.ensures.read
+    let state = g.R.LineReader.state in
+    let mid = c.read_both-there.new.reader in
+    front_fails g.R.LineReader.step (λ _. state mid) (λ _. state mid) c.args.before (state c.args.reader.now) c.args.text.now c.cut_after.result.0.now c.cut_after.result.1.now c.read_both-there.result.1 c.in-Err.fault c.cut_after.ensures.lines c.in-Err.is c.read_both-there.ensures.read
 
 pub returns-in-Some : goal.returns-in-Some
 returns-in-Some g c =
-    let cut = c.cut_after.ensures in
-    let both = c.read_both-aside.ensures in
-    halves_read c.args.text.now c.cut_after.result.0.now c.cut_after.result.1.now c.args.before c.in-Ok.line c.in-Some.count c.args.size (read_of c.args.reader.now) (read_of c.read_both-aside.new.reader) (read_of c.append-lines.new.reader) c.read_both-aside.new.arcs.items c.read_both-aside.result.0 c.read_both-aside.result.1 cut.lines cut.whole c.in-Ok.is both.read (omega arith) (sym (c.in-Some.ensures.lines refl)) both.arcs both.count c.in-Some.ensures.put
+    let state = g.R.LineReader.state in
+    let back = c.cut_after.result.1.now in
+    let both = c.read_both-there.ensures in
+    let beside = read_aside g.R.LineReader.step (state c.args.aside) (state c.read_both-there.new.aside) back c.read_both-there.result.0 c.in-Some.count c.in-Some.ensures.some both.aside in
+    let later = c.in-Some.ensures.taken c.args.aside 0 c.in-Ok.line (field_lines back) c.requires.aside beside.0 in
+    both_read g.R.LineReader.step c.args.before c.in-Ok.line c.in-Some.count (state c.args.reader.now) (state c.read_both-there.new.reader) (state c.take_up.new.reader) c.args.text.now c.cut_after.result.0.now back c.read_both-there.result.1 c.cut_after.ensures.lines c.cut_after.ensures.whole c.in-Ok.is both.read later (beside.1, beside.2)
 
 pub returns-in-None : goal.returns-in-None
 returns-in-None g c =
-    let cut = c.cut_after.ensures in
-    back_read graph_step (λ _. read_of c.read_both-aside.new.reader) _ c.args.before c.in-Ok.line (read_of c.args.reader.now) (read_of c.read_both-aside.new.reader) (read_of c.append-lines.new.reader) c.args.text.now c.cut_after.result.0.now c.cut_after.result.1.now c.read_both-aside.result.1 c.read_lines.result cut.lines cut.whole c.in-Ok.is c.read_both-aside.ensures.read refl c.in-None.ensures.put c.read_lines.ensures
+    let state = g.R.LineReader.state in
+    let mid = c.read_both-there.new.reader in
+    back_read g.R.LineReader.step (λ _. state mid) _ c.args.before c.in-Ok.line (state c.args.reader.now) (state mid) (state c.take_up.new.reader) c.args.text.now c.cut_after.result.0.now c.cut_after.result.1.now c.read_both-there.result.1 c.read_lines.result c.cut_after.ensures.lines c.cut_after.ensures.whole c.in-Ok.is c.read_both-there.ensures.read refl c.in-None.ensures.none c.read_lines.ensures

@@ -1,0 +1,55 @@
+//! Arcs of a graph's text that are read aside, behind the problem line, and put behind those before them.
+ghost use Rattle.std.specs.Prelude.{◌≡◌};
+ghost use Rattle.ea_input.specs.Pieces.{BeginsAside, IsAppended};
+ghost use Rattle.ea_input.specs.Views.{read_of};
+
+use crate::graph::GraphReader;
+use crate::made_arc::MadeArc;
+use crate::pieces::BlockReader;
+use std::alloc::Global;
+use std::mem;
+
+/// Puts the arcs of a reader aside behind those of another, where both have as many nodes and no more arcs come together than are
+/// announced: whether they are put there.
+fn append<A: MadeArc>(reader: &mut GraphReader<A>, aside: GraphReader<A>) -> bool
+    ensures { IsAppended (read_of reader.old) (read_of aside) (read_of reader.new) result }
+{
+    let Some(now) = reader.size else {
+        return false;
+    };
+    let Some(size) = aside.size else {
+        return false;
+    };
+    let mut more = aside.arcs;
+    let announced = now.arcs as usize;
+    let count = reader.arcs.len();
+    if now.nodes != size.nodes || count > announced || more.len() > announced - count {
+        return false;
+    }
+    match reader.arcs.append(&mut more) {
+        Ok(()) => {
+            reader.spare = more;
+            true
+        }
+        Err(_) => false,
+    }
+}
+
+impl<A: MadeArc + Send> BlockReader for GraphReader<A> {
+    ghost IsAside = { λ reader. BeginsAside (read_of reader) };
+
+    fn aside(&mut self, alloc: Global) -> Option<GraphReader<A>> {
+        let size = self.size?;
+        let mut arcs = mem::replace(&mut self.spare, Vec::new(alloc));
+        arcs.clear();
+        Some(GraphReader {
+            size: Some(size),
+            arcs,
+            spare: Vec::new(alloc),
+        })
+    }
+
+    fn take_aside(&mut self, aside: GraphReader<A>) -> bool {
+        append(self, aside)
+    }
+}
