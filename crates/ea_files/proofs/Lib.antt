@@ -2,3 +2,4 @@ pub mod Departing
 pub mod There
 pub mod Stepping
 pub mod Denoting
+pub mod Plain

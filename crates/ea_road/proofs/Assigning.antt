@@ -1,9 +1,9 @@
 -- One assignment more changes the class of its arc alone.
-use Rattle.std.proofs.Common.{◌≡◌, ◌≢◌, ◌∙◌, refl, ℕ, zero, suc, ◌+◌, ◌<◌, Bool, true, false, List, [], ◌∷◌, ◌++◌, length, get_or, set, arith, ap, eq-eqb, eqb-true}
+use Rattle.std.proofs.Common.{◌≡◌, ◌≢◌, ◌∙◌, refl, ℕ, zero, suc, ◌+◌, ◌<◌, Bool, true, false, List, [], ◌∷◌, ◌++◌, length, map, get_or, set, arith, ap, eq-eqb, eqb-true}
 use Rattle.std.specs.Prelude.{◌==◌, if◌then◌else◌}
 use Rattle.ea_input.specs.declared.graph.RawArc.{RawArc}
 use Rattle.ea_road.specs.declared.arc.Arc.{Arc}
-use Rattle.ea_road.specs.Assigned.{class_after, class_of, arcs_from}
+use Rattle.ea_road.specs.Assigned.{ArePlain, arcs_from, class_after, class_of, plain_arc, raw_arc}
 
 abbrev no_arc : Arc
 no_arc = record { tail = 0; head = 0; weight = 0; class = 0 }
@@ -58,6 +58,24 @@ assign_more assigned number class first (suc place) (arc ∷ rest) inside same =
     let more = assign_more assigned number class (first + 1) place rest (omega (arith, inside)) (omega arith) in
     rw one (ap (λ arcs. record { tail = arc.tail; head = arc.head; weight = arc.weight; class = class_of assigned first } ∷ arcs) more)
 
-pub plain_more : (first : ℕ) (front : List RawArc) (arc : RawArc) → arcs_from [] first (front ++ arc ∷ []) ≡ arcs_from [] first front ++ record { tail = arc.tail; head = arc.head; weight = arc.weight; class = 0 } ∷ []
-plain_more first [] arc = refl
-plain_more first (one ∷ rest) arc = rw (plain_more (first + 1) rest arc) refl
+-- Arcs of class 0 are those of their text to which no class is assigned.
+pub plain_arcs_are : (first : ℕ) (arcs : List Arc) → ArePlain arcs → arcs ≡ arcs_from [] first (map raw_arc arcs)
+plain_arcs_are first [] plain = refl
+plain_arcs_are first (arc ∷ rest) plain =
+    let none : arc.class ≡ 0 = plain 0 arc (omega arith) in
+    let more = plain_arcs_are (first + 1) rest (λ k d inside. plain (suc k) d (omega (arith, inside))) in
+    ap (λ class. record { tail = arc.tail; head = arc.head; weight = arc.weight; class = class } ∷ rest) none ∙ ap (λ others. plain_arc (raw_arc arc) ∷ others) more
+
+-- What is made of a text's arcs is plain, and it gives them back.
+pub made_plain : (raw : List RawArc) → ArePlain (map plain_arc raw)
+made_plain [] k d inside = absurd (omega arith)
+made_plain (arc ∷ rest) zero d inside = refl
+made_plain (arc ∷ rest) (suc k) d inside = made_plain rest k d (omega arith)
+
+pub made_back : (raw : List RawArc) → map raw_arc (map plain_arc raw) ≡ raw
+made_back [] = refl
+made_back (arc ∷ rest) = ap (λ others. arc ∷ others) (made_back rest)
+
+-- With nothing assigned the arcs are those that are made of the text's.
+pub arcs_with_none : (raw : List RawArc) → map plain_arc raw ≡ arcs_from [] 1 raw
+arcs_with_none raw = plain_arcs_are 1 (map plain_arc raw) (made_plain raw) ∙ ap (arcs_from [] 1) (made_back raw)

@@ -1,10 +1,22 @@
 -- The arcs of a graph with the classes that a timetable file assigns to them.
-use Rattle.std.specs.Prelude.{ℕ, ◌+◌, ◌<◌, ◌≤◌, ◌==◌, List, [], ◌∷◌, Option, Some, None, if◌then◌else◌}
+use Rattle.std.specs.Prelude.{◌≡◌, All, ℕ, ◌+◌, ◌<◌, ◌≤◌, ◌==◌, List, [], ◌∷◌, Option, Some, None, if◌then◌else◌}
 use Rattle.std.specs.List.{IsAmong}
 use Rattle.std.specs.Borrow.{Bor}
 use Rattle.ea_input.specs.declared.graph.RawArc.{RawArc}
 use Rattle.ea_input.specs.declared.table.RawTable.{RawTable}
 use Rattle.ea_road.specs.declared.arc.Arc.{Arc}
+
+-- An arc of a text, with class 0.
+abbrev pub plain_arc : RawArc → Arc
+plain_arc raw = record { tail = raw.tail; head = raw.head; weight = raw.weight; class = 0 }
+
+-- An arc without its class.
+abbrev pub raw_arc : Arc → RawArc
+raw_arc arc = record { tail = arc.tail; head = arc.head; weight = arc.weight }
+
+-- Each arc has class 0.
+abbrev pub ArePlain : List Arc → Type 0
+ArePlain arcs = All (λ arc. arc.class ≡ 0) arcs
 
 -- Pairs of an arc's number and a class, in the order of the file.
 abbrev pub assigned_of : Option (Bor RawTable) → List (ℕ × ℕ)

@@ -1,11 +1,35 @@
 //! The arcs of a graph, with the classes that a timetable file gives them.
-ghost use Rattle.std.specs.Prelude.{◌≡◌, [], List, IfOk, length};
+ghost use Rattle.std.specs.Prelude.{◌≡◌, [], List, IfOk, length, map};
 ghost use Rattle.ea_input.specs.declared.graph.RawArc.{RawArc};
-ghost use Rattle.ea_road.specs.Assigned.{AreAssigned, arcs_with, assigned_of};
+ghost use Rattle.ea_road.specs.Assigned.{AreAssigned, ArePlain, arcs_with, assigned_of, plain_arc, raw_arc};
 
 use crate::arc::Arc;
-use ea_input::{RawArc, RawGraph, RawTable};
+use ea_input::{MadeArc, RawArc, RawGraph, RawTable};
 use std::alloc::{AllocError, Global};
+
+/// A reader makes the arcs of a graph's text with class 0.
+impl MadeArc for Arc {
+    ghost made = { plain_arc };
+
+    fn of_raw(raw: RawArc) -> Arc {
+        Arc {
+            tail: raw.tail,
+            head: raw.head,
+            weight: raw.weight,
+            class: 0,
+        }
+    }
+}
+
+/// Arcs of class 0, each with the class that the table assigns to it last. No memory is taken. Each assigned number is that of an arc.
+pub fn with_classes(mut arcs: Vec<Arc>, table: &RawTable) -> Vec<Arc>
+    requires plain { ArePlain arcs.items }
+    requires assigned { AreAssigned (length arcs.items) table.now.assigned.items }
+    ensures { result.items ≡ arcs_with table.entry.now.assigned.items (map raw_arc arcs.items) }
+{
+    assign(&mut arcs, &table.assigned);
+    arcs
+}
 
 /// The arcs of a graph in their order. An arc's class is the last that the table assigns to it, and 0 where it assigns
 /// none. Each assigned number is that of an arc. An error comes only where memory for the list was refused.
@@ -18,25 +42,20 @@ pub fn arcs_of(
     ensures { IfOk result (λ arcs.
         arcs.items ≡ arcs_with (assigned_of table.entry) graph.now.arcs.items) }
 {
-    let mut arcs = plain_arcs(alloc, &graph.arcs)?;
-    if let Some(table) = table {
-        assign(&mut arcs, &table.assigned);
+    let arcs = plain_arcs(alloc, &graph.arcs)?;
+    match table {
+        Some(table) => Ok(with_classes(arcs, table)),
+        None => Ok(arcs),
     }
-    Ok(arcs)
 }
 
 /// The arcs, each of class 0.
 fn plain_arcs(alloc: Global, raw: &[RawArc]) -> Result<Vec<Arc>, AllocError>
-    ensures { IfOk result (λ arcs. arcs.items ≡ arcs_with [] raw.now) }
+    ensures { IfOk result (λ arcs. arcs.items ≡ map plain_arc raw.now) }
 {
     let mut arcs = Vec::with_capacity(alloc, raw.len())?;
     for arc in raw {
-        arcs.push(Arc {
-            tail: arc.tail,
-            head: arc.head,
-            weight: arc.weight,
-            class: 0,
-        })?;
+        arcs.push(Arc::of_raw(*arc))?;
     }
     Ok(arcs)
 }

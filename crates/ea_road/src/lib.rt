@@ -28,7 +28,7 @@ pub use arc::Arc;
 pub use arrival_function::ArrivalFunction;
 pub use ea_input::{RawArc, RawGraph, RawKind, RawTable};
 pub use ea_limits::HORIZON;
-pub use graph_arcs::arcs_of;
+pub use graph_arcs::{arcs_of, with_classes};
 pub use known::{AnyPair, Known};
 pub use leaving_arc::LeavingArc;
 pub use network::{Leaving, Network};

@@ -4,7 +4,7 @@ ghost use Rattle.ea_road.specs.Answers.{IsFifoFunction};
 ghost use Rattle.ea_road.specs.Arrivals.{Reaches};
 
 use super::*;
-use ea_input::{RawArc, RawGraph};
+use ea_input::{RawArc, RawGraph, read_gr_as};
 use std::alloc::{AllocError, Global};
 use std::marker::{Brand, PhantomData};
 use std::test::Fail;
@@ -237,6 +237,25 @@ fn classes_are_assigned(rt: HostRuntime) -> Result<(), Fail> {
         classed.as_slice(),
         [arc(1, 2, 5, 2), arc(1, 2, 5, 0), arc(1, 2, 5, 9)].as_slice()
     );
+    Ok(())
+}
+
+#[test]
+fn classes_are_assigned_in_place(rt: HostRuntime) -> Result<(), Fail> {
+    let text = b"p sp 3 3\na 1 2 5\na 2 3 7\na 3 3 0\n";
+    let Ok(graph) = read_gr_as::<Arc>(rt.alloc(), text) else {
+        return Err(Fail::from("no graph"));
+    };
+    let plain = [arc(1, 2, 5, 0), arc(2, 3, 7, 0), arc(3, 3, 0, 0)];
+    assert_eq!(rt; graph.arcs.as_slice(), plain.as_slice());
+    let table = RawTable {
+        kinds: Vec::new(rt.alloc()),
+        assigned: vec![in rt.alloc(); (3, 7), (1, 4), (3, 0), (3, 9), (1, 2)]?,
+        steps: Vec::new(rt.alloc()),
+    };
+    let classed = with_classes(graph.arcs, &table);
+    let wanted = [arc(1, 2, 5, 2), arc(2, 3, 7, 0), arc(3, 3, 0, 9)];
+    assert_eq!(rt; classed.as_slice(), wanted.as_slice());
     Ok(())
 }
 

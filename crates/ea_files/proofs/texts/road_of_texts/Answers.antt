@@ -1,5 +1,5 @@
 use Rattle.std.proofs.lemmas.Result.{err_from_is_err_and}
-use Rattle.ea_input.specs.Views.{graph as graph_of}
+use Rattle.ea_files.specs.Given.{graph_of}
 use Rattle.ea_files.specs.Texts.{in_table}
 use Rattle.ea_files.proofs.texts.road_of_texts.Goals as goal
 

@@ -1,6 +1,6 @@
 use Rattle.std.proofs.Common.{refl}
 use Rattle.std.proofs.lemmas.Result.{err_from_is_err_and}
-use Rattle.ea_input.specs.Views.{graph as graph_of}
+use Rattle.ea_files.specs.Given.{graph_of}
 use Rattle.ea_files.specs.Files.{in_starts, in_table}
 use Rattle.ea_files.proofs.There.{all_there, few_there}
 use Rattle.ea_files.proofs.together.read_run_by.Goals as goal
