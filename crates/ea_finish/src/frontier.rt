@@ -6,7 +6,7 @@ ghost use Rattle.ea_finish.specs.Underway.{bound_of};
 use crate::open::Open;
 use crate::opens::Opens;
 use crate::touching::{AHEAD, nodes_of, touch_arcs, touch_heads, touch_places};
-use ea_road::Network;
+use ea_road::{Network, window_bits};
 use std::alloc::{AllocError, Global};
 use std::marker::Model;
 
@@ -53,14 +53,6 @@ impl Model for Frontier {
 
     ghost invariant = { λ f. (length f.lists.items ≡ 66)
         × AreEntries f.todo.nodes (map (λ l. l.items) f.lists.items) };
-}
-
-/// The last bits of a time, so many that the numbers of so many bits are a half to the whole of a width.
-fn window_bits(width: u64) -> u64 {
-    match u64::MAX.checked_shr(width.leading_zeros().saturating_add(1)) {
-        Some(bits) => bits,
-        None => 0,
-    }
 }
 
 /// Lists without an entry.

@@ -20,3 +20,4 @@ pub mod TimetableLaws
 pub mod ProfileLists
 pub mod ProfileLaws
 pub mod Assigned
+pub mod Windows

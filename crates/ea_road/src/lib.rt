@@ -23,6 +23,7 @@ mod timetable;
 mod timetables;
 mod travel_times;
 mod walk;
+mod window;
 
 pub use arc::Arc;
 pub use arrival_function::ArrivalFunction;
@@ -44,6 +45,7 @@ pub use timetable::Timetable;
 pub use timetables::Timetables;
 pub use travel_times::TravelTimes;
 pub use walk::run_walk;
+pub use window::window_bits;
 
 /// No label.
 pub const NONE: u64 = u64::MAX;

@@ -447,3 +447,17 @@ fn one_timetable_serves_the_last_class(rt: HostRuntime) -> Result<(), Fail> {
     assert_eq!(rt; over_the_last_class(&network), Some((2, 8)));
     Ok(())
 }
+
+#[test]
+fn a_window_has_a_half_to_the_whole_of_a_width(rt: HostRuntime) {
+    for (width, bits) in [
+        (0, 0),
+        (1, 0),
+        (2, 1),
+        (5, 3),
+        (8, 7),
+        (u64::MAX, u64::MAX / 2),
+    ] {
+        assert_eq!(rt; window_bits(width), bits);
+    }
+}
