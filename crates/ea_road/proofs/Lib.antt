@@ -9,6 +9,7 @@ pub mod Looking
 pub mod Beside
 pub mod Ascending
 pub mod Placing
+pub mod Ordered
 pub mod Decide
 pub mod Chains
 pub mod Canonical

@@ -57,6 +57,10 @@ leaving roads node = leaving_from node 1 roads.arcs
 abbrev pub with_tail : LeavingArc → ℕ → Arc
 with_tail arc node = record { tail = node; head = arc.head; weight = arc.weight; class = arc.class }
 
+-- An arc as it lies among those that leave its tail.
+abbrev pub without_tail : Arc → LeavingArc
+without_tail arc = record { head = arc.head; weight = arc.weight; class = arc.class }
+
 -- Numbers of arcs that leave a node and the arcs themselves, side by side.
 pub record AreSideBySide (roads : Roads) (node : ℕ) (numbers : List ℕ) (arcs : List LeavingArc) : Type 0 where
   pub lengths : length arcs ≡ length numbers

@@ -1,5 +1,5 @@
 ghost use Rattle.std.specs.Prelude.{◌≡◌};
-ghost use Rattle.ea_road.specs.Roads.{with_tail};
+ghost use Rattle.ea_road.specs.Roads.{with_tail, without_tail};
 
 use crate::arc::Arc;
 
@@ -19,7 +19,7 @@ impl LeavingArc {
     /// An arc, as it lies among those that leave its tail.
     #[inline(always)]
     pub fn of(arc: Arc) -> LeavingArc
-        ensures { with_tail result arc.tail ≡ arc }
+        ensures { result ≡ without_tail arc }
     {
         LeavingArc {
             head: arc.head,

@@ -1,9 +1,9 @@
-ghost use Rattle.std.specs.Prelude.{◌≡◌, ◌≤◌, ◌<◌, ◌↔◌, IfOk, IsTrue, length};
-ghost use Rattle.ea_road.specs.Index.{AreSums, IsRoom};
-ghost use Rattle.ea_road.specs.Roads.{AreSideBySide, FitsNodes, IsArc, IsNetwork, IsNode, leaving, mean_weight, top_class};
+ghost use Rattle.std.specs.Prelude.{◌≡◌, ◌≤◌, ◌<◌, ◌↔◌, IfOk, IsTrue, length, map};
+ghost use Rattle.ea_road.specs.Index.{AreSums, AreSumsAndNumbers, IsRoom};
+ghost use Rattle.ea_road.specs.Roads.{AreSideBySide, FitsNodes, IsArc, IsNetwork, IsNode, leaving, mean_weight, top_class, without_tail};
 
 use crate::arc::Arc;
-use crate::index::{Room, Sums, place_by_tail, room_for, sums_of};
+use crate::index::{Room, Sums, index_by_tail, numbers_to, sums_of, without_tails};
 use crate::leaving_arc::LeavingArc;
 use ea_limits::{MOST_ARCS, MOST_NODES};
 use std::alloc::{AllocError, Global};
@@ -60,13 +60,13 @@ impl Network {
         requires { IsNetwork (record { nodes = nodes; arcs = arcs.items }) }
         ensures { IfOk result (λ network. network ≡ record { nodes = nodes; arcs = arcs.items }) }
     {
-        let sums = sums_of(alloc, nodes, &arcs)?;
-        let room = room_for(alloc, arcs.len())?;
-        Ok(indexed(nodes, arcs, sums, room))
+        let (sums, numbers) = sums_and_numbers(alloc, nodes, &arcs)?;
+        let by_tail = without_tails(alloc, &arcs)?;
+        Ok(indexed(nodes, arcs, sums, Room { numbers, by_tail }))
     }
 
-    /// As `new`, in two threads where there are many arcs and a second one can be started: one counts while the other takes
-    /// memory for the index, which is most of the time.
+    /// As `new`, in two threads where there are many arcs and a second one can be started: one counts the arcs and takes memory
+    /// for their numbers by tail while the other takes that for the arcs by tail, which is most of the time.
     pub fn new_by<H: Threads + Sync>(
         alloc: Global,
         rt: &H,
@@ -79,10 +79,10 @@ impl Network {
         if arcs.len() < MANY_ARCS {
             return Network::new(alloc, nodes, arcs);
         }
-        let (sums, room) = sums_and_room(alloc, rt, nodes, &arcs);
-        let sums = sums?;
-        let room = room?;
-        Ok(indexed(nodes, arcs, sums, room))
+        let (sums, by_tail) = sums_and_room(alloc, rt, nodes, &arcs);
+        let (sums, numbers) = sums?;
+        let by_tail = by_tail?;
+        Ok(indexed(nodes, arcs, sums, Room { numbers, by_tail }))
     }
 
     /// Whether so many nodes and these arcs make a network: 1 to 67,108,864 nodes, at most 268,435,456 arcs, and each
@@ -175,42 +175,54 @@ impl Network {
     }
 }
 
-/// The sums over a network's arcs, and room for its index, in two threads where a second one can be started.
+/// What is known of all of a network's arcs, and their numbers in order.
+fn sums_and_numbers(alloc: Global, nodes: u32, arcs: &[Arc]) -> Result<(Sums, Vec<u32>), AllocError>
+    requires { IsNetwork (record { nodes = nodes; arcs = arcs.now }) }
+    ensures { IfOk result (AreSumsAndNumbers nodes arcs.now) }
+{
+    let sums = sums_of(alloc, nodes, arcs)?;
+    let numbers = numbers_to(alloc, arcs.len())?;
+    Ok((sums, numbers))
+}
+
+/// The same, and beside them the arcs without their tails, in two threads where a second one can be started.
 fn sums_and_room<H: Threads + Sync>(
     alloc: Global,
     rt: &H,
     nodes: u32,
     arcs: &[Arc],
-) -> (Result<Sums, AllocError>, Result<Room, AllocError>)
+) -> (
+    Result<(Sums, Vec<u32>), AllocError>,
+    Result<Vec<LeavingArc>, AllocError>,
+)
     requires { IsNetwork (record { nodes = nodes; arcs = arcs.now }) }
-    ensures sums { IfOk result.0 (AreSums nodes arcs.now) }
-    ensures room { IfOk result.1 (IsRoom (length arcs.now)) }
+    ensures sums { IfOk result.0 (AreSumsAndNumbers nodes arcs.now) }
+    ensures by_tail { IfOk result.1 (λ by_tail. by_tail.items ≡ map without_tail arcs.now) }
 {
-    let count = arcs.len();
-    let sums = move || -> Result<Sums, AllocError>
+    let sums = move || -> Result<(Sums, Vec<u32>), AllocError>
         requires { IsNetwork (record { nodes = nodes; arcs = arcs.now }) }
-        ensures { IfOk result (AreSums nodes arcs.entry.now) }
-    { sums_of(alloc, nodes, arcs) };
-    let room = move || -> Result<Room, AllocError>
-        ensures { IfOk result (IsRoom count) }
-    { room_for(alloc, count) };
-    join(rt, sums, room)
+        ensures { IfOk result (AreSumsAndNumbers nodes arcs.entry.now) }
+    { sums_and_numbers(alloc, nodes, arcs) };
+    let by_tail = move || -> Result<Vec<LeavingArc>, AllocError>
+        ensures { IfOk result (λ by_tail. by_tail.items ≡ map without_tail arcs.entry.now) }
+    { without_tails(alloc, arcs) };
+    join(rt, sums, by_tail)
 }
 
-/// A network, by the sums over its arcs, with its index in this room.
+/// A network, by what is known of all its arcs, with its index in this room.
 fn indexed(nodes: u32, arcs: Vec<Arc>, sums: Sums, room: Room) -> Network
     requires network { IsNetwork (record { nodes = nodes; arcs = arcs.items }) }
     requires sums { AreSums nodes arcs.items sums }
-    requires room { IsRoom (length arcs.items) room }
+    requires room { IsRoom arcs.items room }
     ensures { result ≡ record { nodes = nodes; arcs = arcs.items } }
 {
     let Sums {
         top,
         mean,
-        ascending: _,
+        ascending,
         ends: mut starts,
     } = sums;
-    let Room { numbers, by_tail } = place_by_tail(nodes, &arcs, &mut starts, room);
+    let Room { numbers, by_tail } = index_by_tail(nodes, &arcs, ascending, &mut starts, room);
     Network {
         nodes,
         arcs,

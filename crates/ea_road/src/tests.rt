@@ -189,6 +189,26 @@ fn arcs_lie_by_tail(rt: HostRuntime) -> Result<(), Fail> {
 }
 
 #[test]
+fn ordered_arcs_lie_by_tail(rt: HostRuntime) -> Result<(), Fail> {
+    let arcs = vec![in rt.alloc();
+        arc(1, 4, 3, 0),
+        arc(1, 1, 2, 1),
+        arc(3, 2, 9, 0),
+        arc(3, 2, 5, 2),
+    ]?;
+    assert!(rt; Network::fits(4, &arcs));
+    let network = Network::new(rt.alloc(), 4, arcs)?;
+    assert_eq!(rt; network.out(1), [1, 2].as_slice());
+    assert_eq!(rt; network.out(2), [].as_slice());
+    assert_eq!(rt; network.out(3), [3, 4].as_slice());
+    assert_eq!(rt; network.out(4), [].as_slice());
+    let last = LeavingArc::of(arc(3, 2, 5, 2));
+    assert_eq!(rt; network.leaving(3).arcs.last(), Some(&last));
+    assert_eq!(rt; network.mean_weight(), 4);
+    Ok(())
+}
+
+#[test]
 fn limits_of_networks(rt: HostRuntime) -> Result<(), Fail> {
     assert!(rt; Network::fits(1, &[]));
     assert!(rt; !Network::fits(0, &[]));
