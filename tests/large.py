@@ -4,6 +4,7 @@ import subprocess
 import tempfile
 
 NODES = 1_000_000
+MOST_NODES = 67_108_864
 STAR_NODES = 2_000_000
 STAR_ARCS = 5_000_000
 CLASSES = 65_535
@@ -50,6 +51,13 @@ def star_report():
     return "s 1 0\nd 1 0\n" + "".join(f"d {node} {(node - 2) % CLASSES + node}\n" for node in range(2, STAR_NODES + 1))
 
 
+def write_most(folder):
+    """As many nodes as a file may have, an arc from the first to the last and one from there to the second; and one node more."""
+    write(folder, "most.gr", [f"p sp {MOST_NODES} 2\na 1 {MOST_NODES} 5\na {MOST_NODES} 2 7\n"])
+    write(folder, "most.p2p", ["p aux sp p2p 1\nq 1 2\n"])
+    write(folder, "over.gr", [f"p sp {MOST_NODES + 1} 0\n"])
+
+
 def write_sources(folder):
     """A node without arcs, and as many sources there as a file may have; four nodes from 10,000 sources."""
     write(folder, "one.gr", ["p sp 1 0\n"])
@@ -65,10 +73,10 @@ def many_report():
 def results(program, examples):
     """For each call its words, what it gave and what it must give."""
     with tempfile.TemporaryDirectory(prefix="earliest-") as folder:
-        def ran(words, wanted):
+        def ran(words, wanted, status=0, said=b""):
             run = subprocess.run([program, *words.split()], cwd=folder, stdin=subprocess.DEVNULL, capture_output=True, timeout=100)
             was = (run.returncode, len(run.stdout), run.stdout == wanted.encode(), run.stderr)
-            return f"large: {words}", was, (0, len(wanted), True, b"")
+            return f"large: {words}", was, (status, len(wanted), True, said)
 
         write_path(folder)
         yield ran("run path.gr path.ss", path_report())
@@ -79,6 +87,9 @@ def results(program, examples):
         yield ran("check path.gr path.ss path.report", "ok\n")
         write_star(folder)
         yield ran("run star.gr star.ss --tp star.tp", star_report())
+        write_most(folder)
+        yield ran("pairs most.gr most.p2p", "q 1 2 0\nd 2 12\n")
+        yield ran("pairs over.gr most.p2p", "", 1, b"earliest: gr 1: 6 OutOfRange\n")
         write_sources(folder)
         yield ran("run one.gr million.ss --joint", "s 1 0\n" * 1_000_000 + "d 1 0\n")
         four_nodes = os.path.join(examples, "four-nodes.gr")

@@ -1,4 +1,4 @@
-ghost use Rattle.std.specs.Prelude.{◌≡◌, ◌+◌, ◌*◌, ◌^◌, ◌<◌, ◌≤◌, ◌↔◌, ℕ, length};
+ghost use Rattle.std.specs.Prelude.{◌≡◌, ◌+◌, ◌*◌, ◌%◌, ◌^◌, ◌<◌, ◌≤◌, ◌↔◌, ℕ, length};
 ghost use Rattle.ea_limits.specs.declared.TheConstants.{HORIZON};
 ghost use Rattle.ea_road.specs.Answers.{IsFifoFunction};
 ghost use Rattle.ea_road.specs.Arrivals.{Reaches};
@@ -480,4 +480,43 @@ fn a_window_has_a_half_to_the_whole_of_a_width(rt: HostRuntime) {
     ] {
         assert_eq!(rt; window_bits(width), bits);
     }
+}
+
+/// How many of the classes up to this one have a profile that arrives so.
+fn right_profiles(list: &ProfileList, most: u32) -> u32
+    requires { most < 65536 }
+{
+    let mut right = 0u32;
+    for class in 1..most + 1 {
+        if class as usize <= list.len() && list.arrive(class, 3, 4) == 7 + u64::from(class) {
+            right = right.wrapping_add(1);
+        }
+    }
+    right
+}
+
+/// Of so many boxed profiles, each of which arrives a moment later than the one before, how many arrive so from a list of all.
+fn right_of_profiles(alloc: Global, count: u32) -> Result<u32, AllocError>
+    requires { count < 65536 }
+{
+    let mut list = ProfileList::new(alloc);
+    for class in 1..count + 1 {
+        let arrival: Box<dyn Fn(u64, u64) -> u64 + Send + Sync> = Box::new(
+            alloc,
+            move |weight: u64, departure: u64| -> u64
+                requires { departure + weight + 65536 ≤ 2 ^ 64 }
+                ensures { result ≡ departure + weight + class % 65536 }
+            { departure + weight + u64::from(class % 65536) },
+        )?;
+        if list.push(Profile::new(arrival)).is_err() {
+            return Err(AllocError);
+        }
+    }
+    Ok(right_profiles(&list, count))
+}
+
+#[test]
+fn a_thousand_boxed_profiles_arrive(rt: HostRuntime) -> Result<(), Fail> {
+    assert_eq!(rt; right_of_profiles(rt.alloc(), 1_000)?, 1_000);
+    Ok(())
 }
