@@ -1,4 +1,5 @@
-ghost use Rattle.std.specs.Prelude.{◌≡◌, ◌≤◌, ◌<◌, ◌^◌, ◌++◌, ◌∷◌, [], length, MatchResult};
+ghost use Rattle.std.specs.Prelude.{◌≡◌, ◌≤◌, ◌<◌, ◌^◌, ◌++◌, ◌∷◌, [], length, MatchResult, OnErr, vec_len};
+ghost use Rattle.std.specs.Vec.{vec_capacity};
 ghost use Rattle.ea_road.specs.ProfileLists.{ListAnswers};
 ghost use Rattle.ea_road.specs.Answers.{IsQuestion};
 
@@ -22,12 +23,14 @@ impl ProfileList {
         }
     }
 
-    /// Puts a profile at the end. Where memory is refused it comes back, and the list is as before.
+    /// Puts a profile at the end. Where memory is refused it comes back, and the list is as before; that is only where the list
+    /// has to grow.
     pub fn push(&mut self, profile: Profile) -> Result<(), (Profile, AllocError)>
-        ensures { MatchResult result
+        ensures pushed { MatchResult result
             (λ _. self.new.profiles.items ≡ self.old.profiles.items ++ profile ∷ [])
             (λ refused. (refused.0 ≡ profile)
             × (self.new.profiles.items ≡ self.old.profiles.items)) }
+        ensures full { OnErr result (vec_capacity self.old.profiles ≤ vec_len self.old.profiles) }
     {
         match self.profiles.push(profile) {
             Ok(()) => Ok(()),
