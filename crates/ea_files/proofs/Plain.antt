@@ -8,12 +8,12 @@ use Rattle.ea_input.specs.declared.graph.RawGraph.{RawGraph}
 use Rattle.ea_road.specs.declared.arc.Arc.{Arc}
 use Rattle.ea_road.specs.Assigned.{ArePlain, plain_arc, raw_arc}
 use Rattle.ea_road.proofs.Assigning.{made_back, made_plain}
-use Rattle.ea_files.specs.Given.{graph_of}
+use Rattle.ea_files.specs.Given.{raw_graph}
 
 -- It is the text's.
-pub denotes_back : (found : RawGraph Arc) (lines : List (List (List ℕ))) → DenotesMade plain_arc lines (graph found) → DenotesGraph lines (graph_of found)
+pub denotes_back : (found : RawGraph Arc) (lines : List (List (List ℕ))) → DenotesMade plain_arc lines (graph found) → DenotesGraph lines (raw_graph found)
 denotes_back found lines (text, denoted, is) =
-    let same : graph_of found ≡ text = ap (λ (g : GraphOf Arc). record { nodes = g.nodes; arcs = map raw_arc g.arcs }) is ∙ ap (λ (arcs : List RawArc). record { nodes = text.nodes; arcs = arcs }) (made_back text.arcs) in
+    let same : raw_graph found ≡ text = ap (λ (g : GraphOf Arc). record { nodes = g.nodes; arcs = map raw_arc g.arcs }) is ∙ ap (λ (arcs : List RawArc). record { nodes = text.nodes; arcs = arcs }) (made_back text.arcs) in
     subst (DenotesGraph lines) (sym same) denoted
 
 -- Its arcs have class 0.
@@ -21,5 +21,5 @@ pub plain_found : (found : RawGraph Arc) (lines : List (List (List ℕ))) → De
 plain_found found lines (text, denoted, is) = subst ArePlain (sym (ap (λ (g : GraphOf Arc). g.arcs) is)) (made_plain text.arcs)
 
 -- It has as many arcs.
-pub as_many : (found : RawGraph Arc) → length found.arcs.items ≡ length (graph_of found).arcs
+pub as_many : (found : RawGraph Arc) → length found.arcs.items ≡ length (raw_graph found).arcs
 as_many found = sym (length-map found.arcs.items raw_arc)

@@ -21,12 +21,12 @@ pub record Given : Type 0 where
   pub table : Table
 
 -- A graph in memory, without the classes of its arcs.
-abbrev pub graph_of : RawGraph Arc → Graph
-graph_of graph = record { nodes = graph.nodes; arcs = map raw_arc graph.arcs.items }
+abbrev pub raw_graph : RawGraph Arc → Graph
+raw_graph graph = record { nodes = graph.nodes; arcs = map raw_arc graph.arcs.items }
 
 -- What a graph and a table in memory are.
 abbrev pub given_by : RawGraph Arc → RawTable → Given
-given_by graph table = record { graph = graph_of graph; table = table_of table }
+given_by graph table = record { graph = raw_graph graph; table = table_of table }
 
 -- The network: the graph's arcs, each with the class that was assigned to it last.
 abbrev pub roads_of : Given → Roads

@@ -8,7 +8,7 @@ ghost use Rattle.ea_input.specs.Sources.{DenotesSources};
 ghost use Rattle.ea_input.specs.TableViews.{table};
 ghost use Rattle.ea_files.specs.Files.{IsFaultAs, IsFaultIfThere, IsFaultIn, IsFileText, IsReadFaultAs, IsTextIfThere, IsUnreadBy, reading};
 ghost use Rattle.ea_road.specs.Assigned.{ArePlain};
-ghost use Rattle.ea_files.specs.Given.{IsTableOf, graph_of, no_table as none_given};
+ghost use Rattle.ea_files.specs.Given.{IsTableOf, raw_graph, no_table as none_given};
 
 use crate::fault::{FileFault, FileWord};
 use ea_input::{
@@ -61,7 +61,7 @@ pub(crate) fn fault_of(file: FileWord, fault: InputFault) -> FileFault
 pub(crate) fn read_graph<R: ByteIn>(alloc: Global, gr: &mut R) -> Result<RawGraph<Arc>, FileFault>
     ensures denoted { IfOk result
         (λ found. (text : List ℕ) × IsFileText (reading R.seen gr.old gr.new) text
-        × DenotesGraph (field_lines text) (graph_of found)) }
+        × DenotesGraph (field_lines text) (raw_graph found)) }
     ensures plain { IfOk result (λ found. ArePlain found.arcs.items) }
     ensures fault { IfErr result
         (IsFaultIn FileWord.Gr graph_format (reading R.seen gr.old gr.new)) }

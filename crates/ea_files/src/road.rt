@@ -4,7 +4,7 @@ ghost use Rattle.ea_input.specs.Graph.{DenotesGraph};
 ghost use Rattle.ea_input.specs.Table.{DenotesTable, Table};
 ghost use Rattle.ea_road.specs.Assigned.{ArePlain};
 ghost use Rattle.ea_files.specs.Files.{IsTextIfThere, tables};
-ghost use Rattle.ea_files.specs.Given.{IsRoadOf, IsTableOf, given_by, graph_of, roads_of};
+ghost use Rattle.ea_files.specs.Given.{IsRoadOf, IsTableOf, given_by, raw_graph, roads_of};
 ghost use Rattle.ea_files.specs.Sound.{IsSound};
 ghost use Rattle.ea_road.specs.Timetables.{AreFit};
 
@@ -53,12 +53,12 @@ pub(crate) fn read_road<T: ByteIn>(
     graph: RawGraph<Arc>,
     tp: &mut Option<T>,
 ) -> Result<Road, FileFault>
-    requires denoted { (lines : List (List (List ℕ))) × DenotesGraph lines (graph_of graph) }
+    requires denoted { (lines : List (List (List ℕ))) × DenotesGraph lines (raw_graph graph) }
     requires plain { ArePlain graph.arcs.items }
     ensures road { IfOk result (λ road. (text : Option (List ℕ)) × (table : Table)
-        × IsTextIfThere T.seen tp.old tp.new text × IsTableOf (length (graph_of graph).arcs) text table
-        × IsRoadOf (record { graph = graph_of graph; table = table }) road) }
-    ensures fault { IfErr result ((tables T.seen tp.old tp.new).IsFault (length (graph_of graph).arcs)) }
+        × IsTextIfThere T.seen tp.old tp.new text × IsTableOf (length (raw_graph graph).arcs) text table
+        × IsRoadOf (record { graph = raw_graph graph; table = table }) road) }
+    ensures fault { IfErr result ((tables T.seen tp.old tp.new).IsFault (length (raw_graph graph).arcs)) }
 {
     let table = read_table(alloc, tp, graph.arcs.len() as u32)?;
     let road = road_of(alloc, graph, table)?;

@@ -6,7 +6,7 @@ ghost use Rattle.ea_input.specs.Table.{Table};
 ghost use Rattle.ea_input.specs.TableViews.{table as table_of};
 ghost use Rattle.ea_road.specs.Assigned.{ArePlain};
 ghost use Rattle.ea_road.specs.Roads.{top_class};
-ghost use Rattle.ea_files.specs.Given.{Denotes, Given, IsRoadOf, IsTableOf, graph_of};
+ghost use Rattle.ea_files.specs.Given.{Denotes, Given, IsRoadOf, IsTableOf, raw_graph};
 ghost use Rattle.ea_files.specs.Texts.{IsGraphFault, IsTableFault, IsTextFault, text_if_any};
 
 use crate::fault::{FileFault, FileWord};
@@ -18,7 +18,7 @@ use std::alloc::Global;
 
 /// The graph of a text.
 fn graph_in(alloc: Global, gr: &[u8]) -> Result<RawGraph<Arc>, FileFault>
-    ensures denoted { IfOk result (λ found. DenotesGraph (field_lines gr.now) (graph_of found)) }
+    ensures denoted { IfOk result (λ found. DenotesGraph (field_lines gr.now) (raw_graph found)) }
     ensures plain { IfOk result (λ found. ArePlain found.arcs.items) }
     ensures fault { IfErr result (IsGraphFault gr.now) }
 {
@@ -44,14 +44,14 @@ fn table_in(alloc: Global, tp: &[u8], arcs: u32) -> Result<RawTable, FileFault>
 
 /// The road of a graph and a text of timetables.
 fn road_with(alloc: Global, graph: RawGraph<Arc>, tp: &[u8]) -> Result<Road, FileFault>
-    requires denoted { (lines : List (List (List ℕ))) × DenotesGraph lines (graph_of graph) }
+    requires denoted { (lines : List (List (List ℕ))) × DenotesGraph lines (raw_graph graph) }
     requires plain { ArePlain graph.arcs.items }
     ensures road { IfOk result (λ road. (table : Table)
-        × IsTableOf (length (graph_of graph).arcs) (text_if_any tp.now) table
-        × IsRoadOf (record { graph = graph_of graph; table = table }) road) }
+        × IsTableOf (length (raw_graph graph).arcs) (text_if_any tp.now) table
+        × IsRoadOf (record { graph = raw_graph graph; table = table }) road) }
     ensures classed { IfOk result (λ road.
         top_class road.network.arcs ≤ length road.times.list.items) }
-    ensures fault { IfErr result (IsTableFault (length (graph_of graph).arcs) tp.now) }
+    ensures fault { IfErr result (IsTableFault (length (raw_graph graph).arcs) tp.now) }
 {
     let table = table_in(alloc, tp, graph.arcs.len() as u32)?;
     let road = road_of(alloc, graph, table)?;

@@ -10,7 +10,7 @@ ghost use Rattle.ea_input.specs.Table.{Table};
 ghost use Rattle.ea_input.specs.TableViews.{table};
 ghost use Rattle.ea_files.specs.Files.{bytes_there, IsBorneIfThere, IsFaultIfThere, IsFaultIn, IsFileText, IsFirstFault, IsStreamFaultAs, IsTextIfThere, reading, tables};
 ghost use Rattle.ea_road.specs.Assigned.{ArePlain};
-ghost use Rattle.ea_files.specs.Given.{AreGiven, Given, IsRoadOf, IsTableOf, given_by, graph_of};
+ghost use Rattle.ea_files.specs.Given.{AreGiven, Given, IsRoadOf, IsTableOf, given_by, raw_graph};
 ghost use Rattle.ea_files.specs.Sound.{IsSound};
 
 use crate::fault::{FileFault, FileWord};
@@ -55,7 +55,7 @@ pub(crate) fn read_graph_by<H: Threads + Sync, R: ByteIn>(
 ) -> Result<RawGraph<Arc>, FileFault>
     ensures denoted { IfOk result
         (λ found. (text : List ℕ) × IsFileText (reading R.seen gr.old gr.new) text
-        × DenotesGraph (field_lines text) (graph_of found)) }
+        × DenotesGraph (field_lines text) (raw_graph found)) }
     ensures plain { IfOk result (λ found. ArePlain found.arcs.items) }
     ensures fault { IfErr result
         (IsFaultIn FileWord.Gr graph_format (reading R.seen gr.old gr.new)) }
@@ -167,12 +167,12 @@ pub(crate) fn read_road_by<H: Threads + Sync, T: ByteIn>(
     graph: RawGraph<Arc>,
     tp: &mut Option<T>,
 ) -> Result<Road, FileFault>
-    requires denoted { (lines : List (List (List ℕ))) × DenotesGraph lines (graph_of graph) }
+    requires denoted { (lines : List (List (List ℕ))) × DenotesGraph lines (raw_graph graph) }
     requires plain { ArePlain graph.arcs.items }
     ensures road { IfOk result (λ road. (text : Option (List ℕ)) × (table : Table)
-        × IsTextIfThere T.seen tp.old tp.new text × IsTableOf (length (graph_of graph).arcs) text table
-        × IsRoadOf (record { graph = graph_of graph; table = table }) road) }
-    ensures fault { IfErr result ((tables T.seen tp.old tp.new).IsFault (length (graph_of graph).arcs)) }
+        × IsTextIfThere T.seen tp.old tp.new text × IsTableOf (length (raw_graph graph).arcs) text table
+        × IsRoadOf (record { graph = raw_graph graph; table = table }) road) }
+    ensures fault { IfErr result ((tables T.seen tp.old tp.new).IsFault (length (raw_graph graph).arcs)) }
 {
     let table = read_table_by(alloc, rt, tp, graph.arcs.len() as u32)?;
     let road = road_of_by(alloc, rt, graph, table)?;
