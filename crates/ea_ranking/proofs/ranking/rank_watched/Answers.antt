@@ -38,7 +38,8 @@ rank_each-requires-clause-problems g c =
     let o = c.args.options.now in
     let nodes = sources_are_nodes given.0.graph.nodes _ files.sources.items given.1.starts_denoted in
     let sound = given_is_sound DenotesSources _ _ _ given.0 files.sources.items given.1 in
-    let within : AreWithin o.depart o.gap (length files.sources.items) = search rules in
+    let fits : IsTrue c.departures_fit.result = search rules in
+    let within : AreWithin o.depart o.gap (length files.sources.items) = λ i inside. c.departures_fit.ensures.0 fits i (omega (arith, inside, files.sources.ok.0)) in
     let queries = c.deref-2.ensures.value ∙ c.in_ok-queries.ensures ∙ ap (run_problems false o.depart o.gap) c.deref.ensures.value in
     subst (AreProblems files.road) (sym queries) (run_is_posed given.0 files.road given.2 sound o.depart o.gap false files.sources.items nodes within)
 
