@@ -65,7 +65,8 @@ check_watched-verdict-requires g c =
     let o = c.args.options.now in
     let nodes = sources_are_nodes given.0.graph.nodes _ files.sources.items given.1.starts_denoted in
     let sound = given_is_sound DenotesSources _ _ _ given.0 files.sources.items given.1 in
-    let within : AreWithin o.depart o.gap (length files.sources.items) = search rules in
+    let fits : IsTrue c.departures_fit.result = search rules in
+    let within : AreWithin o.depart o.gap (length files.sources.items) = λ i inside. c.departures_fit.ensures.0 fits i (omega (arith, inside, files.sources.ok.0)) in
     let queries = c.deref-2.ensures.value ∙ c.in_ok-queries.ensures ∙ ap (run_problems o.joint o.depart o.gap) c.deref.ensures.value in
     each_asked files.road c.deref-2.result.now
     (subst (AreProblems files.road) (sym queries) (run_is_posed given.0 files.road given.2 sound o.depart o.gap o.joint files.sources.items nodes within))
@@ -76,7 +77,8 @@ returns-clause-judged g c =
     let given = c.in_ok-files.ensures.given in
     let found = c.in_ok-files.files in
     let o = c.args.options.now in
-    let within : AreWithin o.depart o.gap (length found.sources.items) = search rules in
+    let fits : IsTrue c.departures_fit.result = search rules in
+    let within : AreWithin o.depart o.gap (length found.sources.items) = λ i inside. c.departures_fit.ensures.0 fits i (omega (arith, inside, found.sources.ok.0)) in
     let queries = c.deref-2.ensures.value ∙ c.in_ok-queries.ensures ∙ ap (run_problems o.joint o.depart o.gap) c.deref.ensures.value in
     let gr = reading g.G.Device.seen c.args.gr.now c.read_run.new.gr in
     let ss = reading g.S.Device.seen c.args.ss.now c.read_run.new.ss in
