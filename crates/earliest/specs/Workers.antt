@@ -1,6 +1,9 @@
 -- How options set up the workers of a run.
-use Rattle.std.specs.Prelude.{ℕ, ◌==◌, if◌then◌else◌, unwrap_or}
+use Rattle.std.specs.Prelude.{ℕ, ◌<◌, ◌==◌, List, if◌then◌else◌, length, slice_index_or, unwrap_or}
+use Rattle.ea_engine.specs.declared.homing.Homing.{Homing}
 use Rattle.ea_engine.specs.declared.settings.Settings.{Settings}
+use Rattle.ea_engine.specs.Homes.{IsAtHome}
+use Rattle.ea_ranking.specs.Generators.{generator_from, seed_of_worker}
 use Rattle.ea_words.specs.Limits.{counted_workers}
 use Rattle.ea_words.specs.declared.options.RunOptions.{RunOptions}
 
@@ -25,3 +28,7 @@ settings_with options workers = record {
 -- The workers of statistics.
 abbrev pub settings_by : RunOptions → Settings
 settings_by options = settings_with options (counted_workers options)
+
+-- The generator of each worker is that of its seed, and keeps it mostly at its own heaps.
+abbrev pub AreAtHome : ℕ → Settings → List (Homing (List ℕ)) → Type 0
+AreAtHome seed settings rngs = (i : ℕ) (rng : Homing (List ℕ)) → i < length rngs → IsAtHome (generator_from (seed_of_worker seed i)) i settings.workers settings.heaps (slice_index_or rngs i rng)

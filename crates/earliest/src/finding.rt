@@ -9,7 +9,7 @@ ghost use Rattle.ea_words.specs.Limits.{AreOptions, counted_workers};
 ghost use Rattle.earliest.specs.Counted.{AreBalanced, AreSmall, IsTotal, KeepsOn, totals_by};
 ghost use Rattle.ea_ranking.specs.Generators.{generators_from};
 ghost use Rattle.earliest.specs.Solved.{AnswersOn, ArrivesOn, Serves};
-ghost use Rattle.earliest.specs.Workers.{settings_with};
+ghost use Rattle.earliest.specs.Workers.{AreAtHome, settings_with};
 
 use crate::totals::work_of;
 use ea_engine::{
@@ -127,6 +127,7 @@ fn homing_generators(
 ) -> Result<Vec<Homing<Xoshiro256PlusPlus>>, AllocError>
     requires settings { AreSettings settings }
     ensures one_each { IfOk result (λ rngs. vec_len rngs ≡ settings.workers) }
+    ensures seeded { IfOk result (λ rngs. AreAtHome seed settings rngs.items) }
 {
     let workers = settings.workers;
     let mut rngs = Vec::with_capacity(alloc, workers as usize)?;
