@@ -85,13 +85,9 @@ def filed(program):
         yield "a link's file", into(program, f"run four-nodes.gr four-nodes.ss -o {folder}/link", name), (0, b"", b"", linked)
 
 
-# A call of each command that writes a report.
-REPORTS = ("run four-nodes.gr four-nodes.ss", "pairs four-nodes.gr four-nodes.p2p", "rank four-nodes.gr four-nodes.ss --workers 1")
-
-
 def unwritten(program):
-    """Reports, and texts that were asked for: into a full device they fail with a line, into a closed pipe without."""
-    for words in ("", *REPORTS, "check four-nodes.gr four-nodes.ss four-nodes.report", "--help", "run --help", "--version", "explain", "explain 6", "formats"):
+    """Texts that were asked for: into a full device they fail with a line, into a closed pipe without."""
+    for words in ("", "check four-nodes.gr four-nodes.ss four-nodes.report", "--help", "run --help", "--version", "explain", "explain 6", "formats"):
         with open("/dev/full", "wb") as full:
             run = subprocess.run([program, *words.split()], cwd=EXAMPLES, stdin=subprocess.DEVNULL, stdout=full, stderr=subprocess.PIPE, timeout=60)
         yield f"into a full device: {words}", (run.returncode, run.stderr), (4, UNWRITTEN)
