@@ -69,3 +69,7 @@ pub record KeepsCounts (old new : Member) : Type 0 where
   pub idle : new.idle ≡ old.idle
   pub quiet : new.quiet ≡ old.quiet
   pub alone : new.alone ≡ old.alone
+
+-- At a look a member may find all others idle once more; no other turn counts for that.
+abbrev pub LooksOnce : ℕ → Member → Member → Type 0
+LooksOnce number old new = (new.alone ≤ old.alone) ⊎ (IsLook number × (new.alone ≤ old.alone + 1))

@@ -1,6 +1,6 @@
 //! Workers that notice together that nothing is left to do.
 ghost use Rattle.std.specs.Prelude.{◌≡◌, ℕ, ◌+◌, ◌/◌, ◌<◌, ◌≤◌, ◌⊎◌, false};
-ghost use Rattle.ea_engine.specs.Companies.{idle_with, IsIdleFor, IsLook, KeepsCounts, LeavesAs};
+ghost use Rattle.ea_engine.specs.Companies.{idle_with, IsIdleFor, IsLook, KeepsCounts, LeavesAs, LooksOnce};
 
 use crate::turn::{Flow, Turn, TurnKind};
 use std::sync::atomic::Ordering::SeqCst;
@@ -130,6 +130,7 @@ impl Member<'_> {
         ensures leaves { LeavesAs turn.kind turn.number self.old result }
         ensures idle { (turns : ℕ) → IsIdleFor self.old turns
             → IsIdleFor self.new (idle_with turns turn.kind) }
+        ensures alone { LooksOnce turn.number self.old self.new }
     {
         match turn.kind {
             TurnKind::Empty | TurnKind::Busy => self.found_nothing(),
@@ -175,6 +176,7 @@ impl Member<'_> {
         ensures idle { self.new.idle ≤ self.old.idle + 1 }
         ensures quiet { (self.new.quiet ≡ 0) ⊎ (self.new.quiet ≡ self.old.quiet)
             ⊎ ((self.new.quiet ≤ self.old.quiet + 1) × (15 ≤ self.old.idle)) }
+        ensures alone { self.new.alone ≡ self.old.alone }
     {
         self.idle = self.idle.saturating_add(1);
         self.pauses = self.pauses.wrapping_add(1 << self.idle.min(6));
@@ -222,6 +224,7 @@ impl Member<'_> {
         ensures leaves { result ≡ Flow.Leave → IsLook number
             × ((255 ≤ self.old.alone) ⊎ (self.old.company.now.most_falls < NO_LIMIT)) }
         ensures idle { (self.new.idle ≡ 0) × (self.new.quiet ≡ 0) }
+        ensures alone { LooksOnce number self.old self.new }
     {
         self.idle = 0;
         self.quiet = 0;
