@@ -11,7 +11,7 @@ use crate::pieces::{BlockReader, end_of_lines, read_more};
 use ea_text::{Blocks, ByteIn, ReadFault};
 use std::alloc::Global;
 use std::mem;
-use std::thread::{Threads, join_mut};
+use std::thread::{Threads, join_mut, yield_now};
 use thiserror::Error;
 
 /// Why the text of a device gave nothing.
@@ -135,7 +135,11 @@ fn take_and_fill<H: Threads + Sync, R: BlockReader, D: ByteIn>(
         requires { HasRoom blocks.now }
         ensures { IsFilled size (D.seen device.entry.now) blocks.entry.now (D.seen device.exit.now) blocks.exit.now
             block.entry.now.items block.exit.now.items result }
-    { fill(device, blocks, block, size.max(lines.len().min(size))) };
+    {
+        // A system may start the thread that reads lines on this processor, behind this thread: it goes first, since it takes longer.
+        yield_now();
+        fill(device, blocks, block, size.max(lines.len().min(size)))
+    };
     let (_, ended) = join_mut(rt, &mut taking, &mut filling);
     ended
 }
