@@ -1,7 +1,7 @@
 -- A graph that was read into arcs of class 0.
 use Rattle.std.proofs.Common.{◌≡◌, ◌∙◌, ℕ, List, ap, length, map, subst, sym}
 use Rattle.std.proofs.lemmas.List.{length-map}
-use Rattle.ea_input.specs.Graph.{DenotesGraph, DenotesMade, Graph, GraphOf, made_graph}
+use Rattle.ea_input.specs.Graph.{DenotesGraph, DenotesMade, GraphOf}
 use Rattle.ea_input.specs.Views.{graph}
 use Rattle.ea_input.specs.declared.graph.RawArc.{RawArc}
 use Rattle.ea_input.specs.declared.graph.RawGraph.{RawGraph}
