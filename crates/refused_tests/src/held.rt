@@ -1,6 +1,6 @@
 //! Calls that need little memory, whatever the size of the network, where little is left.
 use ea_finish::{Answer, Open, arrivals_alone, solve_alone};
-use ea_input::StdOut;
+use ea_input::{FaultKind, InputFault, StdOut, read_gr, read_p2p, read_ss, read_tp};
 use ea_report::{ReportOptions, write_problem};
 use ea_road::{Arc, Network, Query, Source, Timetables, is_problem};
 use std::alloc::{AllocError, Global};
@@ -164,5 +164,40 @@ fn worklist_without_walks_has_no_links(rt: HostRuntime) -> Result<(), Fail> {
         0 < without && without.saturating_add(links) <= with,
         "{without} and {with}"
     );
+    Ok(())
+}
+
+/// The fault of a text that is read.
+fn kind_of<T: Drop>(read: Result<T, InputFault>) -> Option<FaultKind> {
+    match read {
+        Ok(_) => None,
+        Err(fault) => Some(fault.kind),
+    }
+}
+
+/// The faults of texts that announce the most that there may be and have a line of it, where some 20,000 bytes are left.
+fn announced(alloc: Global) -> Result<[Option<FaultKind>; 4], Fail> {
+    let mut small = Held::new(alloc, 20_000)?;
+    let sizes = pieces(alloc, 20_000, 1, 0)?;
+    let mut large = Held::of_large(alloc, 4)?;
+    let mut found = [None; 4];
+    for piece in sizes {
+        small.leave(piece);
+        found = [
+            kind_of(read_gr(alloc, b"p sp 67108864 268435456\na 1 2 7\n")),
+            kind_of(read_ss(alloc, b"p aux sp ss 1000000\ns 1\n", 4)),
+            kind_of(read_p2p(alloc, b"p aux sp p2p 1000000\nq 1 2\n", 4)),
+            kind_of(read_tp(alloc, b"p tp 65535 268435456\nk 1 plain\n", 4)),
+        ];
+        small.release();
+    }
+    large.release();
+    Ok(found)
+}
+
+#[test]
+fn announced_lines_take_no_memory(rt: HostRuntime) -> Result<(), Fail> {
+    let found = announced(rt.alloc())?;
+    assert_eq!(rt; found, [Some(FaultKind::TooFewLines); 4]);
     Ok(())
 }
