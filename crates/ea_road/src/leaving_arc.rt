@@ -3,8 +3,7 @@ ghost use Rattle.ea_road.specs.Roads.{with_tail, without_tail};
 
 use crate::arc::Arc;
 
-/// An arc among those that leave a node: an `Arc` without its tail, which is that node. Of these there are three to two of the
-/// others in the same memory.
+/// An arc among those that leave a node: an `Arc` without its tail, which is that node, in 12 bytes in place of 16.
 #[derive(Clone, Copy, Debug, PartialEq, Eq)]
 pub struct LeavingArc {
     /// The node that it leads to.
