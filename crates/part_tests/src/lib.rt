@@ -9,6 +9,8 @@ mod constants;
 #[cfg(test)]
 mod heaps;
 #[cfg(test)]
+mod networks;
+#[cfg(test)]
 mod refused;
 #[cfg(test)]
 mod searched;
