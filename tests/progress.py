@@ -8,7 +8,8 @@ import time
 
 HERE = os.path.dirname(os.path.abspath(__file__))
 EXAMPLES = os.path.join(HERE, "..", "examples")
-PAUSE = 1.2
+# A machine with much other work may begin a program some tenths of a second late.
+PAUSE = 2.0
 LINE = re.compile(rb"earliest: (\d+) of (\d+) problems, (\d+) s\n")
 
 
