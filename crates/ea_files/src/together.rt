@@ -179,7 +179,7 @@ pub(crate) fn read_road_by<H: Threads + Sync, T: ByteIn>(
     Ok(road)
 }
 
-/// Reads the files of a run as `read_run` does, block by block, and by up to three threads at once where there are several processors.
+/// Reads the files of a run as `read_run` does, block by block, and by up to five threads at once where there are several processors.
 pub fn read_run_by<H: Threads + Sync, G: ByteIn, S: ByteIn, T: ByteIn>(
     alloc: Global,
     rt: &H,

@@ -1,6 +1,6 @@
 //! Lines that are read by two threads: a text is cut after a line feed, and each thread reads a piece. The first goes on where the
 //! lines before ended, the second begins aside. Where the second has a fault, or what it read can't be put behind what the first
-//! read, the first reads the second piece too, and finds the first fault.
+//! read, the first reads the second piece too, and finds the first fault. Of four threads two read each piece in the same way.
 ghost use Rattle.std.specs.Prelude.{◌≡◌, ◌<◌, ◌≤◌, ◌+◌, ◌^◌, ◌++◌, IfNone, IfSome, Ok, length, take, true};
 ghost use Rattle.ea_input.specs.Pieces.{IsTakenUp};
 ghost use Rattle.ea_input.specs.Reading.{ReadsAll};
@@ -112,6 +112,26 @@ fn take_up<R: BlockReader>(reader: &mut R, aside: R, read: Result<u64, InputFaul
     }
 }
 
+/// Reads the back of a text, before which so many lines stood, and which a reader aside has read to this: it is put behind what stands
+/// before it or, where it doesn't fit there, the lines are read once more.
+fn read_back<R: BlockReader>(
+    alloc: Global,
+    reader: &mut R,
+    aside: R,
+    read: Result<u64, InputFault>,
+    before: u64,
+    back: &[u8],
+) -> Result<u64, InputFault>
+    requires few { before + length back.now < 2 ^ 64 }
+    requires aside { (start : R) × R.IsAside start × ReadsAll R.step R.state 0 start aside back.now read }
+    ensures { ReadsAll R.step R.state before reader.old reader.new back.now result }
+{
+    match take_up(reader, aside, read) {
+        Some(count) => Ok(before + count),
+        None => read_lines(alloc, reader, before, back),
+    }
+}
+
 /// Reads the lines of a text as `read_lines` does, by two threads, each of which reads about half of it.
 pub(crate) fn read_halves<R: BlockReader, H: Threads + Sync>(
     alloc: Global,
@@ -133,20 +153,89 @@ pub(crate) fn read_halves<R: BlockReader, H: Threads + Sync>(
     };
     let mut beside = aside;
     let (there, read) = read_both(alloc, rt, halves, reader, &mut beside);
-    let between = match read {
-        Ok(line) => line,
-        Err(fault) => return Err(fault),
+    match read {
+        Ok(line) => read_back(alloc, reader, beside, there, line, back),
+        Err(fault) => Err(fault),
+    }
+}
+
+/// Reads the lines of a text as `read_lines` does, by two threads where that is better.
+fn read_by_two<R: BlockReader, H: Threads + Sync>(
+    alloc: Global,
+    rt: &H,
+    reader: &mut R,
+    before: u64,
+    text: &[u8],
+) -> Result<u64, InputFault>
+    requires few { before + length text.now < 2 ^ 64 }
+    ensures { ReadsAll R.step R.state before reader.old reader.new text.now result }
+{
+    match reader.aside(alloc) {
+        Some(aside) => read_halves(alloc, rt, reader, aside, before, text),
+        None => read_lines(alloc, reader, before, text),
+    }
+}
+
+/// Reads the front of a text after the lines before it, while other threads read its back aside: each of the two by two threads.
+fn read_both_by_two<R: BlockReader, H: Threads + Sync>(
+    alloc: Global,
+    rt: &H,
+    halves: Halves<'_>,
+    reader: &mut R,
+    aside: &mut R,
+) -> (Result<u64, InputFault>, Result<u64, InputFault>)
+    requires few { halves.before + length halves.front.now < 2 ^ 64 }
+    ensures aside { ReadsAll R.step R.state 0 aside.old aside.new
+        halves.entry.back.now result.0 }
+    ensures read { ReadsAll R.step R.state halves.entry.before reader.old reader.new
+        halves.entry.front.now result.1 }
+{
+    let Halves {
+        front,
+        back,
+        before,
+    } = halves;
+    let mut beside = move || -> Result<u64, InputFault> { read_by_two(alloc, rt, aside, 0, back) };
+    let mut going_on = move || -> Result<u64, InputFault>
+        requires { before + length front.now < 2 ^ 64 }
+    { read_by_two(alloc, rt, reader, before, front) };
+    join_mut(rt, &mut beside, &mut going_on)
+}
+
+/// Reads the lines of a text as `read_lines` does, by four threads, each of which reads about a quarter of it.
+pub(crate) fn read_quarters<R: BlockReader, H: Threads + Sync>(
+    alloc: Global,
+    rt: &H,
+    reader: &mut R,
+    aside: R,
+    before: u64,
+    text: &[u8],
+) -> Result<u64, InputFault>
+    requires few { before + length text.now < 2 ^ 64 }
+    requires aside { R.IsAside aside }
+    ensures { ReadsAll R.step R.state before reader.old reader.new text.now result }
+{
+    let (front, back) = cut_after(text, text.len() / 2);
+    let halves = Halves {
+        front,
+        back,
+        before,
     };
-    match take_up(reader, beside, there) {
-        Some(count) => Ok(between + count),
-        None => read_lines(alloc, reader, between, back),
+    let mut beside = aside;
+    let (there, read) = read_both_by_two(alloc, rt, halves, reader, &mut beside);
+    match read {
+        Ok(line) => read_back(alloc, reader, beside, there, line, back),
+        Err(fault) => Err(fault),
     }
 }
 
 /// How many bytes a text has at least that is read by two threads.
 const LEAST_TEXT: usize = 65_536;
 
-/// Reads all lines of a text, before which so many lines stood, by two threads where there are as many and that is better.
+/// How many bytes a text has at least that is read by four.
+const LEAST_OF_FOUR: usize = 524_288;
+
+/// Reads all lines of a text, before which so many lines stood, by two or four threads where there are as many and that is better.
 pub(crate) fn read_more<R: BlockReader, H: Threads + Sync>(
     alloc: Global,
     rt: &H,
@@ -161,8 +250,11 @@ pub(crate) fn read_more<R: BlockReader, H: Threads + Sync>(
     if threads < 2 || text.len() < LEAST_TEXT {
         return read_lines(alloc, reader, before, text);
     }
+    if threads < 4 || text.len() < LEAST_OF_FOUR {
+        return read_by_two(alloc, rt, reader, before, text);
+    }
     match reader.aside(alloc) {
-        Some(aside) => read_halves(alloc, rt, reader, aside, before, text),
+        Some(aside) => read_quarters(alloc, rt, reader, aside, before, text),
         None => read_lines(alloc, reader, before, text),
     }
 }

@@ -1,7 +1,7 @@
 //! Texts of devices, block by block and by several threads: each gives what it gives as a text in memory.
 use super::*;
-use crate::graph;
-use crate::pieces::{BlockReader, read_halves};
+use crate::graph::{self, GraphReader};
+use crate::pieces::{BlockReader, read_halves, read_quarters};
 use crate::reading::{LineReader, read_lines};
 use crate::streams::{Way, read_device};
 use std::alloc::Global;
@@ -91,23 +91,26 @@ fn is_read_as_text<H: Threads + Sync>(
     }
 }
 
-/// Whether the lines after a text's problem line give by two threads what they give by one: the same arcs and lines, or the same
-/// fault.
-fn halves_are_read_as_one<H: Threads + Sync>(alloc: Global, rt: &H, text: &[u8]) -> bool {
-    let mut one = graph::start::<RawArc>(alloc);
-    let mut two = graph::start::<RawArc>(alloc);
-    if read_lines(alloc, &mut one, 0, b"p sp 4 5\n").is_err()
-        || read_lines(alloc, &mut two, 0, b"p sp 4 5\n").is_err()
-    {
-        return false;
+/// A reader of a graph of four nodes and five arcs, whose problem line is read.
+fn begun(alloc: Global) -> Option<GraphReader<RawArc>> {
+    let mut reader = graph::start::<RawArc>(alloc);
+    match read_lines(alloc, &mut reader, 0, b"p sp 4 5\n") {
+        Ok(_) => Some(reader),
+        Err(_) => None,
     }
-    let Some(aside) = two.aside(alloc) else {
-        return false;
-    };
+}
+
+/// Whether the lines after a text's problem line give by two threads, and by four, what they give by one: the same arcs and lines, or
+/// the same fault.
+fn pieces_are_read_as_one<H: Threads + Sync>(alloc: Global, rt: &H, text: &[u8]) -> Option<bool> {
+    let (mut one, mut two, mut four) = (begun(alloc)?, begun(alloc)?, begun(alloc)?);
+    let (aside_of_two, aside_of_four) = (two.aside(alloc)?, four.aside(alloc)?);
     let by_one = read_lines(alloc, &mut one, 1, text);
-    let by_two = read_halves(alloc, rt, &mut two, aside, 1, text);
-    let same = by_one == by_two;
-    same && (by_one.is_err() || one.arcs.as_slice() == two.arcs.as_slice())
+    let by_two = read_halves(alloc, rt, &mut two, aside_of_two, 1, text);
+    let by_four = read_quarters(alloc, rt, &mut four, aside_of_four, 1, text);
+    let arcs = one.arcs.as_slice();
+    let same = arcs == two.arcs.as_slice() && arcs == four.arcs.as_slice();
+    Some(by_one == by_two && by_one == by_four && (by_one.is_err() || same))
 }
 
 #[test]
@@ -183,7 +186,7 @@ fn blocks_of_every_prefix(rt: HostRuntime) {
 }
 
 #[test]
-fn halves_of_lines(rt: HostRuntime) {
+fn pieces_of_lines(rt: HostRuntime) {
     let texts: [&[u8]; 9] = [
         b"",
         b"\n",
@@ -197,7 +200,11 @@ fn halves_of_lines(rt: HostRuntime) {
     ];
     for text in texts {
         for n in 0..=text.len() {
-            assert!(rt; halves_are_read_as_one(rt.alloc(), &rt, &text[..n]), "{n}");
+            assert_eq!(rt;
+                pieces_are_read_as_one(rt.alloc(), &rt, &text[..n]),
+                Some(true),
+                "{n}"
+            );
         }
     }
 }

@@ -69,6 +69,9 @@ const BLOCK: usize = 1_048_576;
 /// How many it has where it is read while the next one is filled.
 const LARGE_BLOCK: usize = 4_194_304;
 
+/// How many bytes the first block has at most. One thread reads it, since two need to know what its first lines announce.
+const FIRST_BLOCK: usize = 65_536;
+
 /// How a device is read by so many threads.
 pub(crate) fn way_of(alloc: Global, threads: usize) -> Way
     ensures { 0 < result.size }
@@ -206,7 +209,7 @@ pub(crate) fn read_device<H: Threads + Sync, R: BlockReader, D: ByteIn>(
     };
     let mut block = Vec::new(alloc);
     let mut next = Vec::new(alloc);
-    let mut ended = match fill(device, &mut blocks, &mut block, way.size) {
+    let mut ended = match fill(device, &mut blocks, &mut block, way.size.min(FIRST_BLOCK)) {
         Ok(ended) => ended,
         Err(fault) => return Err(StreamFault::Read(fault)),
     };
