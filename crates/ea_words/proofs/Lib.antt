@@ -1,3 +1,4 @@
+pub mod Built
 pub mod Limits
 pub mod Named
 pub mod Refused

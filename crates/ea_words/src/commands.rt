@@ -1,6 +1,6 @@
 //! The commands, as clap is told of them.
 ghost use Rattle.std.specs.Prelude.{◌≡◌, IfOk, false};
-ghost use Rattle.clap.specs.Words.{app_of, with_subcommand};
+ghost use Rattle.clap.specs.Words.{app_of, new_app, with_subcommand};
 ghost use Rattle.clap.specs.declared.builder.command.Command.TheViews.{out-Command as fields_of};
 ghost use Rattle.ea_words.specs.Grammar.{run_app, pairs_app, rank_app, check_app, explain_app, formats_app, bare_program, program};
 
@@ -52,16 +52,28 @@ fn named<'a>(command: Command<'a>, name: &str) -> Result<Command<'a>, AllocError
     command.bin_name(name)
 }
 
+/// A command without arguments, with its texts and the name by which these call it.
+fn begun<'a>(
+    alloc: Global,
+    name: &'a str,
+    about: &'a str,
+    more: &'a str,
+    called: &str,
+) -> Result<Command<'a>, AllocError>
+    ensures app { IfOk result (λ c. app_of c ≡ new_app name.entry.now) }
+    ensures local { IfOk result (λ c. (fields_of c).has_globals ≡ false) }
+{
+    let command = Command::new(alloc, name).about(about).after_help(more);
+    named(command, called)
+}
+
 /// The command `run GR SS`.
 #[tactic(auto, unfolding(crate::specs::Grammar::run_app))]
 pub(crate) fn run_command<'a>(alloc: Global) -> Result<Command<'a>, AllocError>
     ensures app { IfOk result (λ c. app_of c ≡ run_app) }
     ensures local { IfOk result (λ c. (fields_of c).has_globals ≡ false) }
 {
-    let command = named(
-        Command::new(alloc, "run").about(RUN).after_help(RUN_MORE),
-        "earliest run",
-    )?;
+    let command = begun(alloc, "run", RUN, RUN_MORE, "earliest run")?;
     let command = with_arg(command, file(alloc, "gr", "GR", NETWORK))?;
     let command = with_arg(command, file(alloc, "ss", "SS", SOURCES))?;
     let command = with_departures(alloc, command)?;
@@ -82,12 +94,7 @@ pub(crate) fn pairs_command<'a>(alloc: Global) -> Result<Command<'a>, AllocError
     ensures app { IfOk result (λ c. app_of c ≡ pairs_app) }
     ensures local { IfOk result (λ c. (fields_of c).has_globals ≡ false) }
 {
-    let command = named(
-        Command::new(alloc, "pairs")
-            .about(PAIRS)
-            .after_help(PAIRS_MORE),
-        "earliest pairs",
-    )?;
+    let command = begun(alloc, "pairs", PAIRS, PAIRS_MORE, "earliest pairs")?;
     let command = with_arg(command, file(alloc, "gr", "GR", NETWORK))?;
     let command = with_arg(command, file(alloc, "p2p", "P2P", PAIRS_FILE))?;
     let command = with_departures(alloc, command)?;
@@ -104,12 +111,7 @@ pub(crate) fn rank_command<'a>(alloc: Global) -> Result<Command<'a>, AllocError>
     ensures app { IfOk result (λ c. app_of c ≡ rank_app) }
     ensures local { IfOk result (λ c. (fields_of c).has_globals ≡ false) }
 {
-    let command = named(
-        Command::new(alloc, "rank")
-            .about(RANK)
-            .after_help(RANK_MORE),
-        "earliest rank",
-    )?;
+    let command = begun(alloc, "rank", RANK, RANK_MORE, "earliest rank")?;
     let command = with_arg(command, file(alloc, "gr", "GR", NETWORK))?;
     let command = with_arg(command, file(alloc, "ss", "SS", SOURCES))?;
     let command = with_departures(alloc, command)?;
@@ -125,12 +127,7 @@ pub(crate) fn check_command<'a>(alloc: Global) -> Result<Command<'a>, AllocError
     ensures app { IfOk result (λ c. app_of c ≡ check_app) }
     ensures local { IfOk result (λ c. (fields_of c).has_globals ≡ false) }
 {
-    let command = named(
-        Command::new(alloc, "check")
-            .about(CHECK)
-            .after_help(CHECK_MORE),
-        "earliest check",
-    )?;
+    let command = begun(alloc, "check", CHECK, CHECK_MORE, "earliest check")?;
     let command = with_arg(command, file(alloc, "gr", "GR", NETWORK))?;
     let command = with_arg(command, file(alloc, "ss", "SS", SOURCES))?;
     let command = with_arg(
@@ -164,12 +161,7 @@ pub(crate) fn explain_command<'a>(alloc: Global) -> Result<Command<'a>, AllocErr
     ensures app { IfOk result (λ c. app_of c ≡ explain_app) }
     ensures local { IfOk result (λ c. (fields_of c).has_globals ≡ false) }
 {
-    let command = named(
-        Command::new(alloc, "explain")
-            .about(EXPLAIN)
-            .after_help(EXPLAIN_MORE),
-        "earliest explain",
-    )?;
+    let command = begun(alloc, "explain", EXPLAIN, EXPLAIN_MORE, "earliest explain")?;
     let command = with_arg(
         command,
         optional(alloc, "fault", "FAULT", "The number or the name of a fault"),
