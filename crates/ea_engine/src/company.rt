@@ -16,7 +16,8 @@ const QUIET_AFTER: u32 = 32;
 /// After how many turns in a row that found nothing a worker lets others run.
 const YIELDS_AFTER: u32 = 64;
 
-/// After how many visits while all others were idle a worker leaves: what is left is quicker searched by one thread.
+/// After how many looks in a row that found others idle and none active a worker leaves: what is left is quicker searched by
+/// one thread.
 const ALONE_AFTER: u32 = 256;
 
 /// From which turn on a worker looks at the others, at every 64th turn that visits an entry.
@@ -45,6 +46,8 @@ pub struct Company {
     active: AtomicUsize,
     /// Whether a worker has found an entry.
     begun: AtomicBool,
+    /// Those that are idle. Who has not begun is not among them.
+    idle: AtomicUsize,
     /// How many labels fell, how many entries were visited, and how many pauses were made, up to each worker's last look.
     falls: AtomicU64,
     visits: AtomicU64,
@@ -98,6 +101,7 @@ impl Company {
         Company {
             active: AtomicUsize::new(1),
             begun: AtomicBool::new(false),
+            idle: AtomicUsize::new(0),
             falls: AtomicU64::new(0),
             visits: AtomicU64::new(0),
             pauses: AtomicU64::new(0),
@@ -147,7 +151,7 @@ impl Member<'_> {
         }
     }
 
-    /// It is idle from now on.
+    /// It is active no longer.
     fn rest(&mut self)
         ensures { KeepsCounts self.old self.new }
     {
@@ -157,7 +161,7 @@ impl Member<'_> {
         }
     }
 
-    /// It is idle no longer.
+    /// It is active from now on.
     fn rise(&mut self)
         ensures rest { KeepsCounts self.old self.new }
         ensures limit { self.new.company.now.most_falls ≡ self.old.company.now.most_falls }
@@ -183,6 +187,9 @@ impl Member<'_> {
         if self.idle < IDLE_AFTER {
             return Flow::Go;
         }
+        if self.idle == IDLE_AFTER {
+            self.company.idle.fetch_add(1, SeqCst);
+        }
         self.rest();
         if self.company.active.load(SeqCst) > 0 {
             self.quiet = 0;
@@ -198,21 +205,30 @@ impl Member<'_> {
         Flow::Go
     }
 
+    /// Whether others are idle and none is active, though what it visited since its last look leads on: for every two entries a
+    /// label fell. What leads nowhere is sooner visited than handed back.
+    fn is_alone(&self) -> bool {
+        self.falls >= self.visits / 2
+            && self.company.active.load(SeqCst) < 2
+            && self.company.idle.load(SeqCst) > 0
+    }
+
     /// Tells the company what it did since its last look: whether several workers still gain time.
     #[inline(never)]
     fn gains(&mut self) -> bool
         ensures limit { result ≡ false → self.old.company.now.most_falls < NO_LIMIT }
         ensures rest { KeepsCounts self.old self.new }
     {
-        if self.company.most_falls == NO_LIMIT {
-            return true;
-        }
-        let falls = told(&self.company.falls, self.falls);
-        let visits = told(&self.company.visits, self.visits);
-        let pauses = told(&self.company.pauses, self.pauses);
+        let (falls, visits, pauses) = (self.falls, self.visits, self.pauses);
         self.falls = 0;
         self.visits = 0;
         self.pauses = 0;
+        if self.company.most_falls == NO_LIMIT {
+            return true;
+        }
+        let falls = told(&self.company.falls, falls);
+        let visits = told(&self.company.visits, visits);
+        let pauses = told(&self.company.pauses, pauses);
         falls <= self.company.most_falls
             && pauses
                 <= visits
@@ -226,6 +242,9 @@ impl Member<'_> {
         ensures idle { (self.new.idle ≡ 0) × (self.new.quiet ≡ 0) }
         ensures alone { LooksOnce number self.old self.new }
     {
+        if self.idle >= IDLE_AFTER {
+            self.company.idle.fetch_sub(1, SeqCst);
+        }
         self.idle = 0;
         self.quiet = 0;
         self.visits = self.visits.wrapping_add(1);
@@ -233,11 +252,12 @@ impl Member<'_> {
         if number < LOOKS_FROM || number % LOOKS_EVERY > 0 {
             return Flow::Go;
         }
+        let alone = self.is_alone();
         if !self.gains() {
             self.rest();
             return Flow::Leave;
         }
-        if self.company.active.load(SeqCst) > 1 {
+        if !alone {
             self.alone = 0;
             return Flow::Go;
         }

@@ -63,14 +63,14 @@ fn a_refused_worker_leaves(rt: HostRuntime) {
     assert!(rt; !goes_on(&mut other, 100));
 }
 
-/// After how many visits a worker leaves that alone has something to do, at most so many.
-fn visits_alone(member: &mut Member<'_>, most: u64) -> u64 {
-    for number in 0..most {
-        if !after(member, number, TurnKind::Scanned) {
+/// After how many visits a worker leaves in each of which so many labels fall, at most 100,000.
+fn visits_of_falls(member: &mut Member<'_>, lowered: u64) -> u64 {
+    for number in 0..100_000 {
+        if !after_falls(member, number, TurnKind::Scanned, lowered) {
             return number;
         }
     }
-    most
+    100_000
 }
 
 #[test]
@@ -78,14 +78,31 @@ fn a_worker_that_is_long_alone_leaves(rt: HostRuntime) {
     let company = Company::new();
     let mut one = company.member();
     let mut other = company.member();
-    let alone = visits_alone(&mut one, 100_000);
+    assert!(rt; goes_on(&mut other, 20));
+    let alone = visits_of_falls(&mut one, 1);
     assert!(rt; alone > 10_000 && alone < 100_000);
     assert!(rt; !goes_on(&mut other, 1_000));
     let company = Company::new();
     let mut one = company.member();
     let mut other = company.member();
     assert!(rt; after(&mut other, 0, TurnKind::Scanned));
-    assert!(rt; visits_alone(&mut one, 100_000) == 100_000);
+    assert_eq!(rt; visits_of_falls(&mut one, 1), 100_000);
+}
+
+#[test]
+fn nobody_is_alone_before_others_begin(rt: HostRuntime) {
+    let company = Company::new();
+    let mut one = company.member();
+    assert_eq!(rt; visits_of_falls(&mut one, 1), 100_000);
+}
+
+#[test]
+fn nobody_leaves_from_visits_that_lead_nowhere(rt: HostRuntime) {
+    let company = Company::new();
+    let mut one = company.member();
+    let mut other = company.member();
+    assert!(rt; goes_on(&mut other, 20));
+    assert_eq!(rt; visits_of_falls(&mut one, 0), 100_000);
 }
 
 /// After how many visits a worker leaves in each of which ten labels fall, while another is active; at most 10,000.
