@@ -1,8 +1,16 @@
 -- A line of numbers at the front of a text.
-use Rattle.std.specs.Prelude.{true, ◌≡◌, ℕ, ◌<◌, ◌^◌, List, [], ◌∷◌, ◌++◌, length, codes, Some}
+use Rattle.std.specs.Prelude.{true, ◌≡◌, ℕ, ◌<◌, ◌≤◌, ◌%◌, ◌^◌, List, [], ◌∷◌, ◌++◌, length, take, codes, Some}
+use Rattle.std.specs.Float.Numeral.{digits_len}
 use Rattle.std.specs.Str.{all_ascii_digits}
 use Rattle.std.specs.Str.Lines.{strip_carriage_return}
+use Rattle.std.specs.Str.Parse.{digits_value}
 use Rattle.ea_text.specs.Text.{number_of, lines_of, fields_of}
+
+-- So many digits stand at the front of a text, and this is their value, wrapped to 64 bits.
+pub record AreLeading (text : List ℕ) (end value : ℕ) : Type 0 where
+  pub ends : end ≡ digits_len text
+  pub within : end ≤ length text
+  pub value_is : value ≡ digits_value 10 (take end text) % 2 ^ 64
 
 -- A text begins with this number and this byte, and goes on with the rest.
 abbrev pub NumberThen : List ℕ → ℕ → ℕ → List ℕ → Type 0

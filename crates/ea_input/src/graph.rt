@@ -195,6 +195,10 @@ pub(crate) struct GraphReader<A> {
     pub arcs: Vec<A>,
     /// Room for the arcs of a piece that another thread reads.
     pub spare: Vec<A>,
+    /// The same of a piece of what this reader goes on with meanwhile.
+    pub spare_here: Vec<A>,
+    /// The same of a piece of what the other thread reads.
+    pub spare_there: Vec<A>,
 }
 
 impl<A: MadeArc> GraphReader<A> {
@@ -275,6 +279,8 @@ pub(crate) fn start<A: MadeArc>(alloc: Global) -> GraphReader<A>
         size: None,
         arcs: Vec::new(alloc),
         spare: Vec::new(alloc),
+        spare_here: Vec::new(alloc),
+        spare_there: Vec::new(alloc),
     }
 }
 

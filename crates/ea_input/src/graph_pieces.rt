@@ -28,7 +28,8 @@ fn append<A: MadeArc>(reader: &mut GraphReader<A>, aside: GraphReader<A>) -> boo
     }
     match reader.arcs.append(&mut more) {
         Ok(()) => {
-            reader.spare = more;
+            reader.spare_here = mem::replace(&mut reader.spare, more);
+            reader.spare_there = aside.spare;
             true
         }
         Err(_) => false,
@@ -40,12 +41,15 @@ impl<A: MadeArc + Send> BlockReader for GraphReader<A> {
 
     fn aside(&mut self, alloc: Global) -> Option<GraphReader<A>> {
         let size = self.size?;
-        let mut arcs = mem::replace(&mut self.spare, Vec::new(alloc));
+        let here = mem::replace(&mut self.spare_here, Vec::new(alloc));
+        let mut arcs = mem::replace(&mut self.spare, here);
         arcs.clear();
         Some(GraphReader {
             size: Some(size),
             arcs,
-            spare: Vec::new(alloc),
+            spare: mem::replace(&mut self.spare_there, Vec::new(alloc)),
+            spare_here: Vec::new(alloc),
+            spare_there: Vec::new(alloc),
         })
     }
 

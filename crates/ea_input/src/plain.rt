@@ -2,29 +2,57 @@
 //! nothing else.
 ghost use Rattle.std.specs.Prelude.{◌≡◌, IfSome, codes, false};
 ghost use Rattle.std.specs.Char.{is_ascii_digit};
-ghost use Rattle.ea_input.specs.Ahead.{ArcThen, NumberThen, PairThen, TwoThen};
+ghost use Rattle.ea_input.specs.Ahead.{ArcThen, AreLeading, NumberThen, PairThen, TwoThen};
 
-/// A number of so many digits is less than 2^64.
+use core::dec2flt::read_digits;
+
+/// How many digits are read at once.
+const AT_ONCE: usize = 8;
+
+/// A number of fewer digits than this is less than 2^64.
 const MOST_DIGITS: usize = 19;
+
+/// As `leading_digits`, where more than eight digits may stand.
+#[cold]
+fn many_digits(text: &[u8]) -> (usize, u64)
+    ensures { AreLeading text.now result.0 result.1 }
+{
+    read_digits(text, 0, 0)
+}
+
+/// How many digits a text begins with, and their value, wrapped to 64 bits. Eight bytes are looked at at once: what is read of a
+/// text of eight has no loop.
+#[inline(always)]
+fn leading_digits(text: &[u8]) -> (usize, u64)
+    ensures { AreLeading text.now result.0 result.1 }
+{
+    if text.len() < AT_ONCE {
+        return many_digits(text);
+    }
+    let (end, value) = read_digits(&text[..AT_ONCE], 0, 0);
+    if end < AT_ONCE {
+        (end, value)
+    } else {
+        many_digits(text)
+    }
+}
 
 /// The number at the front of a text, where it ends in `stop` and has less than 19 digits, and the
 /// bytes after that.
+#[inline(always)]
 fn leading_number(text: &[u8], stop: u8) -> Option<(u64, &[u8])>
     requires { is_ascii_digit stop ≡ false }
     ensures { IfSome result (λ x. NumberThen text.now stop x.0 x.1.now) }
 {
-    let mut value: u64 = 0;
-    for i in 0..text.len().min(MOST_DIGITS) {
-        let b = text[i];
-        if b.is_ascii_digit() {
-            value = value * 10 + u64::from(b - b'0');
-        } else if b == stop && i > 0 {
-            return Some((value, &text[i + 1..]));
-        } else {
-            return None;
-        }
+    let (end, value) = leading_digits(text);
+    if end == 0 || end >= MOST_DIGITS || end == text.len() {
+        return None;
     }
-    None
+    if text[end] == stop {
+        Some((value, &text[end + 1..]))
+    } else {
+        None
+    }
 }
 
 /// The numbers of an arc's line.
