@@ -1,5 +1,5 @@
 //! The lines of a report.
-ghost use Rattle.std.specs.Prelude.{◌≡◌, ◌++◌, ℕ, List, OnOk, decimal, length, true};
+ghost use Rattle.std.specs.Prelude.{◌≡◌, ◌≤◌, ◌+◌, ◌++◌, ℕ, List, OnOk, Some, decimal, drop, length, true};
 ghost use Rattle.ea_report.specs.Report.{spaced, source_line, arrival_line, walk_line, pair_line, walk_text, node_text};
 ghost use Rattle.ea_road.specs.Queries.{IsAskedBy};
 ghost use Rattle.ea_road.specs.Roads.{IsNode};
@@ -9,7 +9,7 @@ ghost use Rattle.ea_report.specs.Walks.{arcs_text};
 use crate::walks::ArcTexts;
 use ea_finish::Answer;
 use ea_road::Source;
-use itoa::Buffer;
+use itoa::{Buffer, write_digits};
 use std::alloc::AllocError;
 
 /// Appends a number after a space.
@@ -32,6 +32,32 @@ pub(crate) fn push_source(text: &mut Vec<u8>, source: Source) -> Result<(), Allo
     Ok(())
 }
 
+/// How many bytes the line of an arrival has at most, and a few more.
+const LINE: usize = 64;
+
+/// Puts a number after a space before what stands in a line from this place on: where the space is.
+fn put_number(line: &mut [u8], end: usize, number: u64) -> usize
+    requires { (21 ≤ end) × (end ≤ length line.old) }
+    ensures start { result + length (spaced (decimal number)) ≡ end }
+    ensures low { end ≤ result + 21 }
+    ensures written { drop result line.new ≡ spaced (decimal number) ++ drop end line.old }
+{
+    let start = write_digits(number, line, end) - 1;
+    line[start] = b' ';
+    start
+}
+
+/// Appends the line of a known arrival, which is put together from its end.
+fn push_known(text: &mut Vec<u8>, node: u32, arrival: u64) -> Result<(), AllocError>
+    ensures { OnOk result (text.new.items ≡ text.old.items ++ arrival_line node (Some arrival)) }
+{
+    let mut line = [b'\n'; LINE];
+    let end = put_number(&mut line, LINE - 1, arrival);
+    let start = put_number(&mut line, end, u64::from(node)) - 1;
+    line[start] = b'd';
+    text.extend_from_slice(&line[start..])
+}
+
 /// Appends the line of an arrival.
 pub(crate) fn push_arrival(
     text: &mut Vec<u8>,
@@ -40,14 +66,14 @@ pub(crate) fn push_arrival(
 ) -> Result<(), AllocError>
     ensures { OnOk result (text.new.items ≡ text.old.items ++ arrival_line node arrival) }
 {
-    text.push(b'd')?;
-    push_number(text, u64::from(node))?;
     match arrival {
-        Some(arrival) => push_number(text, arrival)?,
-        None => text.extend_from_slice(b" inf")?,
+        Some(arrival) => push_known(text, node, arrival),
+        None => {
+            text.push(b'd')?;
+            push_number(text, u64::from(node))?;
+            text.extend_from_slice(b" inf\n")
+        }
     }
-    text.push(b'\n')?;
-    Ok(())
 }
 
 /// Appends the line of a walk of so many arcs, by their text.
