@@ -89,9 +89,11 @@ fn follow<T: TravelTimes, K: Track, W: Opens>(
 {
     network.keeps_limits();
     let _ = number;
-    // No arc arrives before it is left.
-    if table[arc.head as usize - 1] <= departure {
-        return;
+    // No arc arrives before it is left. Where all arcs are plain, a sum costs less than to look.
+    if network.top_class() > 0 {
+        if table[arc.head as usize - 1] <= departure {
+            return;
+        }
     }
     let arrival = times.arrive(arc.class, u64::from(arc.weight), departure);
     if arrival <= HORIZON {
