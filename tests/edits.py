@@ -1,27 +1,38 @@
 """The edits of crates/NAME/must-fail that the prover has to refuse, tried side by side.
 
-Most of the time of a check goes into what it loads. So edits of functions of which none names another are made together and tried in
-one check of these functions alone, in a folder in which they were proved as they stand: what a function promises rests on what others
-promise, and never on their bodies. An edit is refused there where one of its own functions isn't proved and a line says so of that
-function. What isn't refused so is tried alone, by a check of its functions; and where that refuses nothing, or the edit changes more
-than functions, rt's own trial of the whole crate decides. What is read as a refusal is what rt reads as one.
+Most of the time of a check goes into what it loads. So edits of functions of which none calls another are made together and tried in
+one check of these functions alone: what a function promises rests on what others promise, and never on their bodies. An edit is refused
+there where one of its own functions isn't proved and a line says so of that function; where rt says that a function calls another that
+isn't proved, its edit is tried again later. All this is done over one folder of kept work, over which these functions are proved as they
+stand once all edits were tried there: else nothing that was seen counts. What isn't refused so is tried alone, by a check of its
+functions; and where that refuses nothing, or the edit changes more than functions, rt's own trial of the whole crate decides. What is
+read as a refusal is what rt reads as one.
+
+What an edit came to is kept where rt keeps what its own runs proved, under a sum of all that it rests on, and taken from there where
+nothing has changed since.
 """
+import hashlib
+import json
 import os
 import re
-import shutil
-import subprocess
 import sys
 import tempfile
+from collections import namedtuple
 
 from crates import kit
 
 # At most so many edits go over the same kept work.
-TOGETHER = 24
+TOGETHER = 48
 
 FUNCTION = re.compile(r"^( *)(?:pub(?:\([^)]*\))? )?(?:final |const )*fn (\w+)", re.M)
+IMPL = re.compile(r"^impl\b.*$", re.M)
 
 # What a proof says of a name that an edit took away: it tells nothing of the contract.
 NAMES = re.compile(r"(\./)?proofs/.*(has no field|is not in scope|has no `|was not admitted)")
+
+# Where an edit changes a crate: the file, its module, the function and the type that it is of, and the function's text after its
+# name. The function is none where the change stands outside functions, the type where it is of none.
+Place = namedtuple("Place", "file module function type text")
 
 
 def edits_of(root, name):
@@ -58,27 +69,41 @@ def module_of(path):
     return "" if parts in (["lib"], ["main"]) else "::".join(parts)
 
 
-def function_at(text, old):
-    """The name and the text of the function in which a text stands; none outside functions."""
+def without_brackets(text):
+    """A text without what stands in angle brackets."""
+    while re.search(r"<[^<>]*>", text):
+        text = re.sub(r"<[^<>]*>", "", text)
+    return text
+
+
+def type_of(header):
+    """The type of an impl by its first line: Pool for `impl<K: Known> Closes for Pool<K>`."""
+    words = without_brackets(header.replace("->", "")).removeprefix("impl").partition(" where ")[0].strip(" {")
+    return re.sub(r"\W.*", "", words.rpartition(" for ")[2].strip(" &"))
+
+
+def place_of(file, text, old):
+    """Where in a file a text stands."""
     at = text.find(old)
     last = None
     for found in FUNCTION.finditer(text, 0, at + len(old)):
         last = found
     end = text.find(f"\n{last[1]}}}\n", last.end()) if last else -1
-    return (last[2], text[last.start():end]) if 0 <= at < end else (None, "")
+    if not 0 <= at < end:
+        return Place(file, module_of(file), None, None, "")
+    headers = IMPL.findall(text, 0, last.start()) if last[1] else []
+    return Place(file, module_of(file), last[2], type_of(headers[-1]) if headers else None, text[last.end():end])
 
 
 def changed(folder, edit):
-    """The modules and functions of a crate that an edit changes, as (module, name, text), the name none for a whole module;
-    none where it changes more than modules of src/."""
+    """The places of a crate that an edit changes; none where it changes more than modules of src/."""
     places = []
     for path, old in pairs(edit):
         if path.startswith("proofs/"):
             continue
-        module = module_of(path) if path.startswith("src/") else ""
-        if not module:
+        if not path.startswith("src/") or not module_of(path):
             return None
-        places.append((module, *function_at(text_of(f"{folder}/{path}"), old)))
+        places.append(place_of(path, text_of(f"{folder}/{path}"), old))
     return places or None
 
 
@@ -86,7 +111,7 @@ def groups(root, name):
     """A crate's edits in groups of neighbours, those of one module together; last those that change more than modules."""
     folder = os.path.join(root, "crates", name)
     places = {edit: changed(folder, edit) for edit in edits_of(root, name)[0]}
-    quick = sorted((it for it in places if places[it]), key=lambda it: (places[it][0][0], str(places[it][0][1])))
+    quick = sorted((it for it in places if places[it]), key=lambda it: (places[it][0].module, str(places[it][0].function)))
     whole = [it for it in places if not places[it]]
     number = -(-len(quick) // TOGETHER)
     cuts = [len(quick) * at // number for at in range(number + 1)] if number else []
@@ -98,51 +123,65 @@ def sizes(root, name):
     return [len(group) for group in groups(root, name)]
 
 
+def calls(one, other):
+    """Whether the function at a place seems to call that at another."""
+    return re.search(rf"\b{other.function}\b(::<[^()]*>)?\(", one.text)
+
+
 def are_apart(some, others):
-    """Whether two edits change functions of which none is or names another."""
-    return all(one[1] and other[1] and not re.search(rf"\b{one[1]}\b", other[2]) and not re.search(rf"\b{other[1]}\b", one[2]) for one in some for other in others)
+    """Whether two edits change functions of which none is the other or seems to call it."""
+    return all(
+        one.function and other.function and one[:4] != other[:4] and not calls(one, other) and not calls(other, one)
+        for one in some
+        for other in others
+    )
 
 
-def rounds(places):
-    """The edits in rounds, those of one round apart from each other."""
+def next_round(left, places):
+    """Of the edits that are left as many as are apart from each other."""
     made = []
-    for edit in places:
-        into = next((it for it in made if all(are_apart(places[edit], places[other]) for other in it)), None)
-        if into is None:
-            made.append([edit])
-        else:
-            into.append(edit)
+    for edit in left:
+        if all(are_apart(places[edit], places[other]) for other in made):
+            made.append(edit)
     return made
 
 
-def functions_in(said):
-    """The functions that a check proved, by their whole paths without the crate."""
-    return re.findall(r"^fn \w+::(\S+): proved$", said, re.M)
+def functions_of(crate):
+    """The functions of a library that is built, by their whole paths without the crate; none where it isn't known."""
+    path = f"{crate.folder}/out/rlib/{crate.name}.rlib/toolchain/mir.json"
+    if not os.path.isfile(path):
+        return []
+    with open(path, encoding="utf-8") as file:
+        names = [it[0] for it in json.load(file)]
+    return [it.removeprefix(f"{crate.name}::") for it in names if it.startswith(f"{crate.name}::")]
 
 
-def paths_of(place, proved):
-    """The whole paths of the functions that an edit changes at a place; that of the module where none is known."""
-    module, name, _ = place
-    paths = [path for path in proved if path.startswith(f"{module}::") and path.endswith(f"::{name}")]
-    return paths if name and paths else [module]
+def paths_of(place, functions):
+    """The whole paths of the function at a place and of its closures; that of the module where none is known."""
+    ends = [it for it in functions if it.endswith(f"::{place.function}")]
+    here = [it for it in ends if it.startswith(f"{place.module}::")]
+    there = [it for it in ends if place.type and it.split("::")[-2].startswith(place.type)]
+    closures = [it for it in functions if f"fn::{place.function}::" in it and it.startswith(f"{place.module}::")]
+    found = ([it for it in here if it in there] or here or there) if place.function else []
+    return found + closures if found else [place.module]
 
 
-def only(places, proved):
+def only(places, functions):
     """The flags for a check of these places alone."""
-    paths = [path for place in places for path in paths_of(place, proved)]
+    paths = [path for place in places for path in paths_of(place, functions)]
     return [word for path in dict.fromkeys(paths) for word in ("--only", path)]
 
 
-def is_told_of(line, path, texts):
-    """Whether a line of a check tells of the function of this path, in its proof or in the edited text of its module."""
+def is_told_of(line, place, paths, texts):
+    """Whether a line of a check tells of the function at a place, in its proof or in the edited text of its file."""
     found = re.match(r"(?:note: )?(?:\./)?(\S+?):(\d+):\d+:", line)
-    if found[1].startswith(f"proofs/{path.replace('::', '/')}/"):
+    if any(found[1].startswith(f"proofs/{path.replace('::', '/')}/") for path in paths):
         return True
-    if found[1] not in texts or not path.startswith(f"{module_of(found[1])}::"):
+    if found[1] != place.file or place.file not in texts:
         return False
-    lines = texts[found[1]].split("\n")[:int(found[2])]
+    lines = texts[place.file].split("\n")[:int(found[2])]
     names = FUNCTION.findall("\n".join(lines) + "\n")
-    return bool(names) and path.endswith(f"::{names[-1][1]}")
+    return bool(names) and names[-1][1] == place.function
 
 
 def told_by(rt, ran, texts):
@@ -157,60 +196,64 @@ def told_by(rt, ran, texts):
     return [line for line in told if (": error" in line or line.startswith("note: ")) and not NAMES.match(line)]
 
 
-def together(rt, crate, edits, places, proved, kept):
-    """Tries edits that are apart in one check: the line that refused each; those that nothing refused are left out."""
+def together(rt, crate, edits, places, functions, kept):
+    """Tries edits that are apart in one check: the line that refused each, and those of which it says nothing, since a function
+    that they change calls one that isn't proved."""
     texts, why = rt.edited("\n".join(text_of(edit) for edit in edits), crate.folder)
     if why:
-        return {}
-    ran = rt.checked(crate, texts, ["--jobs", "1"] + only([it for edit in edits for it in places[edit]], proved), kept)
-    failed = set(re.findall(r"^fn \w+::(\S+): (?:not proved|no proof)\b", ran.stdout, re.M))
-    told, found = told_by(rt, ran, texts), {}
+        return {}, []
+    ran = rt.checked(crate, texts, ["--jobs", "1"] + only([it for edit in edits for it in places[edit]], functions), kept)
+    said = re.findall(r"^fn \w+?::(\S+): (not proved|no proof)\b(.*)$", ran.stdout, re.M)
+    above = {path for path, _, why in said if "which is not proved" in why}
+    failed = {path for path, _, _ in said} - above
+    told, found, later = told_by(rt, ran, texts), {}, []
     for edit in edits:
-        paths = [path for place in places[edit] for path in paths_of(place, proved) if path in failed]
-        line = next((line for line in told if any(is_told_of(line, path, texts) for path in paths)), None)
-        if line:
-            found[edit] = line
-    return found
+        for place in places[edit]:
+            paths = paths_of(place, functions)
+            line = next((line for line in told if failed & set(paths) and is_told_of(line, place, paths, texts)), None)
+            if line:
+                found.setdefault(edit, line)
+            elif above & set(paths):
+                later.append(edit)
+    return found, [edit for edit in edits if edit in later and edit not in found]
 
 
-def alone(rt, crate, edit, places, proved, kept):
+def alone(rt, crate, edit, places, functions, kept):
     """Tries an edit in a check of its functions: the line that refused it; none where nothing did."""
     texts, why = rt.read_edit(edit, crate.folder)
     if why:
         return None
-    ran = rt.checked(crate, texts, ["--jobs", "1"] + only(places, proved), kept)
+    ran = rt.checked(crate, texts, ["--jobs", "1"] + only(places, functions), kept)
     return next(iter(told_by(rt, ran, texts)), None)
-
-
-def standing(rt, crate, places, kept):
-    """Proves the modules that edits change as they stand: the edits of those modules that have functions to be proved, and the
-    flags and the outcome of that check."""
-    while places:
-        modules = sorted({place[0] for edit in places for place in places[edit]})
-        flags = ["--jobs", "1"] + [flag for module in modules for flag in ("--only", module)]
-        ran = rt.checked(crate, {}, flags, kept)
-        lacking = re.search(r"has no function `(\S+)`", ran.stdout) if ran.returncode else None
-        if not lacking:
-            return places, flags, ran
-        places = {edit: places[edit] for edit in places if all(place[0] != lacking[1] for place in places[edit])}
-    return {}, None, None
 
 
 def quickly(rt, crate, edits, kept):
     """Tries edits in checks of the functions that they change: the first line of what refused each, none where nothing did.
-    Nothing is said where these functions are not proved as they stand, before the edits and after them."""
+    Nothing is said where these functions are not proved as they stand once all were tried."""
     every = {edit: changed(crate.folder, edit) for edit in edits}
-    places, flags, ran = standing(rt, crate, {edit: every[edit] for edit in edits if every[edit]}, kept)
-    if not places or ran.returncode:
-        return {}
-    proved, found = functions_in(ran.stdout), {}
-    for some in rounds(places):
-        if len(some) > 1:
-            found.update(together(rt, crate, some, places, proved, kept))
+    places, functions, found = {edit: every[edit] for edit in edits if every[edit]}, functions_of(crate), {}
+    left, waited = list(places), set()
+    while left:
+        some = next_round(left, places)
+        refused, later = together(rt, crate, some, places, functions, kept) if len(some) > 1 else ({}, [])
+        found.update(refused)
         for edit in some:
-            if edit not in found:
-                found[edit] = alone(rt, crate, edit, places[edit], proved, kept)
-    return found if not rt.checked(crate, {}, flags, kept).returncode else {}
+            if edit in later and edit not in waited:
+                waited.add(edit)
+            elif edit not in refused:
+                found[edit] = alone(rt, crate, edit, places[edit], functions, kept)
+        left = [edit for edit in left if edit not in found]
+    standing = only([it for edit in places for it in places[edit]], functions)
+    return found if places and not rt.checked(crate, {}, ["--jobs", "1"] + standing, kept).returncode else {}
+
+
+def names_of(rt, kept, crate, edits):
+    """The names under which it is kept what these edits came to: sums of each and of all that its trial reads."""
+    for below in crate.below():
+        kept.is_built(below)
+    how = hashlib.sha256(text_of(os.path.abspath(__file__)).encode()).hexdigest()
+    key = f"{how} {kept.key(crate)}"
+    return {edit: kept.of_edit(edit, key) for edit in edits}
 
 
 def main():
@@ -221,17 +264,26 @@ def main():
     os.chdir(room)
     rtlib.guarded()
     crate = next(it for it in rtlib.crates_below(room) if it.name == name)
+    type(crate).allowed = rt.handles_of(room)
     edits = groups(root, name)[int(at)]
+    store = rt.Kept([crate, *crate.below()])
+    names = names_of(rt, store, crate, edits)
+    known = {edit: told for edit in edits for told in [store.tried(names[edit])] if told}
     with tempfile.TemporaryDirectory(prefix="edits-") as kept:
-        first = quickly(rt, crate, edits, kept)
+        first = quickly(rt, crate, [edit for edit in edits if edit not in known], kept)
     with tempfile.TemporaryDirectory(prefix="edits-") as kept:
         for edit in edits:
             label = f"must-fail {name}/{os.path.basename(edit)}"
-            if first.get(edit):
-                print(f"refused {label}: refused, as it must be: {first[edit][:160]}", flush=True)
+            if edit in known:
+                kind, text = known[edit]
+            elif first.get(edit):
+                kind, text = rt.REFUSED, f"{label}: refused, as it must be: {first[edit][:160]}"
             else:
-                refused, text = rt.must_fail(crate, edit, ["--jobs", "1"], kept)
-                print("refused" if refused else "NOT", text.replace("\n", " "), flush=True)
+                kind, text = rt.must_fail(crate, edit, ["--jobs", "1"], kept)
+            mark = "refused" if kind in (rt.REFUSED, rt.AT_LIMIT) else "NOT"
+            print("kept" if edit in known and mark == "refused" else mark, text.replace("\n", " "), flush=True)
+            if mark == "refused" and edit not in known:
+                store.keep_tried(names[edit], kind, text)
 
 
 if __name__ == "__main__":

@@ -37,7 +37,7 @@ def copied(room, names):
 
 
 class Proofs:
-    """A run of rt ci: what it says as it goes, which crates it has proved, and how it ended."""
+    """A run of rt ci: what it says as it goes, which crates it has proved or an earlier run has, and how it ended."""
 
     def __init__(self, room):
         self.proved, self.last, self.status = set(), "", None
@@ -47,7 +47,7 @@ class Proofs:
     def follow(self):
         for line in self.process.stdout:
             print(line, end="", flush=True)
-            found = re.fullmatch(r"rt: (\w+) proved\n", line)
+            found = re.fullmatch(r"rt: (\w+) (proved|is kept: .*)\n", line)
             if found:
                 self.proved.add(found[1])
             self.last = line
@@ -58,15 +58,15 @@ def tried(room, name, at):
     """Whether each edit of a group was refused, and what is said of it."""
     words = ["nice", sys.executable, os.path.join(run.HERE, "edits.py"), room, crates.ROOT, name, str(at)]
     ran = subprocess.run(words, stdout=subprocess.PIPE, stderr=subprocess.STDOUT, text=True, errors="replace")
-    said = [line.partition(" ") for line in ran.stdout.splitlines() if re.match("refused |NOT ", line)]
+    said = [line.partition(" ") for line in ran.stdout.splitlines() if re.match("refused |kept |NOT ", line)]
     for mark, _, text in said:
         print("rt:", text, flush=True)
     return said, ran.stdout if ran.returncode else ""
 
 
 def all_tried(room, names, uses, proofs):
-    """Tries the edits of these crates, each crate's once it and those below it are proved: how many were refused, how
-    many were not, and how many of those refused say little. None where the proofs failed."""
+    """Tries the edits of these crates, each crate's once it and those below it are proved, none where the proofs failed: how
+    many were refused, how many were not, how many of those refused say little, and how many an earlier run has tried."""
     sizes = {name: edits.sizes(crates.ROOT, name) for name in names}
     waiting = [(name, at) for name in names for at in range(len(sizes[name]))]
     waiting.sort(key=lambda it: -sum(sizes[it[0]]))
@@ -74,7 +74,7 @@ def all_tried(room, names, uses, proofs):
     with ThreadPoolExecutor(crates.processors()) as pool:
         while waiting or running:
             lanes = LANES_BESIDE if proofs.status is None else crates.processors()
-            ready = [it for it in waiting if {it[0], *crates.below(it[0], uses)} & set(names) <= proofs.proved]
+            ready = [it for it in waiting if proofs.status == 0 or {it[0], *crates.below(it[0], uses)} & set(names) <= proofs.proved]
             for it in ready[:max(0, lanes - len(running))]:
                 waiting.remove(it)
                 running[pool.submit(tried, room, *it)] = it
@@ -88,16 +88,17 @@ def all_tried(room, names, uses, proofs):
             if proofs.status:
                 waiting = []
             time.sleep(0.2)
-    refused = [text for mark, _, text in given if mark == "refused"]
+    refused = [text for mark, _, text in given if mark in ("refused", "kept")]
     little = sum("says little of the contract" in text for text in refused)
-    return len(refused) - little, len(given) - len(refused), little
+    kept = sum(mark == "kept" for mark, _, _ in given)
+    return len(refused) - little, len(given) - len(refused), little, kept
 
 
 def proved(room, names):
     """Runs rt ci and the edits in a copy: how many passed and failed; none where rt ci failed."""
     _, uses = crates.listed()
     proofs = Proofs(room)
-    refused, unrefused, little = all_tried(room, names, uses, proofs)
+    refused, unrefused, little, kept = all_tried(room, names, uses, proofs)
     while proofs.status is None:
         time.sleep(0.2)
     counts = re.fullmatch(r"(\d+) passed, (\d+) failed\n?", proofs.last)
@@ -106,7 +107,8 @@ def proved(room, names):
     ill = [path for name in names for path in edits.ill_named(crates.ROOT, name)]
     for path in ill:
         print(f"{path}: an edit stands right in must-fail/, and its name ends in .edit")
-    print(f"edits: {refused} refused, {unrefused} not refused, {little} refused only because a proof names what they took away")
+    print(f"edits: {refused} refused, {unrefused} not refused, {little} refused only because a proof names what they took away;")
+    print(f"{kept} of them were tried by an earlier run on this machine, and nothing that they stand on has changed")
     return int(counts[1]) + refused + little, unrefused + len(ill)
 
 
