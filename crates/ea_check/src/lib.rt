@@ -16,6 +16,3 @@ mod verdict;
 
 pub use checking::{check, check_watched, is_checkable};
 pub use fault::CheckFault;
-
-#[cfg(test)]
-mod tests;

@@ -12,6 +12,3 @@ pub use formats::FORMATS;
 pub use lines::wanted_of_line;
 pub use looks::{Look, look_of};
 pub use reasons::reason_of;
-
-#[cfg(test)]
-mod tests;

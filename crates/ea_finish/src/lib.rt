@@ -4,6 +4,7 @@
 mod alone;
 mod answer;
 mod confirming;
+mod counting;
 mod finishing;
 mod frontier;
 mod levels;
@@ -20,16 +21,10 @@ mod waiting;
 
 pub use alone::{arrivals_alone, arrivals_alone_by, solve_alone, solve_alone_by};
 pub use answer::Answer;
+pub use counting::count_scans;
 pub use finishing::{Finished, finish};
 pub use link::{Link, NO_LEVEL};
 pub use open::Open;
 pub use search::Search;
 pub use soon::finish_in_order;
 pub use unwinding::{find_links, unwind, without_walks};
-
-#[cfg(test)]
-mod slow_walks;
-#[cfg(test)]
-mod tests;
-#[cfg(test)]
-mod traps;

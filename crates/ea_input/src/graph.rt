@@ -19,7 +19,8 @@ use crate::made_arc::MadeArc;
 use crate::plain::{ArcNumbers, leading_arc};
 use crate::range::{numeral, within};
 use crate::reading::{LineReader, read_text};
-use crate::streams::{StreamFault, read_device, way_of};
+use crate::streams::{StreamFault, read_device};
+use crate::way::{Way, way_of};
 use ea_limits::{MOST_ARCS, MOST_NODES};
 use ea_text as text;
 use ea_text::ByteIn;
@@ -327,17 +328,17 @@ pub fn read_gr_as<A: MadeArc>(alloc: Global, text: &[u8]) -> Result<RawGraph<A>,
 
 /// What a device's text is read to, with one clause, which says it step by step.
 fn read_graph_from<A: MadeArc + Send, H: Threads + Sync, D: ByteIn>(
-    alloc: Global,
     rt: &H,
-    threads: usize,
+    way: Way,
     limit: u64,
     device: &mut D,
 ) -> Result<RawGraph<A>, StreamFault>
+    requires { 0 < way.size }
     ensures exact { GivesWhole graph (graph_made A.made) limit
         (D.seen device.old) (D.seen device.new) result }
 {
-    let start = start::<A>(alloc);
-    read_device(rt, way_of(alloc, threads), limit, start, device)
+    let start = start::<A>(way.alloc);
+    read_device(rt, way, limit, start, device)
 }
 
 /// The graph of a device's text, or why it gave none, as `read_gr` reads a text; at most so many
@@ -356,7 +357,24 @@ pub fn read_gr_from<H: Threads + Sync, D: ByteIn>(
     // A fault is the device's or the text's, unless memory is refused.
     ensures fault { IfErr result (IsStreamFault graph_format limit (D.seen device.old) (D.seen device.new)) }
 {
-    read_graph_from::<RawArc, H, D>(alloc, rt, threads, limit, device)
+    read_graph_from::<RawArc, H, D>(rt, way_of(alloc, threads), limit, device)
+}
+
+/// The graph of a device's text, as `read_gr_from` reads it, in blocks and pieces of the sizes that are given.
+pub fn read_gr_by<H: Threads + Sync, D: ByteIn>(
+    rt: &H,
+    way: Way,
+    limit: u64,
+    device: &mut D,
+) -> Result<RawGraph, StreamFault>
+    requires { 0 < way.size }
+    // What is read is what the text denotes.
+    ensures denoted { IfOk result (λ read. DenotesWhole DenotesGraph limit (D.seen device.old) (D.seen device.new)
+        (graph read)) }
+    // A fault is the device's or the text's, unless memory is refused.
+    ensures fault { IfErr result (IsStreamFault graph_format limit (D.seen device.old) (D.seen device.new)) }
+{
+    read_graph_from::<RawArc, H, D>(rt, way, limit, device)
 }
 
 /// The graph of a device's text, as `read_gr_from` reads it, each arc as it is made of the text's.
@@ -373,7 +391,7 @@ pub fn read_gr_from_as<A: MadeArc + Send, H: Threads + Sync, D: ByteIn>(
     // A fault is the device's or the text's, unless memory is refused.
     ensures fault { IfErr result (IsStreamFault graph_format limit (D.seen device.old) (D.seen device.new)) }
 {
-    read_graph_from::<A, H, D>(alloc, rt, threads, limit, device)
+    read_graph_from::<A, H, D>(rt, way_of(alloc, threads), limit, device)
 }
 
 /// The law of the texts of graphs: a text denotes at most one graph and has at most one fault, and

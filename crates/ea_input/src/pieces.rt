@@ -9,6 +9,7 @@ ghost use Rattle.ea_text.specs.Text.{lines_of};
 
 use crate::fault::InputFault;
 use crate::reading::{LineReader, read_lines};
+use crate::way::Way;
 use std::alloc::Global;
 use std::thread::{Threads, join_mut};
 
@@ -133,7 +134,7 @@ fn read_back<R: BlockReader>(
 }
 
 /// Reads the lines of a text as `read_lines` does, by two threads, each of which reads about half of it.
-pub(crate) fn read_halves<R: BlockReader, H: Threads + Sync>(
+fn read_halves<R: BlockReader, H: Threads + Sync>(
     alloc: Global,
     rt: &H,
     reader: &mut R,
@@ -203,7 +204,7 @@ fn read_both_by_two<R: BlockReader, H: Threads + Sync>(
 }
 
 /// Reads the lines of a text as `read_lines` does, by four threads, each of which reads about a quarter of it.
-pub(crate) fn read_quarters<R: BlockReader, H: Threads + Sync>(
+fn read_quarters<R: BlockReader, H: Threads + Sync>(
     alloc: Global,
     rt: &H,
     reader: &mut R,
@@ -229,17 +230,13 @@ pub(crate) fn read_quarters<R: BlockReader, H: Threads + Sync>(
     }
 }
 
-/// How many bytes a text has at least that is read by two threads.
-const LEAST_TEXT: usize = 65_536;
-
-/// How many bytes a text has at least that is read by four.
-const LEAST_OF_FOUR: usize = 524_288;
+/// How many times as many bytes as two threads four threads read at least.
+const OF_FOUR: usize = 8;
 
 /// Reads all lines of a text, before which so many lines stood, by two or four threads where there are as many and that is better.
 pub(crate) fn read_more<R: BlockReader, H: Threads + Sync>(
-    alloc: Global,
     rt: &H,
-    threads: usize,
+    way: Way,
     reader: &mut R,
     before: u64,
     text: &[u8],
@@ -247,10 +244,11 @@ pub(crate) fn read_more<R: BlockReader, H: Threads + Sync>(
     requires few { before + length text.now < 2 ^ 64 }
     ensures { ReadsAll R.step R.state before reader.old reader.new text.now result }
 {
-    if threads < 2 || text.len() < LEAST_TEXT {
+    let alloc = way.alloc;
+    if way.threads < 2 || text.len() < way.least {
         return read_lines(alloc, reader, before, text);
     }
-    if threads < 4 || text.len() < LEAST_OF_FOUR {
+    if way.threads < 4 || text.len() < way.least.saturating_mul(OF_FOUR) {
         return read_by_two(alloc, rt, reader, before, text);
     }
     match reader.aside(alloc) {

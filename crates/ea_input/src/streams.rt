@@ -8,6 +8,7 @@ ghost use Rattle.ea_text.specs.Taking.{HasRoom};
 
 use crate::fault::{InputFault, fault_in};
 use crate::pieces::{BlockReader, end_of_lines, read_more};
+use crate::way::Way;
 use ea_text::{Blocks, ByteIn, ReadFault};
 use std::alloc::Global;
 use std::mem;
@@ -35,7 +36,7 @@ pub(crate) struct Feed<R: BlockReader> {
 
 impl<R: BlockReader> Feed<R> {
     /// Gives the reader the lines of one more text, where those before it have no fault.
-    fn take<H: Threads + Sync>(&mut self, alloc: Global, rt: &H, threads: usize, text: &[u8])
+    fn take<H: Threads + Sync>(&mut self, rt: &H, way: Way, text: &[u8])
         requires few { self.old.lines + length text.now < 2 ^ 64 }
         ensures { FeedsOn R.step (R.state self.old.reader) self.old.lines self.old.fault
             (R.state self.new.reader) self.new.lines self.new.fault text.now }
@@ -43,7 +44,7 @@ impl<R: BlockReader> Feed<R> {
         if self.fault.is_some() {
             return;
         }
-        match read_more(alloc, rt, threads, &mut self.reader, self.lines, text) {
+        match read_more(rt, way, &mut self.reader, self.lines, text) {
             Ok(lines) => self.lines = lines,
             Err(fault) => self.fault = Some(fault),
         }
@@ -63,34 +64,8 @@ impl<R: BlockReader> Feed<R> {
     }
 }
 
-/// How many bytes a block has that one thread fills and reads.
-const BLOCK: usize = 1_048_576;
-
-/// How many it has where it is read while the next one is filled.
-const LARGE_BLOCK: usize = 4_194_304;
-
 /// How many bytes the first block has at most. One thread reads it, since two need to know what its first lines announce.
 const FIRST_BLOCK: usize = 65_536;
-
-/// How a device is read by so many threads.
-pub(crate) fn way_of(alloc: Global, threads: usize) -> Way
-    ensures { 0 < result.size }
-{
-    let size = if threads < 2 { BLOCK } else { LARGE_BLOCK };
-    Way {
-        alloc,
-        threads,
-        size,
-    }
-}
-
-/// How a device is read: by how many threads, and of how many bytes a block has to be.
-#[derive(Clone, Copy)]
-pub(crate) struct Way {
-    pub alloc: Global,
-    pub threads: usize,
-    pub size: usize,
-}
 
 /// Fills a block until it has so many bytes, or the device ends: whether it ended.
 fn fill<D: ByteIn>(
@@ -123,16 +98,12 @@ fn take_and_fill<H: Threads + Sync, R: BlockReader, D: ByteIn>(
     ensures filled { IsFilled way.size (D.seen device.old) blocks.old (D.seen device.new) blocks.new
         block.old.items block.new.items result }
 {
-    let Way {
-        alloc,
-        threads,
-        size,
-    } = way;
+    let size = way.size;
     let mut taking = ||
         requires { (feed.now.lines + length lines.now < 2 ^ 64) × IsSync H.row }
         ensures { FeedsOn R.step (R.state feed.entry.now.reader) feed.entry.now.lines feed.entry.now.fault
             (R.state feed.exit.now.reader) feed.exit.now.lines feed.exit.now.fault lines.entry.now }
-    { feed.take(alloc, rt, threads, lines) };
+    { feed.take(rt, way, lines) };
     // The length of the lines changes nothing here: a closure that doesn't read `lines` stops the borrow checker's part of the proof.
     let mut filling = || -> Result<bool, ReadFault>
         requires { HasRoom blocks.now }
@@ -166,7 +137,7 @@ fn go_on<H: Threads + Sync, R: BlockReader, D: ByteIn>(
         block.old.items block.new.items result }
 {
     if way.threads < 2 {
-        feed.take(way.alloc, rt, way.threads, lines);
+        feed.take(rt, way, lines);
         fill(device, blocks, block, way.size)
     } else {
         take_and_fill(rt, way, feed, lines, blocks, device, block)
@@ -228,7 +199,7 @@ pub(crate) fn read_device<H: Threads + Sync, R: BlockReader, D: ByteIn>(
         };
         mem::swap(&mut block, &mut next);
     }
-    feed.take(alloc, rt, way.threads, &block);
+    feed.take(rt, way, &block);
     match feed.finish() {
         Ok(read) => Ok(read),
         Err(fault) => Err(StreamFault::Input(fault)),

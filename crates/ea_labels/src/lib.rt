@@ -7,8 +7,6 @@ mod offered;
 mod record;
 mod rule;
 mod seat;
-#[cfg(test)]
-mod tests;
 
 pub use ea_limits::SHARES;
 pub use labels::Labels;

@@ -20,8 +20,6 @@ mod rules;
 mod seat;
 mod solo;
 mod steps;
-#[cfg(test)]
-mod tests;
 mod window;
 mod words;
 

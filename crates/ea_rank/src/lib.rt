@@ -10,10 +10,6 @@ mod places;
 mod run;
 mod summary;
 mod tally;
-#[cfg(test)]
-mod tests;
-#[cfg(test)]
-mod turning;
 mod turns;
 
 pub use ea_road::OutOfMemory;

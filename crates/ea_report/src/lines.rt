@@ -130,7 +130,7 @@ fn push_found_walk(
 }
 
 /// Appends what is said of an asked node.
-pub(crate) fn push_node(
+pub fn push_node(
     text: &mut Vec<u8>,
     arcs: &mut ArcTexts<'_>,
     answer: &Answer,

@@ -49,8 +49,3 @@ pub use window::window_bits;
 
 /// No label.
 pub const NONE: u64 = u64::MAX;
-
-#[cfg(test)]
-mod step_tests;
-#[cfg(test)]
-mod tests;

@@ -17,6 +17,3 @@ pub use numeral::number;
 pub use reader::StdIn;
 pub use whole::{Blocks, ReadFault, read_all};
 pub use writer::StdOut;
-
-#[cfg(test)]
-mod tests;

@@ -12,6 +12,3 @@ mod values;
 pub use bad::{BadValue, asks_to_explain, bad_value_of};
 pub use fault::CommandFault;
 pub use options::{Command, RunOptions};
-
-#[cfg(test)]
-mod tests;

@@ -1,6 +1,6 @@
 ghost use Rattle.std.specs.Prelude.{◌≡◌, ◌+◌, ◌<◌, ◌^◌};
 
-use super::*;
+use ea_finish::*;
 use ea_road::{Arc, HORIZON, Network, Query, RawKind, Source, Timetables, is_problem};
 use std::alloc::{AllocError, Global};
 use std::test::Fail;

@@ -2,7 +2,7 @@
 ghost use Rattle.std.specs.Prelude.{◌≡◌, ◌≤◌, ◌<◌};
 ghost use Rattle.std.specs.Thread.{IsSync};
 
-use crate::{LabelSeat, Labels, Offered};
+use ea_labels::{LabelSeat, Labels, Offered};
 use ea_road::{AnyPair, Known, NONE};
 use std::test::Fail;
 use std::thread::{Threads, join};

@@ -1,7 +1,9 @@
-//! Tests of the parts of a run: networks, tables and heaps, and one thread's searches, where memory is refused, at the size of
-//! real use, and one after the other on the same arrays.
+//! Tests of the parts of a run: networks and travel times, tables and heaps, and one thread's searches, where memory is refused, at
+//! the size of real use, and one after the other on the same arrays.
 #![tactic(auto)]
 
+#[cfg(test)]
+mod alone;
 #[cfg(test)]
 mod asked;
 #[cfg(test)]
@@ -9,8 +11,20 @@ mod constants;
 #[cfg(test)]
 mod heaps;
 #[cfg(test)]
+mod labels;
+#[cfg(test)]
 mod networks;
+#[cfg(test)]
+mod pools;
 #[cfg(test)]
 mod refused;
 #[cfg(test)]
+mod roads;
+#[cfg(test)]
 mod searched;
+#[cfg(test)]
+mod slow_walks;
+#[cfg(test)]
+mod steps;
+#[cfg(test)]
+mod traps;

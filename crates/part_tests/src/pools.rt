@@ -3,7 +3,7 @@ ghost use Rattle.std.specs.Prelude.{◌≡◌, ◌<◌};
 ghost use Rattle.std.specs.Thread.{IsSync};
 ghost use Rattle.ea_pool.specs.Seats.{account_of, IsSeatOf};
 
-use crate::{
+use ea_pool::{
     Batch, Buckets, ClosedPool, Entry, EntryHeap, LeastHeap, Pool, PoolSeat, Popped, PushRefused,
     Solo,
 };

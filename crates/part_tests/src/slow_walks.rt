@@ -1,8 +1,8 @@
 //! Tests: walks on many small networks beside a slow search that follows the definition.
 ghost use Rattle.std.specs.Prelude.{◌<◌};
 
-use super::*;
-use crate::tests::{Row, from_sources};
+use crate::alone::{Row, from_sources};
+use ea_finish::*;
 use ea_road::NONE;
 use std::alloc::{AllocError, Global};
 use std::test::Fail;

@@ -1,4 +1,4 @@
-use super::*;
+use ea_road::*;
 use std::alloc::{AllocError, Global};
 use std::test::Fail;
 

@@ -1,66 +1,14 @@
 //! Tests: how many nodes a search scans where one window holds the whole network, beside the search by single times, which is
 //! Dijkstra's method.
 ghost use Rattle.std.specs.Prelude.{◌<◌};
-ghost use Rattle.ea_road.specs.Queries.{IsProblem};
 
-use crate::frontier::{Frontier, empty_lists};
-use crate::levels::Track;
-use crate::open::Open;
-use crate::searching::search;
-use crate::tests::{Row, network_of, timetables};
-use ea_road::{NONE, Network, Query, Source, TravelTimes, is_problem};
+use crate::alone::{Row, network_of, timetables};
+use ea_finish::count_scans;
+use ea_road::{Query, Source, TravelTimes, is_problem};
 use std::alloc::{AllocError, Global};
 use std::test::Fail;
 
 const HEAVY: u32 = u32::MAX;
-
-/// Counts the nodes that are scanned.
-#[derive(Drop)]
-struct Counting {
-    count: u64,
-}
-
-impl Track for Counting {
-    ghost lists = { λ counting node. Unit };
-
-    fn begin(&mut self) {}
-
-    fn leave(&mut self, _node: u32) {
-        self.count = self.count.wrapping_add(1);
-    }
-
-    fn reach(&mut self, _node: u32) {}
-
-    fn fell(&mut self, _node: u32) {}
-
-    fn met(&mut self, _node: u32) {}
-}
-
-/// How many nodes a search scans by windows of this width.
-fn count_of<T: TravelTimes>(
-    alloc: Global,
-    network: &Network,
-    times: &T,
-    query: &Query,
-    width: u64,
-) -> Result<u64, AllocError>
-    requires { IsProblem network.now (T.classes times.now) query.now }
-{
-    let mut counting = Counting { count: 0 };
-    let todo = Open::reserve_without_walks(alloc, network.nodes())?;
-    let lists = empty_lists(alloc)?;
-    let mut frontier = Frontier::over(lists, todo, width);
-    let mut table = vec![in alloc; NONE; network.nodes() as usize]?;
-    search(
-        network,
-        times,
-        query,
-        &mut counting,
-        &mut table,
-        &mut frontier,
-    );
-    Ok(counting.count)
-}
 
 /// The next of a row of random words, below a bound.
 fn below(state: &mut u64, bound: u32) -> u32 {
@@ -95,7 +43,7 @@ fn pair_scans(
         return Ok(None);
     }
     let width = network.mean_weight();
-    Ok(Some(count_of(alloc, &network, &times, &query, width)?))
+    Ok(Some(count_scans(alloc, &network, &times, &query, width)?))
 }
 
 /// How many scans a search from node 1 takes by windows of the mean weight, and by single times; none where the rows do not
@@ -114,8 +62,8 @@ fn scans(alloc: Global, nodes: u32, rows: &[Row]) -> Result<Option<(u64, u64)>, 
         return Ok(None);
     }
     let width = network.mean_weight();
-    let wide = count_of(alloc, &network, &times, &query, width)?;
-    let single = count_of(alloc, &network, &times, &query, 0)?;
+    let wide = count_scans(alloc, &network, &times, &query, width)?;
+    let single = count_scans(alloc, &network, &times, &query, 0)?;
     Ok(Some((wide, single)))
 }
 

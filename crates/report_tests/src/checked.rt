@@ -1,5 +1,5 @@
-use super::*;
 use CheckFault::{BadLine, NotAttained, NotCanonical, NotLeast, OutOfMemory};
+use ea_check::*;
 use ea_road::{Arc, Network, Query, RawKind, Source, Timetables};
 use std::alloc::{AllocError, Global};
 use std::test::Fail;

@@ -3,8 +3,8 @@ ghost use Rattle.ea_limits.specs.declared.TheConstants.{LEAST_HEAPS};
 ghost use Rattle.ea_pool.specs.declared.words.TheConstants.{MOST_IN_POOL};
 
 use crate::turning::Turning;
-use crate::{Event, RankFault, Record, Summary, ranks, record_run, record_run_by};
 use ea_pool::{Entry, Solo};
+use ea_rank::{Event, RankFault, Record, Summary, ranks, record_run, record_run_by};
 use ea_road::{Arc, Network, Query, Source, Timetables, is_problem};
 use rand_core::{Rng, SeedableRng};
 use rand_xoshiro::Xoshiro256PlusPlus;

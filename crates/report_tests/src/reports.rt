@@ -1,9 +1,8 @@
 ghost use Rattle.std.specs.Prelude.{◌≡◌};
 
-use super::*;
-use crate::lines::push_node;
 use ea_finish::{Answer, solve_alone};
 use ea_input::{ByteOut, Device, StdOut, read_gr};
+use ea_report::*;
 use ea_road::{Network, Query, Source, Timetables, arcs_of, is_problem};
 use std::alloc::Global;
 use std::io::{self, Error, ErrorKind, Write};

@@ -1,5 +1,5 @@
 //! Texts that no clause speaks of.
-use super::*;
+use ea_explain::*;
 use ea_files::FileWord;
 use ea_input::FaultKind;
 use std::io::ErrorKind;

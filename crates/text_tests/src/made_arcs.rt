@@ -1,6 +1,6 @@
 //! Graphs in lists of arcs of a type of their own, which are made of the text's.
-use super::*;
-use crate::stream_tests::{LIMIT, large_text};
+use crate::streams::{LIMIT, large_text};
+use ea_input::*;
 use std::test::Fail;
 
 /// An arc turned round, with half its weight.

@@ -1,5 +1,5 @@
-use super::FaultKind::*;
-use super::*;
+use ea_input::FaultKind::*;
+use ea_input::*;
 use std::test::Fail;
 
 const GRAPH: &[u8] = b"p sp 4 5\na 1 2 7\na 1 3 2\na 3 2 3\na 2 4 1\na 3 4 9\n";

@@ -1,9 +1,7 @@
 //! Texts of devices, block by block and by several threads: each gives what it gives as a text in memory.
-use super::*;
-use crate::graph::{self, GraphReader};
-use crate::pieces::{BlockReader, read_halves, read_quarters};
-use crate::reading::{LineReader, read_lines};
-use crate::streams::{Way, read_device};
+ghost use Rattle.std.specs.Prelude.{◌<◌};
+
+use ea_input::*;
 use std::alloc::Global;
 use std::io::{self, Error, ErrorKind, Read};
 use std::test::Fail;
@@ -45,26 +43,16 @@ impl Read for Slow<'_> {
     }
 }
 
-/// What a device's text is read to, in blocks of at least so many bytes.
-fn read_in_blocks<H: Threads + Sync>(
-    alloc: Global,
-    rt: &H,
-    text: &[u8],
-    threads: usize,
-    size: usize,
-) -> Result<RawGraph, StreamFault> {
-    let way = Way {
+/// By so many threads, in blocks of at least so many bytes, and by several threads where there is one byte or more.
+fn in_blocks(alloc: Global, threads: usize, size: usize) -> Way
+    ensures { 0 < result.size }
+{
+    Way {
         alloc,
         threads,
         size: size.max(1),
-    };
-    let mut device = StdIn::new(Slow {
-        text,
-        piece: 7,
-        reads: 0,
-        fails_after: usize::MAX,
-    });
-    read_device(rt, way, LIMIT, graph::start(alloc), &mut device)
+        least: 1,
+    }
 }
 
 /// Whether a device gives what the text gives in memory: the same graph, or the same fault.
@@ -75,8 +63,14 @@ fn is_read_as_text<H: Threads + Sync>(
     threads: usize,
     size: usize,
 ) -> bool {
+    let mut device = StdIn::new(Slow {
+        text,
+        piece: 7,
+        reads: 0,
+        fails_after: usize::MAX,
+    });
     let whole = read_gr(alloc, text);
-    match read_in_blocks(alloc, rt, text, threads, size) {
+    match read_gr_by(rt, in_blocks(alloc, threads, size), LIMIT, &mut device) {
         Ok(found) => match whole {
             Ok(graph) => {
                 found.nodes == graph.nodes && found.arcs.as_slice() == graph.arcs.as_slice()
@@ -89,28 +83,6 @@ fn is_read_as_text<H: Threads + Sync>(
         },
         Err(StreamFault::Read(_)) => false,
     }
-}
-
-/// A reader of a graph of four nodes and five arcs, whose problem line is read.
-fn begun(alloc: Global) -> Option<GraphReader<RawArc>> {
-    let mut reader = graph::start::<RawArc>(alloc);
-    match read_lines(alloc, &mut reader, 0, b"p sp 4 5\n") {
-        Ok(_) => Some(reader),
-        Err(_) => None,
-    }
-}
-
-/// Whether the lines after a text's problem line give by two threads, and by four, what they give by one: the same arcs and lines, or
-/// the same fault.
-fn pieces_are_read_as_one<H: Threads + Sync>(alloc: Global, rt: &H, text: &[u8]) -> Option<bool> {
-    let (mut one, mut two, mut four) = (begun(alloc)?, begun(alloc)?, begun(alloc)?);
-    let (aside_of_two, aside_of_four) = (two.aside(alloc)?, four.aside(alloc)?);
-    let by_one = read_lines(alloc, &mut one, 1, text);
-    let by_two = read_halves(alloc, rt, &mut two, aside_of_two, 1, text);
-    let by_four = read_quarters(alloc, rt, &mut four, aside_of_four, 1, text);
-    let arcs = one.arcs.as_slice();
-    let same = arcs == two.arcs.as_slice() && arcs == four.arcs.as_slice();
-    Some(by_one == by_two && by_one == by_four && (by_one.is_err() || same))
 }
 
 #[test]
@@ -132,7 +104,7 @@ fn blocks_of_sound_texts(rt: HostRuntime) {
     for text in texts {
         assert!(rt; read_gr(rt.alloc(), text).is_ok());
         for size in 0..40usize {
-            for threads in 1..3usize {
+            for threads in [1usize, 2, 4] {
                 assert!(rt;
                     is_read_as_text(rt.alloc(), &rt, text, threads, size),
                     "{size} {threads}"
@@ -163,7 +135,7 @@ fn blocks_of_texts_with_faults(rt: HostRuntime) {
     for text in texts {
         assert!(rt; read_gr(rt.alloc(), text).is_err());
         for size in 0..40usize {
-            for threads in 1..3usize {
+            for threads in [1usize, 2, 4] {
                 assert!(rt;
                     is_read_as_text(rt.alloc(), &rt, text, threads, size),
                     "{size} {threads}"
@@ -185,26 +157,29 @@ fn blocks_of_every_prefix(rt: HostRuntime) {
     }
 }
 
+/// Blocks of lines that are read in two and in four pieces, which end at each byte of the text.
 #[test]
 fn pieces_of_lines(rt: HostRuntime) {
-    let texts: [&[u8]; 9] = [
-        b"",
-        b"\n",
-        b"a 1 2 7\na 1 3 2\na 3 2 3\na 2 4 1\na 3 4 9\n",
-        b"a 1 2 7\n\nc\na 1 3 2\n a 3 2 3 \na 2 4 1\nc x",
-        b"a 1 2 7\na 1 3 2\na 3 2 3\na 2 4 1\na 3 5 9\n",
-        b"a 1 2 7\na 1 3\na 3 2 3\na 2 4 1\na 3 4 9\n",
-        b"a 1 2 7\na 1 3 2\na 3 2 3\na 2 4 1\na 3 4 9\na 1 1 1\n",
-        b"a 1 2 7\na 1 3 2\na 3 2 3\np sp 4 5\na 2 4 1\n",
-        b"a 1 2 7\na 1 3 2\na 3 2 3\na 2 4 1\na 3 4 9\nx\na 1 1 1\n",
+    let texts: [&[u8]; 8] = [
+        b"p sp 4 8\na 1 2 7\na 1 3 2\na 3 2 3\na 2 4 1\na 3 4 9\na 4 1 5\na 4 2 6\na 4 4 0\n",
+        b"p sp 4 6\na 1 2 7\n\nc\na 1 3 2\n a 3 2 3 \na 2 4 1\nc x\na 3 4 9\na 4 1 5",
+        b"p sp 4 5\na 1 2 7\na 1 3 2\na 3 2 3\na 2 4 1\na 3 5 9\n",
+        b"p sp 4 7\na 1 2 7\na 1 3 2\na 3 2 3\na 2 4\na 3 4 9\na 4 1 5\na 4 2 6\n",
+        b"p sp 4 5\na 1 2 7\na 1 3 2\na 3 2 3\na 2 4 1\na 3 4 9\na 1 1 1\n",
+        b"p sp 4 5\na 1 2 7\na 1 3 2\na 3 2 3\np sp 4 5\na 2 4 1\n",
+        b"p sp 4 5\na 1 2 7\na 1 3 2\na 3 2 3\na 2 4 1\na 3 4 9\nx\na 1 1 1\n",
+        b"p sp 4 9\na 1 2 7\na 1 3 2\na 3 2 3\na 2 4 1\na 3 4 9\na 4 1 5\n",
     ];
     for text in texts {
-        for n in 0..=text.len() {
-            assert_eq!(rt;
-                pieces_are_read_as_one(rt.alloc(), &rt, &text[..n]),
-                Some(true),
-                "{n}"
-            );
+        for n in 9..=text.len() {
+            for size in [9usize, 17, 25, 33, 41, 57] {
+                for threads in [2usize, 4] {
+                    assert!(rt;
+                        is_read_as_text(rt.alloc(), &rt, &text[..n], threads, size),
+                        "{n} {size} {threads}"
+                    );
+                }
+            }
         }
     }
 }
@@ -244,14 +219,8 @@ fn large_texts(rt: HostRuntime) -> Result<(), Fail> {
         let graph = read_gr_from(rt.alloc(), &rt, threads, LIMIT, &mut device)?;
         assert_eq!(rt; graph.nodes, MANY);
         assert!(rt; graph.arcs.as_slice() == whole.arcs.as_slice());
-        let way = Way {
-            alloc: rt.alloc(),
-            threads,
-            size: 300_000,
-        };
-        let mut device = StdIn::new(text.as_slice());
-        let start = graph::start(rt.alloc());
-        let graph = read_device(&rt, way, LIMIT, start, &mut device)?;
+        let way = in_blocks(rt.alloc(), threads, 300_000);
+        let graph = read_gr_by(&rt, way, LIMIT, &mut StdIn::new(text.as_slice()))?;
         assert!(rt; graph.arcs.as_slice() == whole.arcs.as_slice());
     }
     Ok(())
@@ -285,25 +254,15 @@ fn devices_that_fail(rt: HostRuntime) {
     for text in texts {
         for fails_after in 0..text.len() {
             for size in [1usize, 5, 20, 100] {
-                for threads in 1..3usize {
-                    let way = Way {
-                        alloc: rt.alloc(),
-                        threads,
-                        size,
-                    };
+                for threads in [1usize, 2, 4] {
+                    let way = in_blocks(rt.alloc(), threads, size);
                     let mut device = StdIn::new(Slow {
                         text,
                         piece: 3,
                         reads: 0,
                         fails_after,
                     });
-                    let read = read_device(
-                        &rt,
-                        way,
-                        LIMIT,
-                        graph::start::<RawArc>(rt.alloc()),
-                        &mut device,
-                    );
+                    let read = read_gr_by(&rt, way, LIMIT, &mut device);
                     let failed = Some(StreamFault::Read(ReadFault::ReadFailed));
                     assert_eq!(rt; fault_of(read), failed, "{fails_after}");
                     assert_eq!(rt; device.failures(), 1);
@@ -317,29 +276,10 @@ fn devices_that_fail(rt: HostRuntime) {
 fn limits_of_bytes(rt: HostRuntime) {
     let count = PLAIN.len() as u64;
     for size in [1usize, 5, 20, 100] {
-        let way = Way {
-            alloc: rt.alloc(),
-            threads: 2,
-            size,
-        };
-        let mut whole = StdIn::new(PLAIN);
-        let read = read_device(
-            &rt,
-            way,
-            count,
-            graph::start::<RawArc>(rt.alloc()),
-            &mut whole,
-        );
-        assert!(rt; read.is_ok());
+        let way = in_blocks(rt.alloc(), 2, size);
+        assert!(rt; read_gr_by(&rt, way, count, &mut StdIn::new(PLAIN)).is_ok());
         for limit in 0..count {
-            let mut device = StdIn::new(PLAIN);
-            let read = read_device(
-                &rt,
-                way,
-                limit,
-                graph::start::<RawArc>(rt.alloc()),
-                &mut device,
-            );
+            let read = read_gr_by(&rt, way, limit, &mut StdIn::new(PLAIN));
             let large = Some(StreamFault::Read(ReadFault::TooLarge));
             assert_eq!(rt; fault_of(read), large, "{limit}");
         }

@@ -1,4 +1,4 @@
-use super::*;
+use ea_text::*;
 use std::io::{self, Error, ErrorKind, Read, Write};
 use std::test::Fail;
 

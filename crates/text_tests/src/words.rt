@@ -1,5 +1,5 @@
 //! The example `words`, and texts that no clause speaks of.
-use super::*;
+use ea_words::*;
 use std::alloc::Global;
 use std::test::Fail;
 

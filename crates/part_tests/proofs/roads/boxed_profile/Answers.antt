@@ -1,7 +1,7 @@
 use Rattle.std.proofs.Common.{◌+◌, ◌*◌, refl, arith}
 use Rattle.ea_road.proofs.BoxLaws.{box_is_fifo}
-use Rattle.ea_road.proofs.tests.boxed_profile.OwnLists.{own-1, at-1-1}
-use Rattle.ea_road.proofs.tests.boxed_profile.Goals as goal
+use Rattle.part_tests.proofs.roads.boxed_profile.OwnLists.{own-1, at-1-1}
+use Rattle.part_tests.proofs.roads.boxed_profile.Goals as goal
 
 pub new-requires-2 : goal.new-requires-2
 new-requires-2 c = box_is_fifo own-1 at-1-1 _ _ c.in_ok-new.field-0.value c.into_dyn_box.ensures.1 (record {

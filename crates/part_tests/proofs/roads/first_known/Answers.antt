@@ -3,7 +3,7 @@ use Rattle.std.specs.List.{IsAmong}
 use Rattle.std.proofs.lemmas.List.{get_or_default}
 use Rattle.ea_road.specs.declared.source.Source.{Source}
 use Rattle.ea_road.proofs.Reached.{reaches_source}
-use Rattle.ea_road.proofs.tests.first_known.Goals as goal
+use Rattle.part_tests.proofs.roads.first_known.Goals as goal
 
 abbrev none : Source
 none = record { node = 0; departure = 0 }

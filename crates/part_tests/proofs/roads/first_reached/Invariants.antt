@@ -1,5 +1,5 @@
 use Rattle.ea_road.specs.Arrivals.{Reaches}
-use Rattle.ea_road.proofs.tests.first_reached.Given as goal
+use Rattle.part_tests.proofs.roads.first_reached.Given as goal
 
 -- the pairs that some walk from one of the sources attains within the horizon
 abbrev pub ghosts-first_known : goal.ghosts-first_known

@@ -1,7 +1,7 @@
 use Rattle.std.proofs.Common.{refl, arith}
 use Rattle.ea_road.proofs.BoxLaws.{box_is_fifo}
-use Rattle.ea_road.proofs.tests.right_of_profiles.OwnLists.{own-1, at-1-1}
-use Rattle.ea_road.proofs.tests.right_of_profiles.Goals as goal
+use Rattle.part_tests.proofs.roads.right_of_profiles.OwnLists.{own-1, at-1-1}
+use Rattle.part_tests.proofs.roads.right_of_profiles.Goals as goal
 
 pub new-requires-in-loop-class : goal.new-requires-in-loop-class
 new-requires-in-loop-class c = box_is_fifo own-1 at-1-1 _ _ c.in_ok-new.field-0.value c.into_dyn_box.ensures.1 (record {

@@ -1,4 +1,4 @@
-use Rattle.ea_check.proofs.tests.memory_refused.Goals as goal
+use Rattle.report_tests.proofs.checked.memory_refused.Goals as goal
 
 pub check-requires : goal.check-requires
 check-requires g c = rw c.classes.ensures at (c.is_checkable.ensures.0 c.if-not-is_checkable.false)

@@ -1,4 +1,4 @@
-use Rattle.ea_check.proofs.tests.verdict.Goals as goal
+use Rattle.report_tests.proofs.checked.verdict.Goals as goal
 
 pub check-requires : goal.check-requires
 check-requires c =

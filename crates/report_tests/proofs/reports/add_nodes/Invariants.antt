@@ -1,5 +1,5 @@
 use Rattle.std.proofs.Common.{◌≡◌}
-use Rattle.ea_report.proofs.tests.add_nodes.Given as goal
+use Rattle.report_tests.proofs.reports.add_nodes.Given as goal
 
 abbrev pub invariant-loop-node : goal.invariant-loop-node
 invariant-loop-node l = l.arcs.links ≡ l.answer.links

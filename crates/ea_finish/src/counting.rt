@@ -1,0 +1,58 @@
+//! How many nodes a search scans: what the width of its windows changes.
+ghost use Rattle.ea_road.specs.Queries.{IsProblem};
+
+use crate::frontier::{Frontier, empty_lists};
+use crate::levels::Track;
+use crate::open::Open;
+use crate::searching::search;
+use ea_road::{NONE, Network, Query, TravelTimes};
+use std::alloc::{AllocError, Global};
+
+/// Counts the nodes that are scanned.
+#[derive(Drop)]
+struct Counting {
+    count: u64,
+}
+
+impl Track for Counting {
+    ghost lists = { λ counting node. Unit };
+
+    fn begin(&mut self) {}
+
+    fn leave(&mut self, _node: u32) {
+        self.count = self.count.wrapping_add(1);
+    }
+
+    fn reach(&mut self, _node: u32) {}
+
+    fn fell(&mut self, _node: u32) {}
+
+    fn met(&mut self, _node: u32) {}
+}
+
+/// How many nodes the search of one thread scans where its windows have this width, each as often as it is scanned. Windows of width 0
+/// are single times, which is Dijkstra's method. The error comes only where memory is refused.
+pub fn count_scans<T: TravelTimes>(
+    alloc: Global,
+    network: &Network,
+    times: &T,
+    query: &Query,
+    width: u64,
+) -> Result<u64, AllocError>
+    requires { IsProblem network.now (T.classes times.now) query.now }
+{
+    let mut counting = Counting { count: 0 };
+    let todo = Open::reserve_without_walks(alloc, network.nodes())?;
+    let lists = empty_lists(alloc)?;
+    let mut frontier = Frontier::over(lists, todo, width);
+    let mut table = vec![in alloc; NONE; network.nodes() as usize]?;
+    search(
+        network,
+        times,
+        query,
+        &mut counting,
+        &mut table,
+        &mut frontier,
+    );
+    Ok(counting.count)
+}
