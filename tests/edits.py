@@ -22,7 +22,7 @@ from collections import namedtuple
 from crates import kit
 
 # At most so many edits go over the same kept work.
-TOGETHER = 48
+TOGETHER = 32
 
 FUNCTION = re.compile(r"^( *)(?:pub(?:\([^)]*\))? )?(?:final |const )*fn (\w+)", re.M)
 IMPL = re.compile(r"^impl\b.*$", re.M)
@@ -137,11 +137,11 @@ def are_apart(some, others):
     )
 
 
-def next_round(left, places):
-    """Of the edits that are left as many as are apart from each other."""
+def next_round(left, places, fit):
+    """Of the edits that are left the first and as many more as are apart from each other and fit together."""
     made = []
     for edit in left:
-        if all(are_apart(places[edit], places[other]) for other in made):
+        if not made or all(are_apart(places[edit], places[other]) for other in made) and fit([*made, edit]):
             made.append(edit)
     return made
 
@@ -196,12 +196,15 @@ def told_by(rt, ran, texts):
     return [line for line in told if (": error" in line or line.startswith("note: ")) and not NAMES.match(line)]
 
 
+def joined(edits):
+    """Edits as one: each has to find its text once where those before it were made."""
+    return "\n".join(text_of(edit) for edit in edits)
+
+
 def together(rt, crate, edits, places, functions, kept):
     """Tries edits that are apart in one check: the line that refused each, and those of which it says nothing, since a function
     that they change calls one that isn't proved."""
-    texts, why = rt.edited("\n".join(text_of(edit) for edit in edits), crate.folder)
-    if why:
-        return {}, []
+    texts, _ = rt.edited(joined(edits), crate.folder)
     ran = rt.checked(crate, texts, ["--jobs", "1"] + only([it for edit in edits for it in places[edit]], functions), kept)
     said = re.findall(r"^fn \w+?::(\S+): (not proved|no proof)\b(.*)$", ran.stdout, re.M)
     above = {path for path, _, why in said if "which is not proved" in why}
@@ -234,7 +237,7 @@ def quickly(rt, crate, edits, kept):
     places, functions, found = {edit: every[edit] for edit in edits if every[edit]}, functions_of(crate), {}
     left, waited = list(places), set()
     while left:
-        some = next_round(left, places)
+        some = next_round(left, places, lambda edits: not rt.edited(joined(edits), crate.folder)[1])
         refused, later = together(rt, crate, some, places, functions, kept) if len(some) > 1 else ({}, [])
         found.update(refused)
         for edit in some:
