@@ -30,8 +30,8 @@ IMPL = re.compile(r"^impl\b.*$", re.M)
 # What a proof says of a name that an edit took away: it tells nothing of the contract.
 NAMES = re.compile(r"(\./)?proofs/.*(has no field|is not in scope|has no `|was not admitted)")
 
-# Where an edit changes a crate: the file, its module, the function and the type that it is of, and the function's text after its
-# name. The function is none where the change stands outside functions, the type where it is of none.
+# Where an edit changes a crate: the file, its module, the function and the impl that it is of, and the function's text after its
+# name. The function is none where the change stands outside functions, the impl where it is of none.
 Place = namedtuple("Place", "file module function type text")
 
 
@@ -77,9 +77,10 @@ def without_brackets(text):
 
 
 def type_of(header):
-    """The type of an impl by its first line: Pool for `impl<K: Known> Closes for Pool<K>`."""
-    words = without_brackets(header.replace("->", "")).removeprefix("impl").partition(" where ")[0].strip(" {")
-    return re.sub(r"\W.*", "", words.rpartition(" for ")[2].strip(" &"))
+    """What rt calls an impl by its first line: Pool for `impl<K: Known> Pool<K>`, PoolCloses for `impl<K: Known> Closes for Pool<K>`."""
+    words = without_brackets(header.replace("->", "")).removeprefix("impl").partition(" where ")[0]
+    trait, _, name = words.rpartition(" for ")
+    return "".join((re.findall(r"\w+", it) or [""])[-1] for it in (name, trait))
 
 
 def place_of(file, text, old):
@@ -131,7 +132,7 @@ def calls(one, other):
 def are_apart(some, others):
     """Whether two edits change functions of which none is the other or seems to call it."""
     return all(
-        one.function and other.function and one[:4] != other[:4] and not calls(one, other) and not calls(other, one)
+        one.function and other.function and (one.file, one.function) != (other.file, other.function) and not calls(one, other) and not calls(other, one)
         for one in some
         for other in others
     )
@@ -158,11 +159,12 @@ def functions_of(crate):
 
 def paths_of(place, functions):
     """The whole paths of the function at a place and of its closures; that of the module where none is known."""
-    ends = [it for it in functions if it.endswith(f"::{place.function}")]
-    here = [it for it in ends if it.startswith(f"{place.module}::")]
-    there = [it for it in ends if place.type and it.split("::")[-2].startswith(place.type)]
+    if place.type:
+        ends = [it for it in functions if it.endswith(f"::{place.function}")]
+        found = [it for it in ends if it.split("::")[-2].partition("+")[0] == place.type]
+    else:
+        found = [it for it in functions if it == f"{place.module}::{place.function}"]
     closures = [it for it in functions if f"fn::{place.function}::" in it and it.startswith(f"{place.module}::")]
-    found = ([it for it in here if it in there] or here or there) if place.function else []
     return found + closures if found else [place.module]
 
 
