@@ -3,7 +3,7 @@ use Rattle.std.proofs.Common.{◌≡◌, ℕ, zero, suc, ◌+◌, ◌-◌, ◌^�
 use Rattle.std.specs.Prelude.{All, codes, Option, Some, None, slice_get, unwrap_or}
 use Rattle.std.proofs.lemmas.Option.{none-some}
 use Rattle.ea_road.proofs.Assigning.{length-arcs_from}
-use Rattle.ea_input.specs.declared.graph.RawArc.{RawArc}
+use Rattle.ea_raw.specs.declared.graph.RawArc.{RawArc}
 use Rattle.ea_input.specs.Graph.{Graph, DenotesGraph, IsArcLine, AreArcLines, IsProblemLine}
 use Rattle.ea_input.specs.Listing.{IsCountLine, IsItemLine, AreItemLines}
 use Rattle.ea_input.specs.Sources.{IsSource, DenotesSources}

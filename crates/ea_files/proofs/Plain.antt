@@ -3,8 +3,8 @@ use Rattle.std.proofs.Common.{◌≡◌, ◌∙◌, ℕ, List, ap, length, map, 
 use Rattle.std.proofs.lemmas.List.{length-map}
 use Rattle.ea_input.specs.Graph.{DenotesGraph, DenotesMade, GraphOf}
 use Rattle.ea_input.specs.Views.{graph}
-use Rattle.ea_input.specs.declared.graph.RawArc.{RawArc}
-use Rattle.ea_input.specs.declared.graph.RawGraph.{RawGraph}
+use Rattle.ea_raw.specs.declared.graph.RawArc.{RawArc}
+use Rattle.ea_raw.specs.declared.graph.RawGraph.{RawGraph}
 use Rattle.ea_road.specs.declared.arc.Arc.{Arc}
 use Rattle.ea_road.specs.Assigned.{ArePlain, plain_arc, raw_arc}
 use Rattle.ea_road.proofs.Assigning.{made_back, made_plain}

@@ -5,8 +5,8 @@ use Rattle.std.specs.List.{list_all}
 use Rattle.std.proofs.lemmas.Bool.Decides.{leb_tells, nat_tests}
 use Rattle.std.proofs.lemmas.Bool.{lt-ltb}
 use Rattle.std.proofs.lemmas.List.{take_all, length-drop, drop_all, drop-append-le, take-append-le, get_or_append_left, get_or_push}
-use Rattle.ea_input.specs.declared.table.RawKind.{RawKind}
-use Rattle.ea_input.specs.declared.table.RawKind.TheVariants.{Plain, Every, Closed, Rush, Speeds, Trips}
+use Rattle.ea_raw.specs.declared.table.RawKind.{RawKind}
+use Rattle.ea_raw.specs.declared.table.RawKind.TheVariants.{Plain, Every, Closed, Rush, Speeds, Trips}
 use Rattle.ea_input.specs.StepLines.{Run, due, has_steps, is_last, stands_still, step_before, first_step, arrives, least_time, most_time, least_value, most_value, IsStepLine}
 use Rattle.ea_input.specs.Table.{Table, nothing, IsKind, IsKindLine, IsTableAfter, AreTableLines, class_of, steps_from, last_kind, run_in}
 use Rattle.ea_input.proofs.LastKind.{last_more}

@@ -3,7 +3,7 @@ use Rattle.std.proofs.Common.{◌≡◌, ℕ, ◌≤◌, ◌^◌, List, length, 
 use Rattle.std.specs.Prelude.{Option, Some, None, Result, Ok, Err, IfOk, IfSome}
 use Rattle.ea_text.specs.Device.{Seen}
 use Rattle.ea_input.specs.TableViews.{table}
-use Rattle.ea_input.specs.declared.table.RawTable.{RawTable}
+use Rattle.ea_raw.specs.declared.table.RawTable.{RawTable}
 use Rattle.ea_files.specs.declared.fault.FileFault.{FileFault}
 use Rattle.ea_files.specs.Files.{bytes_there, IsAllIfThere, IsBorneIfThere, IsTextIfThere, IsFileText, reading}
 use Rattle.ea_files.specs.Given.{IsTableOf}

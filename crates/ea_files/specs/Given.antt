@@ -5,8 +5,8 @@ use Rattle.ea_text.specs.Text.{field_lines}
 use Rattle.ea_input.specs.Graph.{Graph, DenotesGraph}
 use Rattle.ea_input.specs.Table.{Table, DenotesTable, nothing}
 use Rattle.ea_input.specs.TableViews.{table as table_of}
-use Rattle.ea_input.specs.declared.graph.RawGraph.{RawGraph}
-use Rattle.ea_input.specs.declared.table.RawTable.{RawTable}
+use Rattle.ea_raw.specs.declared.graph.RawGraph.{RawGraph}
+use Rattle.ea_raw.specs.declared.table.RawTable.{RawTable}
 use Rattle.ea_road.specs.Roads.{Roads}
 use Rattle.ea_road.specs.declared.arc.Arc.{Arc}
 use Rattle.ea_road.specs.Assigned.{arcs_with, raw_arc}

@@ -4,14 +4,15 @@ use Rattle.std.specs.Prelude.{Option, Some, None, Result, Ok, Err, not}
 use Rattle.std.proofs.lemmas.Bool.{ltb-false, le-ltb}
 use Rattle.ea_text.specs.Text.{is_silent, speaking}
 use Rattle.ea_input.specs.Fault.{◌>>=◌}
-use Rattle.ea_input.specs.Graph.{Graph, as_is, IsProblemLine, IsArcLine, AreArcLines, DenotesGraph, GraphRead, with_line, after_said, graph_step, graph_line, graph_end, graph_of}
+use Rattle.ea_input.specs.Graph.{Graph, IsProblemLine, IsArcLine, AreArcLines, DenotesGraph, GraphRead, with_line, after_said, graph_step, graph_line, graph_end, graph_of}
+use Rattle.ea_raw.specs.Arcs.{as_is}
 use Rattle.ea_input.specs.Reading.{text_after}
 use Rattle.ea_input.proofs.Numbered.{bind_ok}
 use Rattle.ea_input.proofs.OneByOne.{rest_of, one_line, next_line, no_line, at_end}
 use Rattle.ea_input.proofs.Said.{Says, graph_line_says, silent_line, problem_line_of, arc_line_of}
 use Rattle.ea_input.specs.declared.fault.FaultKind.TheVariants.{TooFewLines}
 use Rattle.ea_input.specs.declared.fault.InputFault.{InputFault}
-use Rattle.ea_input.specs.declared.graph.RawArc.{RawArc}
+use Rattle.ea_raw.specs.declared.graph.RawArc.{RawArc}
 use Rattle.ea_input.specs.declared.graph.GraphSize.{GraphSize}
 use Rattle.ea_input.specs.declared.graph.GraphLine.{GraphLine}
 use Rattle.ea_input.specs.declared.graph.GraphLine.TheVariants.{Silent, Problem, Arc}

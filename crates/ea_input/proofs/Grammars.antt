@@ -6,7 +6,8 @@ use Rattle.ea_input.specs.Reading.{text_after}
 use Rattle.ea_input.specs.Listing.{only_number, list_end, nothing_listed}
 use Rattle.ea_input.specs.Sources.{DenotesSources, source_of, source_step}
 use Rattle.ea_input.specs.Pairs.{DenotesPairs, pair_of, pair_read, pair_step}
-use Rattle.ea_input.specs.Graph.{Graph, as_is, DenotesGraph, graph_of, graph_step, graph_end, no_graph}
+use Rattle.ea_input.specs.Graph.{Graph, DenotesGraph, graph_of, graph_step, graph_end, no_graph}
+use Rattle.ea_raw.specs.Arcs.{as_is}
 use Rattle.ea_input.specs.Table.{Table, DenotesTable, table_step, table_end, no_table}
 use Rattle.ea_input.specs.Checks.{Line, Format, value_of, first_failing, IsFaultOf, IsFaultTold}
 use Rattle.ea_input.specs.Formats.{graph_format, source_format, pair_format, table_format}

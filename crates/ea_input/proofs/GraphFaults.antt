@@ -4,7 +4,8 @@ use Rattle.std.specs.Prelude.{Option, Some, None, Ok, Err, codes, ◌==◌, find
 use Rattle.std.specs.Option.{option_map}
 use Rattle.std.specs.Str.{bytes_eq}
 use Rattle.ea_input.specs.Fault.{◌>>=◌}
-use Rattle.ea_input.specs.Graph.{Graph, as_is, IsProblemLine, IsArcLine, GraphRead, no_graph, with_line, size_of, size_read, problem_of, problem_line, arc_of, arc_read, arc_line, graph_line, graph_step, after_said, graph_end}
+use Rattle.ea_input.specs.Graph.{Graph, IsProblemLine, IsArcLine, GraphRead, no_graph, with_line, size_of, size_read, problem_of, problem_line, arc_of, arc_read, arc_line, graph_line, graph_step, after_said, graph_end}
+use Rattle.ea_raw.specs.Arcs.{as_is}
 use Rattle.ea_input.specs.Checks.{Line, Before, before_of, begins_with, run_of_lines, value_of, line_fault, end_fault}
 use Rattle.ea_input.specs.StepLines.{Run, no_run}
 use Rattle.ea_input.specs.Formats.{graph_format, graph_nodes, graph_arcs}
@@ -16,7 +17,7 @@ use Rattle.ea_input.proofs.Forms.{size_form, arc_form}
 use Rattle.ea_input.proofs.Matching.{bind_matches, kind_matches, count_matches, numbers_match, item_matches, few_matches, found_before, found_now, counted_before, counted_now, silent_word, some_is, none_mapped, some_mapped, number_is}
 use Rattle.ea_text.specs.Text.{is_comment, is_silent}
 use Rattle.ea_input.specs.declared.fault.FaultKind.TheVariants.{TooManyLines, TooFewLines}
-use Rattle.ea_input.specs.declared.graph.RawArc.{RawArc}
+use Rattle.ea_raw.specs.declared.graph.RawArc.{RawArc}
 use Rattle.ea_input.specs.declared.graph.GraphSize.{GraphSize}
 use Rattle.ea_input.specs.declared.graph.GraphLine.{GraphLine}
 use Rattle.ea_input.specs.declared.graph.GraphLine.TheVariants.{Silent, Problem, Arc}

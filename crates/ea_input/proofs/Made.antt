@@ -3,7 +3,8 @@ use Rattle.std.proofs.Common.{◌≡◌, ℕ, ◌+◌, List, [], ◌∷◌, leng
 use Rattle.std.specs.Prelude.{Option, Some, None, Result, Ok, Err}
 use Rattle.std.proofs.lemmas.List.{length-map, map-append}
 use Rattle.ea_input.specs.Fault.{◌>>=◌, in_line}
-use Rattle.ea_input.specs.Graph.{Graph, GraphOf, GraphRead, ReadOf, DenotesMade, as_is, after_said, graph_end, graph_line, graph_made, graph_of, graph_step, made_graph, no_graph, with_line}
+use Rattle.ea_input.specs.Graph.{Graph, GraphOf, GraphRead, ReadOf, DenotesMade, after_said, graph_end, graph_line, graph_made, graph_of, graph_step, made_graph, no_graph, with_line}
+use Rattle.ea_raw.specs.Arcs.{as_is}
 use Rattle.ea_input.specs.Reading.{lines_after, text_after}
 use Rattle.ea_input.specs.Formats.{graph_format}
 use Rattle.ea_input.proofs.Denoted.{denoted, read_of_denoted}
@@ -12,7 +13,7 @@ use Rattle.ea_input.proofs.Numbered.{bind_ok}
 use Rattle.ea_input.specs.declared.fault.FaultKind.{FaultKind}
 use Rattle.ea_input.specs.declared.fault.FaultKind.TheVariants.{TooFewLines}
 use Rattle.ea_input.specs.declared.fault.InputFault.{InputFault}
-use Rattle.ea_input.specs.declared.graph.RawArc.{RawArc}
+use Rattle.ea_raw.specs.declared.graph.RawArc.{RawArc}
 use Rattle.ea_input.specs.declared.graph.GraphLine.{GraphLine}
 use Rattle.ea_input.specs.declared.graph.GraphLine.TheVariants.{Silent, Problem, Arc}
 

@@ -11,7 +11,7 @@ use Rattle.ea_input.proofs.Denoted.{speaking_loud, speaking_silent, two_ways}
 use Rattle.ea_input.proofs.Numbered.{bind_ok}
 use Rattle.ea_input.proofs.OneByOne.{in_line_ok}
 use Rattle.ea_input.proofs.Said.{Says, arc_line_of, graph_line_says, silent_line}
-use Rattle.ea_input.specs.declared.graph.RawArc.{RawArc}
+use Rattle.ea_raw.specs.declared.graph.RawArc.{RawArc}
 use Rattle.ea_input.specs.declared.graph.GraphSize.{GraphSize}
 use Rattle.ea_input.specs.declared.graph.GraphLine.{GraphLine}
 use Rattle.ea_input.specs.declared.graph.GraphLine.TheVariants.{Silent, Problem, Arc}

@@ -11,7 +11,7 @@ use Rattle.ea_input.specs.Graph.{ReadOf, arc_read, arc_of, arc_line, graph_line,
 use Rattle.ea_input.specs.Reading.{ReadsFront}
 use Rattle.ea_input.specs.declared.fault.FaultKind.{FaultKind}
 use Rattle.ea_input.specs.declared.fault.FaultKind.TheVariants.{BadNumber, OutOfMemory}
-use Rattle.ea_input.specs.declared.graph.RawArc.{RawArc}
+use Rattle.ea_raw.specs.declared.graph.RawArc.{RawArc}
 use Rattle.ea_input.specs.declared.graph.GraphSize.{GraphSize}
 
 pub numeral_is : (field : List ℕ) (n : ℕ) → number_of field ≡ Some n → n < 2 ^ 64 → numeral field ≡ Ok n

@@ -11,7 +11,7 @@ use Rattle.ea_input.specs.Graph.{IsProblemLine, IsArcLine, arc_within, arc_read,
 use Rattle.ea_input.proofs.Numbered.{bind_ok, guard_ok, number_found, numeral_of, within_of}
 use Rattle.ea_input.specs.declared.fault.FaultKind.{FaultKind}
 use Rattle.ea_input.specs.declared.fault.FaultKind.TheVariants.{BadKind, TooManyLines}
-use Rattle.ea_input.specs.declared.graph.RawArc.{RawArc}
+use Rattle.ea_raw.specs.declared.graph.RawArc.{RawArc}
 use Rattle.ea_input.specs.declared.graph.GraphSize.{GraphSize}
 use Rattle.ea_input.specs.declared.graph.GraphLine.{GraphLine}
 use Rattle.ea_input.specs.declared.graph.GraphLine.TheVariants.{Silent, Problem, Arc}

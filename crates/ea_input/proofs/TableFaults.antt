@@ -24,8 +24,8 @@ use Rattle.ea_input.proofs.ListFaults.{one_kind_matches}
 use Rattle.ea_input.proofs.Matching.{bind_matches, count_matches, numbers_match, item_matches, full, found_before, found_now, counted_before, counted_now, silent_word, some_is, none_mapped, some_mapped, number_is}
 use Rattle.ea_input.specs.declared.fault.FaultKind.{FaultKind}
 use Rattle.ea_input.specs.declared.fault.FaultKind.TheVariants.{TooManyLines, TooFewLines}
-use Rattle.ea_input.specs.declared.table.RawKind.{RawKind}
-use Rattle.ea_input.specs.declared.table.RawKind.TheVariants.{Plain, Every, Closed, Rush, Speeds, Trips}
+use Rattle.ea_raw.specs.declared.table.RawKind.{RawKind}
+use Rattle.ea_raw.specs.declared.table.RawKind.TheVariants.{Plain, Every, Closed, Rush, Speeds, Trips}
 use Rattle.ea_input.specs.declared.table.TableSize.{TableSize}
 use Rattle.ea_input.specs.declared.table.TableLine.{TableLine}
 use Rattle.ea_input.specs.declared.table.TableLine.TheVariants.{Silent, Problem, Kind, Assigned, Step}

@@ -14,8 +14,8 @@ use Rattle.ea_input.proofs.Said.{same_word, choice_ok}
 use Rattle.ea_input.proofs.Items.{after_kinds_ok, after_kinds_of}
 use Rattle.ea_input.specs.declared.fault.FaultKind.{FaultKind}
 use Rattle.ea_input.specs.declared.fault.FaultKind.TheVariants.{TooFewLines, TooManyLines}
-use Rattle.ea_input.specs.declared.table.RawKind.{RawKind}
-use Rattle.ea_input.specs.declared.table.RawKind.TheVariants.{Plain, Every, Closed, Rush, Speeds, Trips}
+use Rattle.ea_raw.specs.declared.table.RawKind.{RawKind}
+use Rattle.ea_raw.specs.declared.table.RawKind.TheVariants.{Plain, Every, Closed, Rush, Speeds, Trips}
 use Rattle.ea_input.specs.declared.table.TableSize.{TableSize}
 use Rattle.ea_input.specs.declared.table.TableLine.{TableLine}
 use Rattle.ea_input.specs.declared.table.TableLine.TheVariants.{Silent, Problem, Kind, Assigned, Step}

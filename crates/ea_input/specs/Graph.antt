@@ -10,7 +10,8 @@ use Rattle.ea_input.specs.Reading.{text_after}
 use Rattle.ea_input.specs.declared.fault.FaultKind.{FaultKind}
 use Rattle.ea_input.specs.declared.fault.FaultKind.TheVariants.{NoProblemLine, SecondProblemLine, UnknownLine, FieldCount, TooManyLines, TooFewLines, BadKind}
 use Rattle.ea_input.specs.declared.fault.InputFault.{InputFault}
-use Rattle.ea_input.specs.declared.graph.RawArc.{RawArc}
+use Rattle.ea_raw.specs.Arcs.{as_is}
+use Rattle.ea_raw.specs.declared.graph.RawArc.{RawArc}
 use Rattle.ea_input.specs.declared.graph.GraphSize.{GraphSize}
 use Rattle.ea_input.specs.declared.graph.GraphLine.{GraphLine}
 use Rattle.ea_input.specs.declared.graph.GraphLine.TheVariants.{Silent, Problem, Arc}
@@ -157,10 +158,6 @@ graph_end read = ok_or read.size NoProblemLine >>= λ size. if nat_lt (length re
 -- What a reader finds: the graph of a text, its arcs as they are made, or a fault.
 abbrev pub graph_made : {A : Type 0} → (RawArc → A) → List (List (List ℕ)) → Result (GraphOf A) InputFault
 graph_made made lines = text_after (graph_step made) graph_end no_graph lines
-
--- An arc of the text, as it is.
-abbrev pub as_is : RawArc → RawArc
-as_is arc = arc
 
 -- The same with the text's own arcs.
 abbrev pub graph_of : List (List (List ℕ)) → Result Graph InputFault

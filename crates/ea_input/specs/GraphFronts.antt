@@ -1,7 +1,7 @@
 -- The meaning of a line of a graph is in its first seven fields.
 use Rattle.std.specs.Prelude.{◌≡◌, ℕ, List, [], ◌∷◌, take, length, refl, Option, Some, None}
 use Rattle.ea_input.specs.Graph.{ReadOf, size_of, problem_of, arc_of, problem_line, arc_line, graph_line, graph_step}
-use Rattle.ea_input.specs.declared.graph.RawArc.{RawArc}
+use Rattle.ea_raw.specs.declared.graph.RawArc.{RawArc}
 use Rattle.ea_input.specs.declared.graph.GraphSize.{GraphSize}
 
 size_of-front : (fields : List (List ℕ)) → size_of (take 5 fields) ≡ size_of fields

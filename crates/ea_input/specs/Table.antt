@@ -2,20 +2,19 @@
 use Rattle.std.specs.Prelude.{false, true, ◌≡◌, ◌⊎◌, ℕ, ◌+◌, ◌-◌, List, [], ◌∷◌, ◌++◌, length, drop, ◌<◌, codes, nat_lt, if◌then◌else◌, Option, Some, None, Result, Ok, Err}
 use Rattle.std.specs.Str.{bytes_eq}
 use Rattle.std.specs.Option.{ok_or}
-use Rattle.ea_limits.specs.declared.TheConstants.{HORIZON, MOST_ARCS, MOST_CLASSES, MOST_PERIOD}
+use Rattle.ea_limits.specs.declared.TheConstants.{HORIZON, MOST_ARCS, MOST_CLASSES, MOST_PERIOD, MOST_STEPS}
 use Rattle.ea_text.specs.Text.{is_comment, speaking}
 use Rattle.ea_input.specs.Fault.{◌>>=◌, numeral, within}
 use Rattle.ea_input.specs.Range.{IsNumberIn}
 use Rattle.ea_input.specs.Reading.{text_after}
 use Rattle.ea_input.specs.Listing.{after_kinds}
 use Rattle.ea_input.specs.StepLines.{Run, no_run, due, IsStepLine, step_within, step_of}
-use Rattle.ea_input.specs.declared.step_lines.TheConstants.{MOST_STEPS}
 use Rattle.ea_input.specs.declared.step_lines.StepClass.{StepClass}
 use Rattle.ea_input.specs.declared.fault.FaultKind.{FaultKind}
 use Rattle.ea_input.specs.declared.fault.FaultKind.TheVariants.{NoProblemLine, SecondProblemLine, UnknownLine, FieldCount, TooManyLines, TooFewLines, BadKind}
 use Rattle.ea_input.specs.declared.fault.InputFault.{InputFault}
-use Rattle.ea_input.specs.declared.table.RawKind.{RawKind}
-use Rattle.ea_input.specs.declared.table.RawKind.TheVariants.{Plain, Every, Closed, Rush, Speeds, Trips}
+use Rattle.ea_raw.specs.declared.table.RawKind.{RawKind}
+use Rattle.ea_raw.specs.declared.table.RawKind.TheVariants.{Plain, Every, Closed, Rush, Speeds, Trips}
 use Rattle.ea_input.specs.declared.table.TableSize.{TableSize}
 use Rattle.ea_input.specs.declared.table.TableLine.{TableLine}
 use Rattle.ea_input.specs.declared.table.TableLine.TheVariants.{Silent, Problem, Kind, Assigned, Step}

@@ -15,25 +15,17 @@ ghost use Rattle.ea_input.specs.Borrowed.{texts_now};
 ghost use Rattle.ea_input.specs.Streams.{DenotesWhole, GivesWhole, IsStreamFault};
 
 use crate::fault::{FaultKind, InputFault};
-use crate::made_arc::MadeArc;
 use crate::plain::{ArcNumbers, leading_arc};
 use crate::range::{numeral, within};
 use crate::reading::{LineReader, read_text};
 use crate::streams::{StreamFault, read_device};
 use crate::way::{Way, way_of};
 use ea_limits::{MOST_ARCS, MOST_NODES};
+use ea_raw::{MadeArc, RawArc, RawGraph};
 use ea_text as text;
 use ea_text::ByteIn;
 use std::alloc::Global;
 use std::thread::Threads;
-
-/// An arc of a graph's text: from `tail` to `head`, nodes counted from 1, of `weight`.
-#[derive(Clone, Copy, Debug, PartialEq, Eq)]
-pub struct RawArc {
-    pub tail: u32,
-    pub head: u32,
-    pub weight: u32,
-}
 
 /// The numbers of nodes and arcs that a problem line announces.
 #[derive(Clone, Copy)]
@@ -180,13 +172,6 @@ fn graph_line(
     } else {
         Err(FaultKind::UnknownLine)
     }
-}
-
-/// The graph of a text: its number of nodes, and its arcs in the order of their lines, or what is made of each.
-#[derive(Debug, Drop)]
-pub struct RawGraph<A = RawArc> {
-    pub nodes: u32,
-    pub arcs: Vec<A>,
 }
 
 /// What the lines of a text said so far.

@@ -4,8 +4,8 @@ ghost use Rattle.ea_input.specs.Pieces.{BeginsAside, IsAppended};
 ghost use Rattle.ea_input.specs.Views.{read_of};
 
 use crate::graph::GraphReader;
-use crate::made_arc::MadeArc;
 use crate::pieces::BlockReader;
+use ea_raw::MadeArc;
 use std::alloc::Global;
 use std::mem;
 

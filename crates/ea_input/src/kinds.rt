@@ -5,9 +5,8 @@ ghost use Rattle.ea_input.specs.Table as spec;
 
 use crate::fault::FaultKind;
 use crate::range::{numeral, within, within_wide};
-use crate::step_lines::MOST_STEPS;
-use crate::table::RawKind;
-use ea_limits::{HORIZON, MOST_PERIOD};
+use ea_limits::{HORIZON, MOST_PERIOD, MOST_STEPS};
+use ea_raw::RawKind;
 
 /// Two fields as numbers.
 #[tactic(auto, unfolding(crate::specs::Table::two_read))]

@@ -6,7 +6,6 @@ mod graph;
 mod graph_pieces;
 mod kinds;
 mod listing;
-mod made_arc;
 mod pairs;
 mod pieces;
 mod plain;
@@ -18,17 +17,14 @@ mod streams;
 mod table;
 mod way;
 
+pub use ea_raw::{MadeArc, RawArc, RawGraph, RawKind, RawTable};
 pub use ea_text::{
     ByteIn, ByteOut, Device, DeviceFault, ReadFault, StdIn, StdOut, number, read_all,
 };
 pub use fault::{FaultKind, InputFault};
-pub use graph::{
-    RawArc, RawGraph, graph_law, read_gr, read_gr_as, read_gr_by, read_gr_from, read_gr_from_as,
-};
-pub use made_arc::MadeArc;
+pub use graph::{graph_law, read_gr, read_gr_as, read_gr_by, read_gr_from, read_gr_from_as};
 pub use pairs::{pair_law, read_p2p, read_p2p_from};
 pub use sources::{read_ss, read_ss_from, source_law};
-pub use step_lines::{MOST_SPEED, MOST_STEPS, step_limits_are_these};
 pub use streams::StreamFault;
-pub use table::{RawKind, RawTable, read_tp, read_tp_from, table_law};
+pub use table::{read_tp, read_tp_from, table_law};
 pub use way::Way;

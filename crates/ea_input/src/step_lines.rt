@@ -7,19 +7,7 @@ ghost use Rattle.ea_input.specs.StepLines as spec;
 
 use crate::fault::FaultKind;
 use crate::range::numeral;
-use ea_limits::{HORIZON, MOST_PERIOD};
-
-/// The most steps that a class has.
-pub const MOST_STEPS: u32 = 65_536;
-
-/// The most that a speed is, in thousandths of the full one: a thousand times the full one.
-pub const MOST_SPEED: u64 = 1_000_000;
-
-/// The limits of steps are these.
-pub fn step_limits_are_these()
-    ensures steps { MOST_STEPS ≡ 65536 }
-    ensures speed { MOST_SPEED ≡ 1000000 }
-{}
+use ea_limits::{HORIZON, MOST_PERIOD, MOST_SPEED};
 
 /// A class that has steps: whether they are trips, or else speeds; its period; and how many steps there are.
 #[derive(Clone, Copy)]

@@ -26,48 +26,11 @@ use crate::step_lines::{StepClass, step_of, step_within};
 use crate::streams::{StreamFault, read_device};
 use crate::way::way_of;
 use ea_limits::{MOST_ARCS, MOST_CLASSES};
+use ea_raw::{RawKind, RawTable};
 use ea_text as text;
 use ea_text::ByteIn;
 use std::alloc::Global;
 use std::thread::Threads;
-
-/// How the arcs of a class are left. Times are at most 281,474,976,710,655.
-#[derive(Clone, Copy, Debug, PartialEq, Eq)]
-pub enum RawKind {
-    /// At once.
-    Plain,
-    /// At the next time with the remainder `offset` by `period`, which is 1 to 2^32.
-    Every {
-        period: u64,
-        offset: u64,
-    },
-    /// From `lo` on not before `hi`, which is later.
-    Closed {
-        lo: u64,
-        hi: u64,
-    },
-    /// At once, and from `lo` on before `hi` it takes `extra` more, at most 2^32. From `hi` on an arc isn't arrived at before
-    /// one that was left just before `hi`: not before `hi + weight + extra`.
-    Rush {
-        lo: u64,
-        hi: u64,
-        extra: u64,
-    },
-    /// At once, at the speeds of the steps of a period: `count` steps from the one at `first` on, each a time of the period and,
-    /// from it to the next step's time, the speed in thousandths of the full one. At full speed an arc takes its weight.
-    Speeds {
-        period: u64,
-        first: usize,
-        count: usize,
-    },
-    /// At the next trip: `count` steps from the one at `first` on, each the time at which a trip leaves in each period, or once
-    /// where the period is 0, and what its ride takes beside the weight.
-    Trips {
-        period: u64,
-        first: usize,
-        count: usize,
-    },
-}
 
 /// The numbers of kinds and assignments that a problem line announces.
 #[derive(Clone, Copy)]
@@ -307,16 +270,6 @@ fn last_kind(kinds: &[RawKind]) -> RawKind
     } else {
         kinds[kinds.len() - 1]
     }
-}
-
-/// The kinds of a timetable, numbered from 1 on; the arcs that are given a class, each with
-/// its class, in the order of the lines; and the steps of all kinds that have some, in one list.
-/// The last class that an arc is given holds; class 0 is plain.
-#[derive(Debug, Drop)]
-pub struct RawTable {
-    pub kinds: Vec<RawKind>,
-    pub assigned: Vec<(u32, u32)>,
-    pub steps: Vec<(u64, u64)>,
 }
 
 /// What the lines of a text said so far.

@@ -18,6 +18,12 @@ pub const MOST_CLASSES: u32 = 65_535;
 /// The longest period, and the most that a travel time has beside the weight of its arc: 2^32.
 pub const MOST_PERIOD: u64 = 4_294_967_296;
 
+/// The most steps that a class of travel times has.
+pub const MOST_STEPS: u32 = 65_536;
+
+/// The most that a speed is, in thousandths of the full one: a thousand times the full one.
+pub const MOST_SPEED: u64 = 1_000_000;
+
 /// The most sources, or pairs, of one file and of one query.
 pub const MOST_STARTS: u32 = 1_000_000;
 
@@ -58,6 +64,8 @@ pub fn limits_are_these()
     ensures arcs { MOST_ARCS ≡ 2 ^ 28 }
     ensures classes { MOST_CLASSES ≡ 2 ^ 16 - 1 }
     ensures period { MOST_PERIOD ≡ 2 ^ 32 }
+    ensures steps { MOST_STEPS ≡ 2 ^ 16 }
+    ensures speed { MOST_SPEED ≡ 1000000 }
     ensures starts { MOST_STARTS ≡ 1000000 }
     ensures bytes { MOST_BYTES ≡ 2 ^ 33 }
     ensures interruptions { MOST_INTERRUPTIONS ≡ 1000 }

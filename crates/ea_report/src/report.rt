@@ -17,8 +17,8 @@ use crate::pending::Pending;
 use crate::sending::send;
 use crate::walks::ArcTexts;
 use ea_finish::Answer;
-use ea_input::ByteOut;
 use ea_road::{Network, Query, Source};
+use ea_text::ByteOut;
 use std::alloc::Global;
 use thiserror::Error;
 

@@ -4,8 +4,8 @@ ghost use Rattle.std.specs.Io.KnownBytes.{Appends};
 ghost use Rattle.ea_text.specs.Device.{Seen, GivesUp};
 ghost use Rattle.ea_report.specs.Sent.{IsCutAt, HasBorne};
 
-use ea_input::{ByteOut, DeviceFault};
 use ea_limits::MOST_INTERRUPTIONS;
+use ea_text::{ByteOut, DeviceFault};
 
 /// Sends all bytes, after so many interruptions. An error says how many were sent.
 pub(crate) fn send<W: ByteOut>(

@@ -9,7 +9,7 @@ ghost use Rattle.ea_report.specs.Sent.{IsCutBy, IsWhole, Adds, Stops};
 
 use crate::direct::Direct;
 use crate::report::{WriteFault, WriteFaultKind};
-use ea_input::ByteOut;
+use ea_text::ByteOut;
 use itoa::Buffer;
 
 /// Totals over all problems and workers of a run.

@@ -7,7 +7,7 @@ ghost use Rattle.ea_report.specs.Sent.{IsCutBy, IsWhole, Adds, Stops};
 use crate::direct::Direct;
 use crate::report::{WriteFault, WriteFaultKind};
 use crate::sending::send;
-use ea_input::ByteOut;
+use ea_text::ByteOut;
 
 impl Direct {
     /// Sends bytes.

@@ -2,8 +2,8 @@
 use Rattle.std.proofs.Common.{◌≡◌, false, ℕ, ◌+◌, ◌<◌, ◌≤◌, refl, sym, subst, arith, List, [], ◌∷◌, length, zero, suc, drop, length-take, length-drop, get_or}
 use Rattle.std.specs.Prelude.{IsTrue, Some, slice_get}
 use Rattle.std.specs.List.{IsAmong}
-use Rattle.ea_input.specs.declared.table.RawKind.{RawKind}
-use Rattle.ea_input.specs.declared.table.RawKind.TheVariants.{Plain, Every, Closed, Rush, Speeds, Trips}
+use Rattle.ea_raw.specs.declared.table.RawKind.{RawKind}
+use Rattle.ea_raw.specs.declared.table.RawKind.TheVariants.{Plain, Every, Closed, Rush, Speeds, Trips}
 use Rattle.ea_road.specs.Speeds.{AreSpeeds, IsArrivalBySpeeds, speed_at}
 use Rattle.ea_road.specs.Timetables.{AreFit, ClassAnswers, IsClass, KindAnswers, is_class, is_kind, run_of}
 use Rattle.ea_road.specs.Trips.{AreTrips, IsArrivalByTrips}

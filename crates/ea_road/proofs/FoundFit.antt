@@ -2,8 +2,8 @@
 use Rattle.std.proofs.Common.{◌≡◌, ℕ, zero, suc, ◌+◌, ◌-◌, ◌<◌, ◌≤◌, ◌⊎◌, inl, inr, refl, ap, subst, ◌∙◌, arith, List, [], ◌∷◌, length, get_or}
 use Rattle.std.specs.Prelude.{IsTrue, Some, slice_get}
 use Rattle.std.proofs.lemmas.Bool.Decides.{leb_tells}
-use Rattle.ea_input.specs.declared.table.RawKind.{RawKind}
-use Rattle.ea_input.specs.declared.table.RawKind.TheVariants.{Plain, Every, Closed, Rush, Speeds, Trips}
+use Rattle.ea_raw.specs.declared.table.RawKind.{RawKind}
+use Rattle.ea_raw.specs.declared.table.RawKind.TheVariants.{Plain, Every, Closed, Rush, Speeds, Trips}
 use Rattle.ea_road.specs.Timetables.{AreFit, IsClass, is_class}
 use Rattle.ea_road.proofs.Classes.{among_of}
 

@@ -2,8 +2,8 @@
 use Rattle.std.proofs.Common.{ℕ, ◌+◌, ◌-◌, ◌%◌, ◌<◌, ◌≤◌, inl, inr, refl, arith}
 use Rattle.std.specs.Prelude.{IsTrue}
 use Rattle.std.proofs.lemmas.Bool.Decides.{leb_tells, nat_tests}
-use Rattle.ea_input.specs.declared.table.RawKind.{RawKind}
-use Rattle.ea_input.specs.declared.table.RawKind.TheVariants.{Plain, Every, Closed, Rush, Speeds, Trips}
+use Rattle.ea_raw.specs.declared.table.RawKind.{RawKind}
+use Rattle.ea_raw.specs.declared.table.RawKind.TheVariants.{Plain, Every, Closed, Rush, Speeds, Trips}
 use Rattle.ea_road.specs.Answers.{IsFifo}
 use Rattle.ea_road.specs.Timetables.{is_kind, KindAnswers, IsNextTime}
 use Rattle.ea_road.specs.Times.{next_this_turn, next_turn}

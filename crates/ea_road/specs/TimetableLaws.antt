@@ -1,8 +1,8 @@
 -- A list of timetables is first in, first out.
 use Rattle.std.proofs.Common.{◌≡◌, ℕ, zero, suc, ◌⊎◌, inl, inr, List, [], ◌∷◌, get_or, refl}
 use Rattle.std.specs.Prelude.{Some, slice_get}
-use Rattle.ea_input.specs.declared.table.RawKind.{RawKind}
-use Rattle.ea_input.specs.declared.table.RawKind.TheVariants.{Plain, Every, Closed, Rush, Speeds, Trips}
+use Rattle.ea_raw.specs.declared.table.RawKind.{RawKind}
+use Rattle.ea_raw.specs.declared.table.RawKind.TheVariants.{Plain, Every, Closed, Rush, Speeds, Trips}
 use Rattle.ea_road.specs.Answers.{IsFifo}
 use Rattle.ea_road.specs.KindLaws.{kind_is_fifo}
 use Rattle.ea_road.specs.SpeedLaws.{speeds_have_answer, speeds_in_order}

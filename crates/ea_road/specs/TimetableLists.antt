@@ -1,7 +1,7 @@
 -- A list of timetables as travel times: class 0 is plain, class J is the J-th kind, whose steps are among those of all classes.
 use Rattle.std.specs.Prelude.{ℕ, List, ◌∷◌, slice_index_or}
-use Rattle.ea_input.specs.declared.table.RawKind.{RawKind}
-use Rattle.ea_input.specs.declared.table.RawKind.TheVariants.{Plain}
+use Rattle.ea_raw.specs.declared.table.RawKind.{RawKind}
+use Rattle.ea_raw.specs.declared.table.RawKind.TheVariants.{Plain}
 use Rattle.ea_road.specs.Timetables.{ClassAnswers}
 
 abbrev pub kind_of : List RawKind → ℕ → RawKind

@@ -1,10 +1,10 @@
 -- The kinds of timetable.
 use Rattle.std.specs.Prelude.{◌≡◌, ℕ, List, Some, IsTrue, length, slice_get, take, drop, ◌+◌, ◌%◌, ◌^◌, ◌≤◌, max, Bool, true, false, ◌&&◌, nat_lt, nat_le, if◌then◌else◌}
 use Rattle.ea_limits.specs.declared.TheConstants.{HORIZON}
-use Rattle.ea_input.specs.declared.table.RawKind.{RawKind}
+use Rattle.ea_raw.specs.declared.table.RawKind.{RawKind}
 use Rattle.ea_road.specs.Speeds.{AreSpeeds, IsArrivalBySpeeds, speed_at}
 use Rattle.ea_road.specs.Trips.{AreTrips, IsArrivalByTrips}
-use Rattle.ea_input.specs.declared.table.RawKind.TheVariants.{Plain, Every, Closed, Rush, Speeds, Trips}
+use Rattle.ea_raw.specs.declared.table.RawKind.TheVariants.{Plain, Every, Closed, Rush, Speeds, Trips}
 
 -- The ranges of the numbers of a kind that has no steps.
 abbrev pub is_kind : RawKind → Bool

@@ -8,8 +8,8 @@ ghost use Rattle.ea_road.specs.Trips.{AreTrips};
 use crate::HORIZON;
 use crate::steps::steps_from;
 use crate::timetable::Timetable;
-use ea_input::{MOST_SPEED, RawKind};
-use ea_limits::MOST_PERIOD;
+use ea_limits::{MOST_PERIOD, MOST_SPEED};
+use ea_raw::RawKind;
 
 /// Whether the times of steps ascend.
 fn ascend(steps: &[(u64, u64)]) -> bool

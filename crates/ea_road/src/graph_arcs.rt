@@ -1,10 +1,10 @@
 //! The arcs of a graph, with the classes that a timetable file gives them.
 ghost use Rattle.std.specs.Prelude.{◌≡◌, [], List, IfOk, length, map};
-ghost use Rattle.ea_input.specs.declared.graph.RawArc.{RawArc};
+ghost use Rattle.ea_raw.specs.declared.graph.RawArc.{RawArc};
 ghost use Rattle.ea_road.specs.Assigned.{AreAssigned, ArePlain, arcs_with, assigned_of, plain_arc, raw_arc};
 
 use crate::arc::Arc;
-use ea_input::{MadeArc, RawArc, RawGraph, RawTable};
+use ea_raw::{MadeArc, RawArc, RawGraph, RawTable};
 use std::alloc::{AllocError, Global};
 
 /// A reader makes the arcs of a graph's text with class 0.

@@ -27,8 +27,8 @@ mod window;
 
 pub use arc::Arc;
 pub use arrival_function::ArrivalFunction;
-pub use ea_input::{RawArc, RawGraph, RawKind, RawTable};
 pub use ea_limits::HORIZON;
+pub use ea_raw::{RawArc, RawGraph, RawKind, RawTable};
 pub use graph_arcs::{arcs_of, with_classes};
 pub use known::{AnyPair, Known};
 pub use leaving_arc::LeavingArc;

@@ -4,7 +4,7 @@ ghost use Rattle.ea_limits.specs.declared.TheConstants.{HORIZON};
 
 use crate::HORIZON;
 use crate::travel_times::TravelTimes;
-use ea_input::RawKind;
+use ea_raw::RawKind;
 
 /// A timetable by itself: a kind that has no steps, and whose numbers are in their ranges.
 #[derive(Clone, Copy)]

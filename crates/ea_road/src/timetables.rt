@@ -1,6 +1,6 @@
 ghost use Rattle.std.specs.Prelude.{◌≡◌, ◌≤◌, ◌<◌, ◌^◌, IfOk, IsTrue, [], length, true};
 ghost use Rattle.std.specs.List.{IsAmong};
-ghost use Rattle.ea_input.specs.declared.table.RawKind.{RawKind};
+ghost use Rattle.ea_raw.specs.declared.table.RawKind.{RawKind};
 ghost use Rattle.ea_limits.specs.declared.TheConstants.{HORIZON};
 ghost use Rattle.ea_road.specs.Answers.{IsQuestion};
 ghost use Rattle.ea_road.specs.StepLists.{steps_in};
@@ -11,7 +11,7 @@ use crate::fitting::all_fit;
 use crate::step_table::StepTable;
 use crate::timetable::arrive_by;
 use crate::travel_times::TravelTimes;
-use ea_input::RawKind;
+use ea_raw::RawKind;
 use std::alloc::{AllocError, Global};
 
 /// Timetables by their classes: class 0 is plain, class J is the J-th kind, and the steps of kinds that have some.

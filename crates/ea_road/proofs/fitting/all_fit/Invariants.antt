@@ -1,6 +1,6 @@
 use Rattle.std.proofs.Common.{ℕ, ◌<◌, ◌≡◌}
 use Rattle.std.specs.Prelude.{Some, slice_get}
-use Rattle.ea_input.specs.declared.table.RawKind.{RawKind}
+use Rattle.ea_raw.specs.declared.table.RawKind.{RawKind}
 use Rattle.ea_road.specs.Timetables.{IsClass}
 use Rattle.ea_road.proofs.fitting.all_fit.Given as goal
 

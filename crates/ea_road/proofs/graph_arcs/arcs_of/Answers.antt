@@ -1,6 +1,6 @@
 use Rattle.std.proofs.Common.{◌≡◌, ◌∙◌, List, ap, length, map, subst, sym}
 use Rattle.std.proofs.lemmas.List.{length-map}
-use Rattle.ea_input.specs.declared.graph.RawArc.{RawArc}
+use Rattle.ea_raw.specs.declared.graph.RawArc.{RawArc}
 use Rattle.ea_road.specs.declared.arc.Arc.{Arc}
 use Rattle.ea_road.specs.Assigned.{AreAssigned, ArePlain, arcs_with, assigned_of, plain_arc, raw_arc}
 use Rattle.ea_road.proofs.Assigning.{arcs_with_none, made_back, made_plain}

@@ -1,5 +1,5 @@
 use Rattle.std.proofs.Common.{◌≡◌, [], List, length, take}
-use Rattle.ea_input.specs.declared.graph.RawArc.{RawArc}
+use Rattle.ea_raw.specs.declared.graph.RawArc.{RawArc}
 use Rattle.ea_road.specs.Assigned.{arcs_with}
 use Rattle.ea_road.proofs.graph_arcs.assign.Given as goal
 

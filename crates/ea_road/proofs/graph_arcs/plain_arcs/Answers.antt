@@ -1,6 +1,6 @@
 use Rattle.std.proofs.Common.{[], ◌∷◌, get_or, take}
 use Rattle.std.proofs.lemmas.List.{map-append, take_more}
-use Rattle.ea_input.specs.declared.graph.RawArc.{RawArc}
+use Rattle.ea_raw.specs.declared.graph.RawArc.{RawArc}
 use Rattle.ea_road.specs.Assigned.{plain_arc}
 use Rattle.ea_road.proofs.graph_arcs.plain_arcs.Goals as goal
 
