@@ -10,6 +10,7 @@ use Rattle.ea_road.specs.declared.source.Source.{Source}
 use Rattle.ea_labels.specs.declared.record.Lowering.{Lowering}
 use Rattle.ea_labels.specs.declared.record.SeatRecord.{SeatRecord}
 use Rattle.ea_labels.specs.Core.{lowering}
+use Rattle.ea_labels.specs.Offers.{LowersWord}
 use Rattle.ea_engine.specs.Closed.{IsReachedBy}
 use Rattle.ea_engine.specs.Seeds.{IsForestalled, AreSeeds, KeepsSeed, SowsSeed}
 
@@ -61,6 +62,14 @@ module _ (sources : List Source) (place : ℕ) (d : Source) (here : place < leng
             (rw one_more (Any_right (λ s. (s.node ≡ own.node) × (s.departure ≡ own.to)) (take place sources) (source ∷ []) (Any_head (λ s. (s.node ≡ own.node) × (s.departure ≡ own.to)) source [] (refl, refl))))
             still);
       }
+
+-- the offer of a source that lowered a label
+pub sows_of : (known : ℕ → ℕ → Type 0) (before after : SeatRecord) (source : Source) → LowersWord known before source.node source.departure after → SowsSeed before after source
+sows_of known before after source fell = record {
+  from = fell.0;
+  later = λ reached. omega (arith, fell.1, reached.4.1, All-contains (λ b. b.node ≡ source.node → fell.0 ≤ b.time) before.bounds reached.1 fell.3 (reached.0, reached.2, reached.3) reached.4.0);
+  lowered = ap (λ (r : SeatRecord). r.lowerings) fell.4;
+}
 
 -- the first source is one
 pub AreSeeds-some : (sources : List Source) (count : ℕ) → AreSeeds sources count → 0 < length sources → 0 < count

@@ -3,7 +3,8 @@ use Rattle.std.specs.Prelude.{◌≡◌, ℕ, ◌+◌, ◌≤◌, List, [], ◌�
 use Rattle.ea_limits.specs.declared.TheConstants.{SHARES}
 use Rattle.ea_road.specs.declared.source.Source.{Source}
 use Rattle.ea_labels.specs.declared.record.SeatRecord.{SeatRecord}
-use Rattle.ea_labels.specs.Core.{lowering}
+use Rattle.ea_labels.specs.Core.{lowered, lowering}
+use Rattle.ea_pool.specs.declared.account.Account.{Account}
 use Rattle.ea_engine.specs.Closed.{IsReachedBy}
 use Rattle.ea_engine.specs.declared.means.Seats.{Seats}
 use Rattle.ea_engine.specs.declared.seeds.Seeded.{Seeded}
@@ -46,6 +47,17 @@ pub record SowsSeed (before after : SeatRecord) (source : Source) : Type 0 where
   pub from : ℕ
   pub later : IsReachedBy before.bounds source.node source.departure → ⊥
   pub lowered : after.lowerings ≡ lowering source.node from source.departure ∷ before.lowerings
+
+-- The label of a source's node fell to its departure.
+pub record Lowers (before : SeatRecord) (source : Source) (after : SeatRecord) : Type 0 where
+  pub from : ℕ
+  pub after_is : after ≡ lowered before source.node from source.departure
+
+-- So many entries more were pushed with a seat of the pool, and nothing else changed.
+pub record Sows (pushed : ℕ) (before after : Account) : Type 0 where
+  pub pushed_is : length after.pushed ≡ length before.pushed + pushed
+  pub popped_is : after.popped ≡ before.popped
+  pub shares_are : after.shares ≡ before.shares
 
 abbrev pub OffersSeed : Seeded → SeatRecord → SeatRecord → Source → Type 0
 OffersSeed Kept before after source = KeepsSeed before after source

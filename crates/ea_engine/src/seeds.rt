@@ -2,20 +2,23 @@
 ghost use Rattle.std.specs.Prelude.{◌≡◌, ◌≤◌, ◌<◌, ◌+◌, ◌^◌, length, Contains};
 ghost use Rattle.ea_road.specs.Roads.{IsNode};
 ghost use Rattle.ea_labels.specs.declared.record.Bound.{Bound};
+ghost use Rattle.ea_labels.specs.declared.record.SeatRecord.{SeatRecord};
 ghost use Rattle.ea_labels.specs.Core.{first_record};
+ghost use Rattle.ea_pool.specs.Seats.{account_of, IsSeatOf};
 ghost use Rattle.ea_engine.specs.Closed.{IsReachedBy};
 ghost use Rattle.ea_engine.specs.Gathered.{IsGathered};
 ghost use Rattle.ea_engine.specs.Grounds.{IsGround, tables_of};
 ghost use Rattle.ea_engine.specs.Opened.{AreOffered};
 ghost use Rattle.ea_engine.specs.Seated.{AreSeatsOf};
 ghost use Rattle.ea_engine.specs.Seeds.{seeded_by, back_by, AreSeeds, HasPushed, OffersSeed};
+ghost use Rattle.ea_engine.specs.Seeds.{Lowers, Sows, SowsSeed};
 
 use crate::ground::Ground;
 use crate::means::Seats;
 use crate::problem::Posed;
 use ea_finish::Open;
 use ea_labels::Offered;
-use ea_pool::{Entry, EntryHeap};
+use ea_pool::{Entry, EntryHeap, Pool, PoolSeat};
 use ea_road::{Known, Source, TravelTimes};
 use std::alloc::Global;
 
@@ -69,18 +72,42 @@ pub fn seed<K: Known + Posed, E: EntryHeap, T: TravelTimes>(
         .offer(&mut seats.label_seat, source.node, source.departure);
     match offered {
         Offered::Kept(_) => Seeded::Kept,
-        Offered::Lowered => {
-            let entry = Entry {
-                key: source.departure,
-                node: source.node,
-            };
-            match ground.pool.push_as(&mut seats.pool_seat, word, entry) {
-                Ok(()) => Seeded::Pushed,
-                Err(_) => {
-                    todo.add(source.node);
-                    Seeded::HandedBack
-                }
-            }
+        Offered::Lowered => sow(ground.pool, &mut seats.pool_seat, todo, word, source),
+    }
+}
+
+/// Pushes the entry of a source whose label was lowered. An entry that is handed back waits.
+fn sow<K: Known + Posed, E: EntryHeap>(
+    pool: &Pool<K, Global, E>,
+    seat: &mut PoolSeat<K, Global, E>,
+    todo: &mut Open,
+    word: u64,
+    source: Source,
+) -> Seeded
+    requires seat { IsSeatOf pool.now seat.old }
+    requires node { IsNode todo.old.nodes source.node }
+    requires known { K.is_known source.node source.departure }
+    ensures seat { IsSeatOf pool.now seat.new }
+    ensures room { todo.new.nodes ≡ todo.old.nodes }
+    ensures walks { todo.new.walks ≡ todo.old.walks }
+    ensures gathered { (before after : SeatRecord) → Lowers before source after
+        → IsGathered K.problem before (account_of seat.old) todo.old.waiting
+        → IsGathered K.problem after (account_of seat.new) todo.new.waiting }
+    ensures offers { (before after : SeatRecord)
+        → SowsSeed before after source → OffersSeed result before after source }
+    ensures step { Sows (seeded_by result) (account_of seat.old) (account_of seat.new) }
+    ensures few { length todo.new.waiting ≤ length todo.old.waiting + back_by result }
+    ensures some { 0 < length todo.old.waiting + back_by result → 0 < length todo.new.waiting }
+{
+    let entry = Entry {
+        key: source.departure,
+        node: source.node,
+    };
+    match pool.push_as(seat, word, entry) {
+        Ok(()) => Seeded::Pushed,
+        Err(_) => {
+            todo.add(source.node);
+            Seeded::HandedBack
         }
     }
 }

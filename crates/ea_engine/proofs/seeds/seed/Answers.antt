@@ -1,9 +1,9 @@
-use Rattle.std.proofs.Common.{◌∷◌, ap, arith}
+use Rattle.std.proofs.Common.{ap, arith}
 use Rattle.ea_labels.specs.Core.{bound}
-use Rattle.ea_engine.specs.Closed.{entry_at}
 use Rattle.ea_engine.proofs.BoundLemmas.{IsReachedBy-noted}
 use Rattle.ea_engine.proofs.ProgressLemmas.{Contains-kept}
-use Rattle.ea_engine.proofs.AccountLemmas.{closed_noted, closed_pushed, closed_refused, waits_more}
+use Rattle.ea_engine.proofs.AccountLemmas.{closed_noted}
+use Rattle.ea_engine.proofs.SeedLemmas.{sows_of}
 use Rattle.ea_engine.proofs.seeds.seed.Goals as goal
 
 pub returns-in-Kept-clause-gathered : goal.returns-in-Kept-clause-gathered
@@ -17,32 +17,21 @@ returns-in-Kept-clause-reached g c = IsReachedBy-noted _ _ c.args.source.node c.
 pub returns-in-Kept-clause-bounds : goal.returns-in-Kept-clause-bounds
 returns-in-Kept-clause-bounds g c = λ b inside. Contains-kept (bound c.args.source.node c.in-Kept.field-0) _ _ b (ap (λ x. x.bounds) c.in-Kept.ensures.kept.3) inside
 
-pub returns-in-Ok-clause-gathered : goal.returns-in-Ok-clause-gathered
-returns-in-Ok-clause-gathered g c =
-    let h = c.requires.gathered in
+pub returns-in-Lowered-clause-gathered : goal.returns-in-Lowered-clause-gathered
+returns-in-Lowered-clause-gathered g c =
     let fell = c.in-Lowered.ensures.lowered in
-    record { back = h.back; refused = h.refused; closed = closed_pushed _ _ _ _ _ c.args.source.node fell.0 c.args.source.departure h.back h.refused fell.4 c.in-Ok.ensures.pushed h.closed; waits = h.waits }
+    c.sow.ensures.gathered _ _ (record { from = fell.0; after_is = fell.4 }) c.requires.gathered
 
-pub returns-in-Ok-clause-reached : goal.returns-in-Ok-clause-reached
-returns-in-Ok-clause-reached g c = IsReachedBy-noted _ _ c.args.source.node c.args.source.departure c.args.source.departure (ap (λ x. x.bounds) c.in-Lowered.ensures.lowered.4) (omega arith)
+pub returns-in-Lowered-clause-reached : goal.returns-in-Lowered-clause-reached
+returns-in-Lowered-clause-reached g c = IsReachedBy-noted _ _ c.args.source.node c.args.source.departure c.args.source.departure (ap (λ x. x.bounds) c.in-Lowered.ensures.lowered.4) (omega arith)
 
-pub returns-in-Ok-clause-bounds : goal.returns-in-Ok-clause-bounds
-returns-in-Ok-clause-bounds g c = λ b inside. Contains-kept (bound c.args.source.node c.args.source.departure) _ _ b (ap (λ x. x.bounds) c.in-Lowered.ensures.lowered.4) inside
+pub returns-in-Lowered-clause-bounds : goal.returns-in-Lowered-clause-bounds
+returns-in-Lowered-clause-bounds g c = λ b inside. Contains-kept (bound c.args.source.node c.args.source.departure) _ _ b (ap (λ x. x.bounds) c.in-Lowered.ensures.lowered.4) inside
 
-pub returns-in-Err-clause-gathered : goal.returns-in-Err-clause-gathered
-returns-in-Err-clause-gathered g c =
-    let h = c.requires.gathered in
-    let fell = c.in-Lowered.ensures.lowered in
-    let entry = entry_at c.args.source.departure c.args.source.node in
-    record {
-      back = h.back;
-      refused = entry ∷ h.refused;
-      closed = closed_refused _ _ _ _ _ c.args.source.node fell.0 c.args.source.departure h.back h.refused fell.4 c.in-Err.ensures.refused.1 h.closed;
-      waits = waits_more h.back h.refused entry c.args.todo.now.waiting _ h.waits c.add.ensures.kept c.add.ensures.inside;
-    }
+pub returns-in-Lowered-clause-offers : goal.returns-in-Lowered-clause-offers
+returns-in-Lowered-clause-offers g c = c.sow.ensures.offers _ _ (sows_of g.K.Known.is_known _ _ c.args.source c.in-Lowered.ensures.lowered)
 
-pub returns-in-Err-clause-reached : goal.returns-in-Err-clause-reached
-returns-in-Err-clause-reached g c = IsReachedBy-noted _ _ c.args.source.node c.args.source.departure c.args.source.departure (ap (λ x. x.bounds) c.in-Lowered.ensures.lowered.4) (omega arith)
-
-pub returns-in-Err-clause-bounds : goal.returns-in-Err-clause-bounds
-returns-in-Err-clause-bounds g c = λ b inside. Contains-kept (bound c.args.source.node c.args.source.departure) _ _ b (ap (λ x. x.bounds) c.in-Lowered.ensures.lowered.4) inside
+pub returns-in-Lowered-clause-step : goal.returns-in-Lowered-clause-step
+returns-in-Lowered-clause-step g c =
+    let sown = c.sow.ensures.step in
+    record { pushed_is = sown.pushed_is; popped_is = sown.popped_is; label_shares = c.offer-offered.ensures.same_shares; pool_shares = sown.shares_are }
