@@ -14,4 +14,5 @@ pub mod Settling
 pub mod SeedLemmas
 pub mod JoinLemmas
 pub mod GroundLemmas
+pub mod RunLemmas
 pub mod Staying

@@ -6,8 +6,9 @@ use Rattle.ea_limits.specs.declared.TheConstants.{SHARES}
 use Rattle.ea_pool.specs.Pools.{Opened}
 use Rattle.ea_pool.specs.Seats.{heaps_of}
 use Rattle.ea_engine.specs.declared.arrays.Arrays.{Arrays}
+use Rattle.ea_engine.specs.declared.means.Seats.{Seats}
 use Rattle.ea_engine.specs.declared.ran.Results.{Results}
-use Rattle.ea_engine.specs.Seated.{tables, AreSeatsOf}
+use Rattle.ea_engine.specs.Seated.{Tables, tables, AreSeatsOf}
 
 -- Nothing is left yet, and there is room for what so many workers leave.
 pub record AreUnfilled {R T : Type 0} (workers : ℕ) (results : Results R T) : Type 0 where
@@ -17,6 +18,12 @@ pub record AreUnfilled {R T : Type 0} (workers : ℕ) (results : Results R T) : 
   pub counters_room : workers ≤ vec_capacity results.counters
   pub rngs_room : workers ≤ vec_capacity results.rngs
   pub tracers_room : workers ≤ vec_capacity results.tracers
+
+-- The first seats of new tables, with all shares: nothing was seen, pushed or popped.
+pub record AreNew {K E : Type 0} (tables : Tables) (seats : Seats K E) : Type 0 where
+  pub fit : AreSeatsOf tables seats.label_seat seats.pool_seat
+  pub history : seats.label_seat.history ≡ first_record
+  pub account : Opened SHARES seats.pool_seat.account
 
 -- New tables for so many nodes and of so many heaps with their first seats, an empty worklist, with room for walks where
 -- they are asked for, and room for so many workers.

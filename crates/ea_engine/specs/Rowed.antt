@@ -1,16 +1,21 @@
 -- What the places of a row leave, and what is gathered of the first of them.
 use Rattle.std.specs.Prelude.{◌≡◌, ℕ, ◌+◌, ◌*◌, ◌^◌, ◌<◌, ◌≤◌, List, [], ◌∷◌, map, length, All, sum_by}
+use Rattle.rand_core.specs.Stream.{Stream}
 use Rattle.ea_limits.specs.declared.TheConstants.{MOST_BATCH}
 use Rattle.ea_engine.specs.declared.gathering.Gathering.{Gathering}
 use Rattle.ea_engine.specs.declared.means.Seats.{Seats}
+use Rattle.ea_engine.specs.declared.ran.Ran.{Ran}
 use Rattle.ea_engine.specs.declared.row.Place.{Place}
 use Rattle.ea_engine.specs.declared.row.Place.TheVariants as place
+use Rattle.ea_engine.specs.declared.settings.Pace.{Pace}
+use Rattle.ea_engine.specs.declared.turn.Flow.{Flow}
+use Rattle.ea_engine.specs.declared.turn.Turn.{Turn}
 use Rattle.ea_engine.specs.declared.work_loop.WorkerEnd.{WorkerEnd}
 use Rattle.ea_engine.specs.Ends.{AreFresh, IsEndPlace}
 use Rattle.ea_engine.specs.Gathered.{IsGathered, IsHanded}
 use Rattle.ea_engine.specs.Opened.{AreOffered}
 use Rattle.ea_engine.specs.Problems.{Problem}
-use Rattle.ea_engine.specs.Rows.{IsSeatedRow}
+use Rattle.ea_engine.specs.Rows.{IsSeatedRow, IsRunRow}
 use Rattle.ea_engine.specs.Seated.{Tables, AreSeatsOf}
 use Rattle.ea_engine.specs.Worked.{IsHandInside, hand_size}
 
@@ -89,3 +94,26 @@ module _ {K R T E : Type 0} (problem : Problem) (tables : Tables) where
     pub ends : List (WorkerEnd K R T E)
     pub row_is : row ≡ all_done ends
     pub all : AreGathered seeded back ends gathering
+
+module _ {K R T E : Type 0} where
+  -- How a run went whose row was gathered and whose pool was drained, where the pool took so many seeds and handed so many back.
+  pub record IsSettledRow (seeded back : ℕ) (row : List (Place K R T E)) (ran : Ran R T) : Type 0 where
+    pub ends : List (WorkerEnd K R T E)
+    pub row_is : row ≡ all_done ends
+    pub counters_are : ran.results.counters.items ≡ map (λ end. end.counters) ends
+    pub rngs_are : ran.results.rngs.items ≡ map (λ end. end.rng) ends
+    pub tracers_are : ran.results.tracers.items ≡ map (λ end. end.tracer) ends
+    pub seeded_is : ran.seeded ≡ seeded
+    pub returned_is : ran.returned ≡ back + sum_by (λ end. end.counters.returned) ends
+    pub balance : seeded + sum_by (λ end. end.counters.pushed) ends ≡ sum_by (λ end. end.counters.popped) ends + ran.drained
+    pub few_open : ran.finish ≤ ran.drained + ran.returned
+    pub some_open : 0 < ran.drained + ran.returned → 0 < ran.finish
+
+module _ {K R T E : Type 0} (problem : Problem) (tables : Tables) (stream : R → Stream) (shows : T → Turn → Flow → T → Type 0) (pace : Pace) where
+  -- The workers of a row are done that began as they were seated.
+  pub record HaveWorked (seeded : ℕ) (waiting : List ℕ) (rngs : List R) (tracers : List T) (row : List (Place K R T E)) : Type 0 where
+    pub before : List (Place K R T E)
+    pub seated : AreSeated problem tables seeded waiting rngs tracers before
+    pub ran : IsRunRow problem tables stream shows pace before row
+    pub row_len : length row ≡ length before
+    pub rngs_len : length before ≡ length rngs

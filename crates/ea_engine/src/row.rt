@@ -1,8 +1,7 @@
-ghost use Rattle.std.specs.Prelude.{◌≡◌, ℕ, ◌+◌, ◌<◌, ◌≤◌, ◌^◌, length, slice_index_or};
+ghost use Rattle.std.specs.Prelude.{◌<◌, ◌≤◌, ◌^◌, length};
 ghost use Rattle.ea_limits.specs.declared.TheConstants.{MOST_WORKERS};
 ghost use Rattle.ea_engine.specs.Grounds.{IsGround, tables_of};
 ghost use Rattle.ea_engine.specs.Limits.{IsPace};
-ghost use Rattle.ea_engine.specs.Parts.{AllFrom, AllPairsFrom};
 ghost use Rattle.ea_engine.specs.Rows.{MayStart, IsRun, IsReadyRow, IsRunRow};
 
 use crate::gate::Gate;
@@ -12,6 +11,7 @@ use crate::problem::Posed;
 use crate::settings::Pace;
 use crate::turn::{Flow, Turn};
 use crate::work_loop::{WorkerEnd, work};
+use ea_limits::MOST_WORKERS;
 use ea_pool::{EntryHeap, LeastHeap};
 use ea_road::{Known, TravelTimes};
 use rand_core::Rng;
@@ -70,13 +70,13 @@ pub fn run_workers<
     requires pace { IsPace pace }
     ensures run { IsRunRow K.problem (tables_of ground.now) R.stream F.step pace row.old row.new }
 {
-    let run_one = |start: usize, part: &mut [Place<K, R, F, E>]|
-        requires { (length part.now ≡ 1) × (start < 2 ^ 32) × IsPace pace
+    let run_one = |worker: usize, place: &mut Place<K, R, F, E>|
+        requires { (worker < 2 ^ 32) × IsPace pace
             × IsGround K.is_known K.problem T.answers T.classes ground.now
-            × AllFrom (λ _ place. MayStart (tables_of ground.now) F.IsAlwaysCallable place) start part.now }
-        ensures { AllPairsFrom (λ _ before after.
-            IsRun K.problem (tables_of ground.entry.now) R.stream F.step pace before after)
-            start part.entry.now part.exit.now }
-    { run_place(ground, start as u32, pace, gate, &mut part[0]) };
-    thread::for_each_chunk_mut(rt, row, 1, &run_one);
+            × MayStart (tables_of ground.now) F.IsAlwaysCallable place.now }
+        ensures { IsRun K.problem (tables_of ground.entry.now) R.stream F.step pace
+            place.entry.now place.exit.now }
+    { run_place(ground, worker as u32, pace, gate, place) };
+    // As many threads as there can be workers, so one for each.
+    thread::for_each_mut(rt, row, MOST_WORKERS as usize, &run_one);
 }

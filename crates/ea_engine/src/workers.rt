@@ -1,14 +1,17 @@
 //! A run of the workers, from the seeds to the condition of the finishing pass.
-ghost use Rattle.std.specs.Prelude.{◌≡◌, ◌≤◌, ◌-◌, ◌*◌, ◌<◌, ℕ, ◌∷◌, [], List, vec_len};
+ghost use Rattle.std.specs.Prelude.{◌≡◌, ◌≤◌, ◌+◌, ◌-◌, ◌*◌, ◌^◌, ◌<◌, ℕ, ◌∷◌, [], List, length, vec_len};
 ghost use Rattle.std.specs.Vec.{vec_capacity};
 ghost use Rattle.ea_limits.specs.declared.TheConstants.{SHARES as LABEL_SHARES};
 ghost use Rattle.ea_limits.specs.declared.TheConstants.{MOST_WORKERS, SHARES};
 ghost use Rattle.ea_road.specs.Queries.{IsProblem};
-ghost use Rattle.ea_engine.specs.Problems.{IsNamed};
-ghost use Rattle.ea_engine.specs.Reserved.{AreArrays};
-ghost use Rattle.ea_engine.specs.Rowed.{AreSeated, IsSeeded};
+ghost use Rattle.ea_engine.specs.Grounds.{IsGround, tables_of};
+ghost use Rattle.ea_engine.specs.Limits.{pace_of};
+ghost use Rattle.ea_engine.specs.Problems.{IsNamed, IsPosed};
+ghost use Rattle.ea_engine.specs.Reserved.{AreArrays, AreNew, AreUnfilled};
+ghost use Rattle.ea_engine.specs.Rowed.{AreSeated, HaveWorked, IsDoneRow, IsSeeded, IsSettledRow};
 ghost use Rattle.ea_engine.specs.Runs.{IsCrew, IsRunOf};
 ghost use Rattle.ea_engine.specs.Seated.{tables, AreSeatsOf};
+ghost use Rattle.ea_engine.specs.Seeds.{AreSeeds};
 ghost use Rattle.ea_finish.specs.Underway.{IsUnderway};
 
 use crate::arrays::Arrays;
@@ -20,10 +23,10 @@ use crate::ground::Ground;
 use crate::law::ground_is_laid;
 use crate::means::Seats;
 use crate::problem::Posed;
-use crate::ran::Ran;
+use crate::ran::{Ran, Results};
 use crate::row::{Place, run_workers};
 use crate::seats::{seat_row, split_seats};
-use crate::seeds::seed_all;
+use crate::seeds::{Seeds, seed_all};
 use crate::turn::{Flow, Turn};
 use ea_finish::Open;
 use ea_labels::Labels;
@@ -79,6 +82,108 @@ pub struct Begun<R, F> {
     pub ran: Ran<R, F>,
 }
 
+/// Offers the sources, seats the workers, and runs them.
+fn work_row<
+    H: Threads + Sync,
+    K: Known + Posed,
+    E: EntryHeap + Send + Sync,
+    T: TravelTimes + Sync,
+    R: Rng + Send + Drop,
+    G: Gate,
+    F: FnMut(Turn) -> Flow + Send + Drop,
+>(
+    rt: &H,
+    ground: &Ground<'_, K, T, E>,
+    mut seats: Seats<K, E>,
+    todo: &mut Open,
+    others: Vec<Seats<K, E>>,
+    row: &mut Vec<Place<K, R, F, E>>,
+    crew: Crew<R, G, F>,
+) -> Seeds
+    requires ground { IsGround K.is_known K.problem T.answers T.classes ground.now }
+    requires seats { AreNew (tables_of ground.now) seats }
+    requires none { (others.items ≡ []) × (row.old.items ≡ []) }
+    requires room { (crew.settings.workers ≤ vec_capacity others)
+        × (crew.settings.workers ≤ vec_capacity row.old) }
+    requires nodes { todo.old.nodes ≡ ground.now.labels.now.nodes }
+    requires waiting { todo.old.waiting ≡ [] }
+    requires crew { IsCrew F.IsAlwaysCallable crew }
+    ensures nodes { todo.new.nodes ≡ todo.old.nodes }
+    ensures walks { todo.new.walks ≡ todo.old.walks }
+    ensures few { length todo.new.waiting ≤ result.returned }
+    ensures some { 0 < result.returned → 0 < length todo.new.waiting }
+    ensures small { result.seeded + result.returned < 2 ^ 64 }
+    ensures seeds { AreSeeds K.problem.query.sources (result.seeded + result.returned) }
+    ensures len { vec_len row.new ≡ crew.entry.settings.workers }
+    ensures worked { HaveWorked K.problem (tables_of ground.now) R.stream F.step
+        (pace_of crew.entry.settings) result.seeded todo.new.waiting
+        crew.entry.rngs.items crew.entry.tracers.items row.new.items }
+{
+    let Crew {
+        settings,
+        rngs,
+        gate,
+        tracers,
+    } = crew;
+    let seeds = seed_all(ground, &mut seats, todo);
+    seat_workers(
+        ground.labels,
+        ground.pool,
+        seats,
+        others,
+        rngs,
+        tracers,
+        row,
+    );
+    run_workers(rt, ground, settings.pace(), gate, row);
+    seeds
+}
+
+/// Gathers what the workers of a row leave, and settles what is to be scanned.
+fn settle_row<K: Known + Posed, E: EntryHeap, R: Drop, F: Drop>(
+    labels: Labels<K>,
+    pool: Pool<K, Global, E>,
+    row: Vec<Place<K, R, F, E>>,
+    seeds: Seeds,
+    todo: Open,
+    results: Results<R, F>,
+) -> Begun<R, F>
+    requires posed { IsPosed K.is_known K.problem }
+    requires places { labels.nodes ≡ K.problem.network.nodes }
+    requires row { IsDoneRow K.problem (tables labels pool) seeds.seeded todo.waiting row.items }
+    requires few_workers { vec_len row ≤ MOST_WORKERS }
+    requires nodes { todo.nodes ≡ labels.nodes }
+    requires few { length todo.waiting ≤ seeds.returned }
+    requires some { 0 < seeds.returned → 0 < length todo.waiting }
+    requires small { seeds.seeded + seeds.returned < 2 ^ 64 }
+    requires results { AreUnfilled (vec_len row) results }
+    ensures underway { IsUnderway K.problem.network K.problem.answers K.problem.query
+        result.table.items result.todo.waiting }
+    ensures nodes { result.todo.nodes ≡ K.problem.network.nodes }
+    ensures walks { result.todo.walks ≡ todo.walks }
+    ensures row { IsSettledRow seeds.seeded seeds.returned row.items result.ran }
+{
+    let Gathering {
+        seats,
+        todo,
+        returned,
+        results,
+    } = gather_row(&labels, &pool, row, seeds, todo, results);
+    let Settled {
+        table,
+        todo,
+        drained,
+    } = settle(labels, pool, seats, todo);
+    let ran = Ran {
+        seeded: seeds.seeded,
+        returned,
+        drained,
+        finish: todo.len() as u128,
+        results,
+    };
+    Begun { table, todo, ran }
+}
+
 /// Runs the workers from the seeds on, joins them, and drains the pool. It takes no memory of its own.
 pub fn run<
     H: Threads + Sync,
@@ -111,18 +216,12 @@ pub fn run<
     let Arrays {
         labels,
         pool,
-        mut seats,
+        seats,
         mut todo,
         others,
         mut row,
         results,
     } = arrays;
-    let Crew {
-        settings,
-        rngs,
-        gate,
-        tracers,
-    } = crew;
     let ground = Ground {
         network,
         times,
@@ -131,26 +230,6 @@ pub fn run<
         pool: &pool,
     };
     ground_is_laid(&ground);
-    let seeds = seed_all(&ground, &mut seats, &mut todo);
-    seat_workers(&labels, &pool, seats, others, rngs, tracers, &mut row);
-    run_workers(rt, &ground, settings.pace(), gate, &mut row);
-    let Gathering {
-        seats,
-        todo,
-        returned,
-        results,
-    } = gather_row(&labels, &pool, row, seeds, todo, results);
-    let Settled {
-        table,
-        todo,
-        drained,
-    } = settle(labels, pool, seats, todo);
-    let ran = Ran {
-        seeded: seeds.seeded,
-        returned,
-        drained,
-        finish: todo.len() as u128,
-        results,
-    };
-    Begun { table, todo, ran }
+    let seeds = work_row(rt, &ground, seats, &mut todo, others, &mut row, crew);
+    settle_row(labels, pool, row, seeds, todo, results)
 }
