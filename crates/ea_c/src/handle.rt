@@ -58,7 +58,8 @@ impl Handle {
     }
 
     pub fn take(&mut self, alloc: Global) -> Option<Box<Content, Global>>
-        ensures old { MatchOption result (self.old.value ≡ None) (λ b. self.old.value ≡ Some b.value) }
+        ensures old { MatchOption result (self.old.value ≡ None)
+            (λ b. self.old.value ≡ Some b.value) }
         ensures new { self.new.value ≡ None }
     {
         match mem::replace(self, Handle::empty(alloc)).open() {

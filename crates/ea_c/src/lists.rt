@@ -111,7 +111,8 @@ fn table_in(alloc: Global, tp: &[u8]) -> Result<RawTable, FileFault>
 fn joined(alloc: Global, nodes: u32, arcs: Vec<Arc>, table: RawTable) -> Result<Road, AllocError>
     requires network { IsNetwork (record { nodes = nodes; arcs = arcs.items }) }
     requires table { AreFit table.kinds.items table.steps.items }
-    ensures network { IfOk result (λ road. road.network ≡ record { nodes = nodes; arcs = arcs.items }) }
+    ensures network { IfOk result (λ road. road.network
+        ≡ record { nodes = nodes; arcs = arcs.items }) }
     ensures times { IfOk result (λ road. (road.times.list.items ≡ table.kinds.items)
         × (steps_in road.times.steps ≡ table.steps.items)) }
 {
@@ -143,7 +144,8 @@ fn road_with(alloc: Global, nodes: u32, arcs: Vec<Arc>, tp: &[u8]) -> Result<Roa
     requires { IsNetwork (record { nodes = nodes; arcs = arcs.items }) }
     ensures road { IfOk result (IsRoadWith (record { nodes = nodes; arcs = arcs.items }) tp.now) }
     ensures classed { IfOk result (λ it. top_class it.network.arcs ≤ length it.times.list.items) }
-    ensures refused { IfErr result (IsNoRoadWith (record { nodes = nodes; arcs = arcs.items }) tp.now) }
+    ensures refused { IfErr result
+        (IsNoRoadWith (record { nodes = nodes; arcs = arcs.items }) tp.now) }
 {
     let table = match table_in(alloc, tp) {
         Ok(table) => table,

@@ -18,7 +18,8 @@ impl Session {
         ensures found { result.1 ≡ 0 → IsFound (from_to source departure target) self
             result.0 result.1 }
         ensures refused { result.1 ≢ 0 → result.0 ≡ self }
-        ensures pair { IsPair (road_of self) (record { node = source; departure = departure }) target
+        ensures pair { IsPair (road_of self)
+            (record { node = source; departure = departure }) target
             → result.1 ≡ 0 }
     {
         let number = self.refusal(source, departure);

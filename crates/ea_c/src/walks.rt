@@ -35,7 +35,8 @@ fn walk_in(alloc: Global, answer: &Answer, node: u32) -> Result<Vec<u32>, u32>
 
 /// The walk of a node by the answer of a content's search, or the refusal's number.
 fn walk_by(alloc: Global, content: &Content, node: u32) -> Result<Vec<u32>, u32>
-    ensures told { IfOk result (λ walk. walks_told (session_in (Some content.now)) node walk.items) }
+    ensures told { IfOk result (λ walk.
+        walks_told (session_in (Some content.now)) node walk.items) }
     ensures refused { IfErr result (λ number. number ≢ 0) }
 {
     match content {

@@ -69,7 +69,8 @@ fn beside<T: TravelTimes>(
         ≡ start }
     requires time { time ≤ HORIZON }
     ensures here { result ≡ Here
-        → Arrives network.now (T.answers times.now) source.node source.departure arcs.now node time }
+        → Arrives network.now (T.answers times.now) source.node
+        source.departure arcs.now node time }
     ensures before { result ≡ Before → (other : Source) → Precedes other source
         → Arrives network.now (T.answers times.now) other.node other.departure arcs.now node time
         → ⊥ }

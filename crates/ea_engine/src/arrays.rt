@@ -29,7 +29,8 @@ pub struct Arrays<K: Known, R, T, E: EntryHeap = LeastHeap<Global>> {
 
 /// An empty worklist, with room for walks where these are asked for.
 fn open_list(alloc: Global, nodes: u32, walks: bool) -> Result<Open, AllocError>
-    ensures { IfOk result (λ todo. (todo.nodes ≡ nodes) × (todo.waiting ≡ []) × (todo.walks ≡ walks)) }
+    ensures { IfOk result (λ todo. (todo.nodes ≡ nodes)
+        × (todo.waiting ≡ []) × (todo.walks ≡ walks)) }
 {
     if walks {
         Open::reserve(alloc, nodes)

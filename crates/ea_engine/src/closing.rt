@@ -39,7 +39,8 @@ pub fn settle<K: Known + Posed, E: EntryHeap>(
     requires label_shares { seats.label_seat.history.shares ≡ LABEL_SHARES }
     requires pool_shares { seats.pool_seat.account.shares ≡ SHARES }
     requires room { todo.nodes ≡ labels.nodes }
-    requires gathered { IsGathered K.problem seats.label_seat.history seats.pool_seat.account todo.waiting }
+    requires gathered { IsGathered K.problem seats.label_seat.history
+        seats.pool_seat.account todo.waiting }
     requires few { length seats.pool_seat.account.pushed < 2 ^ 127 }
     requires offered { AreOffered K.problem.query.sources seats.label_seat.history }
     ensures underway { IsUnderway K.problem.network K.problem.answers K.problem.query

@@ -8,9 +8,11 @@ use std::alloc::Global;
 
 /// Lets the node of each entry that is left wait, and tells how many are left.
 pub fn drain<E: EntryHeap>(mut closed: ClosedPool<Global, E>, todo: &mut Open) -> u128
-    requires nodes { (entry : Entry) → Contains closed entry → (0 < entry.node) × (entry.node ≤ todo.old.nodes) }
+    requires nodes { (entry : Entry) → Contains closed entry → (0 < entry.node)
+        × (entry.node ≤ todo.old.nodes) }
     requires few { length closed < 2 ^ 128 }
-    ensures drained { (entry : Entry) → Contains closed entry → Contains todo.new.waiting entry.node }
+    ensures drained { (entry : Entry) → Contains closed entry
+        → Contains todo.new.waiting entry.node }
     ensures kept { (node : ℕ) → Contains todo.old.waiting node → Contains todo.new.waiting node }
     ensures room { todo.new.nodes ≡ todo.old.nodes }
     ensures walks { todo.new.walks ≡ todo.old.walks }

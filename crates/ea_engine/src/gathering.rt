@@ -42,7 +42,8 @@ pub fn keep(todo: &mut Open, entry: Option<Entry>)
     requires node { IfSome entry (λ e. (0 < e.node) × (e.node ≤ todo.old.nodes)) }
     ensures inside { IfSome entry (λ e. Contains todo.new.waiting e.node) }
     ensures kept { (node : ℕ) → Contains todo.old.waiting node → Contains todo.new.waiting node }
-    ensures few { length todo.new.waiting ≤ length todo.old.waiting + length (option_to_list entry) }
+    ensures few { length todo.new.waiting
+        ≤ length todo.old.waiting + length (option_to_list entry) }
     ensures some { 0 < length todo.old.waiting + length (option_to_list entry)
         → 0 < length todo.new.waiting }
     ensures room { todo.new.nodes ≡ todo.old.nodes }
@@ -57,10 +58,12 @@ pub fn keep(todo: &mut Open, entry: Option<Entry>)
 pub fn keep_all(todo: &mut Open, entries: &Batch)
     requires nodes { (entry : Back) → Contains entries.now.items entry
         → (0 < entry.node) × (entry.node ≤ todo.old.nodes) }
-    ensures inside { (entry : Back) → Contains entries.now.items entry → Contains todo.new.waiting entry.node }
+    ensures inside { (entry : Back) → Contains entries.now.items entry
+        → Contains todo.new.waiting entry.node }
     ensures kept { (node : ℕ) → Contains todo.old.waiting node → Contains todo.new.waiting node }
     ensures few { length todo.new.waiting ≤ length todo.old.waiting + array_vec_len entries.now }
-    ensures some { 0 < length todo.old.waiting + array_vec_len entries.now → 0 < length todo.new.waiting }
+    ensures some { 0 < length todo.old.waiting + array_vec_len entries.now
+        → 0 < length todo.new.waiting }
     ensures room { todo.new.nodes ≡ todo.old.nodes }
     ensures walks { todo.new.walks ≡ todo.old.walks }
 {
@@ -77,8 +80,10 @@ pub fn keep_hand(todo: &mut Open, hand: &Hand)
     requires fresh { (entry : Back) → Contains hand.now.fresh.items entry
         → (0 < entry.node) × (entry.node ≤ todo.old.nodes) }
     ensures popped { IfSome hand.now.popped (λ e. Contains todo.new.waiting e.node) }
-    ensures taken { (entry : Back) → Contains hand.now.taken.items entry → Contains todo.new.waiting entry.node }
-    ensures fresh { (entry : Back) → Contains hand.now.fresh.items entry → Contains todo.new.waiting entry.node }
+    ensures taken { (entry : Back) → Contains hand.now.taken.items entry
+        → Contains todo.new.waiting entry.node }
+    ensures fresh { (entry : Back) → Contains hand.now.fresh.items entry
+        → Contains todo.new.waiting entry.node }
     ensures kept { (node : ℕ) → Contains todo.old.waiting node → Contains todo.new.waiting node }
     ensures few { length todo.new.waiting ≤ length todo.old.waiting + hand_size hand.now }
     ensures some { 0 < length todo.old.waiting + hand_size hand.now → 0 < length todo.new.waiting }

@@ -21,7 +21,8 @@ pub fn split_seats<K: Known, E: EntryHeap>(
     count: usize,
     others: &mut Vec<Seats<K, E>>,
 )
-    requires fit { AreSeatsOf (tables labels.now pool.now) seats.old.label_seat seats.old.pool_seat }
+    requires fit { AreSeatsOf (tables labels.now pool.now)
+        seats.old.label_seat seats.old.pool_seat }
     requires label_shares { count < seats.old.label_seat.history.shares }
     requires pool_shares { count < seats.old.pool_seat.account.shares }
     requires none { others.old.items ≡ [] }

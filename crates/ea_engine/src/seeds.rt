@@ -62,7 +62,8 @@ pub fn seed<K: Known + Posed, E: EntryHeap, T: TravelTimes>(
     ensures reached { IsReachedBy seats.new.label_seat.history.bounds source.node source.departure }
     ensures bounds { (b : Bound) → Contains seats.old.label_seat.history.bounds b
         → Contains seats.new.label_seat.history.bounds b }
-    ensures offers { OffersSeed result seats.old.label_seat.history seats.new.label_seat.history source }
+    ensures offers { OffersSeed result seats.old.label_seat.history
+        seats.new.label_seat.history source }
     ensures step { HasPushed (seeded_by result) seats.old seats.new }
     ensures few { length todo.new.waiting ≤ length todo.old.waiting + back_by result }
     ensures some { 0 < length todo.old.waiting + back_by result → 0 < length todo.new.waiting }

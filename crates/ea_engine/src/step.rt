@@ -86,7 +86,8 @@ fn is_above_target<K: Known>(
     requires target { IfSome target (λ node. IsNode labels.now.nodes node) }
     ensures seat { seat.new.table ≡ labels.now.table }
     ensures progress { (account : Account) (words : Stream)
-        → Progress (kit seat.old.history account words [] []) (kit seat.new.history account words [] []) [] 0 0 }
+        → Progress (kit seat.old.history account words [] [])
+        (kit seat.new.history account words [] []) [] 0 0 }
     ensures cut { result ≡ true → IsCut target seat.new.history.bounds entry }
     ensures known { IsCut target seat.old.history.bounds entry → result ≡ true }
 {
@@ -155,7 +156,8 @@ pub fn visit<K: Known + Posed, E: EntryHeap, T: TravelTimes, R: Rng>(
     ensures one { batch ≡ 1 → result.pushes ≡ result.turn.lowered }
     ensures closed { IsClosedTurn K.problem means.new.label_seat.history.bounds
         (option_to_list result.broken) result.turn }
-    ensures fresh { IsFreshTurn K.problem.query.target means.old.label_seat.history.bounds result.turn }
+    ensures fresh { IsFreshTurn K.problem.query.target
+        means.old.label_seat.history.bounds result.turn }
 {
     let label = ground.labels.read(&mut means.label_seat, entry.node);
     if label < entry.key {

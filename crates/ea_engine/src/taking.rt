@@ -63,7 +63,8 @@ fn pop_drawn<K: Known, E: EntryHeap, R: Rng>(
         MatchSome result (Unit {0})
         (LookedAt i EMPTY j EMPTY pool_seat.old.seen pool_seat.new.seen)
         (WasBusy i j pool_seat.old.seen pool_seat.new.seen) }
-    ensures alone { (account_of pool_seat.old).shares ≡ SHARES → MatchSome result (Unit {0}) (Unit {0}) ⊥ }
+    ensures alone { (account_of pool_seat.old).shares ≡ SHARES
+        → MatchSome result (Unit {0}) (Unit {0}) ⊥ }
     ensures nothing { (account_of pool_seat.old).shares ≡ SHARES → heaps_of pool.now ≡ 2
         → MatchSome result (Unit {0}) (NothingLeft (account_of pool_seat.old)) (Unit {0}) }
     ensures words { R.stream rng.new ≡ after_words 2 (R.stream rng.old) }
@@ -88,7 +89,8 @@ fn visit_taken<K: Known + Posed, E: EntryHeap, T: TravelTimes, R: Rng>(
     requires ground { IsGround K.is_known K.problem T.answers T.classes ground.now }
     requires target { target ≡ K.problem.query.target }
     requires seats { AreSeatsOf (tables_of ground.now) means.old.label_seat means.old.pool_seat }
-    requires taken { (0 < array_vec_len lists.old.taken) × AreKnown K.is_known lists.old.taken.items }
+    requires taken { (0 < array_vec_len lists.old.taken)
+        × AreKnown K.is_known lists.old.taken.items }
     requires fresh { AreKnown K.is_known lists.old.fresh.items }
     requires room { (array_vec_len lists.old.fresh < batch) × (batch ≤ MOST_BATCH) }
     ensures seats { AreSeatsOf (tables_of ground.now) means.new.label_seat means.new.pool_seat }
@@ -123,7 +125,8 @@ fn visit_first<K: Known + Posed, E: EntryHeap, T: TravelTimes, R: Rng>(
     requires ground { IsGround K.is_known K.problem T.answers T.classes ground.now }
     requires target { target ≡ K.problem.query.target }
     requires seats { AreSeatsOf (tables_of ground.now) means.old.label_seat means.old.pool_seat }
-    requires taken { (0 < array_vec_len lists.old.taken) × AreKnown K.is_known lists.old.taken.items }
+    requires taken { (0 < array_vec_len lists.old.taken)
+        × AreKnown K.is_known lists.old.taken.items }
     requires fresh { AreKnown K.is_known lists.old.fresh.items }
     requires room { (array_vec_len lists.old.fresh < batch) × (batch ≤ MOST_BATCH) }
     ensures seats { AreSeatsOf (tables_of ground.now) means.new.label_seat means.new.pool_seat }
@@ -155,7 +158,8 @@ fn pop_and_visit<K: Known + Posed, E: EntryHeap, T: TravelTimes, R: Rng>(
     ensures taken { AreKnown K.is_known lists.new.taken.items }
     ensures fresh { AreKnown K.is_known lists.new.fresh.items }
     ensures turn { IsTurn K.problem E.kind batch (tables_of ground.now).pool.heaps
-        (kit_with R.stream means.old lists.old) (kit_with R.stream means.new lists.new) number result }
+        (kit_with R.stream means.old lists.old)
+        (kit_with R.stream means.new lists.new) number result }
     ensures pushes { result.pushes ≤ result.turn.lowered }
     ensures saw { SawAs result.turn.kind
         (first_heap (tables_of ground.now).pool.heaps (R.stream means.old.rng))
@@ -191,14 +195,16 @@ fn visit_next<K: Known + Posed, E: EntryHeap, T: TravelTimes, R: Rng>(
     requires ground { IsGround K.is_known K.problem T.answers T.classes ground.now }
     requires target { target ≡ K.problem.query.target }
     requires seats { AreSeatsOf (tables_of ground.now) means.old.label_seat means.old.pool_seat }
-    requires taken { (array_vec_len lists.old.taken < batch) × AreKnown K.is_known lists.old.taken.items }
+    requires taken { (array_vec_len lists.old.taken < batch)
+        × AreKnown K.is_known lists.old.taken.items }
     requires fresh { AreKnown K.is_known lists.old.fresh.items }
     requires room { (array_vec_len lists.old.fresh < batch) × (batch ≤ MOST_BATCH) }
     ensures seats { AreSeatsOf (tables_of ground.now) means.new.label_seat means.new.pool_seat }
     ensures taken { AreKnown K.is_known lists.new.taken.items }
     ensures fresh { AreKnown K.is_known lists.new.fresh.items }
     ensures turn { IsTurn K.problem E.kind batch (tables_of ground.now).pool.heaps
-        (kit_with R.stream means.old lists.old) (kit_with R.stream means.new lists.new) number result }
+        (kit_with R.stream means.old lists.old)
+        (kit_with R.stream means.new lists.new) number result }
     ensures pushes { result.pushes ≤ result.turn.lowered }
 {
     if lists.taken.is_empty() {
@@ -227,14 +233,16 @@ pub fn take_turn<K: Known + Posed, E: EntryHeap, T: TravelTimes, R: Rng>(
     requires ground { IsGround K.is_known K.problem T.answers T.classes ground.now }
     requires target { target ≡ K.problem.query.target }
     requires seats { AreSeatsOf (tables_of ground.now) means.old.label_seat means.old.pool_seat }
-    requires taken { (array_vec_len lists.old.taken < batch) × AreKnown K.is_known lists.old.taken.items }
+    requires taken { (array_vec_len lists.old.taken < batch)
+        × AreKnown K.is_known lists.old.taken.items }
     requires fresh { AreKnown K.is_known lists.old.fresh.items }
     requires room { (array_vec_len lists.old.fresh < batch) × (batch ≤ MOST_BATCH) }
     ensures seats { AreSeatsOf (tables_of ground.now) means.new.label_seat means.new.pool_seat }
     ensures taken { AreKnown K.is_known lists.new.taken.items }
     ensures fresh { AreKnown K.is_known lists.new.fresh.items }
     ensures turn { IsTurn K.problem E.kind batch (tables_of ground.now).pool.heaps
-        (kit_with R.stream means.old lists.old) (kit_with R.stream means.new lists.new) number result }
+        (kit_with R.stream means.old lists.old)
+        (kit_with R.stream means.new lists.new) number result }
     ensures pushes { result.pushes ≤ result.turn.lowered + 1 }
 {
     let mut end = visit_next(ground, target, means, lists, batch, number);

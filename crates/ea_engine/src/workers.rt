@@ -56,7 +56,8 @@ pub fn seat_workers<K: Known + Posed, E: EntryHeap + Send + Sync, R: Drop, F: Dr
     ensures len { vec_len row.new ≡ vec_len rngs }
     ensures seated { (seeded : ℕ) (waiting : List ℕ)
         → IsSeeded K.problem (tables labels.now pool.now) seeded waiting seats
-        → AreSeated K.problem (tables labels.now pool.now) seeded waiting rngs.items tracers.items row.new.items }
+        → AreSeated K.problem (tables labels.now pool.now) seeded waiting
+        rngs.items tracers.items row.new.items }
 {
     split_seats(labels, pool, &mut seats, rngs.len() - 1, &mut others);
     put_first(&mut others, seats);

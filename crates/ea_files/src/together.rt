@@ -170,9 +170,11 @@ pub(crate) fn read_road_by<H: Threads + Sync, T: ByteIn>(
     requires denoted { (lines : List (List (List ℕ))) × DenotesGraph lines (raw_graph graph) }
     requires plain { ArePlain graph.arcs.items }
     ensures road { IfOk result (λ road. (text : Option (List ℕ)) × (table : Table)
-        × IsTextIfThere T.seen tp.old tp.new text × IsTableOf (length (raw_graph graph).arcs) text table
+        × IsTextIfThere T.seen tp.old tp.new text
+        × IsTableOf (length (raw_graph graph).arcs) text table
         × IsRoadOf (record { graph = raw_graph graph; table = table }) road) }
-    ensures fault { IfErr result ((tables T.seen tp.old tp.new).IsFault (length (raw_graph graph).arcs)) }
+    ensures fault { IfErr result
+        ((tables T.seen tp.old tp.new).IsFault (length (raw_graph graph).arcs)) }
 {
     let table = read_table_by(alloc, rt, tp, graph.arcs.len() as u32)?;
     let road = road_of_by(alloc, rt, graph, table)?;

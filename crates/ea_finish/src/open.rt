@@ -92,7 +92,8 @@ impl Open {
     /// The list, with storage for links that are as they were at first.
     pub(crate) fn of(waiting: Waiting, links: Vec<Link>, walks: bool) -> Open
         requires { links.items ≡ no_links waiting.nodes walks }
-        ensures { result ≡ record { nodes = waiting.nodes; waiting = waiting.waiting; walks = walks } }
+        ensures { result
+            ≡ record { nodes = waiting.nodes; waiting = waiting.waiting; walks = walks } }
     {
         Open {
             waiting,

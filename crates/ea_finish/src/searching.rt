@@ -54,7 +54,8 @@ fn exhaust<T: TravelTimes, K: Track>(
         table.new (Contains frontier.new.todo.waiting) }
     ensures nodes { frontier.new.todo.nodes ≡ frontier.old.todo.nodes }
     ensures walks { frontier.new.todo.walks ≡ frontier.old.todo.walks }
-    ensures beyond { FallsBy network.now (T.answers times.now) (limit query.now.target (bound_of table.old))
+    ensures beyond { FallsBy network.now (T.answers times.now)
+        (limit query.now.target (bound_of table.old))
         (bound_of table.old) (bound_of table.new) }
     ensures none { HaveNone frontier.new.lists }
     ensures listed { AreLabelsListed table.old (K.lists track.old)
@@ -113,7 +114,8 @@ pub(crate) fn search_on<T: TravelTimes, K: Track>(
         table.new frontier.new.todo.waiting }
     ensures nodes { frontier.new.todo.nodes ≡ frontier.old.todo.nodes }
     ensures walks { frontier.new.todo.walks ≡ frontier.old.todo.walks }
-    ensures beyond { FallsBy network.now (T.answers times.now) (limit query.now.target (bound_of table.old))
+    ensures beyond { FallsBy network.now (T.answers times.now)
+        (limit query.now.target (bound_of table.old))
         (bound_of table.old) (bound_of table.new) }
 {
     network.keeps_limits();

@@ -300,7 +300,8 @@ pub fn read_gr_as<A: MadeArc>(alloc: Global, text: &[u8]) -> Result<RawGraph<A>,
     ensures denoted { IfOk result (λ g. DenotesMade A.made (field_lines text.now) (graph g)) }
     // What the text denotes is read, unless memory is refused.
     ensures only { (g : Graph) → DenotesGraph (field_lines text.now) g →
-        MatchResult result (λ read. graph read ≡ made_graph A.made g) (λ fault. fault ≡ out_of_memory) }
+        MatchResult result (λ read. graph read ≡ made_graph A.made g)
+        (λ fault. fault ≡ out_of_memory) }
 
     // A fault is the text's, unless memory is refused.
     ensures fault { IfErr result (IsFaultTold graph_format (field_lines text.now)) }
@@ -337,10 +338,12 @@ pub fn read_gr_from<H: Threads + Sync, D: ByteIn>(
     device: &mut D,
 ) -> Result<RawGraph, StreamFault>
     // What is read is what the text denotes.
-    ensures denoted { IfOk result (λ read. DenotesWhole DenotesGraph limit (D.seen device.old) (D.seen device.new)
+    ensures denoted { IfOk result (λ read.
+        DenotesWhole DenotesGraph limit (D.seen device.old) (D.seen device.new)
         (graph read)) }
     // A fault is the device's or the text's, unless memory is refused.
-    ensures fault { IfErr result (IsStreamFault graph_format limit (D.seen device.old) (D.seen device.new)) }
+    ensures fault { IfErr result
+        (IsStreamFault graph_format limit (D.seen device.old) (D.seen device.new)) }
 {
     read_graph_from::<RawArc, H, D>(rt, way_of(alloc, threads), limit, device)
 }
@@ -354,10 +357,12 @@ pub fn read_gr_by<H: Threads + Sync, D: ByteIn>(
 ) -> Result<RawGraph, StreamFault>
     requires { 0 < way.size }
     // What is read is what the text denotes.
-    ensures denoted { IfOk result (λ read. DenotesWhole DenotesGraph limit (D.seen device.old) (D.seen device.new)
+    ensures denoted { IfOk result (λ read.
+        DenotesWhole DenotesGraph limit (D.seen device.old) (D.seen device.new)
         (graph read)) }
     // A fault is the device's or the text's, unless memory is refused.
-    ensures fault { IfErr result (IsStreamFault graph_format limit (D.seen device.old) (D.seen device.new)) }
+    ensures fault { IfErr result
+        (IsStreamFault graph_format limit (D.seen device.old) (D.seen device.new)) }
 {
     read_graph_from::<RawArc, H, D>(rt, way, limit, device)
 }
@@ -374,7 +379,8 @@ pub fn read_gr_from_as<A: MadeArc + Send, H: Threads + Sync, D: ByteIn>(
     ensures denoted { IfOk result (λ read. DenotesWhole (DenotesMade A.made) limit
         (D.seen device.old) (D.seen device.new) (graph read)) }
     // A fault is the device's or the text's, unless memory is refused.
-    ensures fault { IfErr result (IsStreamFault graph_format limit (D.seen device.old) (D.seen device.new)) }
+    ensures fault { IfErr result
+        (IsStreamFault graph_format limit (D.seen device.old) (D.seen device.new)) }
 {
     read_graph_from::<A, H, D>(rt, way_of(alloc, threads), limit, device)
 }

@@ -189,7 +189,8 @@ fn speeds_of(
     field: &[u8],
     others: &[&[u8]],
 ) -> Result<RawKind, FaultKind>
-    ensures { result ≡ spec.speeds_of number before field.now (map (λ field. field.now) others.now) }
+    ensures { result ≡ spec.speeds_of number before field.now
+        (map (λ field. field.now) others.now) }
 {
     match others {
         [period, count] => speeds_read(number, before, field, period, count),

@@ -141,7 +141,8 @@ impl BlockReader for PairReader {
 
 /// A reader of a text of which no line was read yet.
 fn start(alloc: Global, nodes: u32) -> PairReader
-    ensures { (record { nodes = result.nodes; size = result.size; items = result.pairs.items }) ≡ nothing_listed nodes }
+    ensures { (record { nodes = result.nodes; size = result.size; items = result.pairs.items })
+        ≡ nothing_listed nodes }
 {
     PairReader {
         nodes,
@@ -185,7 +186,8 @@ fn read_pairs_from<H: Threads + Sync, D: ByteIn>(
     device: &mut D,
     nodes: u32,
 ) -> Result<Vec<(u32, u32)>, StreamFault>
-    ensures exact { GivesWhole (λ pairs. pairs.items) (pairs_of nodes) limit (D.seen device.old) (D.seen device.new) result }
+    ensures exact { GivesWhole (λ pairs. pairs.items) (pairs_of nodes) limit
+        (D.seen device.old) (D.seen device.new) result }
 {
     let start = start(alloc, nodes);
     read_device(rt, way_of(alloc, threads), limit, start, device)
@@ -203,10 +205,12 @@ pub fn read_p2p_from<H: Threads + Sync, D: ByteIn>(
     nodes: u32,
 ) -> Result<Vec<(u32, u32)>, StreamFault>
     // What is read is what the text denotes.
-    ensures denoted { IfOk result (λ read. DenotesWhole (DenotesPairs nodes) limit (D.seen device.old) (D.seen device.new)
+    ensures denoted { IfOk result (λ read.
+        DenotesWhole (DenotesPairs nodes) limit (D.seen device.old) (D.seen device.new)
         read.items) }
     // A fault is the device's or the text's, unless memory is refused.
-    ensures fault { IfErr result (IsStreamFault (pair_format nodes) limit (D.seen device.old) (D.seen device.new)) }
+    ensures fault { IfErr result
+        (IsStreamFault (pair_format nodes) limit (D.seen device.old) (D.seen device.new)) }
 {
     read_pairs_from(alloc, rt, threads, limit, device, nodes)
 }

@@ -124,7 +124,8 @@ fn read_back<R: BlockReader>(
     back: &[u8],
 ) -> Result<u64, InputFault>
     requires few { before + length back.now < 2 ^ 64 }
-    requires aside { (start : R) × R.IsAside start × ReadsAll R.step R.state 0 start aside back.now read }
+    requires aside { (start : R) × R.IsAside start
+        × ReadsAll R.step R.state 0 start aside back.now read }
     ensures { ReadsAll R.step R.state before reader.old reader.new back.now result }
 {
     match take_up(reader, aside, read) {

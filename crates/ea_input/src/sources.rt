@@ -118,7 +118,8 @@ impl BlockReader for SourceReader {
 
 /// A reader of a text of which no line was read yet.
 fn start(alloc: Global, nodes: u32) -> SourceReader
-    ensures { (record { nodes = result.nodes; size = result.size; items = result.sources.items }) ≡ nothing_listed nodes }
+    ensures { (record { nodes = result.nodes; size = result.size; items = result.sources.items })
+        ≡ nothing_listed nodes }
 {
     SourceReader {
         nodes,
@@ -163,7 +164,8 @@ fn read_sources_from<H: Threads + Sync, D: ByteIn>(
     device: &mut D,
     nodes: u32,
 ) -> Result<Vec<u32>, StreamFault>
-    ensures exact { GivesWhole (λ sources. sources.items) (sources_of nodes) limit (D.seen device.old) (D.seen device.new) result }
+    ensures exact { GivesWhole (λ sources. sources.items) (sources_of nodes) limit
+        (D.seen device.old) (D.seen device.new) result }
 {
     let start = start(alloc, nodes);
     read_device(rt, way_of(alloc, threads), limit, start, device)
@@ -181,10 +183,12 @@ pub fn read_ss_from<H: Threads + Sync, D: ByteIn>(
     nodes: u32,
 ) -> Result<Vec<u32>, StreamFault>
     // What is read is what the text denotes.
-    ensures denoted { IfOk result (λ read. DenotesWhole (DenotesSources nodes) limit (D.seen device.old) (D.seen device.new)
+    ensures denoted { IfOk result (λ read.
+        DenotesWhole (DenotesSources nodes) limit (D.seen device.old) (D.seen device.new)
         read.items) }
     // A fault is the device's or the text's, unless memory is refused.
-    ensures fault { IfErr result (IsStreamFault (source_format nodes) limit (D.seen device.old) (D.seen device.new)) }
+    ensures fault { IfErr result
+        (IsStreamFault (source_format nodes) limit (D.seen device.old) (D.seen device.new)) }
 {
     read_sources_from(alloc, rt, threads, limit, device, nodes)
 }

@@ -109,7 +109,8 @@ fn least_value(class: StepClass, steps: &[(u64, u64)], time: u64) -> u128
 
 /// The greatest value of the last trip of a period, whose time is this.
 fn most_turn(class: StepClass, steps: &[(u64, u64)], time: u64) -> u64
-    ensures { result ≡ min (class.period + spec.arrives (slice_index_or steps.now 0 (0, 0)) - time) MOST_PERIOD }
+    ensures { result
+        ≡ min (class.period + spec.arrives (slice_index_or steps.now 0 (0, 0)) - time) MOST_PERIOD }
 {
     let last = u128::from(class.period) + arrives(step_at(steps, 0));
     last.saturating_sub(u128::from(time))

@@ -101,13 +101,15 @@ fn take_and_fill<H: Threads + Sync, R: BlockReader, D: ByteIn>(
     let size = way.size;
     let mut taking = ||
         requires { (feed.now.lines + length lines.now < 2 ^ 64) × IsSync H.row }
-        ensures { FeedsOn R.step (R.state feed.entry.now.reader) feed.entry.now.lines feed.entry.now.fault
+        ensures { FeedsOn R.step (R.state feed.entry.now.reader)
+            feed.entry.now.lines feed.entry.now.fault
             (R.state feed.exit.now.reader) feed.exit.now.lines feed.exit.now.fault lines.entry.now }
     { feed.take(rt, way, lines) };
     // The length of the lines changes nothing here: a closure that doesn't read `lines` stops the borrow checker's part of the proof.
     let mut filling = || -> Result<bool, ReadFault>
         requires { HasRoom blocks.now }
-        ensures { IsFilled size (D.seen device.entry.now) blocks.entry.now (D.seen device.exit.now) blocks.exit.now
+        ensures { IsFilled size (D.seen device.entry.now) blocks.entry.now
+            (D.seen device.exit.now) blocks.exit.now
             block.entry.now.items block.exit.now.items result }
     {
         // A system may start the thread that reads lines on this processor, behind this thread: it goes first, since it takes longer.
@@ -147,7 +149,8 @@ fn go_on<H: Threads + Sync, R: BlockReader, D: ByteIn>(
 /// The lines of a block, and room for the block after it, into which what follows the last line feed is put; none where memory was
 /// refused.
 fn lines_and_rest<'a>(block: &'a [u8], next: &mut Vec<u8>) -> Option<&'a [u8]>
-    ensures { IfSome result (λ lines. EndsLine lines.now × (block.entry.now ≡ lines.now ++ next.new.items)) }
+    ensures { IfSome result
+        (λ lines. EndsLine lines.now × (block.entry.now ≡ lines.now ++ next.new.items)) }
 {
     let (lines, rest) = block.split_at(end_of_lines(block));
     next.clear();

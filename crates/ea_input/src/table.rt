@@ -489,7 +489,8 @@ fn read_table_from<H: Threads + Sync, D: ByteIn>(
     device: &mut D,
     arcs: u32,
 ) -> Result<RawTable, StreamFault>
-    ensures exact { GivesWhole table (table_of arcs) limit (D.seen device.old) (D.seen device.new) result }
+    ensures exact { GivesWhole table (table_of arcs) limit
+        (D.seen device.old) (D.seen device.new) result }
 {
     let start = start(alloc, arcs);
     read_device(rt, way_of(alloc, threads), limit, start, device)
@@ -507,10 +508,12 @@ pub fn read_tp_from<H: Threads + Sync, D: ByteIn>(
     arcs: u32,
 ) -> Result<RawTable, StreamFault>
     // What is read is what the text denotes.
-    ensures denoted { IfOk result (λ read. DenotesWhole (DenotesTable arcs) limit (D.seen device.old) (D.seen device.new)
+    ensures denoted { IfOk result (λ read.
+        DenotesWhole (DenotesTable arcs) limit (D.seen device.old) (D.seen device.new)
         (table read)) }
     // A fault is the device's or the text's, unless memory is refused.
-    ensures fault { IfErr result (IsStreamFault (table_format arcs) limit (D.seen device.old) (D.seen device.new)) }
+    ensures fault { IfErr result
+        (IsStreamFault (table_format arcs) limit (D.seen device.old) (D.seen device.new)) }
 {
     read_table_from(alloc, rt, threads, limit, device, arcs)
 }

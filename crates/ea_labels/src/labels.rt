@@ -83,8 +83,10 @@ impl<K: Known, A: Allocator> Labels<K, A> {
         requires node { IsNode self.now.nodes node }
         requires known { K.is_known node time }
         ensures same_table { seat.new.table ≡ seat.old.table }
-        ensures lowered { IfLowered result (LowersWord K.is_known seat.old.history node time seat.new.history) }
-        ensures kept { IfKept result (λ old. Keeps K.is_known seat.old.history node time old seat.new.history) }
+        ensures lowered { IfLowered result
+            (LowersWord K.is_known seat.old.history node time seat.new.history) }
+        ensures kept { IfKept result
+            (λ old. Keeps K.is_known seat.old.history node time old seat.new.history) }
         ensures alone { seat.old.history.shares ≡ SHARES
             → IfKept result (λ old. HasLowered seat.old.history node old) }
         ensures same_shares { seat.new.history.shares ≡ seat.old.history.shares }
@@ -143,7 +145,8 @@ impl<K: Known, A: Allocator> Labels<K, A> {
         ensures known { (node : ℕ) → IsNode self.nodes node
             → IsNoneOrKnown K.is_known node (label_of result.items node) }
         ensures least { All (λ b. label_of result.items b.node ≤ b.time) seat.history.bounds }
-        ensures lowered_to { (node : ℕ) → IsNode self.nodes node → (label_of result.items node ≡ NONE)
+        ensures lowered_to { (node : ℕ) → IsNode self.nodes node
+            → (label_of result.items node ≡ NONE)
             ⊎ HasLowered seat.history node (label_of result.items node) }
         ensures lawful { IsLawful K.is_known self.nodes result.items (seat.history ∷ []) }
         ensures run { IsRunEnd K.is_known self.nodes result.items seat.history }

@@ -35,7 +35,8 @@ impl<K: Known, A: Allocator, H: EntryHeap> Pool<K, A, H> {
         ensures refused { IfErr result (λ refused.
             (handed_back refused ≡ entry) × SameBooks (books seat.old.me.0) (books seat.new.me.0)) }
         ensures missed { OnBusy result (MissedHeap heap seat.old.me.0.seen seat.new.me.0.seen) }
-        ensures took { UnlessBusy result (TookThere H.kind heap seat.old.me.0.seen seat.new.me.0.last_take) }
+        ensures took { UnlessBusy result
+            (TookThere H.kind heap seat.old.me.0.seen seat.new.me.0.last_take) }
         ensures alone { seat.old.me.0.shares ≡ SHARES
             → IfErr result (λ refused. is_busy refused ≡ false) }
     {
@@ -71,7 +72,8 @@ impl<K: Known, A: Allocator, H: EntryHeap> Pool<K, A, H> {
         ensures refused { IfErr result (λ refused.
             (handed_back refused ≡ entry) × SameBooks (books seat.old.me.0) (books seat.new.me.0)) }
         ensures missed { OnBusy result
-            (Missed self.now.heaps word (2 * self.now.heaps) seat.old.me.0.seen seat.new.me.0.seen) }
+            (Missed self.now.heaps word (2 * self.now.heaps)
+            seat.old.me.0.seen seat.new.me.0.seen) }
         ensures took { UnlessBusy result
             (TookAtTry H.kind self.now.heaps word seat.old.me.0.seen seat.new.me.0.last_take) }
         ensures alone { seat.old.me.0.shares ≡ SHARES
@@ -104,9 +106,11 @@ impl<K: Known, A: Allocator> Pool<K, A> {
         ensures took { OnPopped result (λ entry.
             TookLeast Least heap seen (entry ∷ []) seat.old.me.0.seen seat.new.me.0.last_take) }
         ensures alone { seat.old.me.0.shares ≡ SHARES → AllByRecursion
-            (λ p. heap ≡ p.0 → seen ≡ p.1 → MatchPopped result (λ _. Unit {0}) ⊥ ⊥) seat.old.me.0.seen }
+            (λ p. heap ≡ p.0 → seen ≡ p.1 → MatchPopped result (λ _. Unit {0}) ⊥ ⊥)
+            seat.old.me.0.seen }
         ensures left { seat.old.me.0.shares ≡ SHARES
-            → MatchPopped result (λ entry. IsLeft entry (books seat.old.me.0)) (Unit {0}) (Unit {0}) }
+            → MatchPopped result
+            (λ entry. IsLeft entry (books seat.old.me.0)) (Unit {0}) (Unit {0}) }
     {
         if !self.take(seat, heap, seen) {
             return Popped::Busy;
@@ -128,7 +132,8 @@ impl<K: Known, A: Allocator> Pool<K, A> {
         ensures table { seat.new.table_id ≡ seat.old.table_id }
         ensures rests { Rests seat.new.me }
         ensures popped { MatchPopped result
-            (λ entry. Pops (books seat.old.me.0) entry (books seat.new.me.0) × K.is_known entry.node entry.key)
+            (λ entry. Pops (books seat.old.me.0) entry (books seat.new.me.0)
+            × K.is_known entry.node entry.key)
             (SameBooks (books seat.old.me.0) (books seat.new.me.0))
             (SameBooks (books seat.old.me.0) (books seat.new.me.0)) }
         ensures looked { MatchPopped result (λ entry. Unit {0})
@@ -136,9 +141,11 @@ impl<K: Known, A: Allocator> Pool<K, A> {
             (WasBusy i j seat.old.me.0.seen seat.new.me.0.seen) }
         ensures lesser { OnPopped result (λ entry.
             TookLesser Least i j (entry ∷ []) seat.old.me.0.seen seat.new.me.0.last_take) }
-        ensures alone { seat.old.me.0.shares ≡ SHARES → MatchPopped result (λ _. Unit {0}) (Unit {0}) ⊥ }
+        ensures alone { seat.old.me.0.shares ≡ SHARES
+            → MatchPopped result (λ _. Unit {0}) (Unit {0}) ⊥ }
         ensures least { seat.old.me.0.shares ≡ SHARES → self.now.heaps ≡ 2 → MatchPopped result
-            (λ entry. IsLeastLeft entry (books seat.old.me.0)) (NothingLeft (books seat.old.me.0)) ⊥ }
+            (λ entry. IsLeastLeft entry (books seat.old.me.0))
+            (NothingLeft (books seat.old.me.0)) ⊥ }
     {
         let x = self.look(seat, i);
         let y = self.look(seat, j);

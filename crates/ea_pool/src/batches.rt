@@ -46,7 +46,8 @@ impl<K: Known, A: Allocator, H: EntryHeap> Pool<K, A, H> {
         ensures table { seat.new.table_id ≡ seat.old.table_id }
         ensures view { seat.new.me.0 ≡ seat.old.me.0 }
         ensures moves { HoldsHeap seat.old.me heap (λ es. HoldsHeap seat.new.me heap (λ left.
-            ComesOut H.kind most batch.old.items batch.new.items es left × Shows H.kind result left)) }
+            ComesOut H.kind most batch.old.items batch.new.items es left
+            × Shows H.kind result left)) }
     {
         let held = seat.slot_mut(&self.table.shared, heap);
         pop_some(held, most, batch);
@@ -66,9 +67,11 @@ impl<K: Known, A: Allocator, H: EntryHeap> Pool<K, A, H> {
         ensures table { seat.new.table_id ≡ seat.old.table_id }
         ensures rests { Rests seat.new.me }
         ensures pushed { MatchPushed result
-            (PushesAll (books seat.old.me.0) batch.old.items (books seat.new.me.0) × (batch.new.items ≡ []))
+            (PushesAll (books seat.old.me.0) batch.old.items (books seat.new.me.0)
+            × (batch.new.items ≡ []))
             (SameBooks (books seat.old.me.0) (books seat.new.me.0) × (batch.new ≡ batch.old))
-            (PushesFrom batch.old.items batch.new.items (books seat.old.me.0) (books seat.new.me.0)) }
+            (PushesFrom batch.old.items batch.new.items
+            (books seat.old.me.0) (books seat.new.me.0)) }
         ensures tried { MatchPushed result
             (TookThere H.kind heap seat.old.me.0.seen seat.new.me.0.last_take)
             (MissedHeap heap seat.old.me.0.seen seat.new.me.0.seen)
@@ -101,9 +104,11 @@ impl<K: Known, A: Allocator, H: EntryHeap> Pool<K, A, H> {
         ensures table { seat.new.table_id ≡ seat.old.table_id }
         ensures rests { Rests seat.new.me }
         ensures pushed { MatchPushed result
-            (PushesAll (books seat.old.me.0) batch.old.items (books seat.new.me.0) × (batch.new.items ≡ []))
+            (PushesAll (books seat.old.me.0) batch.old.items (books seat.new.me.0)
+            × (batch.new.items ≡ []))
             (SameBooks (books seat.old.me.0) (books seat.new.me.0) × (batch.new ≡ batch.old))
-            (PushesFrom batch.old.items batch.new.items (books seat.old.me.0) (books seat.new.me.0)) }
+            (PushesFrom batch.old.items batch.new.items
+            (books seat.old.me.0) (books seat.new.me.0)) }
         ensures tried { MatchPushed result
             (TookAtTry H.kind self.now.heaps word seat.old.me.0.seen seat.new.me.0.last_take)
             (Missed self.now.heaps word (2 * self.now.heaps) seat.old.me.0.seen seat.new.me.0.seen)
@@ -134,15 +139,18 @@ impl<K: Known, A: Allocator, H: EntryHeap> Pool<K, A, H> {
         requires known { AreKnown K.is_known batch.old.items }
         ensures seat { IsSeatOf self.now seat.new }
         ensures pushed { MatchPushed result
-            (PushesAll (account_of seat.old) batch.old.items (account_of seat.new) × (batch.new.items ≡ []))
+            (PushesAll (account_of seat.old) batch.old.items (account_of seat.new)
+            × (batch.new.items ≡ []))
             (SameBooks (account_of seat.old) (account_of seat.new) × (batch.new ≡ batch.old))
-            (PushesFrom batch.old.items batch.new.items (account_of seat.old) (account_of seat.new)) }
+            (PushesFrom batch.old.items batch.new.items
+            (account_of seat.old) (account_of seat.new)) }
         // Each of the 2H tries missed; or after others that missed, one of them took its heap.
         ensures tried { MatchPushed result
             (TookAtTry H.kind (heaps_of self.now) word seat.old.seen seat.new.last_take)
             (Missed (heaps_of self.now) word (2 * heaps_of self.now) seat.old.seen seat.new.seen)
             (TookAtTry H.kind (heaps_of self.now) word seat.old.seen seat.new.last_take) }
-        ensures alone { (account_of seat.old).shares ≡ SHARES → MatchPushed result (Unit {0}) ⊥ (Unit {0}) }
+        ensures alone { (account_of seat.old).shares ≡ SHARES
+            → MatchPushed result (Unit {0}) ⊥ (Unit {0}) }
     {
         self.push_all_from(&mut seat.seat, word, batch)
     }
@@ -162,7 +170,8 @@ impl<K: Known, A: Allocator, H: EntryHeap> Pool<K, A, H> {
         requires room { (0 < most) × (array_vec_len batch.old + most ≤ MOST_IN_BATCH) }
         ensures table { seat.new.table_id ≡ seat.old.table_id }
         ensures rests { Rests seat.new.me }
-        ensures popped { result ≡ true → PopsSome K.is_known H.kind most batch.old.items batch.new.items
+        ensures popped { result ≡ true
+            → PopsSome K.is_known H.kind most batch.old.items batch.new.items
             (books seat.old.me.0) (books seat.new.me.0)
             (λ out. TookLeast H.kind heap seen out seat.old.me.0.seen seat.new.me.0.last_take)
             seat.new.me.0.last_take }
@@ -199,7 +208,8 @@ impl<K: Known, A: Allocator, H: EntryHeap> Pool<K, A, H> {
             (books seat.old.me.0) (books seat.new.me.0)
             (λ out. TookLesser H.kind i j out seat.old.me.0.seen seat.new.me.0.last_take)
             seat.new.me.0.last_take)
-            × IsLowest H.kind self.now.heaps (min pops.took.x pops.took.y) pops.out (books seat.old.me.0))
+            × IsLowest H.kind self.now.heaps (min pops.took.x pops.took.y)
+            pops.out (books seat.old.me.0))
             (SameBooks (books seat.old.me.0) (books seat.new.me.0) × (batch.new ≡ batch.old))
             (SameBooks (books seat.old.me.0) (books seat.new.me.0) × (batch.new ≡ batch.old)) }
         ensures looked { MatchSome result (Unit {0})
@@ -246,7 +256,8 @@ impl<K: Known, A: Allocator, H: EntryHeap> Pool<K, A, H> {
             (account_of seat.old) (account_of seat.new)
             (λ out. TookLesser H.kind i j out seat.old.seen seat.new.last_take)
             seat.new.last_take)
-            × IsLowest H.kind (heaps_of self.now) (min pops.took.x pops.took.y) pops.out (account_of seat.old))
+            × IsLowest H.kind (heaps_of self.now) (min pops.took.x pops.took.y)
+            pops.out (account_of seat.old))
             (SameBooks (account_of seat.old) (account_of seat.new) × (batch.new ≡ batch.old))
             (SameBooks (account_of seat.old) (account_of seat.new) × (batch.new ≡ batch.old)) }
         // It looked at the first draw and then at the second.
@@ -255,7 +266,8 @@ impl<K: Known, A: Allocator, H: EntryHeap> Pool<K, A, H> {
             MatchSome result (Unit {0})
             (LookedAt i EMPTY j EMPTY seat.old.seen seat.new.seen)
             (WasBusy i j seat.old.seen seat.new.seen) }
-        ensures alone { (account_of seat.old).shares ≡ SHARES → MatchSome result (Unit {0}) (Unit {0}) ⊥ }
+        ensures alone { (account_of seat.old).shares ≡ SHARES
+            → MatchSome result (Unit {0}) (Unit {0}) ⊥ }
         ensures nothing { (account_of seat.old).shares ≡ SHARES → heaps_of self.now ≡ 2
             → MatchSome result (Unit {0}) (NothingLeft (account_of seat.old)) (Unit {0}) }
     {

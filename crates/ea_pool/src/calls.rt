@@ -28,7 +28,8 @@ impl<K: Known, A: Allocator> Pool<K, A> {
         requires seat { IsSeatOf self.now seat.old }
         ensures seat { IsSeatOf self.now seat.new }
         ensures popped { MatchPopped result
-            (λ entry. Pops (account_of seat.old) entry (account_of seat.new) × K.is_known entry.node entry.key)
+            (λ entry. Pops (account_of seat.old) entry (account_of seat.new)
+            × K.is_known entry.node entry.key)
             (SameBooks (account_of seat.old) (account_of seat.new))
             (SameBooks (account_of seat.old) (account_of seat.new)) }
         // It looked at the first draw and then at the second.
@@ -40,7 +41,8 @@ impl<K: Known, A: Allocator> Pool<K, A> {
         // It took the one with the lesser word, and the least entry of that.
         ensures lesser { let i = first_draw (heaps_of self.now) first in
             let j = second_draw (heaps_of self.now) first second in
-            OnPopped result (λ entry. TookLesser Least i j (entry ∷ []) seat.old.seen seat.new.last_take) }
+            OnPopped result
+            (λ entry. TookLesser Least i j (entry ∷ []) seat.old.seen seat.new.last_take) }
         ensures alone { (account_of seat.old).shares ≡ SHARES
             → MatchPopped result (λ _. Unit {0}) (Unit {0}) ⊥ }
         ensures least { (account_of seat.old).shares ≡ SHARES → heaps_of self.now ≡ 2
@@ -106,9 +108,12 @@ impl<K: Known, A: Allocator, H: EntryHeap> Pool<K, A, H> {
     pub fn join(&self, seat: &mut PoolSeat<K, A, H>, other: PoolSeat<K, A, H>)
         requires seats { IsSeatOf self.now seat.old × IsSeatOf self.now other }
         ensures seat { IsSeatOf self.now seat.new }
-        ensures both { ((account_of seat.new).shares ≡ (account_of seat.old).shares + (account_of other).shares)
-            × ((account_of seat.new).pushed ≡ (account_of seat.old).pushed ++ (account_of other).pushed)
-            × ((account_of seat.new).popped ≡ (account_of seat.old).popped ++ (account_of other).popped) }
+        ensures both { ((account_of seat.new).shares
+            ≡ (account_of seat.old).shares + (account_of other).shares)
+            × ((account_of seat.new).pushed
+            ≡ (account_of seat.old).pushed ++ (account_of other).pushed)
+            × ((account_of seat.new).popped
+            ≡ (account_of seat.old).popped ++ (account_of other).popped) }
     {
         let PoolSeat {
             seat: other_seat,

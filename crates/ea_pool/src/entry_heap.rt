@@ -21,7 +21,8 @@ pub trait EntryHeap: Drop {
     /// Hands the entry back where there is no memory.
     fn add_entry(&mut self, entry: Entry) -> Result<(), Entry>
         ensures pushed { OnOk result (SameEntries (entries self.new) (entry ∷ entries self.old)) }
-        ensures refused { IfErr result (λ back. (back ≡ entry) × (entries self.new ≡ entries self.old)) };
+        ensures refused { IfErr result
+            (λ back. (back ≡ entry) × (entries self.new ≡ entries self.old)) };
 
     /// Takes an entry out. None exactly where there is none.
     fn take_entry(&mut self) -> Option<Entry>

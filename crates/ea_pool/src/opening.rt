@@ -53,7 +53,8 @@ impl<K: Known, A: Allocator + Copy> Pool<K, A> {
     pub fn open(alloc: A, heaps: usize) -> Result<(Pool<K, A>, PoolSeat<K, A>), OutOfMemory>
         requires { (LEAST_HEAPS ≤ heaps) × (heaps ≤ MOST_IN_POOL) }
         ensures pool { IfOk result (λ made. heaps_of made.0 ≡ heaps) }
-        ensures seat { IfOk result (λ made. IsSeatOf made.0 made.1 × Opened SHARES (account_of made.1)) }
+        ensures seat { IfOk result (λ made. IsSeatOf made.0 made.1
+            × Opened SHARES (account_of made.1)) }
     {
         Pool::open_with(alloc, heaps, 0)
     }
@@ -68,7 +69,8 @@ impl<K: Known, A: Allocator + Copy, H: OpenHeap<A>> Pool<K, A, H> {
     ) -> Result<(Pool<K, A, H>, PoolSeat<K, A, H>), OutOfMemory>
         requires { (LEAST_HEAPS ≤ heaps) × (heaps ≤ MOST_IN_POOL) }
         ensures pool { IfOk result (λ made. heaps_of made.0 ≡ heaps) }
-        ensures seat { IfOk result (λ made. IsSeatOf made.0 made.1 × Opened SHARES (account_of made.1)) }
+        ensures seat { IfOk result (λ made. IsSeatOf made.0 made.1
+            × Opened SHARES (account_of made.1)) }
     {
         let words = Vec::from_elem(alloc, EMPTY, WORDS_APART * (heaps + 1))?;
         let slots = empty_slots(alloc, heaps, width)?;

@@ -67,7 +67,8 @@ impl<A: Allocator + Copy> Solo<A> {
 impl<A: Allocator> Solo<A> {
     /// Adds the entry to the heap `word mod H`. Hands it back where memory was refused: then nothing has changed.
     pub fn push_at(&mut self, word: u64, entry: Entry) -> Result<(), Entry>
-        ensures pushed { OnOk result (AddsTo (first_draw (length self.old) word) entry self.old self.new) }
+        ensures pushed { OnOk result (AddsTo
+            (first_draw (length self.old) word) entry self.old self.new) }
         ensures refused { IfErr result (λ back. (back ≡ entry) × (self.new ≡ self.old)) }
     {
         let k = draw_first(self.heaps.len(), word);
@@ -84,13 +85,15 @@ impl<A: Allocator> Solo<A> {
             × (content self.old (second_draw (length self.old) first second) ≡ [])
             × (self.new ≡ self.old))
             (λ least. TakesFrom
-            (lesser_heap self.old (first_draw (length self.old) first) (second_draw (length self.old) first second))
+            (lesser_heap self.old (first_draw (length self.old) first)
+            (second_draw (length self.old) first second))
             least self.old self.new) }
         ensures rank { IfSome result (λ least. rank_error least.key self.old
             + (length (content self.old (first_draw (length self.old) first))
             + length (content self.old (second_draw (length self.old) first second)))
             ≤ total length self.old) }
-        ensures rank_of_two { length self.old ≡ 2 → IfSome result (λ least. rank_error least.key self.old ≡ 0) }
+        ensures rank_of_two { length self.old ≡ 2
+            → IfSome result (λ least. rank_error least.key self.old ≡ 0) }
     {
         let heaps = self.heaps.len();
         let i = draw_first(heaps, first);

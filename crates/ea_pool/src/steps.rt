@@ -25,7 +25,8 @@ impl<K: Known, A: Allocator, H: EntryHeap> Pool<K, A, H> {
         ensures table { seat.new.table_id ≡ seat.old.table_id }
         ensures saw { seat.new.me ≡ (saw seat.old.me.0 heap result, seat.old.me.1) }
         ensures low { (result ≤ OUT) × (seat.old.me.0.shares ≤ SHARES) }
-        ensures alone { seat.old.me.0.shares ≡ SHARES → Surveys K.is_known H.kind self.now.heaps seat.new.me.0 }
+        ensures alone { seat.old.me.0.shares ≡ SHARES
+            → Surveys K.is_known H.kind self.now.heaps seat.new.me.0 }
     {
         self.table
             .shared
@@ -60,7 +61,8 @@ impl<K: Known, A: Allocator, H: EntryHeap> Pool<K, A, H> {
         ensures table { seat.new.table_id ≡ seat.old.table_id }
         ensures view { seat.new.me.0 ≡ seat.old.me.0 }
         ensures moves { HoldsHeap seat.old.me heap (λ es. HoldsHeap seat.new.me heap (λ left.
-            MatchResult result.0 (λ _. SameEntries left (entry ∷ es)) (λ back. (back ≡ entry) × (left ≡ es))
+            MatchResult result.0 (λ _. SameEntries left (entry ∷ es))
+            (λ back. (back ≡ entry) × (left ≡ es))
             × Shows H.kind result.1 left)) }
     {
         let held = seat.slot_mut(&self.table.shared, heap);

@@ -79,7 +79,8 @@ impl<A: Allocator> Window<A> {
 
     /// The entry at the end.
     pub(crate) fn last(&self) -> Option<Entry>
-        ensures { MatchOption result (self.now ≡ []) (λ entry. (before : List Inside) × (self.now ≡ before ++ entry ∷ [])) }
+        ensures { MatchOption result (self.now ≡ [])
+            (λ entry. (before : List Inside) × (self.now ≡ before ++ entry ∷ [])) }
     {
         self.entries.last().copied()
     }

@@ -60,7 +60,8 @@ impl Run {
     pub(crate) fn lower(&mut self, word: u64, node: u32, time: u64) -> Result<(), OutOfMemory>
         requires node { (0 < node) × (node ≤ length self.old.labels.items) }
         requires heaps { 2 ≤ length self.old.heaps }
-        ensures { IfOk result (λ _. LowersBy word node time (state_of self.old) (state_of self.new)) }
+        ensures { IfOk result (λ _.
+            LowersBy word node time (state_of self.old) (state_of self.new)) }
     {
         self.labels[node as usize - 1] = time;
         let Ok(()) = self.heaps.push_at(word, Entry { key: time, node }) else {

@@ -38,7 +38,8 @@ fn marks_of(alloc: Global, events: &[Event]) -> Result<Vec<Mark>, AllocError>
 /// The places of the events' keys, in n log n.
 pub(crate) fn places_of(alloc: Global, events: &[Event]) -> Result<Places, AllocError>
     ensures { IfOk result (λ places. (keys : List ℕ)
-        × ArePlaces keys (map key_of events.now) places.of_events.items × (length keys ≡ places.keys)) }
+        × ArePlaces keys (map key_of events.now) places.of_events.items
+        × (length keys ≡ places.keys)) }
 {
     let marks = marks_of(alloc, events)?;
     let mut of_events = vec![in alloc; 0; events.len()]?;

@@ -38,12 +38,14 @@ fn scan<T: TravelTimes, R: Rng>(
     requires heaps { 2 ≤ length run.old.heaps }
     requires underway { IsOnCourse network.now (T.answers times.now) query.now.sources
         query.now.sources (leaving network.now node) (state_of run.old) }
-    ensures underway { IfOk result (λ _. IsOnCourse network.now (T.answers times.now) query.now.sources
+    ensures underway { IfOk result (λ _.
+        IsOnCourse network.now (T.answers times.now) query.now.sources
         query.now.sources [] (state_of run.new)) }
     ensures heaps { IfOk result (λ _. length run.new.heaps ≡ length run.old.heaps) }
     ensures less { IfOk result (λ _. added run.new.labels.items + weighs (λ entry. 1) run.new.heaps
         ≤ added run.old.labels.items + weighs (λ entry. 1) run.old.heaps) }
-    ensures course { IfOk result (λ _. Scans network.now (T.answers times.now) departure (leaving network.now node)
+    ensures course { IfOk result (λ _.
+        Scans network.now (T.answers times.now) departure (leaving network.now node)
         (R.stream rng.old) (state_of run.old) (R.stream rng.new) (state_of run.new)) }
 {
     let arcs = network.leaving(node).arcs;
@@ -68,7 +70,8 @@ fn sow<T: TravelTimes>(
     requires heaps { 2 ≤ length run.old.heaps }
     requires underway { IsOnCourse network.now (T.answers times.now) query.now.sources
         [] [] (state_of run.old) }
-    ensures underway { IfOk result (λ _. IsOnCourse network.now (T.answers times.now) query.now.sources
+    ensures underway { IfOk result (λ _.
+        IsOnCourse network.now (T.answers times.now) query.now.sources
         query.now.sources [] (state_of run.new)) }
     ensures heaps { IfOk result (λ _. length run.new.heaps ≡ length run.old.heaps) }
     ensures course { IfOk result (λ _. (pushes : ℕ)
@@ -105,7 +108,8 @@ pub fn record_run<T: TravelTimes, R: Rng + Drop>(
     ensures least { IfOk result (λ recorded. ContainArrivals network.now (T.answers times.now)
         query.now.sources (popped_keys recorded.events.items)) }
     // which record it is: the course of the turns by the generator's words
-    ensures course { IfOk result (λ recorded. IsRunBy network.now (T.answers times.now) heaps (R.stream rng)
+    ensures course { IfOk result (λ recorded.
+        IsRunBy network.now (T.answers times.now) heaps (R.stream rng)
         query.now.sources recorded.events.items) }
 {
     let mut run = Run::new(alloc, network.nodes(), heaps)?;

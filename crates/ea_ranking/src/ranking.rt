@@ -147,7 +147,8 @@ fn rank_each<W: ByteOut, V: Watch>(
     ensures ok { OnOk result (IsRanking heaps seed road.now.network (times_on road.now) queries.now
         (W.seen out.old)
         (W.seen out.new)) }
-    ensures err { IfErr result (IsRankingCut heaps seed road.now.network (times_on road.now) queries.now
+    ensures err { IfErr result
+        (IsRankingCut heaps seed road.now.network (times_on road.now) queries.now
         (W.seen out.old)
         (W.seen out.new)) }
 {
@@ -183,10 +184,12 @@ pub fn rank_report<G: ByteIn, S: ByteIn, T: ByteIn, W: ByteOut>(
 ) -> Result<(), AnswerFault>
     requires options { AreOptions options.now }
     ensures ranked { IfOk result (IsAnswered (rank_asks options.now)
-        (files_of (reading G.seen gr.old gr.new) (reading S.seen ss.old ss.new) T.seen tp.old tp.new)
+        (files_of (reading G.seen gr.old gr.new)
+        (reading S.seen ss.old ss.new) T.seen tp.old tp.new)
         (W.seen out.old) (W.seen out.new)) }
     ensures unranked { IfErr result (IsFailed (rank_asks options.now)
-        (files_of (reading G.seen gr.old gr.new) (reading S.seen ss.old ss.new) T.seen tp.old tp.new)
+        (files_of (reading G.seen gr.old gr.new)
+        (reading S.seen ss.old ss.new) T.seen tp.old tp.new)
         (W.seen out.old) (W.seen out.new)) }
 {
     rank_watched(alloc, gr, ss, tp, options, out, &mut Silent)
@@ -204,10 +207,12 @@ pub fn rank_watched<G: ByteIn, S: ByteIn, T: ByteIn, W: ByteOut, V: Watch>(
 ) -> Result<(), AnswerFault>
     requires options { AreOptions options.now }
     ensures ranked { IfOk result (IsAnswered (rank_asks options.now)
-        (files_of (reading G.seen gr.old gr.new) (reading S.seen ss.old ss.new) T.seen tp.old tp.new)
+        (files_of (reading G.seen gr.old gr.new)
+        (reading S.seen ss.old ss.new) T.seen tp.old tp.new)
         (W.seen out.old) (W.seen out.new)) }
     ensures unranked { IfErr result (IsFailed (rank_asks options.now)
-        (files_of (reading G.seen gr.old gr.new) (reading S.seen ss.old ss.new) T.seen tp.old tp.new)
+        (files_of (reading G.seen gr.old gr.new)
+        (reading S.seen ss.old ss.new) T.seen tp.old tp.new)
         (W.seen out.old) (W.seen out.new)) }
 {
     let heaps = heaps_of_run(options);

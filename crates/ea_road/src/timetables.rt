@@ -38,7 +38,8 @@ impl Timetables {
     /// The same of a slice. An error comes only where memory for the list was refused.
     pub fn of(alloc: Global, kinds: &[RawKind]) -> Result<Timetables, AllocError>
         requires { (kind : RawKind) → IsAmong kinds.now kind → IsTrue (is_kind kind) }
-        ensures { IfOk result (λ times. (times.list.items ≡ kinds.now) × (steps_in times.steps ≡ [])) }
+        ensures { IfOk result (λ times. (times.list.items ≡ kinds.now)
+            × (steps_in times.steps ≡ [])) }
     {
         let mut list = Vec::with_capacity(alloc, kinds.len())?;
         for kind in kinds {

@@ -138,7 +138,8 @@ pub struct Blocks {
 impl Blocks {
     /// Blocks of a device that was not read yet, of which at most so many bytes are taken.
     pub fn new(alloc: Global, limit: u64) -> Result<Blocks, AllocError>
-        ensures { IfOk result (λ blocks. HasRoom blocks × ((first : Seen) → IsTakenBy blocks limit first first [])) }
+        ensures { IfOk result (λ blocks. HasRoom blocks
+            × ((first : Seen) → IsTakenBy blocks limit first first [])) }
     {
         Ok(Blocks {
             piece: room(alloc, PIECE)?,
@@ -159,13 +160,15 @@ impl Blocks {
     ) -> Result<bool, ReadFault>
         requires { HasRoom self.old }
         ensures room { HasRoom self.new }
-        ensures more { IfOk result (λ _. GoesOnTaking (R.seen reader.old) self.old (R.seen reader.new) self.new
+        ensures more { IfOk result (λ _.
+            GoesOnTaking (R.seen reader.old) self.old (R.seen reader.new) self.new
             block.old.items block.new.items) }
         ensures left { OnOk result
             (length block.new.items + self.new.left ≡ length block.old.items + self.old.left) }
         ensures full { IfOk result (λ ended. ended ≡ false → size ≤ length block.new.items) }
         ensures end { IfOk result (λ ended. ended ≡ true → IsAtEnd (R.seen reader.new).bytes) }
-        ensures fault { IfErr result (StopsTaking (R.seen reader.old) self.old (R.seen reader.new)) }
+        ensures fault { IfErr result
+            (StopsTaking (R.seen reader.old) self.old (R.seen reader.new)) }
     {
         while block.len() < size {
             let before = block.len();

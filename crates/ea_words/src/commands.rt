@@ -206,7 +206,8 @@ fn with_command<'a>(command: Command<'a>, below: Command<'a>) -> Result<Command<
 /// The program with the commands that need no files.
 fn with_words<'a>(alloc: Global, command: Command<'a>) -> Result<Command<'a>, AllocError>
     ensures { IfOk result (λ c. app_of c
-        ≡ with_subcommand (with_subcommand (app_of command.entry) explain_app.top) formats_app.top) }
+        ≡ with_subcommand (with_subcommand (app_of command.entry) explain_app.top)
+        formats_app.top) }
 {
     let command = with_command(command, explain_command(alloc)?)?;
     let command = with_command(command, formats_command(alloc)?)?;

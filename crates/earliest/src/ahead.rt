@@ -76,7 +76,8 @@ impl Progress {
         requires room { self.old.written ≤ MOST_STARTS * 2 ^ 90 }
         ensures ok { OnOk result (IsWhole (W.seen out.old) (W.seen out.new) text.now
             (self.new.written - self.old.written) × (self.old.written ≤ self.new.written)) }
-        ensures err { IfErr result (λ fault. (sent : ℕ) × (fault ≡ AnswerFault.Write (self.old.written + sent))
+        ensures err { IfErr result
+            (λ fault. (sent : ℕ) × (fault ≡ AnswerFault.Write (self.old.written + sent))
             × IsCutAt (W.seen out.old).bytes (W.seen out.new).bytes text.now sent
             × GivesUp (W.seen out.old) (W.seen out.new)) }
         ensures bound { OnOk result (self.new.written ≤ self.old.written + 2 ^ 90) }
@@ -103,7 +104,8 @@ impl Progress {
         out: &mut W,
     ) -> Result<(), AnswerFault>
         requires problem { IsProblem road.now.network (length road.now.times.list.items) query.now }
-        requires few { (length query.now.sources ≤ MOST_STARTS) × (road.now.network.nodes ≤ MOST_NODES) }
+        requires few { (length query.now.sources ≤ MOST_STARTS)
+            × (road.now.network.nodes ≤ MOST_NODES) }
         requires room { self.old.written ≤ MOST_STARTS * 2 ^ 90 }
         requires search { IfSome self.old.search (Serves road.now.network walks) }
         requires draft { IsDraftOf walks road.now query.now draft }
@@ -146,19 +148,24 @@ fn send_row<W: ByteOut>(
     requires span { (span.from ≤ span.to) × (span.to ≤ length job.queries.now)
         × (span.to ≤ span.from + length ready.old) }
     requires room { progress.old.written ≤ span.from * 2 ^ 90 }
-    requires search { IfSome progress.old.search (Serves job.road.now.network job.options.now.walks) }
-    requires drafts { AreDraftsAt job.options.now.walks job.road.now job.queries.now span.from ready.old }
+    requires search { IfSome progress.old.search
+        (Serves job.road.now.network job.options.now.walks) }
+    requires drafts { AreDraftsAt job.options.now.walks job.road.now
+        job.queries.now span.from ready.old }
     ensures ok { OnOk result ((first : Seen) → first.interrupted < 2 ^ 64
-        → AreSent job.entry.options.now.walks job.entry.road.now.network (times_on job.entry.road.now)
+        → AreSent job.entry.options.now.walks
+        job.entry.road.now.network (times_on job.entry.road.now)
         (take span.from job.entry.queries.now) first (W.seen out.old) progress.old.written
-        → AreSent job.entry.options.now.walks job.entry.road.now.network (times_on job.entry.road.now)
+        → AreSent job.entry.options.now.walks
+        job.entry.road.now.network (times_on job.entry.road.now)
         (take span.to job.entry.queries.now) first (W.seen out.new) progress.new.written) }
     ensures err { IfErr result (StopsAfter job.entry span.from
         (W.seen out.old) progress.old.written (W.seen out.new)) }
     ensures bound { OnOk result (progress.new.written ≤ span.to * 2 ^ 90) }
     ensures totals { progress.new.totals ≡ progress.old.totals }
     ensures search { OnOk result
-        (IfSome progress.new.search (Serves job.entry.road.now.network job.entry.options.now.walks)) }
+        (IfSome progress.new.search
+        (Serves job.entry.road.now.network job.entry.options.now.walks)) }
     ensures length { length ready.new ≡ length ready.old }
 {
     let queries = job.queries;
@@ -186,24 +193,30 @@ fn send_and_make<H: Threads + Sync, W: ByteOut>(
         × (span.to ≤ span.from + length ready.old) }
     requires few { length row.old ≤ 4096 }
     requires room { progress.old.written ≤ span.from * 2 ^ 90 }
-    requires search { IfSome progress.old.search (Serves job.road.now.network job.options.now.walks) }
+    requires search { IfSome progress.old.search
+        (Serves job.road.now.network job.options.now.walks) }
     requires serving { AreServing job.road.now.network job.plan.walks row.old }
-    requires drafts { AreDraftsAt job.options.now.walks job.road.now job.queries.now span.from ready.old }
+    requires drafts { AreDraftsAt job.options.now.walks job.road.now
+        job.queries.now span.from ready.old }
     ensures ok { OnOk result ((first : Seen) → first.interrupted < 2 ^ 64
-        → AreSent job.entry.options.now.walks job.entry.road.now.network (times_on job.entry.road.now)
+        → AreSent job.entry.options.now.walks
+        job.entry.road.now.network (times_on job.entry.road.now)
         (take span.from job.entry.queries.now) first (W.seen out.old) progress.old.written
-        → AreSent job.entry.options.now.walks job.entry.road.now.network (times_on job.entry.road.now)
+        → AreSent job.entry.options.now.walks
+        job.entry.road.now.network (times_on job.entry.road.now)
         (take span.to job.entry.queries.now) first (W.seen out.new) progress.new.written) }
     ensures err { IfErr result (StopsAfter job.entry span.from
         (W.seen out.old) progress.old.written (W.seen out.new)) }
     ensures bound { OnOk result (progress.new.written ≤ span.to * 2 ^ 90) }
     ensures totals { progress.new.totals ≡ progress.old.totals }
     ensures search { OnOk result
-        (IfSome progress.new.search (Serves job.entry.road.now.network job.entry.options.now.walks)) }
+        (IfSome progress.new.search
+        (Serves job.entry.road.now.network job.entry.options.now.walks)) }
     ensures lengths { (length ready.new ≡ length ready.old) × (length row.new ≡ length row.old) }
     ensures serving { AreServing job.entry.road.now.network job.entry.plan.walks row.new }
     ensures made { span.to < length job.entry.queries.now
-        → AreDraftsFrom job.entry.plan.walks job.entry.road.now job.entry.queries.now span.to row.new }
+        → AreDraftsFrom job.entry.plan.walks job.entry.road.now
+        job.entry.queries.now span.to row.new }
 {
     if span.to >= job.queries.len() {
         return send_row(progress, job, span, ready, out);
@@ -214,7 +227,8 @@ fn send_and_make<H: Threads + Sync, W: ByteOut>(
             × AreServing job.road.now.network job.plan.walks row.now }
         ensures { (length row.exit.now ≡ length row.entry.now)
             × AreServing job.entry.road.now.network job.entry.plan.walks row.exit.now
-            × AreDraftsFrom job.entry.plan.walks job.entry.road.now job.entry.queries.now next row.exit.now }
+            × AreDraftsFrom job.entry.plan.walks job.entry.road.now
+            job.entry.queries.now next row.exit.now }
     { make_row(rt, job, next, row) };
     let mut sending = || -> Result<(), AnswerFault> { send_row(progress, job, span, ready, out) };
     let (_, sent) = thread::join_mut(rt, &mut making, &mut sending);
@@ -248,7 +262,8 @@ pub(crate) fn report_ahead<H: Threads + Sync, W: ByteOut, V: Watch>(
     ensures ok { IfOk result (λ progress.
         AreSent watched.entry.options.now.walks road.now.network (times_on road.now) queries.now
         (W.seen out.old) (W.seen out.new) progress.written) }
-    ensures err { IfErr result (IsCutShort watched.entry.options.now road.now.network (times_on road.now) queries.now
+    ensures err { IfErr result
+        (IsCutShort watched.entry.options.now road.now.network (times_on road.now) queries.now
         (W.seen out.old) (W.seen out.new)) }
     ensures bound { IfOk result (λ progress. progress.written ≤ MOST_STARTS * 2 ^ 90) }
     ensures balanced { IfOk result (λ progress. AreBalanced progress.totals) }

@@ -41,10 +41,12 @@ pub fn answer<H: Threads + Sync, G: ByteIn, S: ByteIn, T: ByteIn, W: ByteOut>(
 ) -> Result<Totals, AnswerFault>
     requires options { AreOptions options.now }
     ensures answered { IfOk result (IsAnswered (run_asks options.now)
-        (files_of (reading G.seen gr.old gr.new) (reading S.seen ss.old ss.new) T.seen tp.old tp.new)
+        (files_of (reading G.seen gr.old gr.new)
+        (reading S.seen ss.old ss.new) T.seen tp.old tp.new)
         (W.seen out.old) (W.seen out.new)) }
     ensures failed { IfErr result (IsFailed (run_asks options.now)
-        (files_of (reading G.seen gr.old gr.new) (reading S.seen ss.old ss.new) T.seen tp.old tp.new)
+        (files_of (reading G.seen gr.old gr.new)
+        (reading S.seen ss.old ss.new) T.seen tp.old tp.new)
         (W.seen out.old) (W.seen out.new)) }
 {
     let watched = Watched {
@@ -73,10 +75,12 @@ pub(crate) fn answer_watched<
 ) -> Result<Totals, AnswerFault>
     requires options { AreOptions watched.options.now }
     ensures answered { IfOk result (IsAnswered (run_asks watched.entry.options.now)
-        (files_of (reading G.seen gr.old gr.new) (reading S.seen ss.old ss.new) T.seen tp.old tp.new)
+        (files_of (reading G.seen gr.old gr.new)
+        (reading S.seen ss.old ss.new) T.seen tp.old tp.new)
         (W.seen out.old) (W.seen out.new)) }
     ensures failed { IfErr result (IsFailed (run_asks watched.entry.options.now)
-        (files_of (reading G.seen gr.old gr.new) (reading S.seen ss.old ss.new) T.seen tp.old tp.new)
+        (files_of (reading G.seen gr.old gr.new)
+        (reading S.seen ss.old ss.new) T.seen tp.old tp.new)
         (W.seen out.old) (W.seen out.new)) }
 {
     let Watched { options, watch } = watched;
@@ -107,10 +111,12 @@ pub fn answer_pairs<H: Threads + Sync, G: ByteIn, P: ByteIn, T: ByteIn, W: ByteO
 ) -> Result<Totals, AnswerFault>
     requires options { AreOptions options.now }
     ensures answered { IfOk result (IsAnswered (pair_asks options.now)
-        (files_of (reading G.seen gr.old gr.new) (reading P.seen p2p.old p2p.new) T.seen tp.old tp.new)
+        (files_of (reading G.seen gr.old gr.new)
+        (reading P.seen p2p.old p2p.new) T.seen tp.old tp.new)
         (W.seen out.old) (W.seen out.new)) }
     ensures failed { IfErr result (IsFailed (pair_asks options.now)
-        (files_of (reading G.seen gr.old gr.new) (reading P.seen p2p.old p2p.new) T.seen tp.old tp.new)
+        (files_of (reading G.seen gr.old gr.new)
+        (reading P.seen p2p.old p2p.new) T.seen tp.old tp.new)
         (W.seen out.old) (W.seen out.new)) }
 {
     let watched = Watched {
@@ -139,10 +145,12 @@ pub(crate) fn pairs_watched<
 ) -> Result<Totals, AnswerFault>
     requires options { AreOptions watched.options.now }
     ensures answered { IfOk result (IsAnswered (pair_asks watched.entry.options.now)
-        (files_of (reading G.seen gr.old gr.new) (reading P.seen p2p.old p2p.new) T.seen tp.old tp.new)
+        (files_of (reading G.seen gr.old gr.new)
+        (reading P.seen p2p.old p2p.new) T.seen tp.old tp.new)
         (W.seen out.old) (W.seen out.new)) }
     ensures failed { IfErr result (IsFailed (pair_asks watched.entry.options.now)
-        (files_of (reading G.seen gr.old gr.new) (reading P.seen p2p.old p2p.new) T.seen tp.old tp.new)
+        (files_of (reading G.seen gr.old gr.new)
+        (reading P.seen p2p.old p2p.new) T.seen tp.old tp.new)
         (W.seen out.old) (W.seen out.new)) }
 {
     let Watched { options, watch } = watched;

@@ -32,10 +32,12 @@ pub fn check_report<G: ByteIn, S: ByteIn, T: ByteIn, R: ByteIn>(
 ) -> Result<Result<(), CheckFault>, AnswerFault>
     requires options { AreOptions options.now }
     ensures judged { IfOk result (IsJudged options.now
-        (files_of (reading G.seen gr.old gr.new) (reading S.seen ss.old ss.new) T.seen tp.old tp.new)
+        (files_of (reading G.seen gr.old gr.new)
+        (reading S.seen ss.old ss.new) T.seen tp.old tp.new)
         (reading R.seen report.old report.new)) }
     ensures unjudged { IfErr result (IsUnjudged options.now
-        (files_of (reading G.seen gr.old gr.new) (reading S.seen ss.old ss.new) T.seen tp.old tp.new)
+        (files_of (reading G.seen gr.old gr.new)
+        (reading S.seen ss.old ss.new) T.seen tp.old tp.new)
         (reading R.seen report.old report.new)) }
 {
     check_watched(alloc, gr, ss, tp, options, report, &mut Silent)
@@ -53,10 +55,12 @@ pub(crate) fn check_watched<G: ByteIn, S: ByteIn, T: ByteIn, R: ByteIn, V: Watch
 ) -> Result<Result<(), CheckFault>, AnswerFault>
     requires options { AreOptions options.now }
     ensures judged { IfOk result (IsJudged options.now
-        (files_of (reading G.seen gr.old gr.new) (reading S.seen ss.old ss.new) T.seen tp.old tp.new)
+        (files_of (reading G.seen gr.old gr.new)
+        (reading S.seen ss.old ss.new) T.seen tp.old tp.new)
         (reading R.seen report.old report.new)) }
     ensures unjudged { IfErr result (IsUnjudged options.now
-        (files_of (reading G.seen gr.old gr.new) (reading S.seen ss.old ss.new) T.seen tp.old tp.new)
+        (files_of (reading G.seen gr.old gr.new)
+        (reading S.seen ss.old ss.new) T.seen tp.old tp.new)
         (reading R.seen report.old report.new)) }
 {
     let files = read_run(alloc, gr, ss, tp)?;

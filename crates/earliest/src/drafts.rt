@@ -51,7 +51,8 @@ pub(crate) struct Plan {
 /// So many places where nothing was made.
 fn places_of(alloc: Global, count: usize) -> Result<Vec<Place>, AllocError>
     ensures count { IfOk result (λ row. vec_len row ≡ count) }
-    ensures serving { IfOk result (λ row. (roads : Roads) (walks : Bool) → AreServing roads walks row.items) }
+    ensures serving { IfOk result (λ row. (roads : Roads) (walks : Bool)
+        → AreServing roads walks row.items) }
 {
     let mut row = Vec::with_capacity(alloc, count)?;
     for i in 0..count {
@@ -73,7 +74,8 @@ fn make_draft(
     last: &mut Option<Search>,
 ) -> Draft
     requires problem { IsProblem road.now.network (length road.now.times.list.items) query.now }
-    requires few { (length query.now.sources ≤ MOST_STARTS) × (road.now.network.nodes ≤ MOST_NODES) }
+    requires few { (length query.now.sources ≤ MOST_STARTS)
+        × (road.now.network.nodes ≤ MOST_NODES) }
     requires search { IfSome last.old (Serves road.now.network plan.walks) }
     ensures draft { IsDraftOf plan.walks road.now query.now result }
     ensures search { IfSome last.new (Serves road.now.network plan.walks) }
@@ -207,7 +209,8 @@ pub(crate) fn make_row<H: Threads + Sync>(rt: &H, job: Job<'_>, first: usize, ro
     requires serving { AreServing job.road.now.network job.plan.walks row.old }
     ensures length { length row.new ≡ length row.old }
     ensures serving { AreServing job.entry.road.now.network job.entry.plan.walks row.new }
-    ensures drafts { AreDraftsFrom job.entry.plan.walks job.entry.road.now job.entry.queries.now first row.new }
+    ensures drafts { AreDraftsFrom job.entry.plan.walks job.entry.road.now
+        job.entry.queries.now first row.new }
 {
     let Job {
         alloc,
@@ -222,7 +225,8 @@ pub(crate) fn make_row<H: Threads + Sync>(rt: &H, job: Job<'_>, first: usize, ro
             × (0 < length places.now) × (first + start + length places.now < 2 ^ 64) }
         ensures { (length places.exit.now ≡ length places.entry.now)
             × AreServing road.entry.now.network plan.walks places.exit.now
-            × AreDraftsFrom plan.walks road.entry.now queries.entry.now (first + start) places.exit.now }
+            × AreDraftsFrom plan.walks road.entry.now queries.entry.now
+            (first + start) places.exit.now }
     { make_part(alloc, road, queries, plan, first + start, places) };
     thread::for_each_chunk_mut(rt, row, plan.part, &make_one);
 }

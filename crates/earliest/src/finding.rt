@@ -284,14 +284,17 @@ fn find_by<H: Threads + Sync, R: Rng + Send + Drop, T: FnMut(Turn) -> Flow + Sen
     rngs: Vec<R>,
     tracer: T,
 ) -> Result<Found, AllocError>
-    requires problem { IsProblem asked.road.now.network (length asked.road.now.times.list.items) asked.query.now }
+    requires problem { IsProblem asked.road.now.network
+        (length asked.road.now.times.list.items) asked.query.now }
     requires few { length asked.query.now.sources ≤ MOST_STARTS }
     requires settings { AreSettings settings }
     requires workers { vec_len rngs ≡ settings.workers }
     requires tracer { T.IsAlwaysCallable tracer }
     requires stays { KeepsOn T.step settings.workers tracer }
-    ensures arrivals { IfOk result (λ found. ArrivesOn asked.entry.road.now asked.entry.query.now found.answer) }
-    ensures walks { IfOk result (λ found. asked.entry.walks ≡ true → AnswersOn asked.entry.road.now asked.entry.query.now found.answer) }
+    ensures arrivals { IfOk result (λ found.
+        ArrivesOn asked.entry.road.now asked.entry.query.now found.answer) }
+    ensures walks { IfOk result (λ found. asked.entry.walks ≡ true
+        → AnswersOn asked.entry.road.now asked.entry.query.now found.answer) }
     ensures counted { IfOk result (λ found. IsTotal settings asked.entry.query.now found.totals) }
     ensures balanced { IfOk result (λ found. AreBalanced found.totals) }
     ensures small { IfOk result (λ found. AreSmall 1 found.totals) }
@@ -319,7 +322,8 @@ pub(crate) fn find<H: Threads + Sync>(
     requires options { AreOptions options.now }
     requires workers { (1 ≤ workers) × (workers ≤ MOST_WORKERS) }
     ensures arrivals { IfOk result (λ found. ArrivesOn road.now query.now found.answer) }
-    ensures walks { IfOk result (λ found. options.now.walks ≡ true → AnswersOn road.now query.now found.answer) }
+    ensures walks { IfOk result (λ found. options.now.walks ≡ true
+        → AnswersOn road.now query.now found.answer) }
     ensures counted { IfOk result (λ found. options.now.stats ≡ true
         → IsTotal (settings_with options.now workers) query.now found.totals) }
     ensures balanced { IfOk result (λ found. AreBalanced found.totals) }
@@ -384,7 +388,8 @@ pub(crate) fn search(
     requires problem { IsProblem road.now.network (length road.now.times.list.items) query.now }
     requires serves { IfSome last (Serves road.now.network walks) }
     ensures arrivals { IfOk result (λ search. ArrivesOn road.now query.now search.answer) }
-    ensures walks { IfOk result (λ search. walks ≡ true → AnswersOn road.now query.now search.answer) }
+    ensures walks { IfOk result (λ search. walks ≡ true
+        → AnswersOn road.now query.now search.answer) }
     ensures serves { IfOk result (Serves road.now.network walks) }
 {
     let search = match last {

@@ -80,7 +80,8 @@ impl Progress {
         out: &mut W,
     ) -> Result<(), AnswerFault>
         requires problem { IsProblem road.now.network (length road.now.times.list.items) query.now }
-        requires few { (length query.now.sources ≤ MOST_STARTS) × (road.now.network.nodes ≤ MOST_NODES) }
+        requires few { (length query.now.sources ≤ MOST_STARTS)
+            × (road.now.network.nodes ≤ MOST_NODES) }
         requires room { self.old.written ≤ MOST_STARTS * 2 ^ 90 }
         requires arrivals { ArrivesOn road.now query.now answer.now }
         requires canonical { walks ≡ true → AnswersOn road.now query.now answer.now }
@@ -121,11 +122,13 @@ impl Progress {
         out: &mut W,
     ) -> Result<(), AnswerFault>
         requires problem { IsProblem road.now.network (length road.now.times.list.items) query.now }
-        requires few { (length query.now.sources ≤ MOST_STARTS) × (road.now.network.nodes ≤ MOST_NODES) }
+        requires few { (length query.now.sources ≤ MOST_STARTS)
+            × (road.now.network.nodes ≤ MOST_NODES) }
         requires arrivals { ArrivesOn road.now query.now found.now.answer }
         requires canonical { walks ≡ true → AnswersOn road.now query.now found.now.answer }
         requires room { self.old.written ≤ MOST_STARTS * 2 ^ 90 }
-        requires small { ((problems : ℕ) × (problems < MOST_STARTS) × AreSmall problems self.old.totals)
+        requires small { ((problems : ℕ) × (problems < MOST_STARTS)
+            × AreSmall problems self.old.totals)
             × AreSmall 1 found.now.totals }
         requires balanced { AreBalanced self.old.totals × AreBalanced found.now.totals }
         ensures ok { OnOk result (IsSent walks road.now.network (times_on road.now) query.now
@@ -154,7 +157,8 @@ impl Progress {
         out: &mut W,
     ) -> Result<(), AnswerFault>
         requires problem { IsProblem road.now.network (length road.now.times.list.items) query.now }
-        requires few { (length query.now.sources ≤ MOST_STARTS) × (road.now.network.nodes ≤ MOST_NODES) }
+        requires few { (length query.now.sources ≤ MOST_STARTS)
+            × (road.now.network.nodes ≤ MOST_NODES) }
         requires room { self.old.written ≤ MOST_STARTS * 2 ^ 90 }
         requires search { IfSome self.old.search (Serves road.now.network walks) }
         ensures ok { OnOk result (IsSent walks road.now.network (times_on road.now) query.now
@@ -189,10 +193,12 @@ impl Progress {
         out: &mut W,
     ) -> Result<(), AnswerFault>
         requires problem { IsProblem road.now.network (length road.now.times.list.items) query.now }
-        requires few { (length query.now.sources ≤ MOST_STARTS) × (road.now.network.nodes ≤ MOST_NODES) }
+        requires few { (length query.now.sources ≤ MOST_STARTS)
+            × (road.now.network.nodes ≤ MOST_NODES) }
         requires options { AreOptions options.now }
         requires room { self.old.written ≤ MOST_STARTS * 2 ^ 90 }
-        requires small { (problems : ℕ) × (problems < MOST_STARTS) × AreSmall problems self.old.totals }
+        requires small { (problems : ℕ) × (problems < MOST_STARTS)
+            × AreSmall problems self.old.totals }
         requires balanced { AreBalanced self.old.totals }
         requires search { IfSome self.old.search (Serves road.now.network options.now.walks) }
         ensures ok { OnOk result (IsSent
@@ -239,7 +245,8 @@ fn report_each<H: Threads + Sync, W: ByteOut, V: Watch>(
     ensures ok { IfOk result (λ progress.
         AreSent options.now.walks road.now.network (times_on road.now) queries.now
         (W.seen out.old) (W.seen out.new) progress.written) }
-    ensures err { IfErr result (IsCutShort options.now road.now.network (times_on road.now) queries.now
+    ensures err { IfErr result
+        (IsCutShort options.now road.now.network (times_on road.now) queries.now
         (W.seen out.old) (W.seen out.new)) }
     ensures bound { IfOk result (λ progress. progress.written ≤ MOST_STARTS * 2 ^ 90) }
     ensures counted { IfOk result (λ progress. options.now.stats ≡ true
@@ -274,7 +281,8 @@ fn report_problems<H: Threads + Sync, W: ByteOut, V: Watch>(
     ensures ok { IfOk result (λ progress.
         AreSent options.now.walks road.now.network (times_on road.now) queries.now
         (W.seen out.old) (W.seen out.new) progress.written) }
-    ensures err { IfErr result (IsCutShort options.now road.now.network (times_on road.now) queries.now
+    ensures err { IfErr result
+        (IsCutShort options.now road.now.network (times_on road.now) queries.now
         (W.seen out.old) (W.seen out.new)) }
     ensures bound { IfOk result (λ progress. progress.written ≤ MOST_STARTS * 2 ^ 90) }
     ensures counted { IfOk result (λ progress. options.now.stats ≡ true
@@ -333,7 +341,8 @@ pub(crate) fn report_all<H: Threads + Sync, W: ByteOut, V: Watch>(
     requires options { AreOptions options.now }
     ensures ok { IfOk result (IsWritten options.now road.now.network (times_on road.now) queries.now
         (W.seen out.old) (W.seen out.new)) }
-    ensures err { IfErr result (IsCutShort options.now road.now.network (times_on road.now) queries.now
+    ensures err { IfErr result
+        (IsCutShort options.now road.now.network (times_on road.now) queries.now
         (W.seen out.old) (W.seen out.new)) }
 {
     let progress = report_problems(alloc, rt, road, queries, options, out, watch)?;
