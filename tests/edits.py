@@ -1,20 +1,27 @@
 """The edits of crates/NAME/must-fail that the prover has to refuse, tried side by side.
 
-Most of the time of a check goes into what it loads. So edits of functions of which none calls another are made together and tried in
-one check of these functions alone: what a function promises rests on what others promise, and never on their bodies. An edit is refused
-there where one of its own functions isn't proved and a line says so of that function; where rt says that a function calls another that
-isn't proved, its edit is tried again later. All this is done over one folder of kept work, over which these functions are proved as they
-stand once all edits were tried there: else nothing that was seen counts. What isn't refused so is tried alone, by a check of its
-functions; and where that refuses nothing, or the edit changes more than functions, rt's own trial of the whole crate decides. What is
-read as a refusal is what rt reads as one.
+A check loads much before it proves anything. So many edits go into one check: for each, the function that it changes is written
+once more beside itself, under a name of its own, with the edit made there and with its proofs, and once as it stands. What a function
+promises rests on what others promise, and never on their bodies, and nobody calls a function written once more: so each edit is tried
+as if it were alone. It is refused there where its function isn't proved, a line says so of that function, and the one as it stands is
+proved; else nothing that was seen counts.
+
+What can't be written twice (functions of traits, functions with closures) is edited in its place, edits of functions of which none calls another
+together, in one check of these functions alone. An edit is refused there where one of its own functions isn't proved and a line says so
+of that function; where rt says that a function calls another that isn't proved, its edit is tried again later. All this is done over one
+folder of kept work, over which these functions are proved as they stand once all edits were tried there: else nothing that was seen
+counts. What isn't refused so is tried alone, by a check of its functions; and where that refuses nothing, or the edit changes more than
+functions, rt's own trial of the whole crate decides. What is read as a refusal is what rt reads as one.
 
 What an edit came to is kept where rt keeps what its own runs proved, under a sum of all that it rests on, and taken from there where
 nothing has changed since.
 """
+import copy
 import hashlib
 import json
 import os
 import re
+import shutil
 import sys
 import tempfile
 from collections import namedtuple
@@ -22,7 +29,7 @@ from collections import namedtuple
 from crates import kit
 
 # At most so many edits go over the same kept work.
-TOGETHER = 32
+TOGETHER = 48
 
 FUNCTION = re.compile(r"^( *)(?:pub(?:\([^)]*\))? )?(?:final |const )*fn (\w+)", re.M)
 IMPL = re.compile(r"^impl\b.*$", re.M)
@@ -33,6 +40,10 @@ NAMES = re.compile(r"(\./)?proofs/.*(has no field|is not in scope|has no `|was n
 # Where an edit changes a crate: the file, its module, the function and the impl that it is of, and the function's text after its
 # name. The function is none where the change stands outside functions, the impl where it is of none.
 Place = namedtuple("Place", "file module function type text")
+
+# A function as it stands in a file: its path in the crate, its whole text with its attributes and without what is said of it, and
+# where that ends.
+Item = namedtuple("Item", "file path text end")
 
 
 def edits_of(root, name):
@@ -53,14 +64,16 @@ def text_of(path):
         return file.read()
 
 
-def pairs(edit):
-    """The files and old texts that an edit names."""
-    path = ""
+def changes(edit):
+    """The files, old texts and new texts of an edit."""
+    path, old = "", ""
     for line in text_of(edit).split("\n"):
         if line.startswith("file: "):
             path = line[len("file: "):].strip()
         elif line.startswith("old: "):
-            yield path, line[len("old: "):]
+            old = line[len("old: "):]
+        elif line.startswith("new:"):
+            yield path, old, line[len("new:"):].removeprefix(" ")
 
 
 def module_of(path):
@@ -99,7 +112,7 @@ def place_of(file, text, old):
 def changed(folder, edit):
     """The places of a crate that an edit changes; none where it changes more than modules of src/."""
     places = []
-    for path, old in pairs(edit):
+    for path, old, _ in changes(edit):
         if path.startswith("proofs/"):
             continue
         if not path.startswith("src/") or not module_of(path):
@@ -233,11 +246,18 @@ def alone(rt, crate, edit, places, functions, kept):
 
 
 def quickly(rt, crate, edits, kept):
-    """Tries edits in checks of the functions that they change: the first line of what refused each, none where nothing did.
-    Nothing is said where these functions are not proved as they stand once all were tried."""
+    """Tries edits in checks of the functions that they change: the first line of what refused each, none where nothing did. Of those
+    that are made in their place nothing is said where these functions are not proved as they stand once all were tried."""
     every = {edit: changed(crate.folder, edit) for edit in edits}
-    places, functions, found = {edit: every[edit] for edit in edits if every[edit]}, functions_of(crate), {}
-    left, waited = list(places), set()
+    places, functions = {edit: every[edit] for edit in edits if every[edit]}, functions_of(crate)
+    aside = side_by_side(rt, crate, list(places), places, functions, kept)
+    places = {edit: places[edit] for edit in places if edit not in aside}
+    return {**aside, **in_place(rt, crate, places, functions, kept)}
+
+
+def in_place(rt, crate, places, functions, kept):
+    """The same for edits that are made where their functions stand."""
+    left, waited, found = list(places), set(), {}
     while left:
         some = next_round(left, places, lambda edits: not rt.edited(joined(edits), crate.folder)[1])
         refused, later = together(rt, crate, some, places, functions, kept) if len(some) > 1 else ({}, [])
@@ -250,6 +270,110 @@ def quickly(rt, crate, edits, kept):
         left = [edit for edit in left if edit not in found]
     standing = only([it for edit in places for it in places[edit]], functions)
     return found if places and not rt.checked(crate, {}, ["--jobs", "1"] + standing, kept).returncode else {}
+
+
+def home_of(folder, place):
+    """Where rt has the function at a place: its module, or its type in the module that declares it."""
+    if not place.type:
+        return place.module
+    for inside, _, files in os.walk(f"{folder}/src"):
+        for path in (os.path.relpath(f"{inside}/{file}", folder) for file in files):
+            if re.search(rf"^(pub(\([^)]*\))? )?(struct|enum) {place.type}\b", text_of(f"{folder}/{path}"), re.M):
+                return "::".join(it for it in (module_of(path), place.type) if it)
+    return f"{place.module}::{place.type}"
+
+
+def item_of(crate, place, functions):
+    """The function at a place, where it can be written once more beside itself: one of a module, or of an impl of no trait, with no
+    closures; else none."""
+    if not place.function:
+        return None
+    paths = paths_of(place, functions)
+    if not functions and not re.search(r"\|[^|\n]*\| (->|\{|\w)", place.text):
+        paths = [f"{home_of(crate.folder, place)}::{place.function}"]
+    text = text_of(f"{crate.folder}/{place.file}")
+    starts = [it for it in FUNCTION.finditer(text) if it[2] == place.function and text[it.end():].startswith(place.text)]
+    if len(paths) != 1 or paths == [place.module] or len(starts) != 1:
+        return None
+    headers = IMPL.findall(text, 0, starts[0].start()) if starts[0][1] else []
+    if bool(place.type) != bool(starts[0][1]) or (headers and " for " in without_brackets(headers[-1].replace("->", ""))):
+        return None
+    start, end = starts[0].start(), starts[0].end() + len(place.text) + len(f"\n{starts[0][1]}}}\n")
+    while (above := text.rfind("\n", 0, start - 1) + 1) < start and text[above:start].strip().startswith("#["):
+        start = above
+    return Item(place.file, paths[0], text[start:end], end)
+
+
+def edited_item(folder, item, edit):
+    """The texts of a function and of its proofs that an edit changes; none where it changes anything else."""
+    texts = {item.file: item.text}
+    for file, old, new in changes(edit):
+        if file not in texts and file.startswith(f"proofs/{item.path.replace('::', '/')}/"):
+            texts[file] = text_of(f"{folder}/{file}")
+        if texts.get(file, "").count(old) != 1:
+            return None
+        texts[file] = texts[file].replace(old, new)
+    return texts
+
+
+def written_once_more(room, item, texts, mark):
+    """Writes a function beside itself under a name with this mark, with these texts of it and of its proofs: its path and its text."""
+    *above, name = item.path.split("::")
+    path = "::".join([*above, f"{name}_{mark}"])
+    old, new = (f"proofs/{it.replace('::', '/')}" for it in (item.path, path))
+    dots, others = (f".proofs.{it.replace('::', '.')}." for it in (item.path, path))
+    for folder, _, files in os.walk(f"{room}/{old}"):
+        inside = os.path.relpath(folder, room)
+        os.makedirs(f"{room}/{new}{inside.removeprefix(old)}")
+        for file in files:
+            proof = texts.get(f"{inside}/{file}", text_of(f"{folder}/{file}"))
+            with open(f"{room}/{new}{inside.removeprefix(old)}/{file}", "w", encoding="utf-8") as written:
+                written.write(proof.replace(dots, others))
+    return path, re.sub(rf"\bfn {name}\b", f"fn {name}_{mark}", texts[item.file], count=1)
+
+
+def beside(crate, room, items, texts):
+    """Copies a crate into a folder, with each edited function written once more beside itself, once for each of its edits and once as it
+    stands: the path of each one that stands, that of each edit's, and the texts of the files."""
+    for part in ("src", "specs", "proofs"):
+        if os.path.isdir(f"{crate.folder}/{part}"):
+            shutil.copytree(f"{crate.folder}/{part}", f"{room}/{part}")
+    standing, paths, added = {}, {}, {}
+    for at, edit in enumerate(texts):
+        item = items[edit]
+        if item not in standing:
+            standing[item], text = written_once_more(room, item, {item.file: item.text}, "as_it_stands")
+            added.setdefault(item.file, []).append((item.end, text))
+        paths[edit], text = written_once_more(room, item, texts[edit], f"edit_{at}")
+        added[item.file].append((item.end, text))
+    whole = {file: text_of(f"{crate.folder}/{file}") for file in added}
+    for file, more in added.items():
+        for end, text in sorted(more, reverse=True):
+            whole[file] = f"{whole[file][:end]}\n{text}{whole[file][end:]}"
+    return standing, paths, whole
+
+
+def side_by_side(rt, crate, edits, places, functions, kept):
+    """Tries edits each in a function written once more, all in one check: the line that refused each, none for those that none did."""
+    items = {edit: item_of(crate, places[edit][0], functions) for edit in edits if len(set(places[edit])) == 1}
+    texts = {edit: edited_item(crate.folder, item, edit) for edit, item in items.items() if item}
+    texts = {edit: made for edit, made in texts.items() if made}
+    if not texts:
+        return {}
+    with tempfile.TemporaryDirectory(prefix="edits-") as room:
+        standing, paths, whole = beside(crate, room, items, texts)
+        copied = copy.copy(crate)
+        copied.folder = room
+        flags = [word for path in [*standing.values(), *paths.values()] for word in ("--only", path)]
+        ran = rt.checked(copied, whole, ["--jobs", "1", *flags], kept)
+    said = dict(re.findall(r"^fn \w+?::(\S+): (proved|not proved|no proof)\b", ran.stdout, re.M))
+    told, found = told_by(rt, ran, whole), {}
+    for edit, path in paths.items():
+        place = places[edit][0]._replace(function=path.split("::")[-1])
+        line = next((line for line in told if is_told_of(line, place, [path], whole)), None)
+        if line and said.get(path) in ("not proved", "no proof") and said.get(standing[items[edit]]) == "proved":
+            found[edit] = line
+    return found
 
 
 def names_of(rt, kept, crate, edits):
