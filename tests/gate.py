@@ -19,8 +19,10 @@ import crates
 import edits
 import run
 
-# Beside rt ci, which takes as much of the memory as it finds.
-LANES_BESIDE = 2
+# What a lane of edits takes of the memory beside rt ci, which plans with as much of it as it finds and rarely takes half, in bytes.
+MEMORY_OF_A_LANE = 5 << 30
+# How many lines are said once more at the end of each thing that failed.
+LINES_OF_A_FAILURE = 20
 LEFT_OUT = shutil.ignore_patterns("out", "must-fail", ".git", "bin", "__pycache__")
 
 
@@ -37,10 +39,11 @@ def copied(room, names):
 
 
 class Proofs:
-    """A run of rt ci: what it says as it goes, which crates it has proved or an earlier run has, and how it ended."""
+    """A run of rt ci: what it says as it goes, which crates it has proved or an earlier run has, what it says of those that it has
+    not, and how it ended."""
 
     def __init__(self, room):
-        self.proved, self.last, self.status = set(), "", None
+        self.proved, self.part, self.failures, self.last, self.status = set(), [], [], "", None
         self.process = subprocess.Popen(["rt", "ci"], cwd=room, stdout=subprocess.PIPE, text=True, errors="replace")
         threading.Thread(target=self.follow, daemon=True).start()
 
@@ -50,8 +53,17 @@ class Proofs:
             found = re.fullmatch(r"rt: (\w+) (proved|is kept: .*)\n", line)
             if found:
                 self.proved.add(found[1])
+            self.part = [line] if line.startswith("== ") else self.part + [line]
+            if re.search("NOT PROVED|FAILED", line):
+                self.failures += [it for it in self.part if not re.match("fn .*: proved|statements |crate |library ", it)][-LINES_OF_A_FAILURE:]
+                self.part = []
             self.last = line
         self.status = self.process.wait()
+
+
+def lanes_beside(processors, memory):
+    """How many lanes of edits go beside rt ci. They are nice, and so take what it leaves of the processors."""
+    return max(1, min(processors, memory // MEMORY_OF_A_LANE))
 
 
 def tried(room, name, at):
@@ -71,9 +83,10 @@ def all_tried(room, names, uses, proofs):
     waiting = [(name, at) for name in names for at in range(len(sizes[name]))]
     waiting.sort(key=lambda it: -sum(sizes[it[0]]))
     running, given = {}, []
+    beside = lanes_beside(crates.processors(), os.sysconf("SC_PHYS_PAGES") * os.sysconf("SC_PAGE_SIZE"))
     with ThreadPoolExecutor(crates.processors()) as pool:
         while waiting or running:
-            lanes = LANES_BESIDE if proofs.status is None else crates.processors()
+            lanes = beside if proofs.status is None else crates.processors()
             ready = [it for it in waiting if proofs.status == 0 or {it[0], *crates.below(it[0], uses)} & set(names) <= proofs.proved]
             for it in ready[:max(0, lanes - len(running))]:
                 waiting.remove(it)
@@ -103,6 +116,7 @@ def proved(room, names):
         time.sleep(0.2)
     counts = re.fullmatch(r"(\d+) passed, (\d+) failed\n?", proofs.last)
     if proofs.status or not counts or int(counts[2]):
+        print("what rt ci said of what failed:\n" + "".join(proofs.failures), flush=True)
         return None
     ill = [path for name in names for path in edits.ill_named(crates.ROOT, name)]
     for path in ill:

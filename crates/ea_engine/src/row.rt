@@ -11,13 +11,13 @@ use crate::problem::Posed;
 use crate::settings::Pace;
 use crate::turn::{Flow, Turn};
 use crate::work_loop::{WorkerEnd, work};
-use ea_limits::MOST_WORKERS;
 use ea_pool::{EntryHeap, LeastHeap};
 use ea_road::{Known, TravelTimes};
+use ea_threads::for_each_mut;
 use rand_core::Rng;
 use std::alloc::Global;
+use std::mem;
 use std::thread::Threads;
-use std::{mem, thread};
 
 /// What a worker needs to start.
 #[derive(Drop)]
@@ -77,6 +77,5 @@ pub fn run_workers<
         ensures { IsRun K.problem (tables_of ground.entry.now) R.stream F.step pace
             place.entry.now place.exit.now }
     { run_place(ground, worker as u32, pace, gate, place) };
-    // As many threads as there can be workers, so one for each.
-    thread::for_each_mut(rt, row, MOST_WORKERS as usize, &run_one);
+    for_each_mut(rt, row, &run_one);
 }

@@ -1,7 +1,8 @@
 //! Lines that are read by two threads: a text is cut after a line feed, and each thread reads a piece. The first goes on where the
 //! lines before ended, the second begins aside. Where the second has a fault, or what it read can't be put behind what the first
 //! read, the first reads the second piece too, and finds the first fault. Of four threads two read each piece in the same way.
-ghost use Rattle.std.specs.Prelude.{◌≡◌, ◌<◌, ◌≤◌, ◌+◌, ◌^◌, ◌++◌, IfNone, IfSome, Ok, length, take, true};
+ghost use Rattle.std.specs.Prelude.{◌≡◌, ◌<◌, ◌≤◌, ◌+◌, ◌^◌, ◌++◌, IfNone, IfOk, IfSome, Ok, length, take, true};
+ghost use Rattle.std.specs.Thread.{IsSync};
 ghost use Rattle.ea_input.specs.Pieces.{IsTakenUp};
 ghost use Rattle.ea_input.specs.Reading.{ReadsAll};
 ghost use Rattle.ea_input.specs.Streams.{EndsLine};
@@ -70,30 +71,70 @@ struct Halves<'a> {
     before: u64,
 }
 
-/// Reads the front of a text after the lines before it, while another thread reads its back aside.
-fn read_both<R: BlockReader, H: Threads + Sync>(
+/// A text in two, before which so many lines stand.
+fn halves_of(text: &[u8], before: u64) -> Halves<'_>
+    ensures lines { lines_of text.now ≡ lines_of result.front.now ++ lines_of result.back.now }
+    ensures whole { text.now ≡ result.front.now ++ result.back.now }
+    ensures before { result.before ≡ before }
+{
+    let (front, back) = cut_after(text, text.len() / 2);
+    Halves {
+        front,
+        back,
+        before,
+    }
+}
+
+/// Reads the lines of a text in a thread of its own, while this one does something beside.
+fn read_one<R: BlockReader, H: Threads + Sync, X, B: FnMut() -> X>(
+    alloc: Global,
+    rt: &H,
+    reader: &mut R,
+    before: u64,
+    text: &[u8],
+    beside: &mut B,
+) -> (Result<u64, InputFault>, X)
+    requires few { before + length text.now < 2 ^ 64 }
+    requires beside { B.pre beside.old }
+    ensures read { ReadsAll R.step R.state before reader.old reader.new text.entry.now result.0 }
+    ensures beside { B.step beside.old result.1 beside.new }
+{
+    let mut reading = move || -> Result<u64, InputFault> {
+        read_lines(alloc, reader, before, text)
+    };
+    join_mut(rt, &mut reading, beside)
+}
+
+/// Reads the front of a text after the lines before it and its back aside, in two threads, while this one does something beside.
+fn read_both<R: BlockReader, H: Threads + Sync, X, B: FnMut() -> X>(
     alloc: Global,
     rt: &H,
     halves: Halves<'_>,
     reader: &mut R,
     aside: &mut R,
-) -> (Result<u64, InputFault>, Result<u64, InputFault>)
+    beside: &mut B,
+) -> (Result<u64, InputFault>, (Result<u64, InputFault>, X))
     requires few { halves.before + length halves.front.now < 2 ^ 64 }
+    requires beside { B.pre beside.old }
     ensures aside { ReadsAll R.step R.state 0 aside.old aside.new
         halves.entry.back.now result.0 }
     ensures read { ReadsAll R.step R.state halves.entry.before reader.old reader.new
-        halves.entry.front.now result.1 }
+        halves.entry.front.now result.1.0 }
+    ensures beside { B.step beside.old result.1.1 beside.new }
 {
     let Halves {
         front,
         back,
         before,
     } = halves;
-    let mut beside = move || -> Result<u64, InputFault> { read_lines(alloc, aside, 0, back) };
-    let mut going_on = move || -> Result<u64, InputFault> {
-        read_lines(alloc, reader, before, front)
-    };
-    join_mut(rt, &mut beside, &mut going_on)
+    let mut at_back = move || -> Result<u64, InputFault> { read_lines(alloc, aside, 0, back) };
+    let mut others = move || -> (Result<u64, InputFault>, X)
+        requires { (before + length front.now < 2 ^ 64) × B.pre beside.now × IsSync H.row }
+        ensures { ReadsAll R.step R.state before reader.entry.now reader.exit.now front.entry.now
+            result.0
+            × B.step beside.entry.now result.1 beside.exit.now }
+    { read_one(alloc, rt, reader, before, front, beside) };
+    join_mut(rt, &mut at_back, &mut others)
 }
 
 /// Puts what a reader aside read behind what stands before it, where it read all its lines and they fit: how many they are.
@@ -134,126 +175,223 @@ fn read_back<R: BlockReader>(
     }
 }
 
-/// Reads the lines of a text as `read_lines` does, by two threads, each of which reads about half of it.
-fn read_halves<R: BlockReader, H: Threads + Sync>(
-    alloc: Global,
-    rt: &H,
-    reader: &mut R,
-    aside: R,
-    before: u64,
-    text: &[u8],
-) -> Result<u64, InputFault>
-    requires few { before + length text.now < 2 ^ 64 }
-    requires aside { R.IsAside aside }
-    ensures { ReadsAll R.step R.state before reader.old reader.new text.now result }
-{
-    let (front, back) = cut_after(text, text.len() / 2);
-    let halves = Halves {
-        front,
-        back,
-        before,
-    };
-    let mut beside = aside;
-    let (there, read) = read_both(alloc, rt, halves, reader, &mut beside);
-    match read {
-        Ok(line) => read_back(alloc, reader, beside, there, line, back),
-        Err(fault) => Err(fault),
-    }
-}
-
-/// Reads the lines of a text as `read_lines` does, by two threads where that is better.
-fn read_by_two<R: BlockReader, H: Threads + Sync>(
-    alloc: Global,
-    rt: &H,
-    reader: &mut R,
-    before: u64,
-    text: &[u8],
-) -> Result<u64, InputFault>
-    requires few { before + length text.now < 2 ^ 64 }
-    ensures { ReadsAll R.step R.state before reader.old reader.new text.now result }
-{
-    match reader.aside(alloc) {
-        Some(aside) => read_halves(alloc, rt, reader, aside, before, text),
-        None => read_lines(alloc, reader, before, text),
-    }
-}
-
-/// Reads the front of a text after the lines before it, while other threads read its back aside: each of the two by two threads.
-fn read_both_by_two<R: BlockReader, H: Threads + Sync>(
+/// Reads the front of a text after the lines before it, and aside its back and a further piece, in three threads, while this one
+/// does something beside.
+fn read_three<R: BlockReader, H: Threads + Sync, X, B: FnMut() -> X>(
     alloc: Global,
     rt: &H,
     halves: Halves<'_>,
     reader: &mut R,
     aside: &mut R,
-) -> (Result<u64, InputFault>, Result<u64, InputFault>)
+    piece: &[u8],
+    further: &mut R,
+    beside: &mut B,
+) -> (
+    Result<u64, InputFault>,
+    (Result<u64, InputFault>, (Result<u64, InputFault>, X)),
+)
     requires few { halves.before + length halves.front.now < 2 ^ 64 }
+    requires beside { B.pre beside.old }
+    ensures further { ReadsAll R.step R.state 0 further.old further.new
+        piece.entry.now result.0 }
+    ensures aside { ReadsAll R.step R.state 0 aside.old aside.new
+        halves.entry.back.now result.1.0 }
+    ensures read { ReadsAll R.step R.state halves.entry.before reader.old reader.new
+        halves.entry.front.now result.1.1.0 }
+    ensures beside { B.step beside.old result.1.1.1 beside.new }
+{
+    let mut at_piece = move || -> Result<u64, InputFault> { read_lines(alloc, further, 0, piece) };
+    let mut others = move || -> (Result<u64, InputFault>, (Result<u64, InputFault>, X))
+        requires { (halves.before + length halves.front.now < 2 ^ 64) × B.pre beside.now
+            × IsSync H.row }
+        ensures { ReadsAll R.step R.state 0 aside.entry.now aside.exit.now
+            halves.entry.back.now result.0
+            × ReadsAll R.step R.state halves.entry.before reader.entry.now reader.exit.now
+            halves.entry.front.now result.1.0
+            × B.step beside.entry.now result.1.1 beside.exit.now }
+    { read_both(alloc, rt, halves, reader, aside, beside) };
+    join_mut(rt, &mut at_piece, &mut others)
+}
+
+/// Reads a text in four pieces, each in a thread of its own, while this one, which starts them all, does something beside: halves that
+/// follow lines before them, and halves that are read aside.
+fn read_four<R: BlockReader, H: Threads + Sync, X, B: FnMut() -> X>(
+    alloc: Global,
+    rt: &H,
+    fronts: Halves<'_>,
+    first: &mut R,
+    second: &mut R,
+    backs: Halves<'_>,
+    third: &mut R,
+    fourth: &mut R,
+    beside: &mut B,
+) -> (
+    Result<u64, InputFault>,
+    (
+        Result<u64, InputFault>,
+        (Result<u64, InputFault>, (Result<u64, InputFault>, X)),
+    ),
+)
+    requires few { fronts.before + length fronts.front.now < 2 ^ 64 }
+    requires beside { B.pre beside.old }
+    ensures fourth { ReadsAll R.step R.state 0 fourth.old fourth.new
+        backs.entry.back.now result.0 }
+    ensures third { ReadsAll R.step R.state 0 third.old third.new
+        backs.entry.front.now result.1.0 }
+    ensures second { ReadsAll R.step R.state 0 second.old second.new
+        fronts.entry.back.now result.1.1.0 }
+    ensures first { ReadsAll R.step R.state fronts.entry.before first.old first.new
+        fronts.entry.front.now result.1.1.1.0 }
+    ensures beside { B.step beside.old result.1.1.1.1 beside.new }
+{
+    let Halves {
+        front: piece,
+        back: last,
+        before: _,
+    } = backs;
+    let mut at_last = move || -> Result<u64, InputFault> { read_lines(alloc, fourth, 0, last) };
+    let mut others = move || -> (
+        Result<u64, InputFault>,
+        (Result<u64, InputFault>, (Result<u64, InputFault>, X)),
+    )
+        requires { (fronts.before + length fronts.front.now < 2 ^ 64) × B.pre beside.now
+            × IsSync H.row }
+        ensures { ReadsAll R.step R.state 0 third.entry.now third.exit.now
+            piece.entry.now result.0
+            × ReadsAll R.step R.state 0 second.entry.now second.exit.now
+            fronts.entry.back.now result.1.0
+            × ReadsAll R.step R.state fronts.entry.before first.entry.now first.exit.now
+            fronts.entry.front.now result.1.1.0
+            × B.step beside.entry.now result.1.1.1 beside.exit.now }
+    { read_three(alloc, rt, fronts, first, second, piece, third, beside) };
+    join_mut(rt, &mut at_last, &mut others)
+}
+
+/// Reads the front of a text after the lines before it and its back aside, each by two threads where both are better read so, while
+/// this one does something beside.
+fn read_both_by_two<R: BlockReader, H: Threads + Sync, X, B: FnMut() -> X>(
+    alloc: Global,
+    rt: &H,
+    halves: Halves<'_>,
+    reader: &mut R,
+    aside: &mut R,
+    beside: &mut B,
+) -> (Result<u64, InputFault>, (Result<u64, InputFault>, X))
+    requires few { (halves.before + length halves.front.now < 2 ^ 64)
+        × (length halves.back.now < 2 ^ 64) }
+    requires beside { B.pre beside.old }
     ensures aside { ReadsAll R.step R.state 0 aside.old aside.new
         halves.entry.back.now result.0 }
     ensures read { ReadsAll R.step R.state halves.entry.before reader.old reader.new
-        halves.entry.front.now result.1 }
+        halves.entry.front.now result.1.0 }
+    ensures beside { B.step beside.old result.1.1 beside.new }
 {
-    let Halves {
-        front,
-        back,
-        before,
-    } = halves;
-    let mut beside = move || -> Result<u64, InputFault> { read_by_two(alloc, rt, aside, 0, back) };
-    let mut going_on = move || -> Result<u64, InputFault>
-        requires { before + length front.now < 2 ^ 64 }
-    { read_by_two(alloc, rt, reader, before, front) };
-    join_mut(rt, &mut beside, &mut going_on)
+    let (Some(mut second), Some(mut fourth)) = (reader.aside(alloc), aside.aside(alloc)) else {
+        return read_both(alloc, rt, halves, reader, aside, beside);
+    };
+    let fronts = halves_of(halves.front, halves.before);
+    let backs = halves_of(halves.back, 0);
+    let (of_four, (of_three, (of_two, (of_one, gave)))) = read_four(
+        alloc,
+        rt,
+        fronts,
+        reader,
+        &mut second,
+        backs,
+        aside,
+        &mut fourth,
+        beside,
+    );
+    let there = read_on(alloc, aside, of_three, fourth, of_four, backs, halves.back);
+    let read = read_on(alloc, reader, of_one, second, of_two, fronts, halves.front);
+    (there, (read, gave))
 }
 
-/// Reads the lines of a text as `read_lines` does, by four threads, each of which reads about a quarter of it.
-fn read_quarters<R: BlockReader, H: Threads + Sync>(
+/// What a text in two is read to, whose front was read to this: its back, which a reader aside has read, is put behind it or, where
+/// it doesn't fit there, read once more.
+fn read_on<R: BlockReader>(
     alloc: Global,
+    reader: &mut R,
+    read: Result<u64, InputFault>,
+    aside: R,
+    there: Result<u64, InputFault>,
+    halves: Halves<'_>,
+    text: &[u8],
+) -> Result<u64, InputFault>
+    requires cut { (lines_of text.now ≡ lines_of halves.front.now ++ lines_of halves.back.now)
+        × (text.now ≡ halves.front.now ++ halves.back.now) }
+    requires few { IfOk read (λ line. line + length halves.back.now < 2 ^ 64) }
+    requires aside { (start : R) × R.IsAside start
+        × ReadsAll R.step R.state 0 start aside halves.back.now there }
+    ensures { (start : R)
+        → ReadsAll R.step R.state halves.entry.before start reader.old halves.entry.front.now read
+        → ReadsAll R.step R.state halves.entry.before start reader.new text.entry.now result }
+{
+    let _ = text;
+    match read {
+        Ok(line) => read_back(alloc, reader, aside, there, line, halves.back),
+        Err(fault) => Err(fault),
+    }
+}
+
+/// Reads the lines of a text as `read_lines` does, by two threads, each of which reads about half of it, or by four, while this one
+/// does something beside.
+fn read_in_pieces<R: BlockReader, H: Threads + Sync, X, B: FnMut() -> X>(
+    way: Way,
     rt: &H,
     reader: &mut R,
     aside: R,
     before: u64,
     text: &[u8],
-) -> Result<u64, InputFault>
+    beside: &mut B,
+) -> (Result<u64, InputFault>, X)
     requires few { before + length text.now < 2 ^ 64 }
     requires aside { R.IsAside aside }
-    ensures { ReadsAll R.step R.state before reader.old reader.new text.now result }
+    requires beside { B.pre beside.old }
+    ensures read { ReadsAll R.step R.state before reader.old reader.new text.entry.now result.0 }
+    ensures beside { B.step beside.old result.1 beside.new }
 {
-    let (front, back) = cut_after(text, text.len() / 2);
-    let halves = Halves {
-        front,
-        back,
-        before,
+    let alloc = way.alloc;
+    let halves = halves_of(text, before);
+    let mut back = aside;
+    let is_small = way.threads < 4 || text.len() < way.least.saturating_mul(OF_FOUR);
+    let (there, (read, gave)) = if is_small {
+        read_both(alloc, rt, halves, reader, &mut back, beside)
+    } else {
+        read_both_by_two(alloc, rt, halves, reader, &mut back, beside)
     };
-    let mut beside = aside;
-    let (there, read) = read_both_by_two(alloc, rt, halves, reader, &mut beside);
-    match read {
-        Ok(line) => read_back(alloc, reader, beside, there, line, back),
-        Err(fault) => Err(fault),
-    }
+    let read = read_on(alloc, reader, read, back, there, halves, text);
+    (read, gave)
 }
 
 /// How many times as many bytes as two threads four threads read at least.
 const OF_FOUR: usize = 8;
 
-/// Reads all lines of a text, before which so many lines stood, by two or four threads where there are as many and that is better.
-pub(crate) fn read_more<R: BlockReader, H: Threads + Sync>(
+/// Reads all lines of a text, before which so many lines stood, by two or four threads where there are as many and that is better, and
+/// does something beside, where there are several threads at the same time.
+pub(crate) fn read_more<R: BlockReader, H: Threads + Sync, X, B: FnMut() -> X>(
     rt: &H,
     way: Way,
     reader: &mut R,
     before: u64,
     text: &[u8],
-) -> Result<u64, InputFault>
+    beside: &mut B,
+) -> (Result<u64, InputFault>, X)
     requires few { before + length text.now < 2 ^ 64 }
-    ensures { ReadsAll R.step R.state before reader.old reader.new text.now result }
+    requires beside { B.pre beside.old }
+    ensures read { ReadsAll R.step R.state before reader.old reader.new text.entry.now result.0 }
+    ensures beside { B.step beside.old result.1 beside.new }
 {
     let alloc = way.alloc;
-    if way.threads < 2 || text.len() < way.least {
-        return read_lines(alloc, reader, before, text);
+    if way.threads < 2 {
+        let read = read_lines(alloc, reader, before, text);
+        return (read, beside());
     }
-    if way.threads < 4 || text.len() < way.least.saturating_mul(OF_FOUR) {
-        return read_by_two(alloc, rt, reader, before, text);
+    if text.len() < way.least {
+        return read_one(alloc, rt, reader, before, text, beside);
     }
     match reader.aside(alloc) {
-        Some(aside) => read_quarters(alloc, rt, reader, aside, before, text),
-        None => read_lines(alloc, reader, before, text),
+        Some(aside) => read_in_pieces(way, rt, reader, aside, before, text, beside),
+        None => read_one(alloc, rt, reader, before, text, beside),
     }
 }

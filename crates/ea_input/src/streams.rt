@@ -1,7 +1,6 @@
 //! Texts of devices, read line by line as their bytes come, so that no text lies in memory whole: while the whole lines of a block
 //! are read, the next block is filled.
 ghost use Rattle.std.specs.Prelude.{◌≡◌, ◌<◌, ◌+◌, ◌^◌, ◌++◌, IfSome, length};
-ghost use Rattle.std.specs.Thread.{IsSync};
 ghost use Rattle.ea_input.specs.Reading.{text_after};
 ghost use Rattle.ea_input.specs.Streams.{EndsLine, FeedsOn, Finishes, GivesWhole, IsFilled};
 ghost use Rattle.ea_text.specs.Taking.{HasRoom};
@@ -12,7 +11,7 @@ use crate::way::Way;
 use ea_text::{Blocks, ByteIn, ReadFault};
 use std::alloc::Global;
 use std::mem;
-use std::thread::{Threads, join_mut, yield_now};
+use std::thread::Threads;
 use thiserror::Error;
 
 /// Why the text of a device gave nothing.
@@ -35,19 +34,29 @@ pub(crate) struct Feed<R: BlockReader> {
 }
 
 impl<R: BlockReader> Feed<R> {
-    /// Gives the reader the lines of one more text, where those before it have no fault.
-    fn take<H: Threads + Sync>(&mut self, rt: &H, way: Way, text: &[u8])
+    /// Gives the reader the lines of one more text, where those before it have no fault, and does something beside.
+    fn take<H: Threads + Sync, X, B: FnMut() -> X>(
+        &mut self,
+        rt: &H,
+        way: Way,
+        text: &[u8],
+        beside: &mut B,
+    ) -> X
         requires few { self.old.lines + length text.now < 2 ^ 64 }
-        ensures { FeedsOn R.step (R.state self.old.reader) self.old.lines self.old.fault
-            (R.state self.new.reader) self.new.lines self.new.fault text.now }
+        requires beside { B.pre beside.old }
+        ensures fed { FeedsOn R.step (R.state self.old.reader) self.old.lines self.old.fault
+            (R.state self.new.reader) self.new.lines self.new.fault text.entry.now }
+        ensures beside { B.step beside.old result beside.new }
     {
         if self.fault.is_some() {
-            return;
+            return beside();
         }
-        match read_more(rt, way, &mut self.reader, self.lines, text) {
+        let (read, gave) = read_more(rt, way, &mut self.reader, self.lines, text, beside);
+        match read {
             Ok(lines) => self.lines = lines,
             Err(fault) => self.fault = Some(fault),
         }
+        gave
     }
 
     /// What the lines so far are read to, if they are all.
@@ -81,45 +90,6 @@ fn fill<D: ByteIn>(
     blocks.fill(device, block, size)
 }
 
-/// Gives lines to a reader, while a block is filled with what follows them: whether the device ended.
-fn take_and_fill<H: Threads + Sync, R: BlockReader, D: ByteIn>(
-    rt: &H,
-    way: Way,
-    feed: &mut Feed<R>,
-    lines: &[u8],
-    blocks: &mut Blocks,
-    device: &mut D,
-    block: &mut Vec<u8>,
-) -> Result<bool, ReadFault>
-    requires few { feed.old.lines + length lines.now < 2 ^ 64 }
-    requires room { HasRoom blocks.old }
-    ensures fed { FeedsOn R.step (R.state feed.old.reader) feed.old.lines feed.old.fault
-        (R.state feed.new.reader) feed.new.lines feed.new.fault lines.entry.now }
-    ensures filled { IsFilled way.size (D.seen device.old) blocks.old (D.seen device.new) blocks.new
-        block.old.items block.new.items result }
-{
-    let size = way.size;
-    let mut taking = ||
-        requires { (feed.now.lines + length lines.now < 2 ^ 64) × IsSync H.row }
-        ensures { FeedsOn R.step (R.state feed.entry.now.reader)
-            feed.entry.now.lines feed.entry.now.fault
-            (R.state feed.exit.now.reader) feed.exit.now.lines feed.exit.now.fault lines.entry.now }
-    { feed.take(rt, way, lines) };
-    // The length of the lines changes nothing here: a closure that doesn't read `lines` stops the borrow checker's part of the proof.
-    let mut filling = || -> Result<bool, ReadFault>
-        requires { HasRoom blocks.now }
-        ensures { IsFilled size (D.seen device.entry.now) blocks.entry.now
-            (D.seen device.exit.now) blocks.exit.now
-            block.entry.now.items block.exit.now.items result }
-    {
-        // A system may start the thread that reads lines on this processor, behind this thread: it goes first, since it takes longer.
-        yield_now();
-        fill(device, blocks, block, size.max(lines.len().min(size)))
-    };
-    let (_, ended) = join_mut(rt, &mut taking, &mut filling);
-    ended
-}
-
 /// Gives lines to a reader, and fills a block with what follows them, both at once where there are several threads: whether the
 /// device ended.
 fn go_on<H: Threads + Sync, R: BlockReader, D: ByteIn>(
@@ -138,12 +108,14 @@ fn go_on<H: Threads + Sync, R: BlockReader, D: ByteIn>(
     ensures filled { IsFilled way.size (D.seen device.old) blocks.old (D.seen device.new) blocks.new
         block.old.items block.new.items result }
 {
-    if way.threads < 2 {
-        feed.take(rt, way, lines);
-        fill(device, blocks, block, way.size)
-    } else {
-        take_and_fill(rt, way, feed, lines, blocks, device, block)
-    }
+    let size = way.size;
+    let mut filling = || -> Result<bool, ReadFault>
+        requires { HasRoom blocks.now }
+        ensures { IsFilled size (D.seen device.entry.now) blocks.entry.now
+            (D.seen device.exit.now) blocks.exit.now
+            block.entry.now.items block.exit.now.items result }
+    { fill(device, blocks, block, size) };
+    feed.take(rt, way, lines, &mut filling)
 }
 
 /// The lines of a block, and room for the block after it, into which what follows the last line feed is put; none where memory was
@@ -202,7 +174,8 @@ pub(crate) fn read_device<H: Threads + Sync, R: BlockReader, D: ByteIn>(
         };
         mem::swap(&mut block, &mut next);
     }
-    feed.take(rt, way, &block);
+    let mut nothing = || {};
+    feed.take(rt, way, &block, &mut nothing);
     match feed.finish() {
         Ok(read) => Ok(read),
         Err(fault) => Err(StreamFault::Input(fault)),

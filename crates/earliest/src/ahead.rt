@@ -222,17 +222,8 @@ fn send_and_make<H: Threads + Sync, W: ByteOut>(
         return send_row(progress, job, span, ready, out);
     }
     let next = span.to;
-    let mut making = ||
-        requires { IsJob job × (next + length row.now < 2 ^ 64)
-            × AreServing job.road.now.network job.plan.walks row.now }
-        ensures { (length row.exit.now ≡ length row.entry.now)
-            × AreServing job.entry.road.now.network job.entry.plan.walks row.exit.now
-            × AreDraftsFrom job.entry.plan.walks job.entry.road.now
-            job.entry.queries.now next row.exit.now }
-    { make_row(rt, job, next, row) };
     let mut sending = || -> Result<(), AnswerFault> { send_row(progress, job, span, ready, out) };
-    let (_, sent) = thread::join_mut(rt, &mut making, &mut sending);
-    sent
+    make_row(rt, job, next, row, &mut sending)
 }
 
 /// How many lines a report has, about.
@@ -288,7 +279,8 @@ pub(crate) fn report_ahead<H: Threads + Sync, W: ByteOut, V: Watch>(
     };
     // Tells that the count is one of 64 bits.
     let _ = out.interruptions();
-    make_row(rt, job, 0, row);
+    let mut nothing = || {};
+    make_row(rt, job, 0, row, &mut nothing);
     let mut sent = 0;
     while sent < queries.len() {
         take_drafts(row, ready);

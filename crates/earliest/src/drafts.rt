@@ -13,10 +13,11 @@ use ea_files::Road;
 use ea_finish::Search;
 use ea_report::{ReportOptions, write_problem};
 use ea_road::Query;
+use ea_threads::for_each_chunk_mut_beside;
 use ea_words::RunOptions;
 use std::alloc::{AllocError, Global};
+use std::mem;
 use std::thread::Threads;
-use std::{mem, thread};
 
 /// What was made of a problem.
 #[derive(Drop)]
@@ -202,15 +203,23 @@ pub(crate) struct Job<'a> {
 }
 
 /// Makes the drafts of a row for the problems from this one on, each part of it in a thread of its own where one can be
-/// started.
-pub(crate) fn make_row<H: Threads + Sync>(rt: &H, job: Job<'_>, first: usize, row: &mut [Place])
+/// started, while this thread does something beside.
+pub(crate) fn make_row<H: Threads + Sync, X, B: FnMut() -> X>(
+    rt: &H,
+    job: Job<'_>,
+    first: usize,
+    row: &mut [Place],
+    beside: &mut B,
+) -> X
     requires job { IsJob job }
     requires room { first + length row.old < 2 ^ 64 }
     requires serving { AreServing job.road.now.network job.plan.walks row.old }
+    requires beside { B.pre beside.old }
     ensures length { length row.new ≡ length row.old }
     ensures serving { AreServing job.entry.road.now.network job.entry.plan.walks row.new }
     ensures drafts { AreDraftsFrom job.entry.plan.walks job.entry.road.now
         job.entry.queries.now first row.new }
+    ensures beside { B.step beside.old result beside.new }
 {
     let Job {
         alloc,
@@ -228,5 +237,5 @@ pub(crate) fn make_row<H: Threads + Sync>(rt: &H, job: Job<'_>, first: usize, ro
             × AreDraftsFrom plan.walks road.entry.now queries.entry.now
             (first + start) places.exit.now }
     { make_part(alloc, road, queries, plan, first + start, places) };
-    thread::for_each_chunk_mut(rt, row, plan.part, &make_one);
+    for_each_chunk_mut_beside(rt, plan.part, &make_one, row, beside)
 }

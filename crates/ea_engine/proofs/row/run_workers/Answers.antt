@@ -1,9 +1,6 @@
-use Rattle.std.proofs.Common.{arith, subst}
+use Rattle.std.proofs.Common.{arith}
 use denote.Param.Send.{Quiet-if}
 use mir.Syntax.{of_param}
-use Rattle.ea_engine.specs.Grounds.{tables_of}
-use Rattle.ea_engine.specs.Rows.{MayStart, IsRun}
-use Rattle.ea_engine.proofs.row.run_workers.Given as given
 use Rattle.ea_engine.proofs.row.run_workers.Goals as goal
 
 pub for_each_mut-requires-clause-accepts : goal.for_each_mut-requires-clause-accepts

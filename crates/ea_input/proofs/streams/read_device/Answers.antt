@@ -28,10 +28,10 @@ loop-ended-preserved g c =
 
 pub returns-in-Ok-finish : goal.returns-in-Ok-finish
 returns-in-Ok-finish g c =
-    let all = all_read g.R.LineReader.step (g.R.LineReader.state c.args.start) c.args.limit _ _ _ _ _ _ _ _ c.loop-ended.blocks c.loop-ended.block.items c.deref-2.result.now c.loop-ended.invariant.underway (c.loop-ended.invariant.end c.loop-ended-test.false) c.deref-2.ensures.value c.take.ensures in
+    let all = all_read g.R.LineReader.step (g.R.LineReader.state c.args.start) c.args.limit _ _ _ _ _ _ _ _ c.loop-ended.blocks c.loop-ended.block.items c.deref-2.result.now c.loop-ended.invariant.underway (c.loop-ended.invariant.end c.loop-ended-test.false) c.deref-2.ensures.value c.take.ensures.fed in
     (all.0, all.1, c.in-Ok-finish.ensures (g.R.LineReader.state c.args.start) all.0 all.2)
 
 pub returns : goal.returns
 returns g c =
-    let all = all_read g.R.LineReader.step (g.R.LineReader.state c.args.start) c.args.limit _ _ _ _ _ _ _ _ c.loop-ended.blocks c.loop-ended.block.items c.deref-2.result.now c.loop-ended.invariant.underway (c.loop-ended.invariant.end c.loop-ended-test.false) c.deref-2.ensures.value c.take.ensures in
+    let all = all_read g.R.LineReader.step (g.R.LineReader.state c.args.start) c.args.limit _ _ _ _ _ _ _ _ c.loop-ended.blocks c.loop-ended.block.items c.deref-2.result.now c.loop-ended.invariant.underway (c.loop-ended.invariant.end c.loop-ended-test.false) c.deref-2.ensures.value c.take.ensures.fed in
     (all.0, all.1, c.in-Err-finish.ensures (g.R.LineReader.state c.args.start) all.0 all.2)
