@@ -71,18 +71,27 @@ struct Halves<'a> {
     before: u64,
 }
 
-/// A text in two, before which so many lines stand.
-fn halves_of(text: &[u8], before: u64) -> Halves<'_>
+/// A text in two, about at this place, before which so many lines stand.
+fn parts_of(text: &[u8], place: usize, before: u64) -> Halves<'_>
     ensures lines { lines_of text.now ≡ lines_of result.front.now ++ lines_of result.back.now }
     ensures whole { text.now ≡ result.front.now ++ result.back.now }
     ensures before { result.before ≡ before }
 {
-    let (front, back) = cut_after(text, text.len() / 2);
+    let (front, back) = cut_after(text, place);
     Halves {
         front,
         back,
         before,
     }
+}
+
+/// A text in halves, before which so many lines stand.
+fn halves_of(text: &[u8], before: u64) -> Halves<'_>
+    ensures lines { lines_of text.now ≡ lines_of result.front.now ++ lines_of result.back.now }
+    ensures whole { text.now ≡ result.front.now ++ result.back.now }
+    ensures before { result.before ≡ before }
+{
+    parts_of(text, text.len() / 2, before)
 }
 
 /// Reads the lines of a text in a thread of its own, while this one does something beside.
@@ -267,6 +276,41 @@ fn read_four<R: BlockReader, H: Threads + Sync, X, B: FnMut() -> X>(
     join_mut(rt, &mut at_last, &mut others)
 }
 
+/// Reads the front of a text after the lines before it and its back aside, the back by two threads where it is better read so, while
+/// this one does something beside.
+fn read_back_by_two<R: BlockReader, H: Threads + Sync, X, B: FnMut() -> X>(
+    alloc: Global,
+    rt: &H,
+    halves: Halves<'_>,
+    reader: &mut R,
+    aside: &mut R,
+    beside: &mut B,
+) -> (Result<u64, InputFault>, (Result<u64, InputFault>, X))
+    requires few { (halves.before + length halves.front.now < 2 ^ 64)
+        × (length halves.back.now < 2 ^ 64) }
+    requires beside { B.pre beside.old }
+    ensures aside { ReadsAll R.step R.state 0 aside.old aside.new
+        halves.entry.back.now result.0 }
+    ensures read { ReadsAll R.step R.state halves.entry.before reader.old reader.new
+        halves.entry.front.now result.1.0 }
+    ensures beside { B.step beside.old result.1.1 beside.new }
+{
+    let Some(mut third) = aside.aside(alloc) else {
+        return read_both(alloc, rt, halves, reader, aside, beside);
+    };
+    let backs = halves_of(halves.back, 0);
+    let fronts = Halves {
+        front: halves.front,
+        back: backs.front,
+        before: halves.before,
+    };
+    let (of_three, (of_two, (read, gave))) = read_three(
+        alloc, rt, fronts, reader, aside, backs.back, &mut third, beside,
+    );
+    let there = read_on(alloc, aside, of_two, third, of_three, backs, halves.back);
+    (there, (read, gave))
+}
+
 /// Reads the front of a text after the lines before it and its back aside, each by two threads where both are better read so, while
 /// this one does something beside.
 fn read_both_by_two<R: BlockReader, H: Threads + Sync, X, B: FnMut() -> X>(
@@ -334,8 +378,8 @@ fn read_on<R: BlockReader>(
     }
 }
 
-/// Reads the lines of a text as `read_lines` does, by two threads, each of which reads about half of it, or by four, while this one
-/// does something beside.
+/// Reads the lines of a text as `read_lines` does, in two pieces of about the same size, each in a thread of its own, while this thread
+/// does something beside. A long text is read in three pieces where there are four threads, with this one, and in four where there are more.
 fn read_in_pieces<R: BlockReader, H: Threads + Sync, X, B: FnMut() -> X>(
     way: Way,
     rt: &H,
@@ -352,13 +396,20 @@ fn read_in_pieces<R: BlockReader, H: Threads + Sync, X, B: FnMut() -> X>(
     ensures beside { B.step beside.old result.1 beside.new }
 {
     let alloc = way.alloc;
-    let halves = halves_of(text, before);
-    let mut back = aside;
-    let is_small = way.threads < 4 || text.len() < way.least.saturating_mul(OF_FOUR);
-    let (there, (read, gave)) = if is_small {
-        read_both(alloc, rt, halves, reader, &mut back, beside)
+    let threads = if text.len() < way.least.saturating_mul(OF_FOUR) {
+        2
     } else {
+        way.threads
+    };
+    let in_three = threads == 4;
+    let halves = parts_of(text, text.len() / (if in_three { 3 } else { 2 }), before);
+    let mut back = aside;
+    let (there, (read, gave)) = if in_three {
+        read_back_by_two(alloc, rt, halves, reader, &mut back, beside)
+    } else if threads > 4 {
         read_both_by_two(alloc, rt, halves, reader, &mut back, beside)
+    } else {
+        read_both(alloc, rt, halves, reader, &mut back, beside)
     };
     let read = read_on(alloc, reader, read, back, there, halves, text);
     (read, gave)

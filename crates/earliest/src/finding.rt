@@ -44,8 +44,23 @@ pub(crate) struct Found {
 /// Workers are not worth starting on fewer nodes.
 const FEW_NODES: u32 = 10_000;
 
-/// Several workers are quicker than the search of one thread from so many nodes on, where all nodes are asked for without walks.
-const MANY_NODES: u32 = 2_000_000;
+/// Four workers or more are quicker than the search of one thread from so many nodes on, where all nodes are asked for without walks.
+const MANY_NODES: u32 = 500_000;
+
+/// Two or three workers are from so many on.
+const MANY_FOR_TWO: u32 = 2_000_000;
+
+/// One worker for each processor, where so many are quicker on so many nodes than one thread.
+fn workers_on<H: Threads>(rt: &H, nodes: u32) -> u32
+    ensures { (1 ≤ result) × (result ≤ MOST_WORKERS) }
+{
+    match available_parallelism(rt) {
+        Ok(processors) if processors.get() >= 4 || nodes >= MANY_FOR_TWO => {
+            processors.get().min(MOST_WORKERS as usize) as u32
+        }
+        _ => 1,
+    }
+}
 
 /// How many workers search a problem. With statistics it is those that are counted. Else those that are asked for, and where the
 /// program may choose, one for each processor where that is quicker; one is the search of one thread.
@@ -66,10 +81,7 @@ pub(crate) fn workers_of<H: Threads>(
     match options.workers {
         Some(workers) if nodes >= FEW_NODES => workers as u32,
         None if nodes >= MANY_NODES && !options.walks && query.target().is_none() => {
-            match available_parallelism(rt) {
-                Ok(processors) => processors.get().min(MOST_WORKERS as usize) as u32,
-                Err(_) => 1,
-            }
+            workers_on(rt, nodes)
         }
         _ => 1,
     }

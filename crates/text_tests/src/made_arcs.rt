@@ -71,7 +71,7 @@ fn large_texts_with_arcs_of_a_type_of_their_own(rt: HostRuntime) -> Result<(), F
     let raw = read_gr(rt.alloc(), &text)?;
     let whole = read_gr_as::<Turned>(rt.alloc(), &text)?;
     assert!(rt; are_turned(&raw.arcs, &whole.arcs));
-    for threads in [1usize, 2, 4] {
+    for threads in [1usize, 2, 4, 5] {
         let mut device = StdIn::new(text.as_slice());
         let graph = read_gr_from_as::<Turned, _, _>(rt.alloc(), &rt, threads, LIMIT, &mut device)?;
         assert_eq!(rt; graph.nodes, raw.nodes);

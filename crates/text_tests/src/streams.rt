@@ -104,7 +104,7 @@ fn blocks_of_sound_texts(rt: HostRuntime) {
     for text in texts {
         assert!(rt; read_gr(rt.alloc(), text).is_ok());
         for size in 0..40usize {
-            for threads in [1usize, 2, 4] {
+            for threads in [1usize, 2, 4, 5] {
                 assert!(rt;
                     is_read_as_text(rt.alloc(), &rt, text, threads, size),
                     "{size} {threads}"
@@ -135,7 +135,7 @@ fn blocks_of_texts_with_faults(rt: HostRuntime) {
     for text in texts {
         assert!(rt; read_gr(rt.alloc(), text).is_err());
         for size in 0..40usize {
-            for threads in [1usize, 2, 4] {
+            for threads in [1usize, 2, 4, 5] {
                 assert!(rt;
                     is_read_as_text(rt.alloc(), &rt, text, threads, size),
                     "{size} {threads}"
@@ -173,7 +173,7 @@ fn pieces_of_lines(rt: HostRuntime) {
     for text in texts {
         for n in 9..=text.len() {
             for size in [9usize, 17, 25, 33, 41, 57] {
-                for threads in [2usize, 4] {
+                for threads in [2usize, 4, 5] {
                     assert!(rt;
                         is_read_as_text(rt.alloc(), &rt, &text[..n], threads, size),
                         "{n} {size} {threads}"
@@ -214,7 +214,7 @@ fn fault_of<X: Drop>(read: Result<X, StreamFault>) -> Option<StreamFault> {
 fn large_texts(rt: HostRuntime) -> Result<(), Fail> {
     let text = large_text(rt.alloc(), "")?;
     let whole = read_gr(rt.alloc(), &text)?;
-    for threads in [1usize, 2, 4] {
+    for threads in [1usize, 2, 4, 5] {
         let mut device = StdIn::new(text.as_slice());
         let graph = read_gr_from(rt.alloc(), &rt, threads, LIMIT, &mut device)?;
         assert_eq!(rt; graph.nodes, MANY);
@@ -235,7 +235,7 @@ fn faults_of_large_texts(rt: HostRuntime) -> Result<(), Fail> {
             Err(fault) => Some(StreamFault::Input(fault)),
         };
         assert!(rt; whole.is_some());
-        for threads in [1usize, 2, 4] {
+        for threads in [1usize, 2, 4, 5] {
             let mut device = StdIn::new(text.as_slice());
             let read = read_gr_from(rt.alloc(), &rt, threads, LIMIT, &mut device);
             assert_eq!(rt; fault_of(read), whole);
@@ -254,7 +254,7 @@ fn devices_that_fail(rt: HostRuntime) {
     for text in texts {
         for fails_after in 0..text.len() {
             for size in [1usize, 5, 20, 100] {
-                for threads in [1usize, 2, 4] {
+                for threads in [1usize, 2, 4, 5] {
                     let way = in_blocks(rt.alloc(), threads, size);
                     let mut device = StdIn::new(Slow {
                         text,
@@ -291,7 +291,7 @@ fn other_files(rt: HostRuntime) -> Result<(), Fail> {
     let sources = b"p aux sp ss 2\ns 3\ns 1\n".as_slice();
     let pairs = b"p aux sp p2p 2\nq 3 1\nq 1 2\n".as_slice();
     let tables = b"p tp 1 2\nk 1 closed 5 9\nt 2 1\nt 1 1\n".as_slice();
-    for threads in [1usize, 2, 4] {
+    for threads in [1usize, 2, 4, 5] {
         let found = read_ss_from(rt.alloc(), &rt, threads, LIMIT, &mut StdIn::new(sources), 3)?;
         assert!(rt; found.as_slice() == read_ss(rt.alloc(), sources, 3)?.as_slice());
         assert_eq!(rt; found.len(), 2);
