@@ -19,7 +19,7 @@ import crates
 import edits
 import run
 
-# What a lane of edits takes of the memory beside rt ci, which plans with as much of it as it finds and rarely takes half, in bytes.
+# For how much memory there is one lane of edits beside rt ci, in bytes: a lane takes one or two GB, and rt ci about half of what there is.
 MEMORY_OF_A_LANE = 5 << 30
 # How many lines are said once more at the end of each thing that failed.
 LINES_OF_A_FAILURE = 20

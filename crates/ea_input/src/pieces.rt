@@ -1,6 +1,7 @@
-//! Lines that are read by two threads: a text is cut after a line feed, and each thread reads a piece. The first goes on where the
-//! lines before ended, the second begins aside. Where the second has a fault, or what it read can't be put behind what the first
-//! read, the first reads the second piece too, and finds the first fault. Of four threads two read each piece in the same way.
+//! Lines that are read by several threads: a text is cut after line feeds into two, three or four pieces, and each is read in a thread
+//! of its own, while the thread that starts them all does something beside. The first piece goes on where the lines before ended, the
+//! others begin aside. Where one of these has a fault, or what it read can't be put behind what stands before it, its lines are read
+//! once more from there, and the first fault is found.
 ghost use Rattle.std.specs.Prelude.{◌≡◌, ◌<◌, ◌≤◌, ◌+◌, ◌^◌, ◌++◌, IfNone, IfOk, IfSome, Ok, length, take, true};
 ghost use Rattle.std.specs.Thread.{IsSync};
 ghost use Rattle.ea_input.specs.Pieces.{IsTakenUp};
@@ -379,7 +380,8 @@ fn read_on<R: BlockReader>(
 }
 
 /// Reads the lines of a text as `read_lines` does, in two pieces of about the same size, each in a thread of its own, while this thread
-/// does something beside. A long text is read in three pieces where there are four threads, with this one, and in four where there are more.
+/// does something beside. A long text is read in three pieces where there are four threads, this one among them, and in four where
+/// there are more.
 fn read_in_pieces<R: BlockReader, H: Threads + Sync, X, B: FnMut() -> X>(
     way: Way,
     rt: &H,
@@ -396,7 +398,7 @@ fn read_in_pieces<R: BlockReader, H: Threads + Sync, X, B: FnMut() -> X>(
     ensures beside { B.step beside.old result.1 beside.new }
 {
     let alloc = way.alloc;
-    let threads = if text.len() < way.least.saturating_mul(OF_FOUR) {
+    let threads = if text.len() < way.least.saturating_mul(OF_MORE) {
         2
     } else {
         way.threads
@@ -415,11 +417,11 @@ fn read_in_pieces<R: BlockReader, H: Threads + Sync, X, B: FnMut() -> X>(
     (read, gave)
 }
 
-/// How many times as many bytes as two threads four threads read at least.
-const OF_FOUR: usize = 8;
+/// How many times as many bytes as two threads more than two read at least.
+const OF_MORE: usize = 8;
 
-/// Reads all lines of a text, before which so many lines stood, by two or four threads where there are as many and that is better, and
-/// does something beside, where there are several threads at the same time.
+/// Reads all lines of a text, before which so many lines stood, in pieces where that is better, and does something beside, at the same
+/// time where there are several threads.
 pub(crate) fn read_more<R: BlockReader, H: Threads + Sync, X, B: FnMut() -> X>(
     rt: &H,
     way: Way,

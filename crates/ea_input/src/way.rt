@@ -12,7 +12,7 @@ pub struct Way {
     pub threads: usize,
     /// How many bytes a block has, 1 or more: as many lie in memory, and those of the next block.
     pub size: usize,
-    /// How many bytes of lines are read by two threads at least; four threads read eight times as many at least.
+    /// How many bytes of lines are read by two threads at least; three or four threads read eight times as many at least.
     pub least: usize,
 }
 
