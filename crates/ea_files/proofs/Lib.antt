@@ -2,4 +2,3 @@ pub mod Departing
 pub mod There
 pub mod Stepping
 pub mod Denoting
-pub mod Plain

@@ -1,15 +1,16 @@
 -- What the files give: a network, and when its arcs arrive.
-use Rattle.std.specs.Prelude.{◌≡◌, ℕ, ◌≤◌, List, length, map, Option, Some, None, IfSome}
+use Rattle.std.specs.Prelude.{◌≡◌, ℕ, ◌≤◌, List, length, Option, Some, None, IfSome}
 use Rattle.ea_limits.specs.declared.TheConstants.{MOST_BYTES}
 use Rattle.ea_text.specs.Text.{field_lines}
 use Rattle.ea_input.specs.Graph.{Graph, DenotesGraph}
 use Rattle.ea_input.specs.Table.{Table, DenotesTable, nothing}
 use Rattle.ea_input.specs.TableViews.{table as table_of}
+use Rattle.ea_input.specs.Views.{graph as graph_of}
+use Rattle.ea_raw.specs.declared.graph.RawArc.{RawArc}
 use Rattle.ea_raw.specs.declared.graph.RawGraph.{RawGraph}
 use Rattle.ea_raw.specs.declared.table.RawTable.{RawTable}
 use Rattle.ea_road.specs.Roads.{Roads}
-use Rattle.ea_road.specs.declared.arc.Arc.{Arc}
-use Rattle.ea_road.specs.Assigned.{arcs_with, raw_arc}
+use Rattle.ea_road.specs.Assigned.{arcs_with}
 use Rattle.ea_road.specs.StepLists.{steps_in}
 use Rattle.ea_road.specs.TimetableLists.{TimetablesAnswer}
 use Rattle.ea_files.specs.declared.road.Road.{Road}
@@ -20,13 +21,9 @@ pub record Given : Type 0 where
   pub graph : Graph
   pub table : Table
 
--- A graph in memory, without the classes of its arcs.
-abbrev pub raw_graph : RawGraph Arc → Graph
-raw_graph graph = record { nodes = graph.nodes; arcs = map raw_arc graph.arcs.items }
-
 -- What a graph and a table in memory are.
-abbrev pub given_by : RawGraph Arc → RawTable → Given
-given_by graph table = record { graph = raw_graph graph; table = table_of table }
+abbrev pub given_by : RawGraph RawArc → RawTable → Given
+given_by graph table = record { graph = graph_of graph; table = table_of table }
 
 -- The network: the graph's arcs, each with the class that was assigned to it last.
 abbrev pub roads_of : Given → Roads

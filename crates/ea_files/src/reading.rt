@@ -5,18 +5,17 @@ ghost use Rattle.ea_text.specs.Text.{field_lines};
 ghost use Rattle.ea_input.specs.Formats.{graph_format, source_format, table_format};
 ghost use Rattle.ea_input.specs.Graph.{DenotesGraph};
 ghost use Rattle.ea_input.specs.Sources.{DenotesSources};
+ghost use Rattle.ea_input.specs.Views.{graph as graph_of};
 ghost use Rattle.ea_input.specs.TableViews.{table};
 ghost use Rattle.ea_files.specs.Files.{IsFaultAs, IsFaultIfThere, IsFaultIn, IsFileText, IsReadFaultAs, IsTextIfThere, IsUnreadBy, reading};
-ghost use Rattle.ea_road.specs.Assigned.{ArePlain};
-ghost use Rattle.ea_files.specs.Given.{IsTableOf, raw_graph, no_table as none_given};
+ghost use Rattle.ea_files.specs.Given.{IsTableOf, no_table as none_given};
 
 use crate::fault::{FileFault, FileWord};
 use ea_input::{
-    ByteIn, FaultKind, InputFault, RawGraph, RawTable, ReadFault, read_all, read_gr_as, read_ss,
+    ByteIn, FaultKind, InputFault, RawGraph, RawTable, ReadFault, read_all, read_gr, read_ss,
     read_tp,
 };
 use ea_limits::MOST_BYTES;
-use ea_road::Arc;
 use std::alloc::Global;
 
 /// All bytes of a file.
@@ -58,16 +57,15 @@ pub(crate) fn fault_of(file: FileWord, fault: InputFault) -> FileFault
 }
 
 /// The graph of a file.
-pub(crate) fn read_graph<R: ByteIn>(alloc: Global, gr: &mut R) -> Result<RawGraph<Arc>, FileFault>
+pub(crate) fn read_graph<R: ByteIn>(alloc: Global, gr: &mut R) -> Result<RawGraph, FileFault>
     ensures denoted { IfOk result
         (λ found. (text : List ℕ) × IsFileText (reading R.seen gr.old gr.new) text
-        × DenotesGraph (field_lines text) (raw_graph found)) }
-    ensures plain { IfOk result (λ found. ArePlain found.arcs.items) }
+        × DenotesGraph (field_lines text) (graph_of found)) }
     ensures fault { IfErr result
         (IsFaultIn FileWord.Gr graph_format (reading R.seen gr.old gr.new)) }
 {
     let text = text_of(alloc, FileWord::Gr, gr)?;
-    match read_gr_as::<Arc>(alloc, &text) {
+    match read_gr(alloc, &text) {
         Ok(graph) => Ok(graph),
         Err(fault) => Err(fault_of(FileWord::Gr, fault)),
     }

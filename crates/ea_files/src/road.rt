@@ -2,16 +2,16 @@
 ghost use Rattle.std.specs.Prelude.{◌≡◌, ℕ, List, Option, IfOk, IfErr, length};
 ghost use Rattle.ea_input.specs.Graph.{DenotesGraph};
 ghost use Rattle.ea_input.specs.Table.{DenotesTable, Table};
-ghost use Rattle.ea_road.specs.Assigned.{ArePlain};
+ghost use Rattle.ea_input.specs.Views.{graph as graph_of};
 ghost use Rattle.ea_files.specs.Files.{IsTextIfThere, tables};
-ghost use Rattle.ea_files.specs.Given.{IsRoadOf, IsTableOf, given_by, raw_graph, roads_of};
+ghost use Rattle.ea_files.specs.Given.{IsRoadOf, IsTableOf, given_by, roads_of};
 ghost use Rattle.ea_files.specs.Sound.{IsSound};
 ghost use Rattle.ea_road.specs.Timetables.{AreFit};
 
 use crate::fault::FileFault;
 use crate::reading::read_table;
 use ea_input::{ByteIn, RawGraph, RawTable};
-use ea_road::{Arc, Network, Timetables, with_classes};
+use ea_road::{ArcList, Network, Timetables};
 use std::alloc::{AllocError, Global};
 
 /// A network, and when its arcs arrive.
@@ -21,46 +21,43 @@ pub struct Road {
     pub times: Timetables,
 }
 
-/// The arcs of a graph with their classes, which are put into them where they lie.
-pub(crate) fn classed_arcs(graph: RawGraph<Arc>, table: &RawTable) -> Vec<Arc>
-    requires sound { IsSound (given_by graph table.now) }
-    requires plain { ArePlain graph.arcs.items }
-    ensures { result.items ≡ (roads_of (given_by graph table.now)).arcs }
+/// The arcs of a graph with their classes.
+pub(crate) fn classed_arcs(
+    alloc: Global,
+    graph: RawGraph,
+    table: &RawTable,
+) -> Result<ArcList, AllocError>
+    requires { IsSound (given_by graph table.now) }
+    ensures { IfOk result (λ list. list ≡ (roads_of (given_by graph table.now)).arcs) }
 {
-    with_classes(graph.arcs, table)
+    ArcList::with_classes(alloc, graph.arcs, table)
 }
 
 /// The road of a graph and a table.
-pub(crate) fn road_of(
-    alloc: Global,
-    graph: RawGraph<Arc>,
-    table: RawTable,
-) -> Result<Road, AllocError>
-    requires sound { IsSound (given_by graph table) }
-    requires plain { ArePlain graph.arcs.items }
+pub(crate) fn road_of(alloc: Global, graph: RawGraph, table: RawTable) -> Result<Road, AllocError>
+    requires { IsSound (given_by graph table) }
     ensures { IfOk result (IsRoadOf (given_by graph table)) }
 {
     let nodes = graph.nodes;
-    let arcs = classed_arcs(graph, &table);
+    let arcs = classed_arcs(alloc, graph, &table)?;
     let times = Timetables::with_steps(alloc, table.kinds, table.steps)?;
-    let network = Network::new(alloc, nodes, arcs)?;
+    let network = Network::of_list(alloc, nodes, arcs)?;
     Ok(Road { network, times })
 }
 
 /// The road of a graph and a file of timetables, which may be left out.
 pub(crate) fn read_road<T: ByteIn>(
     alloc: Global,
-    graph: RawGraph<Arc>,
+    graph: RawGraph,
     tp: &mut Option<T>,
 ) -> Result<Road, FileFault>
-    requires denoted { (lines : List (List (List ℕ))) × DenotesGraph lines (raw_graph graph) }
-    requires plain { ArePlain graph.arcs.items }
+    requires denoted { (lines : List (List (List ℕ))) × DenotesGraph lines (graph_of graph) }
     ensures road { IfOk result (λ road. (text : Option (List ℕ)) × (table : Table)
         × IsTextIfThere T.seen tp.old tp.new text
-        × IsTableOf (length (raw_graph graph).arcs) text table
-        × IsRoadOf (record { graph = raw_graph graph; table = table }) road) }
+        × IsTableOf (length (graph_of graph).arcs) text table
+        × IsRoadOf (record { graph = graph_of graph; table = table }) road) }
     ensures fault { IfErr result
-        ((tables T.seen tp.old tp.new).IsFault (length (raw_graph graph).arcs)) }
+        ((tables T.seen tp.old tp.new).IsFault (length (graph_of graph).arcs)) }
 {
     let table = read_table(alloc, tp, graph.arcs.len() as u32)?;
     let road = road_of(alloc, graph, table)?;

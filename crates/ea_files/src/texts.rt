@@ -3,26 +3,24 @@ ghost use Rattle.std.specs.Prelude.{◌≡◌, ◌≤◌, ℕ, List, IfOk, IfErr
 ghost use Rattle.ea_text.specs.Text.{field_lines};
 ghost use Rattle.ea_input.specs.Graph.{DenotesGraph};
 ghost use Rattle.ea_input.specs.Table.{Table};
+ghost use Rattle.ea_input.specs.Views.{graph as graph_of};
 ghost use Rattle.ea_input.specs.TableViews.{table as table_of};
-ghost use Rattle.ea_road.specs.Assigned.{ArePlain};
 ghost use Rattle.ea_road.specs.Roads.{top_class};
-ghost use Rattle.ea_files.specs.Given.{Denotes, Given, IsRoadOf, IsTableOf, raw_graph};
+ghost use Rattle.ea_files.specs.Given.{Denotes, Given, IsRoadOf, IsTableOf};
 ghost use Rattle.ea_files.specs.Texts.{IsGraphFault, IsTableFault, IsTextFault, text_if_any};
 
 use crate::fault::{FileFault, FileWord};
 use crate::reading::{fault_of, no_table};
 use crate::road::{Road, road_of};
-use ea_input::{RawGraph, RawTable, read_gr_as, read_tp};
-use ea_road::Arc;
+use ea_input::{RawGraph, RawTable, read_gr, read_tp};
 use std::alloc::Global;
 
 /// The graph of a text.
-fn graph_in(alloc: Global, gr: &[u8]) -> Result<RawGraph<Arc>, FileFault>
-    ensures denoted { IfOk result (λ found. DenotesGraph (field_lines gr.now) (raw_graph found)) }
-    ensures plain { IfOk result (λ found. ArePlain found.arcs.items) }
+fn graph_in(alloc: Global, gr: &[u8]) -> Result<RawGraph, FileFault>
+    ensures denoted { IfOk result (λ found. DenotesGraph (field_lines gr.now) (graph_of found)) }
     ensures fault { IfErr result (IsGraphFault gr.now) }
 {
-    match read_gr_as::<Arc>(alloc, gr) {
+    match read_gr(alloc, gr) {
         Ok(graph) => Ok(graph),
         Err(fault) => Err(fault_of(FileWord::Gr, fault)),
     }
@@ -43,15 +41,14 @@ fn table_in(alloc: Global, tp: &[u8], arcs: u32) -> Result<RawTable, FileFault>
 }
 
 /// The road of a graph and a text of timetables.
-fn road_with(alloc: Global, graph: RawGraph<Arc>, tp: &[u8]) -> Result<Road, FileFault>
-    requires denoted { (lines : List (List (List ℕ))) × DenotesGraph lines (raw_graph graph) }
-    requires plain { ArePlain graph.arcs.items }
+fn road_with(alloc: Global, graph: RawGraph, tp: &[u8]) -> Result<Road, FileFault>
+    requires denoted { (lines : List (List (List ℕ))) × DenotesGraph lines (graph_of graph) }
     ensures road { IfOk result (λ road. (table : Table)
-        × IsTableOf (length (raw_graph graph).arcs) (text_if_any tp.now) table
-        × IsRoadOf (record { graph = raw_graph graph; table = table }) road) }
+        × IsTableOf (length (graph_of graph).arcs) (text_if_any tp.now) table
+        × IsRoadOf (record { graph = graph_of graph; table = table }) road) }
     ensures classed { IfOk result (λ road.
         top_class road.network.arcs ≤ length road.times.list.items) }
-    ensures fault { IfErr result (IsTableFault (length (raw_graph graph).arcs) tp.now) }
+    ensures fault { IfErr result (IsTableFault (length (graph_of graph).arcs) tp.now) }
 {
     let table = table_in(alloc, tp, graph.arcs.len() as u32)?;
     let road = road_of(alloc, graph, table)?;

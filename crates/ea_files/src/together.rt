@@ -7,10 +7,10 @@ ghost use Rattle.ea_input.specs.Graph.{DenotesGraph};
 ghost use Rattle.ea_input.specs.Pairs.{DenotesPairs};
 ghost use Rattle.ea_input.specs.Sources.{DenotesSources};
 ghost use Rattle.ea_input.specs.Table.{Table};
+ghost use Rattle.ea_input.specs.Views.{graph as graph_of};
 ghost use Rattle.ea_input.specs.TableViews.{table};
 ghost use Rattle.ea_files.specs.Files.{bytes_there, IsBorneIfThere, IsFaultIfThere, IsFaultIn, IsFileText, IsFirstFault, IsStreamFaultAs, IsTextIfThere, reading, tables};
-ghost use Rattle.ea_road.specs.Assigned.{ArePlain};
-ghost use Rattle.ea_files.specs.Given.{AreGiven, Given, IsRoadOf, IsTableOf, given_by, raw_graph};
+ghost use Rattle.ea_files.specs.Given.{AreGiven, Given, IsRoadOf, IsTableOf, given_by};
 ghost use Rattle.ea_files.specs.Sound.{IsSound};
 
 use crate::fault::{FileFault, FileWord};
@@ -18,11 +18,11 @@ use crate::files::RunFiles;
 use crate::reading::{fault_of, no_table, read_fault_of};
 use crate::road::{Road, classed_arcs};
 use ea_input::{
-    ByteIn, RawGraph, RawTable, StreamFault, read_gr_from_as, read_p2p_from, read_ss_from,
+    ByteIn, RawGraph, RawTable, StreamFault, read_gr_from, read_p2p_from, read_ss_from,
     read_tp_from,
 };
 use ea_limits::MOST_BYTES;
-use ea_road::{Arc, Network, Timetables};
+use ea_road::{Network, Timetables};
 use std::alloc::{AllocError, Global};
 use std::thread::{Threads, available_parallelism};
 
@@ -52,15 +52,14 @@ pub(crate) fn read_graph_by<H: Threads + Sync, R: ByteIn>(
     alloc: Global,
     rt: &H,
     gr: &mut R,
-) -> Result<RawGraph<Arc>, FileFault>
+) -> Result<RawGraph, FileFault>
     ensures denoted { IfOk result
         (λ found. (text : List ℕ) × IsFileText (reading R.seen gr.old gr.new) text
-        × DenotesGraph (field_lines text) (raw_graph found)) }
-    ensures plain { IfOk result (λ found. ArePlain found.arcs.items) }
+        × DenotesGraph (field_lines text) (graph_of found)) }
     ensures fault { IfErr result
         (IsFaultIn FileWord.Gr graph_format (reading R.seen gr.old gr.new)) }
 {
-    match read_gr_from_as::<Arc, H, R>(alloc, rt, readers(rt), MOST_BYTES, gr) {
+    match read_gr_from(alloc, rt, readers(rt), MOST_BYTES, gr) {
         Ok(graph) => Ok(graph),
         Err(fault) => Err(fault_from(FileWord::Gr, fault)),
     }
@@ -146,17 +145,16 @@ fn read_table_by<H: Threads + Sync, R: ByteIn>(
 fn road_of_by<H: Threads + Sync>(
     alloc: Global,
     rt: &H,
-    graph: RawGraph<Arc>,
+    graph: RawGraph,
     table: RawTable,
 ) -> Result<Road, AllocError>
     requires sound { IsSound (given_by graph table) }
-    requires plain { ArePlain graph.arcs.items }
     ensures { IfOk result (IsRoadOf (given_by graph table)) }
 {
     let nodes = graph.nodes;
-    let arcs = classed_arcs(graph, &table);
+    let arcs = classed_arcs(alloc, graph, &table)?;
     let times = Timetables::with_steps(alloc, table.kinds, table.steps)?;
-    let network = Network::new_by(alloc, rt, nodes, arcs)?;
+    let network = Network::of_list_by(alloc, rt, nodes, arcs)?;
     Ok(Road { network, times })
 }
 
@@ -164,17 +162,16 @@ fn road_of_by<H: Threads + Sync>(
 pub(crate) fn read_road_by<H: Threads + Sync, T: ByteIn>(
     alloc: Global,
     rt: &H,
-    graph: RawGraph<Arc>,
+    graph: RawGraph,
     tp: &mut Option<T>,
 ) -> Result<Road, FileFault>
-    requires denoted { (lines : List (List (List ℕ))) × DenotesGraph lines (raw_graph graph) }
-    requires plain { ArePlain graph.arcs.items }
+    requires denoted { (lines : List (List (List ℕ))) × DenotesGraph lines (graph_of graph) }
     ensures road { IfOk result (λ road. (text : Option (List ℕ)) × (table : Table)
         × IsTextIfThere T.seen tp.old tp.new text
-        × IsTableOf (length (raw_graph graph).arcs) text table
-        × IsRoadOf (record { graph = raw_graph graph; table = table }) road) }
+        × IsTableOf (length (graph_of graph).arcs) text table
+        × IsRoadOf (record { graph = graph_of graph; table = table }) road) }
     ensures fault { IfErr result
-        ((tables T.seen tp.old tp.new).IsFault (length (raw_graph graph).arcs)) }
+        ((tables T.seen tp.old tp.new).IsFault (length (graph_of graph).arcs)) }
 {
     let table = read_table_by(alloc, rt, tp, graph.arcs.len() as u32)?;
     let road = road_of_by(alloc, rt, graph, table)?;

@@ -127,7 +127,7 @@ fn confirm_arcs<T: TravelTimes>(
             times,
             table,
             place as u32 + 1,
-            arcs[place],
+            arcs.at(place),
             links,
             waiting,
         );

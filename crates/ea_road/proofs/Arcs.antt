@@ -36,6 +36,15 @@ arc_at roads place default inside =
 pub fits_at : (roads : Roads) (place : ℕ) (default : Arc) → IsNetwork roads → place < length roads.arcs → FitsNodes roads.nodes (get_or roads.arcs place default)
 fits_at roads place default network inside = network.each_fits (place + 1) _ (arc_at roads place default inside)
 
+-- the arc that was found at a place of the list
+pub arc_found : (roads : Roads) (place : ℕ) (arc : Arc) → slice_get roads.arcs place ≡ Some arc → IsArc roads (place + 1) arc
+arc_found roads place arc found =
+    let same : place + 1 - 1 ≡ place = omega arith in
+    record { from_one = omega arith; found = rw same found }
+
+pub fits_found : (nodes : ℕ) (arcs : List Arc) (place : ℕ) (arc : Arc) → IsNetwork (record { nodes = nodes; arcs = arcs }) → slice_get arcs place ≡ Some arc → FitsNodes nodes arc
+fits_found nodes arcs place arc network found = network.each_fits (place + 1) arc (arc_found (record { nodes = nodes; arcs = arcs }) place arc found)
+
 pub tails_from_one : (roads : Roads) → IsNetwork roads → (place : ℕ) (arc : Arc) → slice_get roads.arcs place ≡ Some arc → 0 < arc.tail
 tails_from_one roads network place arc found =
     let same : place + 1 - 1 ≡ place = omega arith in

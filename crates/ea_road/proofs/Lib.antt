@@ -20,6 +20,7 @@ pub mod Rooted
 pub mod Walked
 pub mod BoxLaws
 pub mod Assigning
+pub mod ArcLists
 pub mod Speeding
 pub mod Periods
 pub mod TripSteps

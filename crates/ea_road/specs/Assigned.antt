@@ -1,22 +1,14 @@
 -- The arcs of a graph with the classes that a timetable file assigns to them.
-use Rattle.std.specs.Prelude.{◌≡◌, All, ℕ, ◌+◌, ◌<◌, ◌≤◌, ◌==◌, List, [], ◌∷◌, Option, Some, None, if◌then◌else◌}
+use Rattle.std.specs.Prelude.{ℕ, ◌+◌, ◌<◌, ◌≤◌, ◌==◌, List, [], ◌∷◌, Option, Some, None, if◌then◌else◌}
 use Rattle.std.specs.List.{IsAmong}
 use Rattle.std.specs.Borrow.{Bor}
 use Rattle.ea_raw.specs.declared.graph.RawArc.{RawArc}
 use Rattle.ea_raw.specs.declared.table.RawTable.{RawTable}
 use Rattle.ea_road.specs.declared.arc.Arc.{Arc}
 
--- An arc of a text, with class 0.
-abbrev pub plain_arc : RawArc → Arc
-plain_arc raw = record { tail = raw.tail; head = raw.head; weight = raw.weight; class = 0 }
-
--- An arc without its class.
-abbrev pub raw_arc : Arc → RawArc
-raw_arc arc = record { tail = arc.tail; head = arc.head; weight = arc.weight }
-
--- Each arc has class 0.
-abbrev pub ArePlain : List Arc → Type 0
-ArePlain arcs = All (λ arc. arc.class ≡ 0) arcs
+-- An arc of a text, with a class.
+abbrev pub classed_arc : RawArc → ℕ → Arc
+classed_arc raw class = record { tail = raw.tail; head = raw.head; weight = raw.weight; class = class }
 
 -- Pairs of an arc's number and a class, in the order of the file.
 abbrev pub assigned_of : Option (Bor RawTable) → List (ℕ × ℕ)
@@ -40,7 +32,7 @@ class_of assigned number = class_after assigned number 0
 abbrev pub arcs_from : List (ℕ × ℕ) → ℕ → List RawArc → List Arc
 arcs_from assigned number [] = []
 arcs_from assigned number (raw ∷ rest) =
-    record { tail = raw.tail; head = raw.head; weight = raw.weight; class = class_of assigned number } ∷ arcs_from assigned (number + 1) rest
+    classed_arc raw (class_of assigned number) ∷ arcs_from assigned (number + 1) rest
 
 abbrev pub arcs_with : List (ℕ × ℕ) → List RawArc → List Arc
 arcs_with assigned raw = arcs_from assigned 1 raw

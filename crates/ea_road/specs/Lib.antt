@@ -21,3 +21,4 @@ pub mod ProfileLists
 pub mod ProfileLaws
 pub mod Assigned
 pub mod Windows
+pub mod ArcLists

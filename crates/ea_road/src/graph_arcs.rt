@@ -1,34 +1,54 @@
 //! The arcs of a graph, with the classes that a timetable file gives them.
-ghost use Rattle.std.specs.Prelude.{◌≡◌, [], List, IfOk, length, map};
-ghost use Rattle.ea_raw.specs.declared.graph.RawArc.{RawArc};
-ghost use Rattle.ea_road.specs.Assigned.{AreAssigned, ArePlain, arcs_with, assigned_of, plain_arc, raw_arc};
+ghost use Rattle.std.specs.Prelude.{◌≡◌, ℕ, ◌+◌, ◌<◌, IfOk, length, slice_index};
+ghost use Rattle.ea_road.specs.Assigned.{AreAssigned, arcs_with, assigned_of, class_of, classed_arc as spec_arc};
 
 use crate::arc::Arc;
-use ea_raw::{MadeArc, RawArc, RawGraph, RawTable};
+use ea_raw::{RawArc, RawGraph, RawTable};
 use std::alloc::{AllocError, Global};
 
-/// A reader makes the arcs of a graph's text with class 0.
-impl MadeArc for Arc {
-    ghost made = { plain_arc };
-
-    fn of_raw(raw: RawArc) -> Arc {
-        Arc {
-            tail: raw.tail,
-            head: raw.head,
-            weight: raw.weight,
-            class: 0,
-        }
+/// An arc of a text, with a class.
+#[inline(always)]
+pub(crate) fn classed_arc(raw: RawArc, class: u32) -> Arc
+    ensures { result ≡ spec_arc raw class }
+{
+    Arc {
+        tail: raw.tail,
+        head: raw.head,
+        weight: raw.weight,
+        class,
     }
 }
 
-/// Arcs of class 0, each with the class that the table assigns to it last. No memory is taken. Each assigned number is that of an arc.
-pub fn with_classes(mut arcs: Vec<Arc>, table: &RawTable) -> Vec<Arc>
-    requires plain { ArePlain arcs.items }
-    requires assigned { AreAssigned (length arcs.items) table.now.assigned.items }
-    ensures { result.items ≡ arcs_with table.entry.now.assigned.items (map raw_arc arcs.items) }
+/// The class at a place, 0 where none stands there.
+#[inline(always)]
+pub(crate) fn class_at(classes: &[u32], place: usize) -> u32
+    ensures { result ≡ slice_index classes.now place }
 {
-    assign(&mut arcs, &table.assigned);
-    arcs
+    match classes.get(place) {
+        Some(class) => *class,
+        None => 0,
+    }
+}
+
+/// The classes of so many arcs: each is the last that is assigned to the arc, and 0 where none is. The list is empty where
+/// nothing is assigned.
+pub(crate) fn classes_of(
+    alloc: Global,
+    arcs: usize,
+    assigned: &[(u32, u32)],
+) -> Result<Vec<u32>, AllocError>
+    requires { AreAssigned arcs assigned.now }
+    ensures { IfOk result (λ classes. (place : ℕ) → place < arcs
+        → slice_index classes.items place ≡ class_of assigned.now (place + 1)) }
+{
+    if assigned.is_empty() {
+        return Ok(Vec::new(alloc));
+    }
+    let mut classes = vec![in alloc; 0u32; arcs]?;
+    for (number, class) in assigned {
+        classes[*number as usize - 1] = *class;
+    }
+    Ok(classes)
 }
 
 /// The arcs of a graph in their order. An arc's class is the last that the table assigns to it, and 0 where it assigns
@@ -42,31 +62,21 @@ pub fn arcs_of(
     ensures { IfOk result (λ arcs.
         arcs.items ≡ arcs_with (assigned_of table.entry) graph.now.arcs.items) }
 {
-    let arcs = plain_arcs(alloc, &graph.arcs)?;
     match table {
-        Some(table) => Ok(with_classes(arcs, table)),
-        None => Ok(arcs),
+        Some(table) => arcs_by(alloc, &graph.arcs, &table.assigned),
+        None => arcs_by(alloc, &graph.arcs, &[]),
     }
 }
 
-/// The arcs, each of class 0.
-fn plain_arcs(alloc: Global, raw: &[RawArc]) -> Result<Vec<Arc>, AllocError>
-    ensures { IfOk result (λ arcs. arcs.items ≡ map plain_arc raw.now) }
+/// Arcs of a text, with the classes that are assigned to them.
+fn arcs_by(alloc: Global, raw: &[RawArc], assigned: &[(u32, u32)]) -> Result<Vec<Arc>, AllocError>
+    requires { AreAssigned (length raw.now) assigned.now }
+    ensures { IfOk result (λ arcs. arcs.items ≡ arcs_with assigned.now raw.now) }
 {
+    let classes = classes_of(alloc, raw.len(), assigned)?;
     let mut arcs = Vec::with_capacity(alloc, raw.len())?;
-    for arc in raw {
-        arcs.push(Arc::of_raw(*arc))?;
+    for place in 0..raw.len() {
+        arcs.push_reserved(classed_arc(raw[place], class_at(&classes, place)));
     }
     Ok(arcs)
-}
-
-/// Gives arcs their classes, the later assignment of an arc over the earlier.
-fn assign(arcs: &mut [Arc], assigned: &[(u32, u32)])
-    requires { AreAssigned (length arcs.old) assigned.now }
-    ensures { (raw : List RawArc) → arcs.old ≡ arcs_with [] raw
-        → arcs.new ≡ arcs_with assigned.now raw }
-{
-    for (number, class) in assigned {
-        arcs[*number as usize - 1].class = *class;
-    }
 }

@@ -3,6 +3,7 @@
 #![tactic(auto)]
 
 mod arc;
+mod arc_list;
 mod arrival_function;
 mod fitting;
 mod graph_arcs;
@@ -26,10 +27,11 @@ mod walk;
 mod window;
 
 pub use arc::Arc;
+pub use arc_list::ArcList;
 pub use arrival_function::ArrivalFunction;
 pub use ea_limits::HORIZON;
 pub use ea_raw::{RawArc, RawGraph, RawKind, RawTable};
-pub use graph_arcs::{arcs_of, with_classes};
+pub use graph_arcs::arcs_of;
 pub use known::{AnyPair, Known};
 pub use leaving_arc::LeavingArc;
 pub use network::{Leaving, Network};

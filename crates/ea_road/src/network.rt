@@ -3,6 +3,7 @@ ghost use Rattle.ea_road.specs.Index.{AreSums, AreSumsAndNumbers, IsRoom};
 ghost use Rattle.ea_road.specs.Roads.{AreSideBySide, FitsNodes, IsArc, IsNetwork, IsNode, leaving, mean_weight, top_class, without_tail};
 
 use crate::arc::Arc;
+use crate::arc_list::ArcList;
 use crate::index::{Room, Sums, index_by_tail, numbers_to, sums_of, without_tails};
 use crate::leaving_arc::LeavingArc;
 use ea_limits::{MOST_ARCS, MOST_NODES};
@@ -18,7 +19,7 @@ const MANY_ARCS: usize = 65_536;
 #[derive(Drop)]
 pub struct Network {
     nodes: u32,
-    arcs: Vec<Arc>,
+    arcs: ArcList,
     /// Where the arcs from each node begin in `numbers` and `by_tail`, and at the end where those of the last node end.
     starts: Vec<u32>,
     /// The numbers of the arcs by their tails, ascending for each tail.
@@ -38,11 +39,11 @@ impl Model for Network {
 
     ghost Value = { Roads };
 
-    ghost view = { λ n. record { nodes = n.nodes; arcs = n.arcs.items } };
+    ghost view = { λ n. record { nodes = n.nodes; arcs = n.arcs } };
 
-    ghost invariant = { λ n. (n.top ≡ top_class n.arcs.items)
-        × (n.mean ≡ mean_weight n.arcs.items)
-        × IsStoredNetwork (record { nodes = n.nodes; arcs = n.arcs.items })
+    ghost invariant = { λ n. (n.top ≡ top_class n.arcs)
+        × (n.mean ≡ mean_weight n.arcs)
+        × IsStoredNetwork (record { nodes = n.nodes; arcs = n.arcs })
         n.starts.items n.numbers.items n.by_tail.items };
 }
 
@@ -60,24 +61,33 @@ impl Network {
         requires { IsNetwork (record { nodes = nodes; arcs = arcs.items }) }
         ensures { IfOk result (λ network. network ≡ record { nodes = nodes; arcs = arcs.items }) }
     {
+        let arcs = ArcList::of(alloc, &arcs)?;
+        Network::of_list(alloc, nodes, arcs)
+    }
+
+    /// A network of so many nodes and the arcs of a list, as `new` makes it.
+    pub fn of_list(alloc: Global, nodes: u32, arcs: ArcList) -> Result<Network, AllocError>
+        requires { IsNetwork (record { nodes = nodes; arcs = arcs }) }
+        ensures { IfOk result (λ network. network ≡ record { nodes = nodes; arcs = arcs }) }
+    {
         let (sums, numbers) = sums_and_numbers(alloc, nodes, &arcs)?;
         let by_tail = without_tails(alloc, &arcs)?;
         Ok(indexed(nodes, arcs, sums, Room { numbers, by_tail }))
     }
 
-    /// As `new`, in two threads where there are many arcs and a second one can be started: one counts the arcs and takes memory
+    /// As `of_list`, in two threads where there are many arcs and a second one can be started: one counts the arcs and takes memory
     /// for their numbers by tail while the other takes that for the arcs by tail, which is most of the time.
-    pub fn new_by<H: Threads + Sync>(
+    pub fn of_list_by<H: Threads + Sync>(
         alloc: Global,
         rt: &H,
         nodes: u32,
-        arcs: Vec<Arc>,
+        arcs: ArcList,
     ) -> Result<Network, AllocError>
-        requires { IsNetwork (record { nodes = nodes; arcs = arcs.items }) }
-        ensures { IfOk result (λ network. network ≡ record { nodes = nodes; arcs = arcs.items }) }
+        requires { IsNetwork (record { nodes = nodes; arcs = arcs }) }
+        ensures { IfOk result (λ network. network ≡ record { nodes = nodes; arcs = arcs }) }
     {
         if arcs.len() < MANY_ARCS {
-            return Network::new(alloc, nodes, arcs);
+            return Network::of_list(alloc, nodes, arcs);
         }
         let (sums, by_tail) = sums_and_room(alloc, rt, nodes, &arcs);
         let (sums, numbers) = sums?;
@@ -131,7 +141,7 @@ impl Network {
     }
 
     /// The arcs, in the order of their numbers.
-    pub fn arcs(&self) -> &[Arc]
+    pub fn arcs(&self) -> &ArcList
         ensures arcs { result.now ≡ self.now.arcs }
         ensures network { IsNetwork self.now }
     {
@@ -146,7 +156,7 @@ impl Network {
         ensures fits { FitsNodes self.now.nodes result }
         ensures network { IsNetwork self.now }
     {
-        self.arcs[number as usize - 1]
+        self.arcs.at(number as usize - 1)
     }
 
     /// The numbers of the arcs that leave a node, ascending.
@@ -176,7 +186,11 @@ impl Network {
 }
 
 /// What is known of all of a network's arcs, and their numbers in order.
-fn sums_and_numbers(alloc: Global, nodes: u32, arcs: &[Arc]) -> Result<(Sums, Vec<u32>), AllocError>
+fn sums_and_numbers(
+    alloc: Global,
+    nodes: u32,
+    arcs: &ArcList,
+) -> Result<(Sums, Vec<u32>), AllocError>
     requires { IsNetwork (record { nodes = nodes; arcs = arcs.now }) }
     ensures { IfOk result (AreSumsAndNumbers nodes arcs.now) }
 {
@@ -190,7 +204,7 @@ fn sums_and_room<H: Threads + Sync>(
     alloc: Global,
     rt: &H,
     nodes: u32,
-    arcs: &[Arc],
+    arcs: &ArcList,
 ) -> (
     Result<(Sums, Vec<u32>), AllocError>,
     Result<Vec<LeavingArc>, AllocError>,
@@ -210,11 +224,11 @@ fn sums_and_room<H: Threads + Sync>(
 }
 
 /// A network, by what is known of all its arcs, with its index in this room.
-fn indexed(nodes: u32, arcs: Vec<Arc>, sums: Sums, room: Room) -> Network
-    requires network { IsNetwork (record { nodes = nodes; arcs = arcs.items }) }
-    requires sums { AreSums nodes arcs.items sums }
-    requires room { IsRoom arcs.items room }
-    ensures { result ≡ record { nodes = nodes; arcs = arcs.items } }
+fn indexed(nodes: u32, arcs: ArcList, sums: Sums, room: Room) -> Network
+    requires network { IsNetwork (record { nodes = nodes; arcs = arcs }) }
+    requires sums { AreSums nodes arcs sums }
+    requires room { IsRoom arcs room }
+    ensures { result ≡ record { nodes = nodes; arcs = arcs } }
 {
     let Sums {
         top,

@@ -1,5 +1,5 @@
 //! Networks of many arcs: made by one thread and by two, the same arcs leave each node, whether tails ascend or not.
-use ea_road::{Arc, Network};
+use ea_road::{Arc, ArcList, Network};
 use std::alloc::{AllocError, Global};
 use std::test::Fail;
 use std::thread::Threads;
@@ -37,7 +37,7 @@ fn networks_by<H: Threads + Sync>(
         return Ok(None);
     }
     let one = Network::new(alloc, NODES, arcs)?;
-    let two = Network::new_by(alloc, rt, NODES, again)?;
+    let two = Network::of_list_by(alloc, rt, NODES, ArcList::of(alloc, &again)?)?;
     Ok(Some((one, two)))
 }
 
@@ -51,8 +51,8 @@ fn same_leaving(one: &Network, two: &Network, node: u32) -> Option<usize> {
         return None;
     }
     for (number, arc) in here.numbers.iter().zip(here.arcs) {
-        let by_number = one.arcs().get((*number as usize).wrapping_sub(1));
-        if by_number != Some(&arc.with_tail(node)) {
+        let place = (*number as usize).wrapping_sub(1);
+        if place >= one.arcs().len() || one.arcs().at(place) != arc.with_tail(node) {
             return None;
         }
     }

@@ -3,7 +3,7 @@ ghost use Rattle.ea_limits.specs.declared.TheConstants.{HORIZON};
 ghost use Rattle.ea_road.specs.Answers.{IsFifoFunction};
 ghost use Rattle.ea_road.specs.Arrivals.{Reaches};
 
-use ea_input::{RawArc, RawGraph, read_gr_as};
+use ea_input::{RawArc, RawGraph};
 use ea_road::*;
 use std::alloc::{AllocError, Global};
 use std::marker::{Brand, PhantomData};
@@ -260,22 +260,56 @@ fn classes_are_assigned(rt: HostRuntime) -> Result<(), Fail> {
     Ok(())
 }
 
+/// Whether a list has just these arcs.
+fn has(list: &ArcList, arcs: &[Arc]) -> bool {
+    if list.len() != arcs.len() {
+        return false;
+    }
+    for place in 0..list.len() {
+        if Some(&list.at(place)) != arcs.get(place) {
+            return false;
+        }
+    }
+    true
+}
+
+/// An arc of a text from a node to the next one.
+fn raw_arc(tail: u32, weight: u32) -> RawArc {
+    RawArc {
+        tail,
+        head: tail.wrapping_add(1),
+        weight,
+    }
+}
+
 #[test]
-fn classes_are_assigned_in_place(rt: HostRuntime) -> Result<(), Fail> {
-    let text = b"p sp 3 3\na 1 2 5\na 2 3 7\na 3 3 0\n";
-    let Ok(graph) = read_gr_as::<Arc>(rt.alloc(), text) else {
-        return Err(Fail::from("no graph"));
-    };
-    let plain = [arc(1, 2, 5, 0), arc(2, 3, 7, 0), arc(3, 3, 0, 0)];
-    assert_eq!(rt; graph.arcs.as_slice(), plain.as_slice());
+fn classes_lie_beside_the_arcs(rt: HostRuntime) -> Result<(), Fail> {
+    let alloc = rt.alloc();
+    let wanted = [arc(1, 2, 5, 2), arc(2, 3, 7, 0), arc(3, 4, 0, 9)];
+    let raw = vec![in alloc; raw_arc(1, 5), raw_arc(2, 7), raw_arc(3, 0)]?;
     let table = RawTable {
-        kinds: Vec::new(rt.alloc()),
-        assigned: vec![in rt.alloc(); (3, 7), (1, 4), (3, 0), (3, 9), (1, 2)]?,
-        steps: Vec::new(rt.alloc()),
+        kinds: Vec::new(alloc),
+        assigned: vec![in alloc; (3, 7), (1, 4), (3, 0), (3, 9), (1, 2)]?,
+        steps: Vec::new(alloc),
     };
-    let classed = with_classes(graph.arcs, &table);
-    let wanted = [arc(1, 2, 5, 2), arc(2, 3, 7, 0), arc(3, 3, 0, 9)];
-    assert_eq!(rt; classed.as_slice(), wanted.as_slice());
+    let classed = ArcList::with_classes(alloc, raw, &table)?;
+    assert!(rt; has(&classed, &wanted));
+    assert!(rt; has(&ArcList::of(alloc, &wanted)?, &wanted));
+    Ok(())
+}
+
+#[test]
+fn arcs_without_classes_are_plain(rt: HostRuntime) -> Result<(), Fail> {
+    let alloc = rt.alloc();
+    let wanted = [arc(1, 2, 5, 0), arc(2, 3, 7, 0)];
+    let raw = vec![in alloc; raw_arc(1, 5), raw_arc(2, 7)]?;
+    let table = RawTable {
+        kinds: Vec::new(alloc),
+        assigned: Vec::new(alloc),
+        steps: Vec::new(alloc),
+    };
+    let plain = ArcList::with_classes(alloc, raw, &table)?;
+    assert!(rt; has(&plain, &wanted));
     Ok(())
 }
 

@@ -30,7 +30,10 @@ fn network_is_refused_or_whole(rt: HostRuntime) -> Result<(), Fail> {
             Ok(network) => {
                 made = made.wrapping_add(1);
                 assert_eq!(rt; network.nodes(), 4);
-                assert_eq!(rt; network.arcs(), ARCS.as_slice());
+                assert_eq!(rt; network.arcs().len(), ARCS.len());
+                for place in 0..network.arcs().len() {
+                    assert_eq!(rt; Some(&network.arcs().at(place)), ARCS.get(place));
+                }
             }
         }
     }

@@ -1,6 +1,6 @@
 use Rattle.std.proofs.Common.{refl}
 use Rattle.std.proofs.lemmas.Result.{err_from_is_err_and}
-use Rattle.ea_files.specs.Given.{raw_graph}
+use Rattle.ea_input.specs.Views.{graph as graph_of}
 use Rattle.ea_files.specs.Files.{in_starts, in_table}
 use Rattle.ea_files.proofs.There.{all_there, few_there}
 use Rattle.ea_files.proofs.files.read_trips.Goals as goal
@@ -8,20 +8,20 @@ use Rattle.ea_files.proofs.files.read_trips.Goals as goal
 pub returns-in_err-pairs-clause-fault : goal.returns-in_err-pairs-clause-fault
 returns-in_err-pairs-clause-fault g c =
     let p = err_from_is_err_and c.from_residual-in_err-pairs.result c.from_residual-in_err-pairs.ensures.1 in
-    rw (p.1, p.2) (in_starts (raw_graph c.in_ok-graph.graph) c.in_ok-graph.ensures.denoted c.in_err-pairs.ensures.fault refl)
+    rw (p.1, p.2) (in_starts (graph_of c.in_ok-graph.graph) c.in_ok-graph.ensures.denoted c.in_err-pairs.ensures.fault refl)
 
 pub returns-in_err-road-clause-fault : goal.returns-in_err-road-clause-fault
 returns-in_err-road-clause-fault g c =
     let p = err_from_is_err_and c.from_residual-in_err-road.result c.from_residual-in_err-road.ensures.1 in
     let starts = c.in_ok-pairs.ensures.denoted in
-    rw (p.1, p.2) (in_table (raw_graph c.in_ok-graph.graph) c.in_ok-graph.ensures.denoted (starts.0, c.in_ok-pairs.pairs.items, starts.1, starts.2) c.in_err-road.ensures.fault)
+    rw (p.1, p.2) (in_table (graph_of c.in_ok-graph.graph) c.in_ok-graph.ensures.denoted (starts.0, c.in_ok-pairs.pairs.items, starts.1, starts.2) c.in_err-road.ensures.fault)
 
 pub returns-clause-given : goal.returns-clause-given
 returns-clause-given g c =
     let gr = c.in_ok-graph.ensures.denoted in
     let starts = c.in_ok-pairs.ensures.denoted in
     let road = c.in_ok-road.ensures.road in (
-      record { graph = raw_graph c.in_ok-graph.graph; table = road.1 },
+      record { graph = graph_of c.in_ok-graph.graph; table = road.1 },
       record {
         gr_text = gr.0;
         starts_text = starts.0;

@@ -1,13 +1,8 @@
 use Rattle.std.proofs.Common.{sym, subst}
-use Rattle.ea_text.specs.Text.{field_lines}
 use Rattle.ea_files.specs.Files.{IsFileText, reading}
-use Rattle.ea_files.proofs.Plain.{denotes_back, plain_found}
 use Rattle.ea_files.proofs.reading.read_graph.Goals as goal
 
 pub returns-in-Ok-clause-denoted : goal.returns-in-Ok-clause-denoted
 returns-in-Ok-clause-denoted g c =
     let text = c.deref.result.now in
-    (text, subst (IsFileText (reading g.R.Device.seen c.args.gr.now c.text_of.new.reader)) (sym c.deref.ensures.value) c.in_ok-text.ensures.text, denotes_back c.in-Ok.graph (field_lines text) c.in-Ok.ensures.denoted)
-
-pub returns-in-Ok-clause-plain : goal.returns-in-Ok-clause-plain
-returns-in-Ok-clause-plain g c = plain_found c.in-Ok.graph (field_lines c.deref.result.now) c.in-Ok.ensures.denoted
+    (text, subst (IsFileText (reading g.R.Device.seen c.args.gr.now c.text_of.new.reader)) (sym c.deref.ensures.value) c.in_ok-text.ensures.text, c.in-Ok.ensures.denoted)

@@ -1,4 +1,4 @@
-use Rattle.std.proofs.Common.{rules, ℕ, ◌≤◌, ◌<◌, false, length, refl, sym, ◌∙◌, subst, ap, arith}
+use Rattle.std.proofs.Common.{rules, ℕ, ◌≤◌, ◌<◌, false, length, refl, inl, inr, sym, ◌∙◌, subst, ap, arith}
 use Rattle.std.specs.Prelude.{All, IfErr, IsTrue, OnOk}
 use Rattle.std.proofs.lemmas.Result.{err_from_is_err_and}
 use Rattle.ea_input.specs.Formats.{source_format}
@@ -112,3 +112,14 @@ returns-then-not-departures_fit-clause-unranked g c =
       },
       refl,
     )
+
+-- all files were read
+pub returns-in_err-queries-clause-unranked : goal.returns-in_err-queries-clause-unranked
+returns-in_err-queries-clause-unranked g c =
+    let p = err_from_is_err_and c.from_residual-in_err-queries.result c.from_residual-in_err-queries.ensures.1 in
+    let given = c.in_ok-files.ensures.given in
+    let o = c.args.options.now in
+    let gr = reading g.G.Device.seen c.args.gr.now c.read_run.new.gr in
+    let ss = reading g.S.Device.seen c.args.ss.now c.read_run.new.ss in
+    let sound = sound_there (rank_asks o) g.T.Device.seen gr ss c.args.tp.now c.read_run.new.tp given.0 c.in_ok-files.files.sources.items given.1 c.in_ok-files.ensures.gr_borne c.in_ok-files.ensures.ss_borne c.in_ok-files.ensures.tp_borne in
+    rw (p.1, p.2) (inl (refl, refl, inr sound.read))

@@ -1,5 +1,5 @@
 use Rattle.std.proofs.Common.{arith}
-use Rattle.ea_road.proofs.FoundFit.{fit_of_each, kind_more}
+use Rattle.ea_road.proofs.FoundFit.{fit_of_each}
 use Rattle.ea_road.proofs.fitting.all_fit.Goals as goal
 
 pub returns : goal.returns

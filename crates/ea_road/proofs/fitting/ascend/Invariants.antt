@@ -1,4 +1,4 @@
-use Rattle.std.proofs.Common.{ℕ, ◌+◌, ◌<◌, ◌≤◌}
+use Rattle.std.proofs.Common.{ℕ, ◌+◌, ◌<◌}
 use Rattle.ea_road.specs.Speeds.{time_at}
 use Rattle.ea_road.proofs.fitting.ascend.Given as goal
 

@@ -1,4 +1,4 @@
-use Rattle.std.proofs.Common.{rules, ◌≤◌, ◌<◌, length, sym, ◌∙◌, subst, refl, ap, arith}
+use Rattle.std.proofs.Common.{rules, ◌≤◌, ◌<◌, length, sym, ◌∙◌, subst, refl, ap, arith, inl, inr}
 use Rattle.std.specs.Prelude.{All, IsTrue}
 use Rattle.std.proofs.lemmas.Result.{err_from_is_err_and}
 use Rattle.ea_input.specs.Sources.{DenotesSources}
@@ -102,3 +102,14 @@ returns-then-not-departures_fit-clause-failed g c =
       },
       refl,
     )
+
+-- all files were read
+pub returns-in_err-queries-clause-failed : goal.returns-in_err-queries-clause-failed
+returns-in_err-queries-clause-failed g c =
+    let p = err_from_is_err_and c.from_residual-in_err-queries.result c.from_residual-in_err-queries.ensures.1 in
+    let given = c.in_ok-files.ensures.given in
+    let o = c.args.watched.options.now in
+    let gr = reading g.G.Device.seen c.args.gr.now c.read_run_by.new.gr in
+    let starts = reading g.S.Device.seen c.args.ss.now c.read_run_by.new.ss in
+    let sound = sound_there (run_asks o) g.T.Device.seen gr starts c.args.tp.now c.read_run_by.new.tp given.0 c.in_ok-files.files.sources.items given.1 c.in_ok-files.ensures.gr_borne c.in_ok-files.ensures.ss_borne c.in_ok-files.ensures.tp_borne in
+    rw (p.1, p.2) (inl (refl, refl, inr sound.read))

@@ -1,0 +1,77 @@
+//! The arcs of a network in the order of their numbers, as they lie in memory.
+ghost use Rattle.std.specs.Prelude.{◌≡◌, ◌<◌, IfOk, Some, length, slice_get};
+ghost use Rattle.ea_road.specs.Assigned.{AreAssigned, arcs_with};
+
+use crate::arc::Arc;
+use crate::graph_arcs::{class_at, classed_arc, classes_of};
+use ea_raw::{RawArc, RawTable};
+use std::alloc::{AllocError, Global};
+use std::marker::Model;
+
+/// Arcs in their order: as a text has them, and their classes beside them, which take no memory where no arc was given one.
+/// Contracts see the list of the arcs.
+#[derive(Drop)]
+pub struct ArcList {
+    raw: Vec<RawArc>,
+    classes: Vec<u32>,
+}
+
+impl Model for ArcList {
+    ghost use Rattle.std.specs.Prelude.{List};
+    ghost use Rattle.ea_road.specs.declared.arc.Arc.{Arc as ArcType};
+    ghost use Rattle.ea_road.specs.ArcLists.{arcs_beside};
+
+    ghost Value = { List ArcType };
+
+    ghost view = { λ list. arcs_beside list.classes.items 0 list.raw.items };
+}
+
+impl ArcList {
+    /// The arcs of a text, each with the class that the table assigns to it last, and class 0 where it assigns none. Each assigned
+    /// number is that of an arc. An error comes only where memory for the classes was refused; none is taken where the table
+    /// assigns no class.
+    pub fn with_classes(
+        alloc: Global,
+        raw: Vec<RawArc>,
+        table: &RawTable,
+    ) -> Result<ArcList, AllocError>
+        requires { AreAssigned (length raw.items) table.now.assigned.items }
+        ensures { IfOk result (λ list. list ≡ arcs_with table.entry.now.assigned.items raw.items) }
+    {
+        let classes = classes_of(alloc, raw.len(), &table.assigned)?;
+        Ok(ArcList { raw, classes })
+    }
+
+    /// These arcs. An error comes only where memory for the list was refused.
+    pub fn of(alloc: Global, arcs: &[Arc]) -> Result<ArcList, AllocError>
+        ensures { IfOk result (λ list. list ≡ arcs.now) }
+    {
+        let mut raw = Vec::with_capacity(alloc, arcs.len())?;
+        let mut classes = Vec::with_capacity(alloc, arcs.len())?;
+        for arc in arcs {
+            raw.push_reserved(RawArc {
+                tail: arc.tail,
+                head: arc.head,
+                weight: arc.weight,
+            });
+            classes.push_reserved(arc.class);
+        }
+        Ok(ArcList { raw, classes })
+    }
+
+    /// How many arcs there are.
+    pub fn len(&self) -> usize
+        ensures { result ≡ length self.now }
+    {
+        self.raw.len()
+    }
+
+    /// The arc at a place, from 0 on: that of the number which is one more.
+    #[inline(always)]
+    pub fn at(&self, place: usize) -> Arc
+        requires { place < length self.now }
+        ensures { slice_get self.now place ≡ Some result }
+    {
+        classed_arc(self.raw[place], class_at(&self.classes, place))
+    }
+}
