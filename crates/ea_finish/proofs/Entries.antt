@@ -92,12 +92,12 @@ bound_of_label table node is_node =
     bound_of-at table node is_node.from_one ∙ get_or_default table (node - 1) NONE 0 (omega (arith, is_node.from_one, is_node.to_last))
 
 -- where labels fall, the limit falls
-limit-lower : (target : Option ℕ) (table table' : List ℕ) → ((v : ℕ) → bound_of table' v ≤ bound_of table v) → limit target (bound_of table') ≤ limit target (bound_of table)
+pub limit-lower : (target : Option ℕ) (table table' : List ℕ) → ((v : ℕ) → bound_of table' v ≤ bound_of table v) → limit target (bound_of table') ≤ limit target (bound_of table)
 limit-lower None table table' lower = omega arith
 limit-lower (Some t) table table' lower = lower t
 
 -- what is one arc from a node that is reached, is reached
-reaches_step : (roads : Roads) (answers : ℕ → ℕ → ℕ → ℕ → Type 0) (sources : List Source) (node time number head arrival : ℕ) → Reaches roads answers sources node time → Step roads answers node time number head arrival → Reaches roads answers sources head arrival
+pub reaches_step : (roads : Roads) (answers : ℕ → ℕ → ℕ → ℕ → Type 0) (sources : List Source) (node time number head arrival : ℕ) → Reaches roads answers sources node time → Step roads answers node time number head arrival → Reaches roads answers sources head arrival
 reaches_step roads answers sources node time number head arrival reaches step =
     reaches_more roads answers sources node time number head arrival step.arc reaches step.is_arc step.is_tail step.is_head step.answer step.in_time
 
@@ -116,7 +116,7 @@ module _ (roads : Roads) (answers : ℕ → ℕ → ℕ → ℕ → Type 0) wher
       subst P (one_arc roads e step.arc arc step.is_arc is) step.answer
 
   -- the number of a step, replaced by an equal one
-  step-number : (u d e e' v b : ℕ) → e ≡ e' → Step roads answers u d e' v b → Step roads answers u d e v b
+  pub step-number : (u d e e' v b : ℕ) → e ≡ e' → Step roads answers u d e' v b → Step roads answers u d e v b
   step-number u d e e' v b same step = let P : ℕ → Type 0 = λ x. Step roads answers u d x v b in subst P (sym same) step
 
   -- the head of the arc was offered its arrival

@@ -9,3 +9,4 @@ pub mod Followed
 pub mod Answered
 pub mod Fronts
 pub mod Listings
+pub mod Gatherings

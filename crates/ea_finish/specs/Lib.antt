@@ -8,3 +8,4 @@ pub mod Answers
 pub mod Stored
 pub mod Frontiers
 pub mod Listings
+pub mod Candidates

@@ -5,7 +5,7 @@ ghost use Rattle.ea_finish.specs.Underway.{bound_of};
 
 use crate::open::Open;
 use crate::opens::Opens;
-use crate::touching::{AHEAD, nodes_of, touch_arcs, touch_heads, touch_places};
+use crate::touching::{AHEAD, nodes_of, touch_arcs, touch_places};
 use ea_road::{Network, window_bits};
 use std::alloc::{AllocError, Global};
 use std::marker::Model;
@@ -221,8 +221,8 @@ impl Frontier {
         }
     }
 
-    /// Fills the hand from a window that has many entries. What the scans of the hand's entries will read is read ahead, so that
-    /// many loads are under way at once.
+    /// Fills the hand from a window that has many entries. Where the arcs of the hand's nodes begin, and the first of them, is read
+    /// ahead, so that many loads are under way at once.
     #[inline(never)]
     fn refill(&mut self, network: &Network, table: &[u64])
         requires { length table.now ≡ self.old.todo.nodes }
@@ -242,8 +242,7 @@ impl Frontier {
         self.drawn = self.drawn.wrapping_add(hand.len() as u64);
         let nodes = nodes_of(hand);
         let arcs = touch_arcs(network, &nodes);
-        let heads = touch_heads(network, table, &nodes);
-        self.seen ^= places ^ arcs ^ heads;
+        self.seen ^= places ^ arcs;
     }
 
     /// Takes an entry out, of nearly the least time; none where there is none, but for those whose label fell since.
@@ -259,6 +258,15 @@ impl Frontier {
         }
         self.refill(network, table);
         self.pop_lowest()
+    }
+
+    /// Takes an entry out of the hand.
+    #[inline(always)]
+    pub(crate) fn take_drawn(&mut self) -> Option<(u64, u32)>
+        ensures { MatchOption result (self.new ≡ self.old)
+            (λ entry. (label : ℕ → ℕ) → Takes label entry self.old self.new) }
+    {
+        self.pop(HAND)
     }
 
     /// Takes the node that has waited longest in the list.

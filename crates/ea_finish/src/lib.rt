@@ -3,6 +3,7 @@
 
 mod alone;
 mod answer;
+mod candidates;
 mod confirming;
 mod counting;
 mod finishing;

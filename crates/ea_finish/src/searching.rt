@@ -1,13 +1,17 @@
 //! A search from the sources, nearly in the order of times.
-ghost use Rattle.std.specs.Prelude.{◌≡◌, Contains, replicate};
+ghost use Rattle.std.specs.Prelude.{◌≡◌, ◌≤◌, [], Contains, IfSome, IsTrue, length, replicate};
+ghost use Rattle.ea_limits.specs.declared.TheConstants.{HORIZON};
 ghost use Rattle.ea_road.specs.Labels.{limit};
 ghost use Rattle.ea_road.specs.Queries.{IsProblem};
+ghost use Rattle.ea_road.specs.Roads.{IsNode, top_class};
 ghost use Rattle.ea_road.specs.declared.TheConstants.{NONE};
+ghost use Rattle.ea_finish.specs.Candidates.{Empties, TakesUp};
 ghost use Rattle.ea_finish.specs.Frontiers.{HaveNone, WaitsAt};
 ghost use Rattle.ea_finish.specs.Listings.{AreLabelsListed};
 ghost use Rattle.ea_finish.specs.Scans.{AwaitsScans, FallsBy};
 ghost use Rattle.ea_finish.specs.Underway.{IsUnderway, bound_of};
 
+use crate::candidates::Candidates;
 use crate::finishing::{latest, lower, scan};
 use crate::frontier::Frontier;
 use crate::levels::Track;
@@ -37,7 +41,67 @@ fn begin<T: TravelTimes, K: Track>(
     }
 }
 
-/// Scans the nodes of the frontier at their labels, until it has no entry.
+/// Gathers what the scan of an entry's node offers, if the entry is of the node's label and that is no later than the last time.
+/// False where there may be no room for all.
+fn take_up<T: TravelTimes>(
+    network: &Network,
+    times: &T,
+    table: &[u64],
+    last: u64,
+    entry: (u64, u32),
+    candidates: &mut Candidates,
+) -> bool
+    requires classes { top_class network.now.arcs ≤ T.classes times.now }
+    requires places { length table.now ≡ network.now.nodes }
+    requires last { last ≤ HORIZON }
+    requires node { IsNode network.now.nodes entry.1 }
+    ensures taken { IsTrue result → TakesUp network.now (T.answers times.now) table.now last entry
+        candidates.old candidates.new }
+    ensures crowded { (IsTrue result → ⊥) → (entry.0 ≡ bound_of table.now entry.1)
+        × (entry.0 ≤ last) × (candidates.new ≡ candidates.old) }
+{
+    let (time, node) = entry;
+    if table[node as usize - 1] == time {
+        if time <= last {
+            return candidates.gather(network, times, table, node, time);
+        }
+    }
+    true
+}
+
+/// Takes an entry and those of the hand up. A node for whose arcs there may be no room is answered, and the entries after it stay.
+fn take_hand_up<T: TravelTimes>(
+    network: &Network,
+    times: &T,
+    table: &[u64],
+    last: u64,
+    first: (u64, u32),
+    frontier: &mut Frontier,
+    candidates: &mut Candidates,
+) -> Option<u32>
+    requires classes { top_class network.now.arcs ≤ T.classes times.now }
+    requires places { length table.now ≡ network.now.nodes }
+    requires last { last ≤ HORIZON }
+    requires node { IsNode network.now.nodes first.1 }
+    requires room { frontier.old.todo.nodes ≡ network.now.nodes }
+    requires none { candidates.old ≡ [] }
+    ensures emptied { Empties network.now (T.answers times.now) table.now last first
+        frontier.old frontier.new candidates.new result }
+    ensures crowded { IfSome result (λ node. IsNode network.now.nodes node
+        × (bound_of table.now node ≤ last)) }
+{
+    let mut next = Some(first);
+    while let Some(entry) = next {
+        if !take_up(network, times, table, last, entry, candidates) {
+            return Some(entry.1);
+        }
+        next = frontier.take_drawn();
+    }
+    None
+}
+
+/// Scans the nodes of the frontier at their labels, until it has no entry. What the scans of a hand offer is offered once all of it is
+/// gathered.
 fn exhaust<T: TravelTimes, K: Track>(
     network: &Network,
     times: &T,
@@ -63,11 +127,23 @@ fn exhaust<T: TravelTimes, K: Track>(
 {
     network.keeps_limits();
     let target = query.target();
-    while let Some((key, node)) = frontier.take(network, table) {
+    let mut candidates = Candidates::none();
+    while let Some(entry) = frontier.take(network, table) {
         let last = latest(target, table).min(HORIZON);
-        if key == table[node as usize - 1] && key <= last {
+        let crowded = take_hand_up(
+            network,
+            times,
+            table,
+            last,
+            entry,
+            frontier,
+            &mut candidates,
+        );
+        candidates.offer(track, table, frontier);
+        if let Some(node) = crowded {
             track.leave(node);
-            scan(network, times, node, key, track, table, frontier);
+            let time = table[node as usize - 1];
+            scan(network, times, node, time, track, table, frontier);
         }
     }
 }

@@ -1,4 +1,4 @@
-use Rattle.std.proofs.Common.{◌≡◌, ◌+◌, sum}
+use Rattle.std.proofs.Common.{◌≡◌, ◌+◌, [], sum}
 use Rattle.ea_finish.specs.Frontiers.{WaitsAt, entries_in}
 use Rattle.ea_finish.specs.Listings.{AreLabelsListed}
 use Rattle.ea_road.specs.Labels.{limit}
@@ -6,15 +6,16 @@ use Rattle.ea_finish.specs.Scans.{AwaitsScansFrom, FallsBy}
 use Rattle.ea_finish.specs.Underway.{bound_of}
 use Rattle.ea_finish.proofs.searching.exhaust.Given as goal
 
-abbrev pub invariant-loop-key : goal.invariant-loop-key
-invariant-loop-key g l = record {
+abbrev pub invariant-loop-entry : goal.invariant-loop-entry
+invariant-loop-entry g l = record {
   underway : AwaitsScansFrom l.network (g.T.TravelTimes.answers l.times) l.query.sources l.query.target l.table (WaitsAt l.frontier (bound_of l.table));
   falls : FallsBy l.network (g.T.TravelTimes.answers l.times) (limit l.query.target (bound_of l.initial.table)) (bound_of l.initial.table) (bound_of l.table);
   nodes : l.frontier.todo.nodes ≡ l.initial.frontier.todo.nodes;
   walks : l.frontier.todo.walks ≡ l.initial.frontier.todo.walks;
   listed : AreLabelsListed l.initial.table (g.K.Track.lists l.initial.track) → AreLabelsListed l.table (g.K.Track.lists l.track);
+  none : l.candidates ≡ [];
 }
 
 -- each lowering takes one from the sum at least, and adds one entry at most
-abbrev pub decreases-loop-key : goal.decreases-loop-key
-decreases-loop-key g l = sum l.table + entries_in l.frontier
+abbrev pub decreases-loop-entry : goal.decreases-loop-entry
+decreases-loop-entry g l = sum l.table + entries_in l.frontier

@@ -1,0 +1,30 @@
+use Rattle.std.proofs.Common.{◌≡◌, ◌<◌, ◌≤◌, ◌∙◌, ℕ, length, get_or, ap, subst, arith}
+use Rattle.ea_road.specs.Roads.{IsNode}
+use Rattle.ea_finish.specs.declared.candidates.Candidate.{Candidate}
+use Rattle.ea_finish.specs.Worklist.{Room}
+use Rattle.ea_finish.proofs.Gatherings.{Offered-more, entries_next, entry_is_there}
+use Rattle.ea_finish.proofs.candidates.Candidates.offer.Goals as goal
+
+abbrev none : Candidate
+none = record { time = 0; node = 0; from = 0 }
+
+pub lower-requires-clause-node : goal.lower-requires-clause-node
+lower-requires-clause-node g c =
+    let it = c.self.inside in
+    let there = entry_is_there it.list c.loop-place.place it.count none c.loop-place-test.true (omega (arith, c.self.invariant)) in
+    let candidate = get_or it.list c.loop-place.place none in
+    let node = rw (← c.self.view_is) at (c.requires.nodes candidate.time candidate.node) in
+    let is_node = node there in
+    let room = ap (λ (r : Room). r.nodes) c.loop-place.invariant.room in
+    (is_node.from_one, omega (arith, is_node.to_last, room))
+
+pub loop-place-preserved : goal.loop-place-preserved
+loop-place-preserved g c =
+    let it = c.self.inside in
+    let inside : c.loop-place.place < length it.list = omega (arith, c.loop-place-test.true, c.self.invariant) in
+    record {
+      offered = rw (entries_next it.list c.loop-place.place none inside) (Offered-more _ _ _ _ _ _ _ _ _ c.loop-place.invariant.offered c.lower.ensures.lowers);
+      spent = omega (arith, c.lower.ensures.spent, c.loop-place.invariant.spent);
+      room = c.lower.ensures.room ∙ c.loop-place.invariant.room;
+      listed = λ first. c.lower.ensures.listed (λ v has. c.leave.ensures v (c.loop-place.invariant.listed first v has));
+    }

@@ -1,0 +1,14 @@
+use Rattle.std.proofs.Common.{◌≡◌, ◌≤◌, ◌+◌, sum, take}
+use Rattle.ea_finish.specs.Candidates.{Offered, entries_of}
+use Rattle.ea_finish.specs.Listings.{AreLabelsListed}
+use Rattle.ea_finish.specs.Underway.{bound_of}
+use Rattle.ea_finish.proofs.candidates.Candidates.offer.Given as goal
+
+-- the candidates so far were offered
+abbrev pub invariant-loop-place : goal.invariant-loop-place
+invariant-loop-place g l = record {
+  offered : Offered (take l.place (entries_of l.self-inside.list)) l.initial.table (g.W.Opens.waits l.initial.todo (bound_of l.initial.table)) l.table (g.W.Opens.waits l.todo (bound_of l.table));
+  spent : sum l.table + g.W.Opens.size l.todo ≤ sum l.initial.table + g.W.Opens.size l.initial.todo;
+  room : g.W.Opens.room l.todo ≡ g.W.Opens.room l.initial.todo;
+  listed : AreLabelsListed l.initial.table (g.K.Track.lists l.initial.track) → AreLabelsListed l.table (g.K.Track.lists l.track);
+}

@@ -1,0 +1,176 @@
+//! Times that the scans of some nodes would offer, gathered before any is offered.
+ghost use Rattle.std.specs.Prelude.{◌≡◌, ℕ, ◌+◌, ◌<◌, ◌≤◌, [], ◌∷◌, ◌++◌, length, sum, Contains, IsTrue};
+ghost use Rattle.ea_limits.specs.declared.TheConstants.{HORIZON};
+ghost use Rattle.ea_road.specs.Roads.{IsArc, IsNode, leaving, top_class};
+ghost use Rattle.ea_finish.specs.Candidates.{Gathered, Offered};
+ghost use Rattle.ea_finish.specs.Listings.{AreLabelsListed};
+ghost use Rattle.ea_finish.specs.Underway.{bound_of};
+
+use crate::finishing::lower;
+use crate::levels::Track;
+use crate::opens::Opens;
+use ea_road::{Arc, HORIZON, Network, TravelTimes};
+use std::marker::Model;
+
+/// For how many candidates there is room.
+const ROOM: usize = 128;
+
+/// A time that may be a node's label, and the node from which it is had.
+#[derive(Clone, Copy, Drop)]
+struct Candidate {
+    time: u64,
+    node: u32,
+    from: u32,
+}
+
+/// Candidates for labels: times with their nodes, in the order in which they were gathered. Whether one is above its node's label is
+/// found without a branch, since that would be guessed wrongly for many; of those that are left nearly all are offered.
+#[derive(Drop)]
+pub(crate) struct Candidates {
+    list: [Candidate; ROOM],
+    count: usize,
+}
+
+impl Model for Candidates {
+    ghost use Rattle.std.specs.Prelude.{◌≡◌, ℕ, ◌≤◌, List, length, take};
+    ghost use Rattle.ea_finish.specs.Candidates.{entries_of};
+
+    ghost Value = { List (ℕ × ℕ) };
+
+    ghost view = { λ c. take c.count (entries_of c.list) };
+
+    ghost invariant = { λ c. (c.count ≤ 128) × (length c.list ≡ 128) };
+}
+
+impl Candidates {
+    /// None yet.
+    pub(crate) fn none() -> Candidates
+        ensures { result ≡ [] }
+    {
+        let none = Candidate {
+            time: 0,
+            node: 0,
+            from: 0,
+        };
+        Candidates {
+            list: [none; ROOM],
+            count: 0,
+        }
+    }
+
+    /// Adds one whose time is at most the last.
+    #[inline(always)]
+    fn add(&mut self, candidate: Candidate, last: u64)
+        requires { length self.old < 128 }
+        ensures in_time { candidate.time ≤ last
+            → self.new ≡ self.old ++ (candidate.time, candidate.node) ∷ [] }
+        ensures late { last < candidate.time → self.new ≡ self.old }
+    {
+        self.list[self.count] = candidate;
+        self.count += usize::from(candidate.time <= last);
+    }
+
+    /// Looks at an arc that is left at a departure: its arrival is added where it is no later than the label of its head.
+    #[inline(always)]
+    fn look_at<T: TravelTimes>(
+        &mut self,
+        network: &Network,
+        times: &T,
+        table: &[u64],
+        number: u32,
+        arc: Arc,
+        departure: u64,
+    )
+        requires arc { IsArc network.now number arc }
+        requires departure { departure ≤ HORIZON }
+        requires classes { top_class network.now.arcs ≤ T.classes times.now }
+        requires places { length table.now ≡ network.now.nodes }
+        requires room { length self.old < 128 }
+        ensures gathered { Gathered network.now (T.answers times.now) arc.tail departure
+            (number ∷ []) table.now self.old self.new }
+        ensures room { length self.new ≤ length self.old + 1 }
+    {
+        network.keeps_limits();
+        let _ = number;
+        let label = table[arc.head as usize - 1];
+        // No arc arrives before it is left. Where it is plain, a sum costs less than to look.
+        if arc.class > 0 {
+            if label <= departure {
+                return;
+            }
+        }
+        let time = times.arrive(arc.class, u64::from(arc.weight), departure);
+        let candidate = Candidate {
+            time,
+            node: arc.head,
+            from: arc.tail,
+        };
+        self.add(candidate, label.min(HORIZON));
+    }
+
+    /// Looks at the arcs from a node, left at its label. False where there may be no room for all their heads; then nothing is
+    /// changed.
+    #[inline(always)]
+    pub(crate) fn gather<T: TravelTimes>(
+        &mut self,
+        network: &Network,
+        times: &T,
+        table: &[u64],
+        node: u32,
+        departure: u64,
+    ) -> bool
+        requires node { IsNode network.now.nodes node }
+        requires departure { departure ≤ HORIZON }
+        requires classes { top_class network.now.arcs ≤ T.classes times.now }
+        requires places { length table.now ≡ network.now.nodes }
+        ensures gathered { IsTrue result → Gathered network.now (T.answers times.now) node
+            departure (leaving network.now node) table.now self.old self.new }
+        ensures crowded { (IsTrue result → ⊥) → self.new ≡ self.old }
+        ensures only { length self.old + length (leaving network.now node) ≤ 128 → IsTrue result }
+    {
+        let leaving = network.leaving(node);
+        let numbers = leaving.numbers;
+        let arcs = leaving.arcs;
+        if arcs.len() > ROOM - self.count {
+            return false;
+        }
+        for place in 0..arcs.len() {
+            self.look_at(
+                network,
+                times,
+                table,
+                numbers[place],
+                arcs[place].with_tail(node),
+                departure,
+            );
+        }
+        true
+    }
+
+    /// Offers each to its node: a label above it falls to it, and the node is opened. Then there is none.
+    pub(crate) fn offer<K: Track, W: Opens>(
+        &mut self,
+        track: &mut K,
+        table: &mut [u64],
+        todo: &mut W,
+    )
+        requires nodes { (time node : ℕ) → Contains self.old (time, node)
+            → IsNode (W.room todo.old).nodes node }
+        requires places { length table.old ≡ (W.room todo.old).nodes }
+        ensures none { self.new ≡ [] }
+        ensures offered { Offered self.old
+            table.old (W.waits todo.old (bound_of table.old))
+            table.new (W.waits todo.new (bound_of table.new)) }
+        ensures spent { sum table.new + W.size todo.new ≤ sum table.old + W.size todo.old }
+        ensures room { W.room todo.new ≡ W.room todo.old }
+        ensures listed { AreLabelsListed table.old (K.lists track.old)
+            → AreLabelsListed table.new (K.lists track.new) }
+    {
+        for place in 0..self.count {
+            let candidate = self.list[place];
+            track.leave(candidate.from);
+            lower(track, table, todo, candidate.node, candidate.time);
+        }
+        self.count = 0;
+    }
+}
