@@ -1,4 +1,4 @@
-//! How many nodes a search scans: what the width of its windows changes.
+//! How many times a search offers to nodes: what the width of its windows changes.
 ghost use Rattle.ea_road.specs.Queries.{IsProblem};
 
 use crate::frontier::{Frontier, empty_lists};
@@ -8,7 +8,7 @@ use crate::searching::search;
 use ea_road::{NONE, Network, Query, TravelTimes};
 use std::alloc::{AllocError, Global};
 
-/// Counts the nodes that are scanned.
+/// Counts the offers.
 #[derive(Drop)]
 struct Counting {
     count: u64,
@@ -30,9 +30,10 @@ impl Track for Counting {
     fn met(&mut self, _node: u32) {}
 }
 
-/// How many nodes the search of one thread scans where its windows have this width, each as often as it is scanned. Windows of width 0
-/// are single times, which is Dijkstra's method. The error comes only where memory is refused.
-pub fn count_scans<T: TravelTimes>(
+/// How many times the search of one thread offers to nodes where its windows have this width. No more nodes are scanned, for each but
+/// a source's is opened by an offer. Windows of width 0 are single times, which is Dijkstra's method. The error comes only where
+/// memory is refused.
+pub fn count_offers<T: TravelTimes>(
     alloc: Global,
     network: &Network,
     times: &T,

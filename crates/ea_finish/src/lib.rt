@@ -22,7 +22,7 @@ mod waiting;
 
 pub use alone::{arrivals_alone, arrivals_alone_by, solve_alone, solve_alone_by};
 pub use answer::Answer;
-pub use counting::count_scans;
+pub use counting::count_offers;
 pub use finishing::{Finished, finish};
 pub use link::{Link, NO_LEVEL};
 pub use open::Open;

@@ -1,9 +1,9 @@
-//! Tests: how many nodes a search scans where one window holds the whole network, beside the search by single times, which is
-//! Dijkstra's method.
+//! Tests: how often a search offers where one window holds the whole network, and so at most how many nodes it scans, beside the search
+//! by single times, which is Dijkstra's method.
 ghost use Rattle.std.specs.Prelude.{◌<◌};
 
 use crate::alone::{Row, network_of, timetables};
-use ea_finish::count_scans;
+use ea_finish::count_offers;
 use ea_road::{Query, Source, TravelTimes, is_problem};
 use std::alloc::{AllocError, Global};
 use std::test::Fail;
@@ -19,9 +19,9 @@ fn below(state: &mut u64, bound: u32) -> u32 {
     ((z ^ (z >> 31)) % u64::from(bound.max(1))) as u32
 }
 
-/// How many nodes a search from node 1 scans for a pair, by windows of the mean weight; none where the rows do not make a
+/// How often a search from node 1 offers for a pair, by windows of the mean weight; none where the rows do not make a
 /// network.
-fn pair_scans(
+fn pair_offers(
     alloc: Global,
     nodes: u32,
     rows: &[Row],
@@ -43,12 +43,12 @@ fn pair_scans(
         return Ok(None);
     }
     let width = network.mean_weight();
-    Ok(Some(count_scans(alloc, &network, &times, &query, width)?))
+    Ok(Some(count_offers(alloc, &network, &times, &query, width)?))
 }
 
-/// How many scans a search from node 1 takes by windows of the mean weight, and by single times; none where the rows do not
+/// How often a search from node 1 offers by windows of the mean weight, and by single times; none where the rows do not
 /// make a network.
-fn scans(alloc: Global, nodes: u32, rows: &[Row]) -> Result<Option<(u64, u64)>, AllocError> {
+fn offers(alloc: Global, nodes: u32, rows: &[Row]) -> Result<Option<(u64, u64)>, AllocError> {
     let Some(network) = network_of(alloc, nodes, rows)? else {
         return Ok(None);
     };
@@ -62,15 +62,15 @@ fn scans(alloc: Global, nodes: u32, rows: &[Row]) -> Result<Option<(u64, u64)>, 
         return Ok(None);
     }
     let width = network.mean_weight();
-    let wide = count_scans(alloc, &network, &times, &query, width)?;
-    let single = count_scans(alloc, &network, &times, &query, 0)?;
+    let wide = count_offers(alloc, &network, &times, &query, width)?;
+    let single = count_offers(alloc, &network, &times, &query, 0)?;
     Ok(Some((wide, single)))
 }
 
-/// Whether each node is scanned once by single times, and all together at most twice as often by windows.
-fn are_few(scans: Option<(u64, u64)>, nodes: u64) -> bool {
-    match scans {
-        Some((wide, single)) => single <= nodes && wide <= single.saturating_mul(2),
+/// Whether each arc offers once at most by single times, and all together at most twice as often by windows.
+fn are_few(offers: Option<(u64, u64)>, arcs: usize) -> bool {
+    match offers {
+        Some((wide, single)) => single <= arcs as u64 && wide <= single.saturating_mul(2),
         None => false,
     }
 }
@@ -161,8 +161,8 @@ fn one_heavy_arc_in_a_ring(rt: HostRuntime) -> Result<(), Fail> {
     for bound in [1, 100, 1_000_000] {
         for class in [0, 1, 2] {
             let rows = ring(rt.alloc(), 2000, bound, class)?;
-            let found = scans(rt.alloc(), 2000, &rows)?;
-            assert!(rt; are_few(found, 2000), "{found:?}");
+            let found = offers(rt.alloc(), 2000, &rows)?;
+            assert!(rt; are_few(found, rows.len()), "{found:?}");
         }
     }
     Ok(())
@@ -174,8 +174,8 @@ fn heavy_arcs_in_random_networks(rt: HostRuntime) -> Result<(), Fail> {
         for every in [10, u32::MAX] {
             for class in [0, 2] {
                 let rows = random(rt.alloc(), 2000, 8000, bound, every, class)?;
-                let found = scans(rt.alloc(), 2000, &rows)?;
-                assert!(rt; are_few(found, 2000), "{found:?}");
+                let found = offers(rt.alloc(), 2000, &rows)?;
+                assert!(rt; are_few(found, rows.len()), "{found:?}");
             }
         }
     }
@@ -186,8 +186,8 @@ fn heavy_arcs_in_random_networks(rt: HostRuntime) -> Result<(), Fail> {
 fn one_heavy_arc_in_a_grid(rt: HostRuntime) -> Result<(), Fail> {
     for bound in [1, 100, 1_000_000] {
         let rows = grid(rt.alloc(), 45, bound)?;
-        let found = scans(rt.alloc(), 2025, &rows)?;
-        assert!(rt; are_few(found, 2025), "{found:?}");
+        let found = offers(rt.alloc(), 2025, &rows)?;
+        assert!(rt; are_few(found, rows.len()), "{found:?}");
     }
     Ok(())
 }
@@ -195,8 +195,8 @@ fn one_heavy_arc_in_a_grid(rt: HostRuntime) -> Result<(), Fail> {
 #[test]
 fn weights_that_double(rt: HostRuntime) -> Result<(), Fail> {
     let rows = forks(rt.alloc(), 2000)?;
-    let found = scans(rt.alloc(), 2049, &rows)?;
-    assert!(rt; are_few(found, 2049), "{found:?}");
+    let found = offers(rt.alloc(), 2049, &rows)?;
+    assert!(rt; are_few(found, rows.len()), "{found:?}");
     Ok(())
 }
 
@@ -207,7 +207,7 @@ fn a_pair_ends_at_its_target(rt: HostRuntime) -> Result<(), Fail> {
         rows.push((node, node + 1, 10, 0))?;
     }
     for target in [2, 50] {
-        let found = pair_scans(rt.alloc(), 2000, &rows, target)?;
+        let found = pair_offers(rt.alloc(), 2000, &rows, target)?;
         assert!(rt; found == Some(u64::from(target)), "{found:?}");
     }
     Ok(())
