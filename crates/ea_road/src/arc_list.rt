@@ -8,7 +8,8 @@ use ea_raw::{RawArc, RawTable};
 use std::alloc::{AllocError, Global};
 use std::marker::Model;
 
-/// Arcs in their order: as a text has them, and their classes beside them, which take no memory where no arc was given one.
+/// Arcs in their order: as a text has them, and their classes beside them, in a list that `with_classes` leaves empty
+/// where no arc is given one.
 /// Contracts see the list of the arcs.
 #[derive(Drop)]
 pub struct ArcList {

@@ -56,13 +56,14 @@ pub struct Leaving<'a> {
 
 impl Network {
     /// A network of so many nodes, numbered from 1, and these arcs. It takes time in proportion to both. An error comes only
-    /// where memory for the index of arcs by tail was refused; then the arcs are dropped.
+    /// where memory for the list of arcs or for their index by tail was refused; then the arcs are dropped.
     pub fn new(alloc: Global, nodes: u32, arcs: Vec<Arc>) -> Result<Network, AllocError>
         requires { IsNetwork (record { nodes = nodes; arcs = arcs.items }) }
         ensures { IfOk result (λ network. network ≡ record { nodes = nodes; arcs = arcs.items }) }
     {
-        let arcs = ArcList::of(alloc, &arcs)?;
-        Network::of_list(alloc, nodes, arcs)
+        let list = ArcList::of(alloc, &arcs)?;
+        drop(arcs);
+        Network::of_list(alloc, nodes, list)
     }
 
     /// A network of so many nodes and the arcs of a list, as `new` makes it.
