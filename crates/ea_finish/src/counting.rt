@@ -23,8 +23,6 @@ impl Track for Counting {
         self.count = self.count.wrapping_add(1);
     }
 
-    fn reach(&mut self, _node: u32) {}
-
     fn fell(&mut self, _node: u32) {}
 
     fn met(&mut self, _node: u32) {}

@@ -23,17 +23,6 @@ pub struct Finished {
     pub todo: Open,
 }
 
-/// Notes that a label falls.
-fn note<K: Track>(track: &mut K, node: u32, before: u64)
-    ensures kept { KeepsListed (K.lists track.old) (K.lists track.new) }
-    ensures there { before ≡ NONE → K.lists track.new node }
-{
-    if before == NONE {
-        track.reach(node);
-    }
-    track.fell(node);
-}
-
 /// Offers a time to a node: a label above it falls to it, and the node is opened.
 pub(crate) fn lower<K: Track, W: Opens>(
     track: &mut K,
@@ -57,7 +46,7 @@ pub(crate) fn lower<K: Track, W: Opens>(
     if time < before {
         table[place] = time;
         todo.open(node, time);
-        note(track, node, before);
+        track.fell(node);
     } else if time == before {
         track.met(node);
     }

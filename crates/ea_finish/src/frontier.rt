@@ -5,7 +5,7 @@ ghost use Rattle.ea_finish.specs.Underway.{bound_of};
 
 use crate::open::Open;
 use crate::opens::Opens;
-use crate::touching::{AHEAD, nodes_of, touch_arcs, touch_places};
+use crate::touching::{AHEAD, touch_entries, touch_first_arcs};
 use ea_road::{Network, window_bits};
 use std::alloc::{AllocError, Global};
 use std::marker::Model;
@@ -236,12 +236,11 @@ impl Frontier {
             return;
         }
         let first = window.len().saturating_sub(AHEAD);
-        let places = touch_places(network, table, &nodes_of(&window[first..]));
+        let places = touch_entries(network, table, &window[first..]);
         self.draw(table);
         let hand = &self.lists[HAND];
         self.drawn = self.drawn.wrapping_add(hand.len() as u64);
-        let nodes = nodes_of(hand);
-        let arcs = touch_arcs(network, &nodes);
+        let arcs = touch_first_arcs(network, hand);
         self.seen ^= places ^ arcs;
     }
 

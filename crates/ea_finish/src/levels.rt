@@ -17,14 +17,10 @@ pub(crate) trait Track {
     fn leave(&mut self, node: u32)
         ensures { KeepsListed (lists self.old) (lists self.new) };
 
-    /// A node got its first label.
-    fn reach(&mut self, node: u32)
+    /// A node's label fell, for the first time or again.
+    fn fell(&mut self, node: u32)
         ensures there { lists self.new node }
         ensures kept { KeepsListed (lists self.old) (lists self.new) };
-
-    /// A node's label fell.
-    fn fell(&mut self, node: u32)
-        ensures { KeepsListed (lists self.old) (lists self.new) };
 
     /// A node's label was reached again.
     fn met(&mut self, node: u32)
@@ -42,8 +38,6 @@ impl Track for Untracked {
 
     fn leave(&mut self, _node: u32) {}
 
-    fn reach(&mut self, _node: u32) {}
-
     fn fell(&mut self, _node: u32) {}
 
     fn met(&mut self, _node: u32) {}
@@ -58,11 +52,9 @@ impl Track for Listed {
 
     fn leave(&mut self, _node: u32) {}
 
-    fn reach(&mut self, node: u32) {
+    fn fell(&mut self, node: u32) {
         self.add(node);
     }
-
-    fn fell(&mut self, _node: u32) {}
 
     fn met(&mut self, _node: u32) {}
 }
@@ -112,11 +104,8 @@ impl Track for Levels {
         };
     }
 
-    fn reach(&mut self, node: u32) {
-        self.listed.add(node);
-    }
-
     fn fell(&mut self, node: u32) {
+        self.listed.add(node);
         if let Some(noted) = self.noted.get_mut((node as usize).wrapping_sub(1)) {
             *noted = self.above;
             self.falls = self.falls.saturating_add(1);

@@ -13,7 +13,7 @@ use std::marker::Model;
 /// One node in so many is listed at most. Beyond that it costs less to put back all.
 const PART: usize = 16;
 
-/// Nodes that were reached. Where there are too many to list each, all count as listed.
+/// Nodes that were reached, each as often as its label fell. Where there are too many to list each, all count as listed.
 #[derive(Drop)]
 pub(crate) struct Listed {
     nodes: Vec<u32>,

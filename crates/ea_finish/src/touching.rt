@@ -1,5 +1,5 @@
 //! Reads of memory ahead of the scans that need it. The loads of each loop do not wait for one another, so that many of
-//! them are under way at once. Of the numbers that come back nothing is promised.
+//! them are under way at once, the more the less there is to do for each. Of the numbers that come back nothing is promised.
 
 use crate::link::Link;
 use ea_road::{LeavingArc, Network};
@@ -9,17 +9,6 @@ pub(crate) const AHEAD: usize = 16;
 
 /// Some nodes, and 0 where there are fewer.
 pub(crate) type Nodes = [u32; AHEAD];
-
-/// The nodes of entries, of the first ones where there are too many.
-pub(crate) fn nodes_of(entries: &[(u64, u32)]) -> Nodes {
-    let mut nodes = [0; AHEAD];
-    for place in 0..AHEAD {
-        if let Some(entry) = entries.get(place) {
-            nodes[place] = entry.1;
-        }
-    }
-    nodes
-}
 
 /// The arcs from a node.
 fn arcs_from(network: &Network, node: u32) -> &[LeavingArc] {
@@ -37,40 +26,44 @@ fn label_at(table: &[u64], node: u32) -> u64 {
     }
 }
 
-/// Reads the labels of nodes, and where their arcs begin.
-pub(crate) fn touch_places(network: &Network, table: &[u64], nodes: &Nodes) -> u64 {
+/// Reads the labels of entries' nodes, and where their arcs begin.
+pub(crate) fn touch_entries(network: &Network, table: &[u64], entries: &[(u64, u32)]) -> u64 {
     let mut seen = 0;
-    for node in nodes {
-        seen ^= label_at(table, *node) ^ arcs_from(network, *node).len() as u64;
+    for entry in entries {
+        seen ^= label_at(table, entry.1) ^ u64::from(network.touch_place(entry.1));
     }
     seen
 }
 
-/// Reads the first arcs from nodes.
-pub(crate) fn touch_arcs(network: &Network, nodes: &Nodes) -> u64 {
+/// Reads the first arcs from entries' nodes.
+pub(crate) fn touch_first_arcs(network: &Network, entries: &[(u64, u32)]) -> u64 {
     let mut seen = 0;
-    for node in nodes {
-        if let Some(arc) = arcs_from(network, *node).first() {
-            seen ^= u64::from(arc.head);
-        }
+    for entry in entries {
+        seen ^= u64::from(network.touch_arc(entry.1));
     }
     seen
 }
 
-/// Reads the labels of the heads of the arcs from nodes.
-pub(crate) fn touch_heads(network: &Network, table: &[u64], nodes: &Nodes) -> u64 {
+/// Reads the labels of nodes, and the first arcs from them.
+pub(crate) fn touch_nodes(network: &Network, table: &[u64], nodes: &Nodes) -> u64 {
+    let mut seen = 0;
+    for node in nodes {
+        seen ^= label_at(table, *node) ^ u64::from(network.touch_place(*node));
+    }
+    for node in nodes {
+        seen ^= u64::from(network.touch_arc(*node));
+    }
+    seen
+}
+
+/// Reads the labels and the levels of the heads of the arcs from nodes.
+pub(crate) fn touch_heads(network: &Network, table: &[u64], links: &[Link], nodes: &Nodes) -> u64 {
     let mut seen = 0;
     for node in nodes {
         for arc in arcs_from(network, *node) {
             seen ^= label_at(table, arc.head);
         }
     }
-    seen
-}
-
-/// Reads the levels of the heads of the arcs from nodes.
-pub(crate) fn touch_links(network: &Network, links: &[Link], nodes: &Nodes) -> u64 {
-    let mut seen = 0;
     for node in nodes {
         for arc in arcs_from(network, *node) {
             if let Some(link) = links.get((arc.head as usize).wrapping_sub(1)) {

@@ -14,7 +14,7 @@ use crate::answer::Answer;
 use crate::finishing::Finished;
 use crate::link::{Link, NO_LEVEL};
 use crate::open::Open;
-use crate::touching::{AHEAD, touch_arcs, touch_heads, touch_links, touch_places};
+use crate::touching::{AHEAD, touch_heads, touch_nodes};
 use crate::waiting::Waiting;
 use ea_road::{Arc, HORIZON, Network, Query, Source, TravelTimes};
 
@@ -166,11 +166,9 @@ impl Ahead {
         }
         self.left = AHEAD;
         let nodes = waiting.next();
-        let places = touch_places(network, table, &nodes);
-        let arcs = touch_arcs(network, &nodes);
-        let labels = touch_heads(network, table, &nodes);
-        let levels = touch_links(network, links, &nodes);
-        self.seen ^= places ^ arcs ^ labels ^ levels;
+        let near = touch_nodes(network, table, &nodes);
+        let heads = touch_heads(network, table, links, &nodes);
+        self.seen ^= near ^ heads;
     }
 }
 

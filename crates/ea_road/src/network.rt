@@ -184,6 +184,22 @@ impl Network {
             arcs: &self.by_tail[from..to],
         }
     }
+
+    /// Reads where the arcs that leave a node begin, ahead of a scan that needs it. Of the number nothing is promised.
+    pub fn touch_place(&self, node: u32) -> u32 {
+        match self.starts.get((node as usize).wrapping_sub(1)) {
+            Some(place) => *place,
+            None => 0,
+        }
+    }
+
+    /// Reads the first arc that leaves a node, ahead of a scan that needs it. Of the number nothing is promised.
+    pub fn touch_arc(&self, node: u32) -> u32 {
+        match self.by_tail.get(self.touch_place(node) as usize) {
+            Some(arc) => arc.head,
+            None => 0,
+        }
+    }
 }
 
 /// What is known of all of a network's arcs, and their numbers in order.

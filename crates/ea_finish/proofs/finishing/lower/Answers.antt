@@ -1,4 +1,4 @@
-use Rattle.std.proofs.Common.{◌≡◌, ℕ, ◌-◌, set, inl, inr, subst, sym, ap, ◌∙◌, arith}
+use Rattle.std.proofs.Common.{◌≡◌, ℕ, ◌-◌, set, inl, inr, subst, sym, ◌∙◌, arith}
 use Rattle.std.proofs.lemmas.Bool.{cases_eq}
 use Rattle.std.proofs.lemmas.List.{get_or_default}
 use Rattle.ea_road.specs.declared.TheConstants.{NONE}
@@ -45,14 +45,9 @@ pub returns-then-time-before-clause-listed : goal.returns-then-time-before-claus
 returns-then-time-before-clause-listed g c = λ first v has.
     let node = c.args.node in
     let table = c.args.table.now in
-    let at = bound_of-at table node (omega arith) in
-    let same = get_or_default table (node - 1) 0 NONE (omega arith) in
     elim (cases_eq v node) [
-      | inl is ↦ elim (cases_eq (bound_of table node) NONE) [
-        | inl none ↦ (
-            let P : ℕ → Type 0 = λ w. g.K.Track.lists c.note.new.track w in
-            subst P (sym is) (c.note.ensures.there (omega arith)))
-        | inr labelled ↦ c.note.ensures.kept v (first v (λ none. labelled (ap (bound_of table) (sym is) ∙ none)))
-      ]
-      | inr differs ↦ c.note.ensures.kept v (first v (λ none. has (bound_of-set_other table node v c.args.time (omega arith) differs ∙ none)))
+      | inl is ↦ (
+          let P : ℕ → Type 0 = λ w. g.K.Track.lists c.fell.new.self w in
+          subst P (sym is) c.fell.ensures.there)
+      | inr differs ↦ c.fell.ensures.kept v (first v (λ none. has (bound_of-set_other table node v c.args.time (omega arith) differs ∙ none)))
     ]
