@@ -10,7 +10,7 @@ use crate::ground::Ground;
 use crate::problem::Posed;
 use ea_labels::LabelSeat;
 use ea_pool::{Entry, EntryHeap};
-use ea_road::{Known, TravelTimes};
+use ea_road::{Known, Network, TravelTimes};
 
 /// Fewer entries are not worth it.
 const FEW: usize = 4;
@@ -20,7 +20,7 @@ fn read_places<K: Known + Posed, E: EntryHeap, T: TravelTimes>(
     ground: &Ground<'_, K, T, E>,
     seat: &mut LabelSeat<K>,
     entries: &[Entry],
-) -> usize
+) -> u32
     requires ground { IsGround K.is_known K.problem T.answers T.classes ground.now }
     requires seat { seat.old.table ≡ ground.now.labels.now.table }
     requires known { AreKnown K.is_known entries.now }
@@ -30,24 +30,16 @@ fn read_places<K: Known + Posed, E: EntryHeap, T: TravelTimes>(
     let mut places = 0;
     for entry in entries {
         ground.labels.read(seat, entry.node);
-        places ^= ground.network.leaving(entry.node).arcs.len();
+        places ^= ground.network.touch_place(entry.node);
     }
     places
 }
 
 // Reads the first arcs from entries' nodes.
-fn read_arcs<K: Known + Posed, E: EntryHeap, T: TravelTimes>(
-    ground: &Ground<'_, K, T, E>,
-    entries: &[Entry],
-) -> u32
-    requires ground { IsGround K.is_known K.problem T.answers T.classes ground.now }
-    requires known { AreKnown K.is_known entries.now }
-{
+fn read_arcs(network: &Network, entries: &[Entry]) -> u32 {
     let mut heads = 0;
     for entry in entries {
-        if let Some(arc) = ground.network.leaving(entry.node).arcs.first() {
-            heads ^= arc.head;
-        }
+        heads ^= network.touch_arc(entry.node);
     }
     heads
 }
@@ -85,8 +77,8 @@ pub fn read_ahead<K: Known + Posed, E: EntryHeap, T: TravelTimes>(
     if entries.len() < FEW {
         return;
     }
-    // No node has so many arcs, or so great a number. What was read is looked at so that no load is left out.
-    if read_places(ground, seat, entries) == usize::MAX || read_arcs(ground, entries) == u32::MAX {
+    // There are neither so many arcs nor so many nodes. What was read is looked at so that no load is left out.
+    if (read_places(ground, seat, entries) ^ read_arcs(ground.network, entries)) == u32::MAX {
         return;
     }
     for entry in entries {

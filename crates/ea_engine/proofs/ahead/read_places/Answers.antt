@@ -1,5 +1,4 @@
-use Rattle.std.proofs.Common.{refl, ap, ◌∙◌}
-use Rattle.ea_road.specs.Roads.{Roads}
+use Rattle.std.proofs.Common.{refl, ◌∙◌}
 use Rattle.ea_engine.proofs.HoldLemmas.{known_at}
 use Rattle.ea_engine.proofs.ProgressLemmas.{OnlySaw-none, OnlySaw-more}
 use Rattle.ea_engine.proofs.ahead.read_places.Goals as goal
@@ -10,10 +9,6 @@ loop-entry-init g c = record { table = refl; saw = OnlySaw-none _ }
 pub read-requires-clause-node : goal.read-requires-clause-node
 read-requires-clause-node g c κs outlives =
     known_at g.K.Known.is_known g.K.Posed.problem _ _ c.loop-entry.entry-index _ c.requires.ground.places_are c.requires.ground.posed c.requires.known c.loop-entry-test.true
-
-pub leaving-requires : goal.leaving-requires
-leaving-requires g c =
-    known_at g.K.Known.is_known g.K.Posed.problem _ _ c.loop-entry.entry-index _ (ap (λ (n : Roads). n.nodes) c.requires.ground.named.network_is) c.requires.ground.posed c.requires.known c.loop-entry-test.true
 
 pub loop-entry-preserved : goal.loop-entry-preserved
 loop-entry-preserved g c = record {
