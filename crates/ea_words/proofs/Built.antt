@@ -1,31 +1,44 @@
 -- What commands keep as they are built.
-use Rattle.std.proofs.Common.{◌≡◌, ◌∙◌, ap, ap₂, false, ◌||◌, Result, Ok, Err}
-use Rattle.std.specs.Prelude.{IfOk}
-use Rattle.clap.specs.Words.{AddsArg, AddsSubcommand, app_of, rule_of, with_rule, with_subcommand}
+use Rattle.std.proofs.Common.{◌≡◌, ◌∙◌, ap, ap₂, subst, sym, false, ◌||◌, Result, Ok, Err}
+use Rattle.std.specs.Prelude.{IfOk, IsOkAnd}
+use Rattle.clap.specs.Words.{AddsArg, AddsSubcommand, App, Rule, rule_of, with_rule, with_subcommand}
 use Rattle.clap.specs.Simple.{app_of_fields}
 use Rattle.clap.specs.declared.builder.command.Command.TheViews.{out-Command as fields_of}
 use Rattle.clap.specs.declared.builder.command.Command.{Command}
+use Rattle.clap.specs.Built.{IsParsedFrom}
 use Rattle.clap.specs.declared.builder.arg.Arg.{Arg}
+use Rattle.clap.specs.declared.parser.matches.ArgMatches.{ArgMatches}
+use Rattle.ea_words.specs.Building.{Builds, IsBuilt}
 
-module _ {E : Type 0} (before : Command) (arg : Arg) (is_local : arg.global ≡ false) where
-  pub app_with : (found : Result Command E) → IfOk found (λ c. AddsArg before arg c) → IfOk found (λ c. app_of c ≡ with_rule (app_of before) (rule_of arg))
-  app_with (Ok c) adds = adds.shape is_local
-  app_with (Err e) adds = adds
+pub built_in : {E : Type 0} (found : Result Command E) (c : Command) (app : App) → found ≡ Ok c → Builds app found → IsBuilt app c
+built_in found c app is built = subst (Builds app) is built
 
-  pub local_with : (found : Result Command E) → IfOk found (λ c. AddsArg before arg c) → IfOk found (λ c. (fields_of before).has_globals ≡ false → (fields_of c).has_globals ≡ false)
-  local_with (Ok c) adds = λ none. adds.globals ∙ ap₂ ◌||◌ none is_local
-  local_with (Err e) adds = adds
+pub parsed_in : {E F : Type 0} (found : Result Command E) (c : Command) (parsed : Result ArgMatches F) → found ≡ Ok c
+    → IfOk parsed (λ m. IsParsedFrom c m) → IfOk parsed (λ m. IsOkAnd found (λ d. IsParsedFrom d m))
+parsed_in found c parsed is from = subst (λ (r : Result Command _). IfOk parsed (λ m. IsOkAnd r (λ d. IsParsedFrom d m))) (sym is) from
+
+pub built_with : {E : Type 0} (before : Command) (arg : Arg) (found : Result Command E) → IfOk found (λ c. AddsArg before arg c)
+    → (app : App) (rule : Rule) → IsBuilt app before → rule_of arg ≡ rule → arg.global ≡ false → Builds (with_rule app rule) found
+built_with before arg (Ok c) adds app rule built is is_local = record {
+  known = adds.shape is_local ∙ ap₂ with_rule built.known is;
+  local = adds.globals ∙ ap₂ ◌||◌ built.local is_local;
+}
+built_with before arg (Err e) adds app rule built is is_local = adds
 
 -- A command that is named otherwise in its texts has the same arguments.
-module _ {E : Type 0} (before : Command) (more : Command → Type 0) where
-  pub app_named : (found : Result Command E) → IfOk found (λ c. (fields_of c ≡ record (fields_of before) { bin_name = (fields_of c).bin_name }) × more c) → IfOk found (λ c. app_of c ≡ app_of before)
-  app_named (Ok c) is = ap app_of_fields is.0
-  app_named (Err e) is = is
+pub built_named : {E : Type 0} (before : Command) (more : Command → Type 0) (found : Result Command E)
+    → IfOk found (λ c. (fields_of c ≡ record (fields_of before) { bin_name = (fields_of c).bin_name }) × more c)
+    → (app : App) → IsBuilt app before → Builds app found
+built_named before more (Ok c) is app built = record {
+  known = ap app_of_fields is.0 ∙ built.known;
+  local = ap (λ fields. fields.has_globals) is.0 ∙ built.local;
+}
+built_named before more (Err e) is app built = is
 
-  pub local_named : (found : Result Command E) → IfOk found (λ c. (fields_of c ≡ record (fields_of before) { bin_name = (fields_of c).bin_name }) × more c) → IfOk found (λ c. (fields_of c).has_globals ≡ (fields_of before).has_globals)
-  local_named (Ok c) is = ap (λ fields. fields.has_globals) is.0
-  local_named (Err e) is = is
-
-pub app_above : {E : Type 0} (before below : Command) (found : Result Command E) → (fields_of below).has_globals ≡ false → IfOk found (λ c. AddsSubcommand before below c) → IfOk found (λ c. app_of c ≡ with_subcommand (app_of before) (app_of below).top)
-app_above before below (Ok c) is_local adds = adds.shape is_local
-app_above before below (Err e) is_local adds = adds
+pub built_above : {E : Type 0} (before below : Command) (found : Result Command E) → IfOk found (λ c. AddsSubcommand before below c)
+    → (app under : App) → IsBuilt app before → IsBuilt under below → Builds (with_subcommand app under.top) found
+built_above before below (Ok c) adds app under built built_below = record {
+  known = adds.shape built_below.local ∙ ap₂ with_subcommand built.known (ap (λ (a : App). a.top) built_below.known);
+  local = adds.globals ∙ ap₂ ◌||◌ built.local built_below.local;
+}
+built_above before below (Err e) adds app under built built_below = adds

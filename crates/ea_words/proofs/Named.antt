@@ -1,6 +1,6 @@
 -- Where clap takes the words of a command, its files are named.
-use Rattle.std.proofs.Common.{◌≡◌, refl, sym, subst, arith, true, is_some, ℕ}
-use Rattle.std.specs.Prelude.{codes}
+use Rattle.std.proofs.Common.{◌≡◌, refl, sym, subst, arith, true, is_some, Bool, ℕ, Result, Ok, Err}
+use Rattle.std.specs.Prelude.{IsOkAnd, codes}
 use Rattle.clap.specs.Built.{IsParsedFrom}
 use Rattle.clap.specs.Matches.{found_of}
 use Rattle.clap.specs.Simple.{App, app_of}
@@ -11,6 +11,7 @@ use Rattle.clap.specs.declared.parser.matches.ArgMatches.{ArgMatches}
 use Rattle.clap.proofs.OnLiterals.{clap_on_literals}
 use Rattle.ea_words.specs.Grammar.{run_app, pairs_app, rank_app, check_app}
 use Rattle.ea_words.specs.Meaning.{Verb, run_verb, pairs_verb, rank_verb, check_verb, app_by, files_of, reported_by, second_by, wanted}
+use Rattle.ea_words.specs.Refusals.{IsReadBy}
 use Rattle.ea_words.proofs.Reported.{has_files, there}
 use Rattle.ea_words.proofs.Required.{IsStrict, IsWanted, has_name}
 
@@ -44,7 +45,7 @@ named_at : (verb : Verb) (c : Command) (m : ArgMatches) (k : ℕ) (id : Text) �
 named_at verb c m k id app parsed wanted =
     has_name c m k id parsed (subst (λ (a : App). IsStrict a.top) (sym app) (strict verb)) (subst (λ (a : App). IsWanted a.top.rules k id) (sym app) wanted)
 
-pub files_named : (verb : Verb) (c : Command) (m : ArgMatches) → app_of c ≡ app_by verb → IsParsedFrom c m
+files_named : (verb : Verb) (c : Command) (m : ArgMatches) → app_of c ≡ app_by verb → IsParsedFrom c m
     → is_some (files_of (second_by verb) (reported_by verb) (rows_of (found_of m))) ≡ true
 files_named verb c m app parsed = has_files (second_by verb) (reported_by verb) (rows_of (found_of m))
     (named_at verb c m 0 (codes "gr") app parsed (wants_network verb)) (named_at verb c m 1 (second_by verb) app parsed (wants_starts verb)) (reported verb app)
@@ -54,3 +55,9 @@ files_named verb c m app parsed = has_files (second_by verb) (reported_by verb) 
     reported pairs_verb app = refl
     reported rank_verb app = refl
     reported check_verb app = there _ (named_at check_verb c m 2 (codes "report") app parsed wants_report)
+
+pub files_read : {E : Type 0} (verb : Verb) (found : Result Command E) (second : Text) (wants : Bool) (m : ArgMatches) → IsReadBy verb found second wants
+    → IsOkAnd found (λ c. IsParsedFrom c m) → is_some (files_of second wants (rows_of (found_of m))) ≡ true
+files_read verb (Ok c) second wants m read parsed =
+    rw (read.called, read.wants) (files_named verb c m read.built.known parsed)
+files_read verb (Err e) second wants m read parsed = absurd parsed

@@ -1,38 +1,42 @@
 -- The commands are of the sort of which clap tells the matches and the kinds of error.
-use Rattle.std.proofs.Common.{◌≡◌, true, refl}
-use Rattle.clap.specs.Words.{is_simple, is_simple_and_free}
+use Rattle.std.proofs.Common.{◌≡◌, ◌∙◌, ap, true, refl, Result, Ok, Err}
+use Rattle.std.specs.Prelude.{IfOk}
+use Rattle.clap.specs.Words.{App, app_of, is_simple, is_simple_and_free}
+use Rattle.clap.specs.declared.builder.command.Command.{Command}
 use Rattle.clap.proofs.OnLiterals.{clap_on_literals}
+use Rattle.ea_words.specs.Building.{Builds}
 use Rattle.ea_words.specs.Grammar.{run_app, pairs_app, rank_app, check_app, explain_app, formats_app, program}
+use Rattle.ea_words.specs.Meaning.{Verb, run_verb, pairs_verb, rank_verb, check_verb, app_by}
 
-pub simple_run : is_simple run_app ≡ true
+simple_run : is_simple run_app ≡ true
 unfolding clap_on_literals run_app
 simple_run = refl
 
-pub free_run : is_simple_and_free run_app ≡ true
+free_run : is_simple_and_free run_app ≡ true
 unfolding clap_on_literals run_app
 free_run = refl
 
-pub simple_pairs : is_simple pairs_app ≡ true
+simple_pairs : is_simple pairs_app ≡ true
 unfolding clap_on_literals pairs_app
 simple_pairs = refl
 
-pub free_pairs : is_simple_and_free pairs_app ≡ true
+free_pairs : is_simple_and_free pairs_app ≡ true
 unfolding clap_on_literals pairs_app
 free_pairs = refl
 
-pub simple_rank : is_simple rank_app ≡ true
+simple_rank : is_simple rank_app ≡ true
 unfolding clap_on_literals rank_app
 simple_rank = refl
 
-pub free_rank : is_simple_and_free rank_app ≡ true
+free_rank : is_simple_and_free rank_app ≡ true
 unfolding clap_on_literals rank_app
 free_rank = refl
 
-pub simple_check : is_simple check_app ≡ true
+simple_check : is_simple check_app ≡ true
 unfolding clap_on_literals check_app
 simple_check = refl
 
-pub free_check : is_simple_and_free check_app ≡ true
+free_check : is_simple_and_free check_app ≡ true
 unfolding clap_on_literals check_app
 free_check = refl
 
@@ -59,3 +63,24 @@ simple_program = refl
 pub free_program : is_simple_and_free program ≡ true
 unfolding clap_on_literals program run_app pairs_app rank_app check_app explain_app formats_app
 free_program = refl
+
+pub simple_by : (verb : Verb) → is_simple (app_by verb) ≡ true
+simple_by run_verb = simple_run
+simple_by pairs_verb = simple_pairs
+simple_by rank_verb = simple_rank
+simple_by check_verb = simple_check
+
+pub free_by : (verb : Verb) → is_simple_and_free (app_by verb) ≡ true
+free_by run_verb = free_run
+free_by pairs_verb = free_pairs
+free_by rank_verb = free_rank
+free_by check_verb = free_check
+
+-- And so are the commands that clap knows so.
+pub simple_built : {E : Type 0} (app : App) (found : Result Command E) → is_simple app ≡ true → Builds app found → IfOk found (λ c. is_simple (app_of c) ≡ true)
+simple_built app (Ok c) is built = ap is_simple built.known ∙ is
+simple_built app (Err e) is built = built
+
+pub free_built : {E : Type 0} (app : App) (found : Result Command E) → is_simple_and_free app ≡ true → Builds app found → IfOk found (λ c. is_simple_and_free (app_of c) ≡ true)
+free_built app (Ok c) is built = ap is_simple_and_free built.known ∙ is
+free_built app (Err e) is built = built

@@ -1,4 +1,5 @@
 pub mod Bad
+pub mod Building
 pub mod Grammar
 pub mod Limits
 pub mod Meaning

@@ -1,7 +1,8 @@
 -- Why words ask for nothing.
-use Rattle.std.specs.Prelude.{◌≡◌, ◌⊎◌, Bool, true, false, List, [], ◌∷◌, codes, Some, None}
+use Rattle.std.specs.Prelude.{◌≡◌, ◌⊎◌, Bool, true, false, List, [], ◌∷◌, codes, Result, Some, None}
 use Rattle.clap.specs.Words.{Kinds, IsAmong, Row, Text, fault_of, first_of, matches_of}
 use Rattle.clap.specs.Words.{kind_of}
+use Rattle.clap.specs.declared.builder.command.Command.{Command as Clap}
 use Rattle.clap.specs.declared.error.Error.{Error}
 use Rattle.clap.specs.declared.error.kind.ErrorKind.{ErrorKind}
 use Rattle.clap.specs.declared.error.kind.ErrorKind.TheVariants as kind
@@ -9,8 +10,10 @@ use Rattle.clap.specs.declared.error.kind.ErrorKind.TheVariants.{DisplayHelp, Di
 use Rattle.ea_words.specs.declared.fault.CommandFault.{CommandFault}
 use Rattle.ea_words.specs.declared.fault.CommandFault.TheVariants.{Words, BadOption, OutOfMemory}
 use Rattle.ea_words.specs.declared.options.Command.{Command}
+use Rattle.ea_words.specs.declared.options.RunOptions.{RunOptions}
+use Rattle.ea_words.specs.Building.{Builds}
 use Rattle.ea_words.specs.Grammar.{explain_app, formats_app, program}
-use Rattle.ea_words.specs.Meaning.{Files, Head, Verb, of_files, of_explain, of_formats, of_none, stored, explain, formats, head_of, app_by, second_by, reported_by, meaning_by, asked, files_of, has_input_twice, options_of}
+use Rattle.ea_words.specs.Meaning.{Files, Head, Verb, of_files, of_explain, of_formats, of_none, stored, explain, formats, head_of, app_by, second_by, reported_by, meaning_by, asked, files_by, files_of, has_input_twice, options_by, options_of}
 
 -- Whether a text of this kind was asked for.
 abbrev pub is_shown : ErrorKind → Bool
@@ -73,6 +76,19 @@ abbrev pub IsRefusedBy : Head → List Text → CommandFault → Type 0
 IsRefusedBy head words (Words help text) = IsTextOf (kinds_by head words) help
 IsRefusedBy head words BadOption = (kinds_by head words ≡ []) × IsBadBy head words
 IsRefusedBy head words OutOfMemory = Unit {0}
+
+-- A command with files as it is built, what its second file is called, and whether it wants a report.
+pub record IsReadBy (verb : Verb) {E : Type 0} (command : Result Clap E) (second : Text) (reported : Bool) : Type 0 where
+  pub built : Builds (app_by verb) command
+  pub called : second ≡ second_by verb
+  pub wants : reported ≡ reported_by verb
+
+-- Clap takes the words of a command with files, and they name these files and have these options.
+pub record IsAskedBy (verb : Verb) (words : List Text) (files : Files) (options : RunOptions) : Type 0 where
+  pub taken : kinds_by (of_files verb) words ≡ []
+  pub named : files_by verb words ≡ Some files
+  pub read : options_by verb words ≡ Some options
+  pub once : has_input_twice files ≡ false
 
 -- Clap takes the words of a command, and they ask for this.
 pub record AsksBy (verb : Verb) (words : List Text) (command : Command) : Type 0 where

@@ -1,7 +1,7 @@
 //! The arguments of the commands, with the texts that explain them.
-ghost use Rattle.std.specs.Prelude.{◌≡◌, IfOk, false};
-ghost use Rattle.clap.specs.Words.{app_of, rule_of, with_rule};
-ghost use Rattle.clap.specs.declared.builder.command.Command.TheViews.{out-Command as fields_of};
+ghost use Rattle.std.specs.Prelude.{◌≡◌, false};
+ghost use Rattle.clap.specs.Words.{App, Rule, rule_of, with_rule};
+ghost use Rattle.ea_words.specs.Building.{Builds};
 ghost use Rattle.ea_words.specs.Grammar.{output, with_departures, with_output, with_report, with_telling, with_workers};
 
 use clap::{Arg, ArgAction, Command};
@@ -20,7 +20,7 @@ fn valued<'a>(alloc: Global, name: &'a str, value: &'a str, help: &'a str) -> Ar
 }
 
 /// A flag.
-pub(crate) fn flag<'a>(alloc: Global, name: &'a str, help: &'a str) -> Arg<'a>
+fn flag<'a>(alloc: Global, name: &'a str, help: &'a str) -> Arg<'a>
     ensures rule { rule_of result ≡ Rattle.ea_words.specs.Grammar.flag name.entry.now }
     ensures local { result.global ≡ false }
 {
@@ -31,7 +31,7 @@ pub(crate) fn flag<'a>(alloc: Global, name: &'a str, help: &'a str) -> Arg<'a>
 }
 
 /// The name of a file.
-pub(crate) fn file<'a>(alloc: Global, name: &'a str, value: &'a str, help: &'a str) -> Arg<'a>
+fn file<'a>(alloc: Global, name: &'a str, value: &'a str, help: &'a str) -> Arg<'a>
     ensures rule { rule_of result ≡ Rattle.ea_words.specs.Grammar.file name.entry.now }
     ensures local { result.global ≡ false }
 {
@@ -67,159 +67,181 @@ fn output_file<'a>(alloc: Global) -> Arg<'a>
     .short('o')
 }
 
-/// A command with one more argument.
-pub(crate) fn with_arg<'a>(command: Command<'a>, arg: Arg<'a>) -> Result<Command<'a>, AllocError>
-    requires { arg.global ≡ false }
-    ensures app { IfOk result
-        (λ c. app_of c ≡ with_rule (app_of command.entry) (rule_of arg.entry)) }
-    ensures local { IfOk result
-        (λ c. (fields_of command.entry).has_globals ≡ false → (fields_of c).has_globals ≡ false) }
+/// A command with one more argument, where memory has not been refused so far.
+pub(crate) fn with_arg<'a>(
+    command: Result<Command<'a>, AllocError>,
+    arg: Arg<'a>,
+) -> Result<Command<'a>, AllocError>
+    ensures { (app : App) (rule : Rule) → Builds app command.entry → rule_of arg.entry ≡ rule
+        → arg.entry.global ≡ false → Builds (with_rule app rule) result }
 {
-    command.arg(arg)
+    match command {
+        Ok(command) => command.arg(arg),
+        Err(error) => Err(error),
+    }
+}
+
+/// A command with one more option that has a value.
+fn with_valued<'a>(
+    alloc: Global,
+    command: Result<Command<'a>, AllocError>,
+    name: &'a str,
+    value: &'a str,
+    help: &'a str,
+) -> Result<Command<'a>, AllocError>
+    ensures { (app : App) → Builds app command.entry
+        → Builds (with_rule app (Rattle.ea_words.specs.Grammar.valued name.entry.now)) result }
+{
+    with_arg(command, valued(alloc, name, value, help))
+}
+
+/// A command with one more flag.
+pub(crate) fn with_flag<'a>(
+    alloc: Global,
+    command: Result<Command<'a>, AllocError>,
+    name: &'a str,
+    help: &'a str,
+) -> Result<Command<'a>, AllocError>
+    ensures { (app : App) → Builds app command.entry
+        → Builds (with_rule app (Rattle.ea_words.specs.Grammar.flag name.entry.now)) result }
+{
+    with_arg(command, flag(alloc, name, help))
+}
+
+/// A command with the name of one more file.
+pub(crate) fn with_file<'a>(
+    alloc: Global,
+    command: Result<Command<'a>, AllocError>,
+    name: &'a str,
+    value: &'a str,
+    help: &'a str,
+) -> Result<Command<'a>, AllocError>
+    ensures { (app : App) → Builds app command.entry
+        → Builds (with_rule app (Rattle.ea_words.specs.Grammar.file name.entry.now)) result }
+{
+    with_arg(command, file(alloc, name, value, help))
 }
 
 /// The options that say when sources depart and which timetables the arcs follow.
 pub(crate) fn with_departures<'a>(
     alloc: Global,
-    command: Command<'a>,
+    command: Result<Command<'a>, AllocError>,
 ) -> Result<Command<'a>, AllocError>
-    ensures app { IfOk result (λ c. app_of c ≡ with_departures (app_of command.entry)) }
-    ensures local { IfOk result
-        (λ c. (fields_of command.entry).has_globals ≡ false → (fields_of c).has_globals ≡ false) }
+    ensures { (app : App) → Builds app command.entry → Builds (with_departures app) result }
 {
-    let command = with_arg(
+    let command = with_valued(
+        alloc,
         command,
-        valued(
-            alloc,
-            "tp",
-            "FILE",
-            "Timetables of the arcs (.tp), or - for standard input; without it each arc takes its weight",
-        ),
-    )?;
-    let command = with_arg(
+        "tp",
+        "FILE",
+        "Timetables of the arcs (.tp), or - for standard input; without it each arc takes its weight",
+    );
+    let command = with_valued(
+        alloc,
         command,
-        valued(
-            alloc,
-            "depart",
-            "T",
-            "Departure of the first source or pair, in units of the weights: 0 to 281474976710655 [default: 0]",
-        ),
-    )?;
-    let command = with_arg(
+        "depart",
+        "T",
+        "Departure of the first source or pair, in units of the weights: 0 to 281474976710655 [default: 0]",
+    );
+    with_valued(
+        alloc,
         command,
-        valued(
-            alloc,
-            "gap",
-            "G",
-            "How much later each next source or pair departs: 0 to 281474976710655 [default: 0]",
-        ),
-    )?;
-    Ok(command)
+        "gap",
+        "G",
+        "How much later each next source or pair departs: 0 to 281474976710655 [default: 0]",
+    )
 }
 
 /// The options that say how the workers go. They change how long `run` and `pairs` take and never what these report.
-pub(crate) fn with_workers<'a>(
+fn with_workers<'a>(
     alloc: Global,
-    command: Command<'a>,
+    command: Result<Command<'a>, AllocError>,
 ) -> Result<Command<'a>, AllocError>
-    ensures app { IfOk result (λ c. app_of c ≡ with_workers (app_of command.entry)) }
-    ensures local { IfOk result
-        (λ c. (fields_of command.entry).has_globals ≡ false → (fields_of c).has_globals ≡ false) }
+    ensures { (app : App) → Builds app command.entry → Builds (with_workers app) result }
 {
-    let command = with_arg(
+    let command = with_valued(
+        alloc,
         command,
-        valued(
-            alloc,
-            "workers",
-            "P",
-            "Threads that search one problem together: 1 to 16 [default: 4 with --stats and for rank, else what is quickest]",
-        ),
-    )?;
-    let command = with_arg(
+        "workers",
+        "P",
+        "Threads that search one problem together: 1 to 16 [default: 4 with --stats and for rank, else what is quickest]",
+    );
+    let command = with_valued(
+        alloc,
         command,
-        valued(
-            alloc,
-            "heaps",
-            "C",
-            "Heaps of the shared queue for each worker: 2 to 8 [default: 2]",
-        ),
-    )?;
-    let command = with_arg(
+        "heaps",
+        "C",
+        "Heaps of the shared queue for each worker: 2 to 8 [default: 2]",
+    );
+    with_valued(
+        alloc,
         command,
-        valued(
-            alloc,
-            "seed",
-            "X",
-            "Seed of the random choices among heaps: 0 to 18446744073709551615 [default: 1]",
-        ),
-    )?;
-    Ok(command)
+        "seed",
+        "X",
+        "Seed of the random choices among heaps: 0 to 18446744073709551615 [default: 1]",
+    )
+}
+
+/// The options that say when sources depart and how the workers go.
+pub(crate) fn with_search<'a>(
+    alloc: Global,
+    command: Result<Command<'a>, AllocError>,
+) -> Result<Command<'a>, AllocError>
+    ensures { (app : App) → Builds app command.entry
+        → Builds (with_workers (with_departures app)) result }
+{
+    with_workers(alloc, with_departures(alloc, command))
 }
 
 /// The options that say how many problems are searched at once, by how many entries at once and for how many turns the workers
 /// go, and what a report shows.
 pub(crate) fn with_report<'a>(
     alloc: Global,
-    command: Command<'a>,
+    command: Result<Command<'a>, AllocError>,
 ) -> Result<Command<'a>, AllocError>
-    ensures app { IfOk result (λ c. app_of c ≡ with_report (app_of command.entry)) }
-    ensures local { IfOk result
-        (λ c. (fields_of command.entry).has_globals ≡ false → (fields_of c).has_globals ≡ false) }
+    ensures { (app : App) → Builds app command.entry → Builds (with_report app) result }
 {
-    let command = with_arg(
+    let command = with_valued(
+        alloc,
         command,
-        valued(
-            alloc,
-            "at-once",
-            "N",
-            "Problems that are searched at once, each by one thread: 1 to 16 [default: as many as there are processors; 1 with --workers or --stats]",
-        ),
-    )?;
-    let command = with_arg(
+        "at-once",
+        "N",
+        "Problems that are searched at once, each by one thread: 1 to 16 [default: as many as there are processors; 1 with --workers or --stats]",
+    );
+    let command = with_valued(
+        alloc,
         command,
-        valued(
-            alloc,
-            "batch",
-            "K",
-            "Entries that a worker takes from a heap, or gives to one, at once: 1 to 64 [default: 1 with one worker, else 32]",
-        ),
-    )?;
-    let command = with_arg(
+        "batch",
+        "K",
+        "Entries that a worker takes from a heap, or gives to one, at once: 1 to 64 [default: 1 with one worker, else 32]",
+    );
+    let command = with_valued(
+        alloc,
         command,
-        valued(
-            alloc,
-            "turns",
-            "B",
-            "Turns that a worker takes before one thread finishes: 0 to 1000000000 [default: 1000000]",
-        ),
-    )?;
-    let command = with_arg(
+        "turns",
+        "B",
+        "Turns that a worker takes before one thread finishes: 0 to 1000000000 [default: 1000000]",
+    );
+    let command = with_flag(
+        alloc,
         command,
-        flag(
-            alloc,
-            "walks",
-            "Writes the walk to each asked node that is reached",
-        ),
-    )?;
-    let command = with_arg(
+        "walks",
+        "Writes the walk to each asked node that is reached",
+    );
+    with_flag(
+        alloc,
         command,
-        flag(
-            alloc,
-            "stats",
-            "Writes totals of what the workers did, as lines that begin with c",
-        ),
-    )?;
-    Ok(command)
+        "stats",
+        "Writes totals of what the workers did, as lines that begin with c",
+    )
 }
 
 /// The option that says where a report goes.
-pub(crate) fn with_output<'a>(
+fn with_output<'a>(
     alloc: Global,
-    command: Command<'a>,
+    command: Result<Command<'a>, AllocError>,
 ) -> Result<Command<'a>, AllocError>
-    ensures app { IfOk result (λ c. app_of c ≡ with_output (app_of command.entry)) }
-    ensures local { IfOk result
-        (λ c. (fields_of command.entry).has_globals ≡ false → (fields_of c).has_globals ≡ false) }
+    ensures { (app : App) → Builds app command.entry → Builds (with_output app) result }
 {
     with_arg(command, output_file(alloc))
 }
@@ -227,27 +249,30 @@ pub(crate) fn with_output<'a>(
 /// The options that say what is told on standard error.
 pub(crate) fn with_telling<'a>(
     alloc: Global,
-    command: Command<'a>,
+    command: Result<Command<'a>, AllocError>,
 ) -> Result<Command<'a>, AllocError>
-    ensures app { IfOk result (λ c. app_of c ≡ with_telling (app_of command.entry)) }
-    ensures local { IfOk result
-        (λ c. (fields_of command.entry).has_globals ≡ false → (fields_of c).has_globals ≡ false) }
+    ensures { (app : App) → Builds app command.entry → Builds (with_telling app) result }
 {
-    let command = with_arg(
+    let command = with_flag(
+        alloc,
         command,
-        flag(
-            alloc,
-            "progress",
-            "Tells on standard error how many problems are done, at most once a second",
-        ),
-    )?;
-    let command = with_arg(
+        "progress",
+        "Tells on standard error how many problems are done, at most once a second",
+    );
+    with_flag(
+        alloc,
         command,
-        flag(
-            alloc,
-            "explain",
-            "Says after a fault what it means and what to do, as on a terminal",
-        ),
-    )?;
-    Ok(command)
+        "explain",
+        "Says after a fault what it means and what to do, as on a terminal",
+    )
+}
+
+/// The options that say where a report goes and what is told on standard error.
+pub(crate) fn with_output_and_telling<'a>(
+    alloc: Global,
+    command: Result<Command<'a>, AllocError>,
+) -> Result<Command<'a>, AllocError>
+    ensures { (app : App) → Builds app command.entry → Builds (with_telling (with_output app)) result }
+{
+    with_telling(alloc, with_output(alloc, command))
 }

@@ -1,12 +1,13 @@
 //! The commands, as clap is told of them.
-ghost use Rattle.std.specs.Prelude.{◌≡◌, IfOk, false};
-ghost use Rattle.clap.specs.Words.{app_of, new_app, with_subcommand};
+ghost use Rattle.std.specs.Prelude.{◌≡◌, false};
+ghost use Rattle.clap.specs.Words.{App, app_of, new_app, with_subcommand};
 ghost use Rattle.clap.specs.declared.builder.command.Command.TheViews.{out-Command as fields_of};
+ghost use Rattle.ea_words.specs.Building.{Builds, IsBuilt};
 ghost use Rattle.ea_words.specs.Grammar.{run_app, pairs_app, rank_app, check_app, explain_app, formats_app, bare_program, program};
 
 use crate::arguments::{
-    file, flag, optional, with_arg, with_departures, with_output, with_report, with_telling,
-    with_workers,
+    optional, with_arg, with_departures, with_file, with_flag, with_output_and_telling,
+    with_report, with_search, with_telling,
 };
 use clap::Command;
 use std::alloc::{AllocError, Global};
@@ -45,9 +46,7 @@ const CHECK_MORE: &str =
 
 /// A command that is called so in its texts.
 fn named<'a>(command: Command<'a>, name: &str) -> Result<Command<'a>, AllocError>
-    ensures app { IfOk result (λ c. app_of c ≡ app_of command.entry) }
-    ensures local { IfOk result
-        (λ c. (fields_of c).has_globals ≡ (fields_of command.entry).has_globals) }
+    ensures { (app : App) → IsBuilt app command.entry → Builds app result }
 {
     command.bin_name(name)
 }
@@ -60,92 +59,65 @@ fn begun<'a>(
     more: &'a str,
     called: &str,
 ) -> Result<Command<'a>, AllocError>
-    ensures app { IfOk result (λ c. app_of c ≡ new_app name.entry.now) }
-    ensures local { IfOk result (λ c. (fields_of c).has_globals ≡ false) }
+    ensures { Builds (new_app name.entry.now) result }
 {
     let command = Command::new(alloc, name).about(about).after_help(more);
     named(command, called)
 }
 
 /// The command `run GR SS`.
-#[tactic(auto, unfolding(crate::specs::Grammar::run_app))]
 pub(crate) fn run_command<'a>(alloc: Global) -> Result<Command<'a>, AllocError>
-    ensures app { IfOk result (λ c. app_of c ≡ run_app) }
-    ensures local { IfOk result (λ c. (fields_of c).has_globals ≡ false) }
+    ensures { Builds run_app result }
 {
-    let command = begun(alloc, "run", RUN, RUN_MORE, "earliest run")?;
-    let command = with_arg(command, file(alloc, "gr", "GR", NETWORK))?;
-    let command = with_arg(command, file(alloc, "ss", "SS", SOURCES))?;
-    let command = with_departures(alloc, command)?;
-    let command = with_workers(alloc, command)?;
-    let command = with_report(alloc, command)?;
-    let command = with_arg(
-        command,
-        flag(alloc, "joint", "Takes all sources as one problem"),
-    )?;
-    let command = with_output(alloc, command)?;
-    let command = with_telling(alloc, command)?;
-    Ok(command)
+    let command = begun(alloc, "run", RUN, RUN_MORE, "earliest run");
+    let command = with_file(alloc, command, "gr", "GR", NETWORK);
+    let command = with_file(alloc, command, "ss", "SS", SOURCES);
+    let command = with_search(alloc, command);
+    let command = with_report(alloc, command);
+    let command = with_flag(alloc, command, "joint", "Takes all sources as one problem");
+    with_output_and_telling(alloc, command)
 }
 
 /// The command `pairs GR P2P`.
-#[tactic(auto, unfolding(crate::specs::Grammar::pairs_app))]
 pub(crate) fn pairs_command<'a>(alloc: Global) -> Result<Command<'a>, AllocError>
-    ensures app { IfOk result (λ c. app_of c ≡ pairs_app) }
-    ensures local { IfOk result (λ c. (fields_of c).has_globals ≡ false) }
+    ensures { Builds pairs_app result }
 {
-    let command = begun(alloc, "pairs", PAIRS, PAIRS_MORE, "earliest pairs")?;
-    let command = with_arg(command, file(alloc, "gr", "GR", NETWORK))?;
-    let command = with_arg(command, file(alloc, "p2p", "P2P", PAIRS_FILE))?;
-    let command = with_departures(alloc, command)?;
-    let command = with_workers(alloc, command)?;
-    let command = with_report(alloc, command)?;
-    let command = with_output(alloc, command)?;
-    let command = with_telling(alloc, command)?;
-    Ok(command)
+    let command = begun(alloc, "pairs", PAIRS, PAIRS_MORE, "earliest pairs");
+    let command = with_file(alloc, command, "gr", "GR", NETWORK);
+    let command = with_file(alloc, command, "p2p", "P2P", PAIRS_FILE);
+    let command = with_search(alloc, command);
+    let command = with_report(alloc, command);
+    with_output_and_telling(alloc, command)
 }
 
 /// The command `rank GR SS`.
-#[tactic(auto, unfolding(crate::specs::Grammar::rank_app))]
 pub(crate) fn rank_command<'a>(alloc: Global) -> Result<Command<'a>, AllocError>
-    ensures app { IfOk result (λ c. app_of c ≡ rank_app) }
-    ensures local { IfOk result (λ c. (fields_of c).has_globals ≡ false) }
+    ensures { Builds rank_app result }
 {
-    let command = begun(alloc, "rank", RANK, RANK_MORE, "earliest rank")?;
-    let command = with_arg(command, file(alloc, "gr", "GR", NETWORK))?;
-    let command = with_arg(command, file(alloc, "ss", "SS", SOURCES))?;
-    let command = with_departures(alloc, command)?;
-    let command = with_workers(alloc, command)?;
-    let command = with_output(alloc, command)?;
-    let command = with_telling(alloc, command)?;
-    Ok(command)
+    let command = begun(alloc, "rank", RANK, RANK_MORE, "earliest rank");
+    let command = with_file(alloc, command, "gr", "GR", NETWORK);
+    let command = with_file(alloc, command, "ss", "SS", SOURCES);
+    let command = with_search(alloc, command);
+    with_output_and_telling(alloc, command)
 }
 
 /// The command `check GR SS REPORT`.
-#[tactic(auto, unfolding(crate::specs::Grammar::check_app))]
 pub(crate) fn check_command<'a>(alloc: Global) -> Result<Command<'a>, AllocError>
-    ensures app { IfOk result (λ c. app_of c ≡ check_app) }
-    ensures local { IfOk result (λ c. (fields_of c).has_globals ≡ false) }
+    ensures { Builds check_app result }
 {
-    let command = begun(alloc, "check", CHECK, CHECK_MORE, "earliest check")?;
-    let command = with_arg(command, file(alloc, "gr", "GR", NETWORK))?;
-    let command = with_arg(command, file(alloc, "ss", "SS", SOURCES))?;
-    let command = with_arg(
+    let command = begun(alloc, "check", CHECK, CHECK_MORE, "earliest check");
+    let command = with_file(alloc, command, "gr", "GR", NETWORK);
+    let command = with_file(alloc, command, "ss", "SS", SOURCES);
+    let command = with_file(
+        alloc,
         command,
-        file(
-            alloc,
-            "report",
-            "REPORT",
-            "The report of a run on these files, or - for standard input",
-        ),
-    )?;
-    let command = with_departures(alloc, command)?;
-    let command = with_arg(
-        command,
-        flag(alloc, "joint", "Takes all sources as one problem"),
-    )?;
-    let command = with_telling(alloc, command)?;
-    Ok(command)
+        "report",
+        "REPORT",
+        "The report of a run on these files, or - for standard input",
+    );
+    let command = with_departures(alloc, command);
+    let command = with_flag(alloc, command, "joint", "Takes all sources as one problem");
+    with_telling(alloc, command)
 }
 
 const EXPLAIN: &str = "Says what a fault means, its usual causes, and an example";
@@ -156,35 +128,30 @@ const EXPLAIN_MORE: &str =
 const FORMATS: &str = "Says how the files are written, on one page";
 
 /// The command `explain FAULT`.
-#[tactic(auto, unfolding(crate::specs::Grammar::explain_app))]
 pub(crate) fn explain_command<'a>(alloc: Global) -> Result<Command<'a>, AllocError>
-    ensures app { IfOk result (λ c. app_of c ≡ explain_app) }
-    ensures local { IfOk result (λ c. (fields_of c).has_globals ≡ false) }
+    ensures { Builds explain_app result }
 {
-    let command = begun(alloc, "explain", EXPLAIN, EXPLAIN_MORE, "earliest explain")?;
-    let command = with_arg(
+    let command = begun(alloc, "explain", EXPLAIN, EXPLAIN_MORE, "earliest explain");
+    with_arg(
         command,
         optional(alloc, "fault", "FAULT", "The number or the name of a fault"),
-    )?;
-    Ok(command)
+    )
 }
 
 /// The command `formats`.
-#[tactic(auto, unfolding(crate::specs::Grammar::formats_app))]
 pub(crate) fn formats_command<'a>(alloc: Global) -> Result<Command<'a>, AllocError>
-    ensures app { IfOk result (λ c. app_of c ≡ formats_app) }
-    ensures local { IfOk result (λ c. (fields_of c).has_globals ≡ false) }
+    ensures { Builds formats_app result }
 {
-    let command = named(
+    named(
         Command::new(alloc, "formats").about(FORMATS),
         "earliest formats",
-    )?;
-    Ok(command)
+    )
 }
 
 /// The program with no command yet.
 fn bare_program<'a>(alloc: Global) -> Command<'a>
-    ensures { app_of result ≡ bare_program }
+    ensures app { app_of result ≡ bare_program }
+    ensures local { (fields_of result).has_globals ≡ false }
 {
     Command::new(alloc, "earliest")
         .version("0.1.0")
@@ -194,43 +161,32 @@ fn bare_program<'a>(alloc: Global) -> Command<'a>
         .subcommand_required(true)
 }
 
-/// A command with one more command below it.
-fn with_command<'a>(command: Command<'a>, below: Command<'a>) -> Result<Command<'a>, AllocError>
-    requires { (fields_of below).has_globals ≡ false }
-    ensures { IfOk result (λ c. app_of c
-        ≡ with_subcommand (app_of command.entry) (app_of below.entry).top) }
+/// A command with one more command below it, where memory has not been refused so far.
+fn with_command<'a>(
+    command: Result<Command<'a>, AllocError>,
+    below: Result<Command<'a>, AllocError>,
+) -> Result<Command<'a>, AllocError>
+    ensures { (app under : App) → Builds app command.entry → Builds under below.entry
+        → Builds (with_subcommand app under.top) result }
 {
-    command.subcommand(below)
-}
-
-/// The program with the commands that need no files.
-fn with_words<'a>(alloc: Global, command: Command<'a>) -> Result<Command<'a>, AllocError>
-    ensures { IfOk result (λ c. app_of c
-        ≡ with_subcommand (with_subcommand (app_of command.entry) explain_app.top)
-        formats_app.top) }
-{
-    let command = with_command(command, explain_command(alloc)?)?;
-    let command = with_command(command, formats_command(alloc)?)?;
-    Ok(command)
-}
-
-/// The program with its last commands.
-fn with_last<'a>(alloc: Global, command: Command<'a>) -> Result<Command<'a>, AllocError>
-    ensures { IfOk result (λ c. app_of c ≡ with_subcommand (with_subcommand (with_subcommand
-        (with_subcommand (app_of command.entry) rank_app.top) check_app.top) explain_app.top)
-        formats_app.top) }
-{
-    let command = with_command(command, rank_command(alloc)?)?;
-    let command = with_command(command, check_command(alloc)?)?;
-    with_words(alloc, command)
+    match command {
+        Ok(command) => match below {
+            Ok(below) => command.subcommand(below),
+            Err(error) => Err(error),
+        },
+        Err(error) => Err(error),
+    }
 }
 
 /// The program, for words that begin with no command's name.
 pub(crate) fn program<'a>(alloc: Global) -> Result<Command<'a>, AllocError>
-    ensures { IfOk result (λ c. app_of c ≡ program) }
+    ensures { Builds program result }
 {
-    let bare = named(bare_program(alloc), "earliest")?;
-    let command = with_command(bare, run_command(alloc)?)?;
-    let command = with_command(command, pairs_command(alloc)?)?;
-    with_last(alloc, command)
+    let command = named(bare_program(alloc), "earliest");
+    let command = with_command(command, run_command(alloc));
+    let command = with_command(command, pairs_command(alloc));
+    let command = with_command(command, rank_command(alloc));
+    let command = with_command(command, check_command(alloc));
+    let command = with_command(command, explain_command(alloc));
+    with_command(command, formats_command(alloc))
 }

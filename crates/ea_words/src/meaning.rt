@@ -1,12 +1,13 @@
 //! What words ask for.
-ghost use Rattle.std.specs.Prelude.{◌≡◌, IfOk, IfErr, IfSome, true, map, codes, option_map, is_some, Some, false, [], ◌∷◌, ◌≤◌};
+ghost use Rattle.std.specs.Prelude.{◌≡◌, IfOk, IsOkAnd, IfErr, IfSome, true, map, codes, option_map, is_some, Some, false, [], ◌∷◌, ◌≤◌};
 ghost use Rattle.clap.specs.Built.{IsParsedFrom};
-ghost use Rattle.clap.specs.Words.{app_of, fault_of, found_of, kind_of, matches_of, rows_of, is_simple, is_simple_and_free, IsAmong};
-ghost use Rattle.ea_words.specs.Meaning.{run_verb, pairs_verb, rank_verb, check_verb, of_files, of_explain, of_formats, of_none};
+ghost use Rattle.clap.specs.Words.{App, app_of, fault_of, found_of, kind_of, matches_of, rows_of, is_simple, is_simple_and_free, IsAmong};
+ghost use Rattle.ea_words.specs.Building.{Builds};
+ghost use Rattle.ea_words.specs.Meaning.{Verb, run_verb, pairs_verb, rank_verb, check_verb, of_files, of_explain, of_formats, of_none};
 ghost use Rattle.ea_words.specs.Limits.{AreOptions, HasLimits};
 ghost use Rattle.ea_words.specs.Meaning;
 ghost use Rattle.ea_words.specs.Meaning.{files, files_of, has_input_twice, options_of};
-ghost use Rattle.ea_words.specs.Refusals.{Asks, AsksAs, AsksBy, IsRefusal, IsRefusedBy, IsRefusalBy, IsFaultOf, IsComplaint, IsUnasked, is_shown};
+ghost use Rattle.ea_words.specs.Refusals.{Asks, AsksAs, AsksBy, IsAskedBy, IsReadBy, IsRefusal, IsRefusedBy, IsRefusalBy, IsFaultOf, IsComplaint, IsUnasked, is_shown};
 
 use crate::commands::{
     check_command, explain_command, formats_command, pairs_command, program, rank_command,
@@ -20,7 +21,7 @@ use clap::{ArgMatches, Error};
 use ea_limits::{
     HORIZON, LEAST_HEAPS, MOST_AT_ONCE, MOST_BATCH, MOST_HEAPS, MOST_TURNS, MOST_WORKERS,
 };
-use std::alloc::Global;
+use std::alloc::{AllocError, Global};
 use std::convert::AsStr;
 
 /// The options of a command, where each is a number within its limits.
@@ -98,6 +99,28 @@ fn matches_in<'a, S: AsStr>(
     match command.try_get_matches_from(words) {
         Ok(matches) => Ok(matches),
         Err(error) => Err(fault_of_error(alloc, error)),
+    }
+}
+
+/// What clap makes of words where memory has not been refused for the command.
+fn matches_of_built<'a, S: AsStr>(
+    alloc: Global,
+    command: Result<clap::Command<'a>, AllocError>,
+    words: &'a [S],
+) -> Result<ArgMatches<'a>, CommandFault>
+    requires simple { IfOk command (λ c. is_simple (app_of c) ≡ true) }
+    requires free { IfOk command (λ c. is_simple_and_free (app_of c) ≡ true) }
+    ensures taken { (app : App) → Builds app command.entry
+        → IfOk result (λ m. fault_of app (map S.text words.entry.now) ≡ []) }
+    ensures parsed { IfOk result (λ m. IsOkAnd command.entry (λ c. IsParsedFrom c m)) }
+    ensures rows { (app : App) → Builds app command.entry → IfOk result
+        (λ m. rows_of (found_of m) ≡ matches_of app (map S.text words.entry.now)) }
+    ensures refused { (app : App) → Builds app command.entry
+        → IfErr result (IsRefusalBy (fault_of app (map S.text words.entry.now))) }
+{
+    match command {
+        Ok(command) => matches_in(alloc, command, words),
+        Err(_) => Err(CommandFault::OutOfMemory),
     }
 }
 
@@ -207,14 +230,35 @@ fn no_command(alloc: Global) -> CommandFault
     }
 }
 
+/// What the words of a command with files ask for.
+fn asked_of_words<'a, S: AsStr>(
+    alloc: Global,
+    command: Result<clap::Command<'a>, AllocError>,
+    words: &'a [S],
+    second: &str,
+    reported: bool,
+) -> Result<(Names<'a>, RunOptions), CommandFault>
+    requires { (verb : Verb) × IsReadBy verb command second.now reported }
+    ensures ok { (verb : Verb) → IsReadBy verb command.entry second.now reported → IfOk result
+        (λ asked. IsAskedBy verb (map S.text words.entry.now) (files asked.0) asked.1) }
+    ensures limits { IfOk result (λ asked. AreOptions asked.1) }
+    ensures err { (verb : Verb) → IsReadBy verb command.entry second.now reported
+        → IfErr result (IsRefusedBy (of_files verb) (map S.text words.entry.now)) }
+{
+    match matches_of_built(alloc, command, words) {
+        Ok(matches) => asked_in(&matches, second, reported),
+        Err(fault) => Err(fault),
+    }
+}
+
 /// What words that begin with `run` ask for.
 fn run_of_words<'a, S: AsStr>(alloc: Global, words: &'a [S]) -> Result<Command<'a>, CommandFault>
     ensures ok { IfOk result (AsksBy run_verb (map S.text words.entry.now)) }
     ensures limits { IfOk result HasLimits }
     ensures err { IfErr result (IsRefusedBy (of_files run_verb) (map S.text words.entry.now)) }
 {
-    let matches = matches_in(alloc, run_command(alloc)?, words)?;
-    let (names, options) = asked_in(&matches, "ss", false)?;
+    let command = run_command(alloc);
+    let (names, options) = asked_of_words(alloc, command, words, "ss", false)?;
     Ok(Command::Run {
         gr: names.gr,
         ss: names.starts,
@@ -230,8 +274,8 @@ fn pairs_of_words<'a, S: AsStr>(alloc: Global, words: &'a [S]) -> Result<Command
     ensures limits { IfOk result HasLimits }
     ensures err { IfErr result (IsRefusedBy (of_files pairs_verb) (map S.text words.entry.now)) }
 {
-    let matches = matches_in(alloc, pairs_command(alloc)?, words)?;
-    let (names, options) = asked_in(&matches, "p2p", false)?;
+    let command = pairs_command(alloc);
+    let (names, options) = asked_of_words(alloc, command, words, "p2p", false)?;
     Ok(Command::Pairs {
         gr: names.gr,
         p2p: names.starts,
@@ -247,8 +291,8 @@ fn rank_of_words<'a, S: AsStr>(alloc: Global, words: &'a [S]) -> Result<Command<
     ensures limits { IfOk result HasLimits }
     ensures err { IfErr result (IsRefusedBy (of_files rank_verb) (map S.text words.entry.now)) }
 {
-    let matches = matches_in(alloc, rank_command(alloc)?, words)?;
-    let (names, options) = asked_in(&matches, "ss", false)?;
+    let command = rank_command(alloc);
+    let (names, options) = asked_of_words(alloc, command, words, "ss", false)?;
     Ok(Command::Rank {
         gr: names.gr,
         ss: names.starts,
@@ -264,8 +308,8 @@ fn check_of_words<'a, S: AsStr>(alloc: Global, words: &'a [S]) -> Result<Command
     ensures limits { IfOk result HasLimits }
     ensures err { IfErr result (IsRefusedBy (of_files check_verb) (map S.text words.entry.now)) }
 {
-    let matches = matches_in(alloc, check_command(alloc)?, words)?;
-    let (names, options) = asked_in(&matches, "ss", true)?;
+    let command = check_command(alloc);
+    let (names, options) = asked_of_words(alloc, command, words, "ss", true)?;
     Ok(Command::Check {
         gr: names.gr,
         ss: names.starts,
@@ -284,7 +328,7 @@ fn explain_of_words<'a, S: AsStr>(
     ensures limits { IfOk result HasLimits }
     ensures err { IfErr result (IsRefusedBy of_explain (map S.text words.entry.now)) }
 {
-    let matches = matches_in(alloc, explain_command(alloc)?, words)?;
+    let matches = matches_of_built(alloc, explain_command(alloc), words)?;
     Ok(Command::Explain {
         fault: text_of(&matches, "fault"),
     })
@@ -299,7 +343,7 @@ fn formats_of_words<'a, S: AsStr>(
     ensures limits { IfOk result HasLimits }
     ensures err { IfErr result (IsRefusedBy of_formats (map S.text words.entry.now)) }
 {
-    matches_in(alloc, formats_command(alloc)?, words)?;
+    matches_of_built(alloc, formats_command(alloc), words)?;
     Ok(Command::Formats)
 }
 
@@ -307,11 +351,7 @@ fn formats_of_words<'a, S: AsStr>(
 fn refusal_of_words<'a, S: AsStr>(alloc: Global, words: &'a [S]) -> CommandFault
     ensures { IsRefusedBy of_none (map S.text words.entry.now) result }
 {
-    let command = match program(alloc) {
-        Ok(command) => command,
-        Err(_) => return CommandFault::OutOfMemory,
-    };
-    match matches_in(alloc, command, words) {
+    match matches_of_built(alloc, program(alloc), words) {
         Ok(_) => no_command(alloc),
         Err(fault) => fault,
     }

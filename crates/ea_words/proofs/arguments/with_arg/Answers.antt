@@ -1,8 +1,5 @@
-use Rattle.ea_words.proofs.Built.{app_with, local_with}
+use Rattle.ea_words.proofs.Built.{built_in, built_with}
 use Rattle.ea_words.proofs.arguments.with_arg.Goals as goal
 
-pub returns-clause-app : goal.returns-clause-app
-returns-clause-app c = app_with c.args.command c.args.arg c.requires c.arg.result c.arg.ensures
-
-pub returns-clause-local : goal.returns-clause-local
-returns-clause-local c = local_with c.args.command c.args.arg c.requires c.arg.result c.arg.ensures
+pub returns-in-Ok : goal.returns-in-Ok
+returns-in-Ok c = λ app rule built. built_with c.in-Ok.command c.args.arg c.arg.result c.arg.ensures app rule (built_in c.args.command c.in-Ok.command app c.in-Ok.is built)

@@ -1,13 +1,4 @@
-use Rattle.std.proofs.Common.{◌∙◌, ap, ap₂}
-use Rattle.clap.specs.Words.{with_rule}
 use Rattle.ea_words.proofs.arguments.with_departures.Goals as goal
 
-pub returns-clause-app : goal.returns-clause-app
-returns-clause-app c =
-    let one = c.in_ok-command.ensures.app ∙ ap (with_rule _) c.valued.ensures.rule in
-    let two = c.in_ok-command-2.ensures.app ∙ ap₂ with_rule one c.valued-2.ensures.rule in
-    let three = c.in_ok-command-3.ensures.app ∙ ap₂ with_rule two c.valued-3.ensures.rule in
-    three
-
-pub returns-clause-local : goal.returns-clause-local
-returns-clause-local c = λ none. c.in_ok-command-3.ensures.local (c.in_ok-command-2.ensures.local (c.in_ok-command.ensures.local none))
+pub returns : goal.returns
+returns c = λ app built. c.with_valued.ensures _ (c.with_valued-command-2.ensures _ (c.with_valued-command.ensures _ built))

@@ -1,18 +1,6 @@
-use Rattle.std.proofs.Common.{◌∙◌, ap, ap₂}
-use Rattle.clap.specs.Words.{with_rule}
-use Rattle.ea_words.specs.Grammar.{with_departures, with_telling, check_app}
+use Rattle.ea_words.specs.Grammar.{check_app}
 use Rattle.ea_words.proofs.commands.check_command.Goals as goal
 
-pub returns-clause-app : goal.returns-clause-app
+pub returns : goal.returns
 unfolding check_app
-returns-clause-app c =
-    let first = c.in_ok-command.ensures.app in
-    let second = c.in_ok-command-2.ensures.app ∙ ap₂ with_rule first c.file.ensures.rule in
-    let third = c.in_ok-command-3.ensures.app ∙ ap₂ with_rule second c.file-2.ensures.rule in
-    let fourth = c.in_ok-command-4.ensures.app ∙ ap₂ with_rule third c.file-3.ensures.rule in
-    let fifth = c.in_ok-command-5.ensures.app ∙ ap with_departures fourth in
-    let sixth = c.in_ok-command-6.ensures.app ∙ ap₂ with_rule fifth c.flag.ensures.rule in
-    c.in_ok-command-7.ensures.app ∙ ap with_telling sixth
-
-pub returns-clause-local : goal.returns-clause-local
-returns-clause-local c = c.in_ok-command-7.ensures.local (c.in_ok-command-6.ensures.local (c.in_ok-command-5.ensures.local (c.in_ok-command-4.ensures.local (c.in_ok-command-3.ensures.local (c.in_ok-command-2.ensures.local (c.in_ok-command.ensures.local))))))
+returns c = c.with_telling.ensures _ (c.with_flag-command.ensures _ (c.with_departures-command.ensures _ (c.with_file-command-3.ensures _ (c.with_file-command-2.ensures _ (c.with_file-command.ensures _ c.begun-command.ensures)))))

@@ -1,20 +1,22 @@
-use Rattle.std.proofs.Common.{◌∙◌, ap, subst, map}
-use Rattle.clap.specs.Words.{App, fault_of, is_simple, is_simple_and_free}
+use Rattle.std.proofs.Common.{◌∙◌, ap, codes, map}
+use Rattle.clap.specs.Words.{first_of}
 use Rattle.clap.proofs.TakesLemmas.{passed_up}
-use Rattle.ea_words.specs.Refusals.{IsRefusalBy}
+use Rattle.ea_words.specs.Grammar.{explain_app}
+use Rattle.ea_words.specs.Meaning.{explain}
 use Rattle.ea_words.proofs.Refused.{explain_refused}
-use Rattle.ea_words.proofs.SimpleApps.{simple_explain, free_explain}
+use Rattle.ea_words.proofs.SimpleApps.{simple_explain, simple_built, free_explain, free_built}
 use Rattle.ea_words.proofs.meaning.explain_of_words.Goals as goal
 
-pub matches_in-requires-clause-simple : goal.matches_in-requires-clause-simple
-matches_in-requires-clause-simple g c = ap is_simple c.in_ok-explain_command.ensures.app ∙ simple_explain
+pub matches_of_built-requires-clause-simple : goal.matches_of_built-requires-clause-simple
+matches_of_built-requires-clause-simple g c = simple_built explain_app c.explain_command.result simple_explain c.explain_command.ensures
 
-pub matches_in-requires-clause-free : goal.matches_in-requires-clause-free
-matches_in-requires-clause-free g c = ap is_simple_and_free c.in_ok-explain_command.ensures.app ∙ free_explain
+pub matches_of_built-requires-clause-free : goal.matches_of_built-requires-clause-free
+matches_of_built-requires-clause-free g c = free_built explain_app c.explain_command.result free_explain c.explain_command.ensures
 
 pub returns-in_err-matches-clause-err : goal.returns-in_err-matches-clause-err
 returns-in_err-matches-clause-err g c =
-    let words = map g.S.AsStr.text c.args.words.now in
     let fault = c.in_err-matches.field-0.0 in
-    let refused = subst (λ (app : App). IsRefusalBy (fault_of app words) fault) c.in_ok-explain_command.ensures.app c.in_err-matches.ensures.refused in
-    passed_up c.from_residual-in_err-matches.result fault _ c.from_residual-in_err-matches.ensures.1 (explain_refused words fault refused)
+    passed_up c.from_residual.result fault _ c.from_residual.ensures.1 (explain_refused (map g.S.AsStr.text c.args.words.now) fault (c.in_err-matches.ensures.refused explain_app c.explain_command.ensures))
+
+pub returns-clause-ok : goal.returns-clause-ok
+returns-clause-ok g c = (c.in_ok-matches.ensures.taken explain_app c.explain_command.ensures, ap explain (c.text_of.ensures ∙ ap (first_of (codes "fault")) (c.in_ok-matches.ensures.rows explain_app c.explain_command.ensures)))

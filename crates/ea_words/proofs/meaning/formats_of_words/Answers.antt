@@ -1,20 +1,20 @@
-use Rattle.std.proofs.Common.{◌∙◌, ap, subst, map}
-use Rattle.clap.specs.Words.{App, fault_of, is_simple, is_simple_and_free}
+use Rattle.std.proofs.Common.{map, refl}
 use Rattle.clap.proofs.TakesLemmas.{passed_up}
-use Rattle.ea_words.specs.Refusals.{IsRefusalBy}
+use Rattle.ea_words.specs.Grammar.{formats_app}
 use Rattle.ea_words.proofs.Refused.{formats_refused}
-use Rattle.ea_words.proofs.SimpleApps.{simple_formats, free_formats}
+use Rattle.ea_words.proofs.SimpleApps.{simple_formats, simple_built, free_formats, free_built}
 use Rattle.ea_words.proofs.meaning.formats_of_words.Goals as goal
 
-pub matches_in-requires-clause-simple : goal.matches_in-requires-clause-simple
-matches_in-requires-clause-simple g c = ap is_simple c.in_ok-formats_command.ensures.app ∙ simple_formats
+pub matches_of_built-requires-clause-simple : goal.matches_of_built-requires-clause-simple
+matches_of_built-requires-clause-simple g c = simple_built formats_app c.formats_command.result simple_formats c.formats_command.ensures
 
-pub matches_in-requires-clause-free : goal.matches_in-requires-clause-free
-matches_in-requires-clause-free g c = ap is_simple_and_free c.in_ok-formats_command.ensures.app ∙ free_formats
+pub matches_of_built-requires-clause-free : goal.matches_of_built-requires-clause-free
+matches_of_built-requires-clause-free g c = free_built formats_app c.formats_command.result free_formats c.formats_command.ensures
 
-pub returns-in_err-matches_in-clause-err : goal.returns-in_err-matches_in-clause-err
-returns-in_err-matches_in-clause-err g c =
-    let words = map g.S.AsStr.text c.args.words.now in
-    let fault = c.in_err-matches_in.field-0.0 in
-    let refused = subst (λ (app : App). IsRefusalBy (fault_of app words) fault) c.in_ok-formats_command.ensures.app c.in_err-matches_in.ensures.refused in
-    passed_up c.from_residual-in_err-matches_in.result fault _ c.from_residual-in_err-matches_in.ensures.1 (formats_refused words fault refused)
+pub returns-in_err-matches_of_built-clause-err : goal.returns-in_err-matches_of_built-clause-err
+returns-in_err-matches_of_built-clause-err g c =
+    let fault = c.in_err-matches_of_built.field-0.0 in
+    passed_up c.from_residual.result fault _ c.from_residual.ensures.1 (formats_refused (map g.S.AsStr.text c.args.words.now) fault (c.in_err-matches_of_built.ensures.refused formats_app c.formats_command.ensures))
+
+pub returns-clause-ok : goal.returns-clause-ok
+returns-clause-ok g c = (c.in_ok-matches_of_built.ensures.taken formats_app c.formats_command.ensures, refl)
