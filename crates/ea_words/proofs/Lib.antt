@@ -1,4 +1,5 @@
 pub mod Built
+pub mod InParts
 pub mod Limits
 pub mod Named
 pub mod Refused

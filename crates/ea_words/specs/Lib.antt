@@ -1,5 +1,6 @@
 pub mod Bad
 pub mod Building
+pub mod Chosen
 pub mod Grammar
 pub mod Limits
 pub mod Meaning

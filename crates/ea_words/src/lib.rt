@@ -3,6 +3,7 @@
 
 mod arguments;
 mod bad;
+mod chosen;
 mod commands;
 mod fault;
 mod meaning;

@@ -9,51 +9,18 @@ ghost use Rattle.ea_words.specs.Meaning;
 ghost use Rattle.ea_words.specs.Meaning.{files, files_of, has_input_twice, options_of};
 ghost use Rattle.ea_words.specs.Refusals.{Asks, AsksAs, AsksBy, IsAskedBy, IsReadBy, IsRefusal, IsRefusedBy, IsRefusalBy, IsFaultOf, IsComplaint, IsUnasked, is_shown};
 
+use crate::chosen::options_in;
 use crate::commands::{
     check_command, explain_command, formats_command, pairs_command, program, rank_command,
     run_command,
 };
 use crate::fault::CommandFault;
 use crate::options::{Command, RunOptions};
-use crate::values::{chosen_number, has_flag, option_number, text_of};
+use crate::values::text_of;
 use clap::error::ErrorKind;
 use clap::{ArgMatches, Error};
-use ea_limits::{
-    HORIZON, LEAST_HEAPS, MOST_AT_ONCE, MOST_BATCH, MOST_HEAPS, MOST_TURNS, MOST_WORKERS,
-};
 use std::alloc::{AllocError, Global};
 use std::convert::AsStr;
-
-/// The options of a command, where each is a number within its limits.
-#[tactic(auto, unfolding(crate::specs::Meaning::options_of))]
-fn options_in(matches: &ArgMatches<'_>) -> Option<RunOptions>
-    ensures options { result ≡ options_of (rows_of (found_of matches.now)) }
-    ensures limits { IfSome result AreOptions }
-{
-    let workers = chosen_number(matches, "workers", 1, u64::from(MOST_WORKERS))?;
-    let at_once = chosen_number(matches, "at-once", 1, u64::from(MOST_AT_ONCE))?;
-    let batch = chosen_number(matches, "batch", 1, u64::from(MOST_BATCH))?;
-    let most_heaps = u64::from(MOST_HEAPS);
-    let heaps = option_number(matches, "heaps", 2, u64::from(LEAST_HEAPS), most_heaps)?;
-    let turns = option_number(matches, "turns", 1_000_000, 0, MOST_TURNS)?;
-    let seed = option_number(matches, "seed", 1, 0, u64::MAX)?;
-    let depart = option_number(matches, "depart", 0, 0, HORIZON)?;
-    let gap = option_number(matches, "gap", 0, 0, HORIZON)?;
-    Some(RunOptions {
-        joint: has_flag(matches, "joint"),
-        walks: has_flag(matches, "walks"),
-        stats: has_flag(matches, "stats"),
-        progress: has_flag(matches, "progress"),
-        workers,
-        at_once,
-        batch,
-        heaps,
-        turns,
-        seed,
-        depart,
-        gap,
-    })
-}
 
 /// Whether a text of this kind was asked for.
 fn is_asked_for(kind: ErrorKind) -> bool
