@@ -6,7 +6,7 @@ ghost use Rattle.ea_words.specs.Building.{Builds};
 ghost use Rattle.ea_words.specs.Meaning.{Verb, run_verb, pairs_verb, rank_verb, check_verb, of_files, of_explain, of_formats, of_none};
 ghost use Rattle.ea_words.specs.Limits.{AreOptions, HasLimits};
 ghost use Rattle.ea_words.specs.Meaning;
-ghost use Rattle.ea_words.specs.Meaning.{files, files_of, has_input_twice, options_of};
+ghost use Rattle.ea_words.specs.Meaning.{files, files_of, has_input_twice, head_of, options_of};
 ghost use Rattle.ea_words.specs.Refusals.{Asks, AsksAs, AsksBy, IsAskedBy, IsReadBy, IsRefusal, IsRefusedBy, IsRefusalBy, IsFaultOf, IsComplaint, IsUnasked, is_shown};
 
 use crate::chosen::options_in;
@@ -324,6 +324,33 @@ fn refusal_of_words<'a, S: AsStr>(alloc: Global, words: &'a [S]) -> CommandFault
     }
 }
 
+/// What words whose first is this ask for.
+fn answer_to<'a, S: AsStr>(
+    alloc: Global,
+    verb: &str,
+    words: &'a [S],
+) -> Result<Command<'a>, CommandFault>
+    ensures ok { IfOk result (AsksAs (head_of verb.now) (map S.text words.entry.now)) }
+    ensures limits { IfOk result HasLimits }
+    ensures err { IfErr result (IsRefusedBy (head_of verb.now) (map S.text words.entry.now)) }
+{
+    if verb == "run" {
+        run_of_words(alloc, words)
+    } else if verb == "pairs" {
+        pairs_of_words(alloc, words)
+    } else if verb == "rank" {
+        rank_of_words(alloc, words)
+    } else if verb == "check" {
+        check_of_words(alloc, words)
+    } else if verb == "explain" {
+        explain_of_words(alloc, words)
+    } else if verb == "formats" {
+        formats_of_words(alloc, words)
+    } else {
+        Err(refusal_of_words(alloc, words))
+    }
+}
+
 impl RunOptions {
     /// What the words of a command line, without the program's name, ask for.
     ///
@@ -345,21 +372,6 @@ impl RunOptions {
         let Some(first) = words.first() else {
             return Ok(Command::Stored);
         };
-        let verb = first.as_str();
-        if verb == "run" {
-            run_of_words(alloc, words)
-        } else if verb == "pairs" {
-            pairs_of_words(alloc, words)
-        } else if verb == "rank" {
-            rank_of_words(alloc, words)
-        } else if verb == "check" {
-            check_of_words(alloc, words)
-        } else if verb == "explain" {
-            explain_of_words(alloc, words)
-        } else if verb == "formats" {
-            formats_of_words(alloc, words)
-        } else {
-            Err(refusal_of_words(alloc, words))
-        }
+        answer_to(alloc, first.as_str(), words)
     }
 }
