@@ -68,6 +68,8 @@ fn output_file<'a>(alloc: Global) -> Arg<'a>
 }
 
 /// A command with one more argument, where memory has not been refused so far.
+///
+/// An argument that is left over is let go of by a call: without one, each of its fields would be by steps of this function.
 pub(crate) fn with_arg<'a>(
     command: Result<Command<'a>, AllocError>,
     arg: Arg<'a>,
@@ -77,7 +79,10 @@ pub(crate) fn with_arg<'a>(
 {
     match command {
         Ok(command) => command.arg(arg),
-        Err(error) => Err(error),
+        Err(error) => {
+            drop(arg);
+            Err(error)
+        }
     }
 }
 

@@ -162,6 +162,8 @@ fn bare_program<'a>(alloc: Global) -> Command<'a>
 }
 
 /// A command with one more command below it, where memory has not been refused so far.
+///
+/// What is left over is let go of by a call: without one, each of its fields would be by steps of this function.
 fn with_command<'a>(
     command: Result<Command<'a>, AllocError>,
     below: Result<Command<'a>, AllocError>,
@@ -172,9 +174,15 @@ fn with_command<'a>(
     match command {
         Ok(command) => match below {
             Ok(below) => command.subcommand(below),
-            Err(error) => Err(error),
+            Err(error) => {
+                drop(command);
+                Err(error)
+            }
         },
-        Err(error) => Err(error),
+        Err(error) => {
+            drop(below);
+            Err(error)
+        }
     }
 }
 
