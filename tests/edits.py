@@ -194,8 +194,11 @@ def is_told_of(line, place, paths, texts):
         return True
     if found[1] != place.file or place.file not in texts:
         return False
-    lines = texts[place.file].split("\n")[:int(found[2])]
-    names = FUNCTION.findall("\n".join(lines) + "\n")
+    lines, at = texts[place.file].split("\n"), int(found[2])
+    # A function with attributes begins where the first of them stands.
+    while at < len(lines) and lines[at - 1].strip().startswith("#["):
+        at += 1
+    names = FUNCTION.findall("\n".join(lines[:at]) + "\n")
     return bool(names) and names[-1][1] == place.function
 
 
