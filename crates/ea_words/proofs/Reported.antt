@@ -1,12 +1,11 @@
 -- A command that wants a report has one, and a command's files are named where each name is there.
-use Rattle.std.proofs.Common.{◌≡◌, Bor, List, Bool, true, false, true≢false, is_some, refl, ap, sym, ◌∙◌}
+use Rattle.std.proofs.Common.{◌≡◌, List, Bool, true, false, true≢false, is_some, refl, ap, sym, ◌∙◌}
 use Rattle.std.specs.Prelude.{Option, Some, None, codes, option_map, unwrap_or}
 use Rattle.std.proofs.lemmas.Option.{none-some}
 use Rattle.clap.specs.Words.{Row, Text, first_of}
 use Rattle.ea_words.specs.declared.meaning.Names.{Names}
-use Rattle.ea_words.specs.declared.options.Command.TheVariants.{Check}
 use Rattle.ea_words.specs.declared.options.RunOptions.{RunOptions}
-use Rattle.ea_words.specs.Meaning.{Files, ask_by, asked, check, check_verb, files, files_of, wanted, ◌>>=◌}
+use Rattle.ea_words.specs.Meaning.{Files, ask_by, check, check_verb, files, files_of, wanted, ◌>>=◌}
 
 -- The files of names.
 chain : Option Text → Option Text → Option (Option Text) → Option Text → Option Text → Option Files
@@ -51,6 +50,6 @@ report_there second rows files made = go files.report refl
     go (Some report) some = refl
 
 -- What is asked for where the report that is checked is named.
-pub check_asked : (names : Names) (report : Bor Text) (options : RunOptions) → names.report ≡ Some report
-    → ask_by check_verb (files names) options ≡ asked (Check names.gr names.starts names.tp report options)
-check_asked names report options is = ap (λ (o : Option (Bor Text)). check (record (files names) { report = option_map (λ (t : Bor Text). t.now) o; output = None }) options) is
+pub check_asked : (names : Names) (report : Text) (options : RunOptions) → option_map (λ t. t.now) names.report ≡ Some report
+    → ask_by check_verb (files names) options ≡ check (record { gr = names.gr.now; starts = names.starts.now; tp = option_map (λ t. t.now) names.tp; report = Some report; output = None }) options
+check_asked names report options is = ap (λ (o : Option Text). check (record (files names) { report = o; output = None }) options) is

@@ -1,4 +1,5 @@
-use Rattle.std.proofs.Common.{map, refl}
+use Rattle.std.proofs.Common.{map, refl, arith}
+use Rattle.std.proofs.lemmas.Grind.{common_steps}
 use Rattle.clap.proofs.CallerLemmas.{some_of_text}
 use Rattle.clap.proofs.TakesLemmas.{passed_up}
 use Rattle.clap.specs.declared.builder.command.Command.{Command}
@@ -25,4 +26,4 @@ unwrap-requires g c = some_of_text (λ t. t.now) c.in_ok-names.names.report _ re
 
 pub returns-clause-ok : goal.returns-clause-ok
 returns-clause-ok g c = asks_by check_verb (map g.S.AsStr.text c.args.words.now) (files c.in_ok-names.names) c.in_ok-names.options _
-    (c.in_ok-names.ensures.ok check_verb (read c.check_command-command.result c.check_command-command.ensures)) (check_asked c.in_ok-names.names c.unwrap.result c.in_ok-names.options c.unwrap.ensures)
+    (c.in_ok-names.ensures.ok check_verb (read c.check_command-command.result c.check_command-command.ensures)) (check_asked c.in_ok-names.names _ c.in_ok-names.options (grind (arith, common_steps)))

@@ -1,8 +1,7 @@
-use Rattle.std.proofs.Common.{◌∙◌, ap, codes, map}
+use Rattle.std.proofs.Common.{ap, codes, map}
 use Rattle.clap.specs.Words.{first_of}
 use Rattle.clap.proofs.TakesLemmas.{passed_up}
 use Rattle.ea_words.specs.Grammar.{explain_app}
-use Rattle.ea_words.specs.Meaning.{explain}
 use Rattle.ea_words.proofs.Refused.{explain_refused}
 use Rattle.ea_words.proofs.SimpleApps.{simple_explain, simple_built, free_explain, free_built}
 use Rattle.ea_words.proofs.meaning.explain_of_words.Goals as goal
@@ -19,4 +18,4 @@ returns-in_err-matches-clause-err g c =
     passed_up c.from_residual.result fault _ c.from_residual.ensures.1 (explain_refused (map g.S.AsStr.text c.args.words.now) fault (c.in_err-matches.ensures.refused explain_app c.explain_command.ensures))
 
 pub returns-clause-ok : goal.returns-clause-ok
-returns-clause-ok g c = (c.in_ok-matches.ensures.taken explain_app c.explain_command.ensures, ap explain (c.text_of.ensures ∙ ap (first_of (codes "fault")) (c.in_ok-matches.ensures.rows explain_app c.explain_command.ensures)))
+returns-clause-ok g c = (c.in_ok-matches.ensures.taken explain_app c.explain_command.ensures, cc (ap (first_of (codes "fault")) (c.in_ok-matches.ensures.rows explain_app c.explain_command.ensures)))
