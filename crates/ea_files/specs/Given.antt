@@ -6,7 +6,6 @@ use Rattle.ea_input.specs.Graph.{Graph, DenotesGraph}
 use Rattle.ea_input.specs.Table.{Table, DenotesTable, nothing}
 use Rattle.ea_input.specs.TableViews.{table as table_of}
 use Rattle.ea_input.specs.Views.{graph as graph_of}
-use Rattle.ea_raw.specs.declared.graph.RawArc.{RawArc}
 use Rattle.ea_raw.specs.declared.graph.RawGraph.{RawGraph}
 use Rattle.ea_raw.specs.declared.table.RawTable.{RawTable}
 use Rattle.ea_road.specs.Roads.{Roads}
@@ -22,7 +21,7 @@ pub record Given : Type 0 where
   pub table : Table
 
 -- What a graph and a table in memory are.
-abbrev pub given_by : RawGraph RawArc → RawTable → Given
+abbrev pub given_by : RawGraph → RawTable → Given
 given_by graph table = record { graph = graph_of graph; table = table_of table }
 
 -- The network: the graph's arcs, each with the class that was assigned to it last.

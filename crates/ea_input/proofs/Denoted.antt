@@ -5,7 +5,6 @@ use Rattle.std.proofs.lemmas.Bool.{ltb-false, le-ltb}
 use Rattle.ea_text.specs.Text.{is_silent, speaking}
 use Rattle.ea_input.specs.Fault.{◌>>=◌}
 use Rattle.ea_input.specs.Graph.{Graph, IsProblemLine, IsArcLine, AreArcLines, DenotesGraph, GraphRead, with_line, after_said, graph_step, graph_line, graph_end, graph_of}
-use Rattle.ea_raw.specs.Arcs.{as_is}
 use Rattle.ea_input.specs.Reading.{text_after}
 use Rattle.ea_input.proofs.Numbered.{bind_ok}
 use Rattle.ea_input.proofs.OneByOne.{rest_of, one_line, next_line, no_line, at_end}
@@ -21,21 +20,21 @@ abbrev reader : Option GraphSize → List RawArc → GraphRead
 reader size arcs = record { size = size; arcs = arcs }
 
 abbrev rest : ℕ → GraphRead → List (List (List ℕ)) → Result Graph InputFault
-rest n read lines = rest_of (graph_step as_is) graph_end n read lines
+rest n read lines = rest_of graph_step graph_end n read lines
 
 -- A line that is read says something, and the rest is read after it.
-said_line : (n : ℕ) (read : GraphRead) (line : List (List ℕ)) (lines : List (List (List ℕ))) (g : Graph) → rest n read (line ∷ lines) ≡ Ok g → (said : GraphLine) × (graph_line read.size (length read.arcs) line ≡ Ok said) × (rest (n + 1) (with_line as_is read said) lines ≡ Ok g)
+said_line : (n : ℕ) (read : GraphRead) (line : List (List ℕ)) (lines : List (List (List ℕ))) (g : Graph) → rest n read (line ∷ lines) ≡ Ok g → (said : GraphLine) × (graph_line read.size (length read.arcs) line ≡ Ok said) × (rest (n + 1) (with_line read said) lines ≡ Ok g)
 unfolding graph_step after_said
 said_line n read line lines g e =
-    let one = one_line (graph_step as_is) graph_end n read line lines g e in
-    let said = bind_ok (graph_line read.size (length read.arcs) line) (λ s. Ok (with_line as_is read s)) one.0 one.1 in
-    let same : with_line as_is read said.0 ≡ one.0 = cc (said.2) in
+    let one = one_line graph_step graph_end n read line lines g e in
+    let said = bind_ok (graph_line read.size (length read.arcs) line) (λ s. Ok (with_line read s)) one.0 one.1 in
+    let same : with_line read said.0 ≡ one.0 = cc (said.2) in
     (said.0, said.1, subst (λ (s : GraphRead). rest (n + 1) s lines ≡ Ok g) (sym same) one.2)
 
 -- The same the other way.
-line_said : (n : ℕ) (read : GraphRead) (line : List (List ℕ)) (lines : List (List (List ℕ))) (said : GraphLine) → graph_line read.size (length read.arcs) line ≡ Ok said → rest n read (line ∷ lines) ≡ rest (n + 1) (with_line as_is read said) lines
+line_said : (n : ℕ) (read : GraphRead) (line : List (List ℕ)) (lines : List (List (List ℕ))) (said : GraphLine) → graph_line read.size (length read.arcs) line ≡ Ok said → rest n read (line ∷ lines) ≡ rest (n + 1) (with_line read said) lines
 unfolding graph_step after_said
-line_said n read line lines said e = next_line (graph_step as_is) graph_end n read (with_line as_is read said) line lines (ap (λ r. r >>= λ s. Ok (with_line as_is read s)) e)
+line_said n read line lines said e = next_line graph_step graph_end n read (with_line read said) line lines (ap (λ r. r >>= λ s. Ok (with_line read s)) e)
 
 nodes_small : (line : List (List ℕ)) (nodes arcs : ℕ) → IsProblemLine line nodes arcs → nodes < 2 ^ 64
 nodes_small [] nodes arcs is = absurd is
@@ -68,7 +67,7 @@ unless_ok false x y k e = (refl, cc)
 ended : (n : ℕ) (size : GraphSize) (arcs : List RawArc) (g : Graph) → length arcs ≤ size.arcs → rest n (reader (Some size) arcs) [] ≡ Ok g → Rest size arcs [] g
 unfolding graph_end
 ended n size arcs g few e =
-    let last = no_line (graph_step as_is) graph_end n (reader (Some size) arcs) g e in
+    let last = no_line graph_step graph_end n (reader (Some size) arcs) g e in
     let end : Graph = record { nodes = size.nodes; arcs = arcs } in
     let passed = unless_ok (ltb (length arcs) size.arcs) end g TooFewLines last in
     let enough = ltb-false (length arcs) size.arcs passed.0 in
@@ -78,7 +77,7 @@ ended n size arcs g few e =
     record { more = []; all = arcs_are ∙ sym (append-nil arcs); lists = tt; nodes = nodes_are; count = ap length arcs_are ∙ count_is }
 
 some_line : (size : GraphSize) (arcs : List RawArc) (line : List (List ℕ)) (lines : List (List (List ℕ))) (g : Graph) (n : ℕ) (said : GraphLine) → size.nodes < 2 ^ 64 → length arcs ≤ size.arcs
-    → Says (Some size) (length arcs) line said → rest (n + 1) (with_line as_is (reader (Some size) arcs) said) lines ≡ Ok g
+    → Says (Some size) (length arcs) line said → rest (n + 1) (with_line (reader (Some size) arcs) said) lines ≡ Ok g
     → ((m : ℕ) (known : List RawArc) → length known ≤ size.arcs → rest m (reader (Some size) known) lines ≡ Ok g → Rest size known lines g) → Rest size arcs (line ∷ lines) g
 some_line size arcs line lines g n Silent small few says e rest =
     let r = rest (n + 1) arcs few e in
@@ -102,7 +101,7 @@ after_some (line ∷ lines) n size arcs g small few e =
 
 -- ---- before the problem line
 
-none_line : (line : List (List ℕ)) (lines : List (List (List ℕ))) (g : Graph) (n : ℕ) (said : GraphLine) → Says None 0 line said → rest (n + 1) (with_line as_is (reader None []) said) lines ≡ Ok g
+none_line : (line : List (List ℕ)) (lines : List (List (List ℕ))) (g : Graph) (n : ℕ) (said : GraphLine) → Says None 0 line said → rest (n + 1) (with_line (reader None []) said) lines ≡ Ok g
     → ((m : ℕ) → rest m (reader None []) lines ≡ Ok g → DenotesGraph lines g) → DenotesGraph (line ∷ lines) g
 none_line line lines g n Silent says e rest =
     let r = rest (n + 1) e in
@@ -125,7 +124,7 @@ none_line line lines g n (Arc arc) says e rest = cc (says.1.1)
 
 none_end : (n : ℕ) (g : Graph) → rest n (reader None []) [] ≡ Ok g → DenotesGraph [] g
 unfolding graph_end
-none_end n g e = let last = no_line (graph_step as_is) graph_end n (reader None []) g e in cc
+none_end n g e = let last = no_line graph_step graph_end n (reader None []) g e in cc
 
 after_none : (lines : List (List (List ℕ))) (n : ℕ) (g : Graph) → rest n (reader None []) lines ≡ Ok g → DenotesGraph lines g
 after_none [] n g e = none_end n g e
@@ -149,7 +148,7 @@ unfolding graph_end
 end_of n size arcs [] count lists =
     let enough : ltb (length arcs) size.arcs ≡ false = le-ltb (length arcs) size.arcs (omega (arith, count, length-append arcs [])) in
     let end : Graph = record { nodes = size.nodes; arcs = arcs } in
-    at_end (graph_step as_is) graph_end n (reader (Some size) arcs) end (ap (λ b. cond b (Err TooFewLines) (Ok end)) enough) ∙ ap (λ (known : List RawArc). Ok (record { nodes = size.nodes; arcs = known })) (sym (append-nil arcs))
+    at_end graph_step graph_end n (reader (Some size) arcs) end (ap (λ b. cond b (Err TooFewLines) (Ok end)) enough) ∙ ap (λ (known : List RawArc). Ok (record { nodes = size.nodes; arcs = known })) (sym (append-nil arcs))
 end_of n size arcs (arc ∷ more) count lists = absurd lists
 
 after_arc : (line : List (List ℕ)) (lines : List (List (List ℕ))) (n : ℕ) (size : GraphSize) (arcs more : List RawArc) → size.nodes < 2 ^ 64 → length (arcs ++ more) ≡ size.arcs → AreArcLines size.nodes (line ∷ speaking lines) more

@@ -7,7 +7,6 @@ use Rattle.ea_input.specs.Listing.{only_number, list_end, nothing_listed}
 use Rattle.ea_input.specs.Sources.{DenotesSources, source_of, source_step}
 use Rattle.ea_input.specs.Pairs.{DenotesPairs, pair_of, pair_read, pair_step}
 use Rattle.ea_input.specs.Graph.{Graph, DenotesGraph, graph_of, graph_step, graph_end, no_graph}
-use Rattle.ea_raw.specs.Arcs.{as_is}
 use Rattle.ea_input.specs.Table.{Table, DenotesTable, table_step, table_end, no_table}
 use Rattle.ea_input.specs.Checks.{Line, Format, value_of, first_failing, IsFaultOf, IsFaultTold}
 use Rattle.ea_input.specs.Formats.{graph_format, source_format, pair_format, table_format}
@@ -107,8 +106,8 @@ graph_grammar = record {
   read = graph_of;
   denoted = graphs.denoted;
   taken = graphs.read_of_denoted;
-  faulty = faulty_text graph_format (graph_step as_is) graph_end no_graph graph_follows;
-  sound = sound_reading graph_format (graph_step as_is) graph_end no_graph graph_follows;
+  faulty = faulty_text graph_format graph_step graph_end no_graph graph_follows;
+  sound = sound_reading graph_format graph_step graph_end no_graph graph_follows;
 }
 
 pub source_checked : (nodes : ℕ) (small : nodes < 2 ^ 64) (others : Line) (size count : ℕ) → (a : ℕ) × Matches (first_failing (item_checks 1 nodes others size count)) (source_of nodes others >>= λ a. cond (ltb count size) (Ok (Item a)) (Err TooManyLines)) (Item a)

@@ -5,7 +5,6 @@ use Rattle.std.specs.Option.{option_map}
 use Rattle.std.specs.Str.{bytes_eq}
 use Rattle.ea_input.specs.Fault.{◌>>=◌}
 use Rattle.ea_input.specs.Graph.{Graph, IsProblemLine, IsArcLine, GraphRead, no_graph, with_line, size_of, size_read, problem_of, problem_line, arc_of, arc_read, arc_line, graph_line, graph_step, after_said, graph_end}
-use Rattle.ea_raw.specs.Arcs.{as_is}
 use Rattle.ea_input.specs.Checks.{Line, Before, before_of, begins_with, run_of_lines, value_of, line_fault, end_fault}
 use Rattle.ea_input.specs.StepLines.{Run, no_run}
 use Rattle.ea_input.specs.Formats.{graph_format, graph_nodes, graph_arcs}
@@ -100,7 +99,7 @@ arc_facts nodes (word ∷ u ∷ v ∷ []) arc is = absurd is
 arc_facts nodes (word ∷ u ∷ v ∷ w ∷ []) arc is = (is_word word (codes "a") is.0, ap (λ (x : List ℕ). bytes_eq x (codes "p")) is.0)
 arc_facts nodes (word ∷ u ∷ v ∷ w ∷ x ∷ rest) arc is = absurd is
 
-stands_after : (read : GraphRead) (lines : List Line) (line : Line) (said : GraphLine) → Stands read lines → Says read.size (length read.arcs) line said → Stands (with_line as_is read said) (lines ++ line ∷ [])
+stands_after : (read : GraphRead) (lines : List Line) (line : Line) (said : GraphLine) → Stands read lines → Says read.size (length read.arcs) line said → Stands (with_line read said) (lines ++ line ∷ [])
 stands_after read lines line Silent stands says =
     let same = found_before (begins_with (codes "p")) lines line (silent_word (codes "p") line refl says) in
     record {
@@ -129,19 +128,19 @@ stands_after read lines line (Arc arc) stands says =
       small = λ l h. stands.small l (sym same ∙ h);
     }
 
-goes_on : (read next : GraphRead) (lines : List Line) (line : Line) → Stands read lines → graph_step as_is read line ≡ Ok next → Stands next (lines ++ line ∷ [])
+goes_on : (read next : GraphRead) (lines : List Line) (line : Line) → Stands read lines → graph_step read line ≡ Ok next → Stands next (lines ++ line ∷ [])
 unfolding graph_step after_said
 goes_on read next lines line stands e =
-    let said = bind_ok (graph_line read.size (length read.arcs) line) (λ s. Ok (with_line as_is read s)) next e in
-    let same : with_line as_is read said.0 ≡ next = cc (said.2) in
+    let said = bind_ok (graph_line read.size (length read.arcs) line) (λ s. Ok (with_line read s)) next e in
+    let same : with_line read said.0 ≡ next = cc (said.2) in
     subst (λ (r : GraphRead). Stands r (lines ++ line ∷ [])) same (stands_after read lines line said.0 stands (graph_line_says read.size (length read.arcs) line said.0 said.1))
 
 abbrev Reads : GraphRead → List Line → Line → Type 0
-Reads read lines line = (next : GraphRead) × Matches (line_fault graph_format (before_of lines) line) (graph_step as_is read line) next
+Reads read lines line = (next : GraphRead) × Matches (line_fault graph_format (before_of lines) line) (graph_step read line) next
 
 said_reads : (read : GraphRead) (lines : List Line) (line : Line) (said : GraphLine) → Matches (line_fault graph_format (before_of lines) line) (graph_line read.size (length read.arcs) line) said → Reads read lines line
 unfolding graph_step after_said
-said_reads read lines line said h = (with_line as_is read said, bind_matches _ (graph_line read.size (length read.arcs) line) said (with_line as_is read) h)
+said_reads read lines line said h = (with_line read said, bind_matches _ (graph_line read.size (length read.arcs) line) said (with_line read) h)
 
 problem_reads : (read : GraphRead) (lines : List Line) (word : List ℕ) (fields : Line) → Stands read lines → word ≡ codes "p" → Reads read lines (word ∷ fields)
 problem_reads read lines word fields stands e =
@@ -185,7 +184,7 @@ nothing_stands : Stands no_graph []
 nothing_stands = record { size = refl; count = refl; small = λ line h. cc }
 
 -- Reading a graph follows its checks.
-pub graph_follows : Follows graph_format (graph_step as_is) graph_end no_graph
+pub graph_follows : Follows graph_format graph_step graph_end no_graph
 graph_follows = record {
   Stands = Stands;
   starts = nothing_stands;

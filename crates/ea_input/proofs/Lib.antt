@@ -25,4 +25,3 @@ pub mod Joined
 pub mod Fed
 pub mod Underway
 pub mod Digits
-pub mod Made

@@ -1,5 +1,5 @@
 -- The text of a graph.
-use Rattle.std.specs.Prelude.{◌≡◌, ℕ, List, [], ◌∷◌, ◌++◌, length, map, codes, nat_lt, if◌then◌else◌, Option, Some, None, Result, Ok, Err}
+use Rattle.std.specs.Prelude.{◌≡◌, ℕ, List, [], ◌∷◌, ◌++◌, length, codes, nat_lt, if◌then◌else◌, Option, Some, None, Result, Ok, Err}
 use Rattle.std.specs.Str.{bytes_eq}
 use Rattle.std.specs.Option.{ok_or}
 use Rattle.ea_limits.specs.declared.TheConstants.{MOST_ARCS, MOST_NODES}
@@ -10,24 +10,15 @@ use Rattle.ea_input.specs.Reading.{text_after}
 use Rattle.ea_input.specs.declared.fault.FaultKind.{FaultKind}
 use Rattle.ea_input.specs.declared.fault.FaultKind.TheVariants.{NoProblemLine, SecondProblemLine, UnknownLine, FieldCount, TooManyLines, TooFewLines, BadKind}
 use Rattle.ea_input.specs.declared.fault.InputFault.{InputFault}
-use Rattle.ea_raw.specs.Arcs.{as_is}
 use Rattle.ea_raw.specs.declared.graph.RawArc.{RawArc}
 use Rattle.ea_input.specs.declared.graph.GraphSize.{GraphSize}
 use Rattle.ea_input.specs.declared.graph.GraphLine.{GraphLine}
 use Rattle.ea_input.specs.declared.graph.GraphLine.TheVariants.{Silent, Problem, Arc}
 
--- A graph without where it lies in memory, its arcs of any type.
-pub record GraphOf (A : Type 0) : Type 0 where
+-- A graph without where it lies in memory.
+pub record Graph : Type 0 where
   pub nodes : ℕ
-  pub arcs : List A
-
--- A graph as a text has it.
-abbrev pub Graph : Type 0
-Graph = GraphOf RawArc
-
--- The same graph, each arc as it is made of the text's.
-abbrev pub made_graph : {A : Type 0} → (RawArc → A) → Graph → GraphOf A
-made_graph made graph = record { nodes = graph.nodes; arcs = map made graph.arcs }
+  pub arcs : List RawArc
 
 -- WHAT A TEXT DENOTES
 
@@ -57,10 +48,6 @@ pub record DenotesGraph (lines : List (List (List ℕ))) (graph : Graph) : Type 
   pub speaks : speaking lines ≡ problem ∷ others
   pub announces : IsProblemLine problem graph.nodes (length graph.arcs)
   pub lists : AreArcLines graph.nodes others graph.arcs
-
--- Lines denote a graph whose arcs are made of the text's.
-abbrev pub DenotesMade : {A : Type 0} → (RawArc → A) → List (List (List ℕ)) → GraphOf A → Type 0
-DenotesMade made lines found = (graph : Graph) × DenotesGraph lines graph × (found ≡ made_graph made graph)
 
 -- HOW A READER GOES, STEP BY STEP (no public clause names it: what a text denotes is above, and its fault is `IsFaultOf` in Checks)
 
@@ -127,38 +114,30 @@ unfoldable pub numbers_line : Option GraphSize → ℕ → ℕ → ℕ → ℕ �
 numbers_line None count tail head weight = Err NoProblemLine
 numbers_line (Some size) count tail head weight = arc_within size.nodes tail head weight >>= λ arc. if nat_lt count size.arcs then Ok (Arc arc) else Err TooManyLines
 
--- What the lines so far say, their arcs as they are made of the text's.
-pub record ReadOf (A : Type 0) : Type 0 where
+-- What the lines so far say.
+pub record GraphRead : Type 0 where
   pub size : Option GraphSize
-  pub arcs : List A
+  pub arcs : List RawArc
 
--- The same with the text's own arcs.
-abbrev pub GraphRead : Type 0
-GraphRead = ReadOf RawArc
-
-abbrev pub no_graph : {A : Type 0} → ReadOf A
+abbrev pub no_graph : GraphRead
 no_graph = record { size = None; arcs = [] }
 
-abbrev pub with_line : {A : Type 0} → (RawArc → A) → ReadOf A → GraphLine → ReadOf A
-with_line made read Silent = read
-with_line made read (Problem size) = record read { size = Some size }
-with_line made read (Arc arc) = record read { arcs = read.arcs ++ made arc ∷ [] }
+abbrev pub with_line : GraphRead → GraphLine → GraphRead
+with_line read Silent = read
+with_line read (Problem size) = record read { size = Some size }
+with_line read (Arc arc) = record read { arcs = read.arcs ++ arc ∷ [] }
 
 -- After what a line says.
-unfoldable pub after_said : {A : Type 0} → (RawArc → A) → ReadOf A → Result GraphLine FaultKind → Result (ReadOf A) FaultKind
-after_said made read said = said >>= λ line. Ok (with_line made read line)
+unfoldable pub after_said : GraphRead → Result GraphLine FaultKind → Result GraphRead FaultKind
+after_said read said = said >>= λ line. Ok (with_line read line)
 
-unfoldable pub graph_step : {A : Type 0} → (RawArc → A) → ReadOf A → List (List ℕ) → Result (ReadOf A) FaultKind
-graph_step made read fields = after_said made read (graph_line read.size (length read.arcs) fields)
+unfoldable pub graph_step : GraphRead → List (List ℕ) → Result GraphRead FaultKind
+graph_step read fields = after_said read (graph_line read.size (length read.arcs) fields)
 
 -- The graph at the end of the text.
-unfoldable pub graph_end : {A : Type 0} → ReadOf A → Result (GraphOf A) FaultKind
+unfoldable pub graph_end : GraphRead → Result Graph FaultKind
 graph_end read = ok_or read.size NoProblemLine >>= λ size. if nat_lt (length read.arcs) size.arcs then Err TooFewLines else Ok (record { nodes = size.nodes; arcs = read.arcs })
 
--- What a reader finds: the graph of a text, its arcs as they are made, or a fault.
-abbrev pub graph_made : {A : Type 0} → (RawArc → A) → List (List (List ℕ)) → Result (GraphOf A) InputFault
-graph_made made lines = text_after (graph_step made) graph_end no_graph lines
-
--- The same with the text's own arcs.
+-- What a reader finds: the graph of a text, or a fault.
 abbrev pub graph_of : List (List (List ℕ)) → Result Graph InputFault
-graph_of lines = graph_made as_is lines
+graph_of lines = text_after graph_step graph_end no_graph lines

@@ -1,7 +1,6 @@
 -- The meaning of a line of a graph is in its first seven fields.
 use Rattle.std.specs.Prelude.{◌≡◌, ℕ, List, [], ◌∷◌, take, length, refl, Option, Some, None}
-use Rattle.ea_input.specs.Graph.{ReadOf, size_of, problem_of, arc_of, problem_line, arc_line, graph_line, graph_step}
-use Rattle.ea_raw.specs.declared.graph.RawArc.{RawArc}
+use Rattle.ea_input.specs.Graph.{GraphRead, size_of, problem_of, arc_of, problem_line, arc_line, graph_line, graph_step}
 use Rattle.ea_input.specs.declared.graph.GraphSize.{GraphSize}
 
 size_of-front : (fields : List (List ℕ)) → size_of (take 5 fields) ≡ size_of fields
@@ -39,6 +38,6 @@ unfolding graph_line
 graph_line-front size count [] = refl
 graph_line-front size count (word ∷ fields) = rw (problem_line-front size fields, arc_line-front size count fields) refl
 
-pub graph_step-front : {A : Type 0} (made : RawArc → A) (read : ReadOf A) (fields : List (List ℕ)) → graph_step made read (take 7 fields) ≡ graph_step made read fields
+pub graph_step-front : (read : GraphRead) (fields : List (List ℕ)) → graph_step read (take 7 fields) ≡ graph_step read fields
 unfolding graph_step
-graph_step-front made read fields = rw (graph_line-front read.size (length read.arcs) fields) refl
+graph_step-front read fields = rw (graph_line-front read.size (length read.arcs) fields) refl

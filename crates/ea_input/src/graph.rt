@@ -6,7 +6,7 @@ ghost use Rattle.ea_input.specs.Formats.{graph_format};
 ghost use Rattle.ea_input.specs.Grammar.{IsGrammar};
 ghost use Rattle.ea_input.specs.declared.fault.InputFault.{InputFault as FaultType};
 ghost use Rattle.ea_input.specs.Graph as spec;
-ghost use Rattle.ea_input.specs.Graph.{DenotesGraph, DenotesMade, Graph, GraphOf, graph_made, made_graph};
+ghost use Rattle.ea_input.specs.Graph.{DenotesGraph, Graph, GraphRead, graph_of};
 ghost use Rattle.ea_input.specs.GraphFronts.{graph_step-front};
 ghost use Rattle.ea_input.specs.Reading.{GivesLine};
 ghost use Rattle.ea_input.specs.Views.{graph, read_of};
@@ -21,7 +21,7 @@ use crate::reading::{LineReader, read_text};
 use crate::streams::{StreamFault, read_device};
 use crate::way::{Way, way_of};
 use ea_limits::{MOST_ARCS, MOST_NODES};
-use ea_raw::{MadeArc, RawArc, RawGraph};
+use ea_raw::{RawArc, RawGraph};
 use ea_text as text;
 use ea_text::ByteIn;
 use std::alloc::Global;
@@ -176,18 +176,18 @@ fn graph_line(
 
 /// What the lines of a text said so far.
 #[derive(Drop)]
-pub(crate) struct GraphReader<A> {
+pub(crate) struct GraphReader {
     pub size: Option<GraphSize>,
-    pub arcs: Vec<A>,
+    pub arcs: Vec<RawArc>,
     /// Room for the arcs of a piece that another thread reads.
-    pub spare: Vec<A>,
+    pub spare: Vec<RawArc>,
     /// The same of a piece of what this reader goes on with meanwhile.
-    pub spare_here: Vec<A>,
+    pub spare_here: Vec<RawArc>,
     /// The same of a piece of what the other thread reads.
-    pub spare_there: Vec<A>,
+    pub spare_there: Vec<RawArc>,
 }
 
-impl<A: MadeArc> GraphReader<A> {
+impl GraphReader {
     /// How many arcs the lines so far have.
     fn count(&self) -> usize
         ensures { result ≡ length (self.now).arcs.items }
@@ -199,29 +199,29 @@ impl<A: MadeArc> GraphReader<A> {
     #[tactic(auto, unfolding(crate::specs::Graph::after_said))]
     fn add(&mut self, said: Result<GraphLine, FaultKind>) -> Result<(), FaultKind>
         ensures { GivesLine (λ _. read_of self.new) result
-            (spec.after_said A.made (read_of self.old) said) }
+            (spec.after_said (read_of self.old) said) }
     {
         match said? {
             GraphLine::Silent => {}
             GraphLine::Problem(size) => self.size = Some(size),
-            GraphLine::Arc(arc) => self.arcs.push(A::of_raw(arc))?,
+            GraphLine::Arc(arc) => self.arcs.push(arc)?,
         }
         Ok(())
     }
 }
 
-impl<A: MadeArc> LineReader for GraphReader<A> {
-    type Text = RawGraph<A>;
+impl LineReader for GraphReader {
+    type Text = RawGraph;
 
-    ghost Denoted = { GraphOf A };
+    ghost Denoted = { Graph };
 
     ghost view = { graph };
 
-    ghost State = { spec.ReadOf A };
+    ghost State = { GraphRead };
 
     ghost state = { read_of };
 
-    ghost step = { spec.graph_step A.made };
+    ghost step = { spec.graph_step };
 
     #[tactic(auto, unfolding(crate::specs::Graph::graph_step, crate::specs::Graph::after_said))]
     fn read_fields(&mut self, fields: &[&[u8]]) -> Result<(), FaultKind> {
@@ -243,7 +243,7 @@ impl<A: MadeArc> LineReader for GraphReader<A> {
     ghost end = { spec.graph_end };
 
     #[tactic(auto, unfolding(crate::specs::Graph::graph_end))]
-    fn finish(self) -> Result<RawGraph<A>, FaultKind> {
+    fn finish(self) -> Result<RawGraph, FaultKind> {
         let size = self.size.ok_or(FaultKind::NoProblemLine)?;
         if self.arcs.len() < size.arcs as usize {
             return Err(FaultKind::TooFewLines);
@@ -254,11 +254,11 @@ impl<A: MadeArc> LineReader for GraphReader<A> {
         })
     }
 
-    ghost front = { graph_step-front A.made };
+    ghost front = { graph_step-front };
 }
 
 /// A reader of a text of which no line was read yet.
-pub(crate) fn start<A: MadeArc>(alloc: Global) -> GraphReader<A>
+pub(crate) fn start(alloc: Global) -> GraphReader
     ensures { read_of result ≡ spec.no_graph }
 {
     GraphReader {
@@ -271,10 +271,10 @@ pub(crate) fn start<A: MadeArc>(alloc: Global) -> GraphReader<A>
 }
 
 /// What a text is read to, with one clause, which says what the lines come to step by step.
-fn read_graph<A: MadeArc>(alloc: Global, text: &[u8]) -> Result<RawGraph<A>, InputFault>
-    ensures exact { Gives graph result (graph_made A.made (field_lines text.now)) }
+fn read_graph(alloc: Global, text: &[u8]) -> Result<RawGraph, InputFault>
+    ensures exact { Gives graph result (graph_of (field_lines text.now)) }
 {
-    read_text(alloc, start::<A>(alloc), text)
+    read_text(alloc, start(alloc), text)
 }
 
 /// The graph that a text denotes, or the text's first fault. `OutOfMemory`, in line 0, says nothing of the text.
@@ -291,39 +291,20 @@ pub fn read_gr(alloc: Global, text: &[u8]) -> Result<RawGraph, InputFault>
     ensures faulty { (fault : FaultType) → IsFaultOf graph_format (field_lines text.now) fault →
         MatchResult result (λ _. ⊥) (λ found. (found ≡ out_of_memory) ⊎ (found ≡ fault)) }
 {
-    read_graph::<RawArc>(alloc, text)
-}
-
-/// The graph that a text denotes, as `read_gr` reads it, each arc as it is made of the text's.
-pub fn read_gr_as<A: MadeArc>(alloc: Global, text: &[u8]) -> Result<RawGraph<A>, InputFault>
-    // What is read is what the text denotes.
-    ensures denoted { IfOk result (λ g. DenotesMade A.made (field_lines text.now) (graph g)) }
-    // What the text denotes is read, unless memory is refused.
-    ensures only { (g : Graph) → DenotesGraph (field_lines text.now) g →
-        MatchResult result (λ read. graph read ≡ made_graph A.made g)
-        (λ fault. fault ≡ out_of_memory) }
-
-    // A fault is the text's, unless memory is refused.
-    ensures fault { IfErr result (IsFaultTold graph_format (field_lines text.now)) }
-    // The text's fault is answered, unless memory is refused.
-    ensures faulty { (fault : FaultType) → IsFaultOf graph_format (field_lines text.now) fault →
-        MatchResult result (λ _. ⊥) (λ found. (found ≡ out_of_memory) ⊎ (found ≡ fault)) }
-{
-    read_graph::<A>(alloc, text)
+    read_graph(alloc, text)
 }
 
 /// What a device's text is read to, with one clause, which says it step by step.
-fn read_graph_from<A: MadeArc + Send, H: Threads + Sync, D: ByteIn>(
+fn read_graph_from<H: Threads + Sync, D: ByteIn>(
     rt: &H,
     way: Way,
     limit: u64,
     device: &mut D,
-) -> Result<RawGraph<A>, StreamFault>
+) -> Result<RawGraph, StreamFault>
     requires { 0 < way.size }
-    ensures exact { GivesWhole graph (graph_made A.made) limit
-        (D.seen device.old) (D.seen device.new) result }
+    ensures exact { GivesWhole graph graph_of limit (D.seen device.old) (D.seen device.new) result }
 {
-    let start = start::<A>(way.alloc);
+    let start = start(way.alloc);
     read_device(rt, way, limit, start, device)
 }
 
@@ -345,7 +326,7 @@ pub fn read_gr_from<H: Threads + Sync, D: ByteIn>(
     ensures fault { IfErr result
         (IsStreamFault graph_format limit (D.seen device.old) (D.seen device.new)) }
 {
-    read_graph_from::<RawArc, H, D>(rt, way_of(alloc, threads), limit, device)
+    read_graph_from(rt, way_of(alloc, threads), limit, device)
 }
 
 /// The graph of a device's text, as `read_gr_from` reads it, in blocks and pieces of the sizes that are given.
@@ -364,25 +345,7 @@ pub fn read_gr_by<H: Threads + Sync, D: ByteIn>(
     ensures fault { IfErr result
         (IsStreamFault graph_format limit (D.seen device.old) (D.seen device.new)) }
 {
-    read_graph_from::<RawArc, H, D>(rt, way, limit, device)
-}
-
-/// The graph of a device's text, as `read_gr_from` reads it, each arc as it is made of the text's.
-pub fn read_gr_from_as<A: MadeArc + Send, H: Threads + Sync, D: ByteIn>(
-    alloc: Global,
-    rt: &H,
-    threads: usize,
-    limit: u64,
-    device: &mut D,
-) -> Result<RawGraph<A>, StreamFault>
-    // What is read is what the text denotes.
-    ensures denoted { IfOk result (λ read. DenotesWhole (DenotesMade A.made) limit
-        (D.seen device.old) (D.seen device.new) (graph read)) }
-    // A fault is the device's or the text's, unless memory is refused.
-    ensures fault { IfErr result
-        (IsStreamFault graph_format limit (D.seen device.old) (D.seen device.new)) }
-{
-    read_graph_from::<A, H, D>(rt, way_of(alloc, threads), limit, device)
+    read_graph_from(rt, way, limit, device)
 }
 
 /// The law of the texts of graphs: a text denotes at most one graph and has at most one fault, and

@@ -5,13 +5,12 @@ ghost use Rattle.ea_input.specs.Views.{read_of};
 
 use crate::graph::GraphReader;
 use crate::pieces::BlockReader;
-use ea_raw::MadeArc;
 use std::alloc::Global;
 use std::mem;
 
 /// Puts the arcs of a reader aside behind those of another, where both have as many nodes and no more arcs come together than are
 /// announced: whether they are put there.
-fn append<A: MadeArc>(reader: &mut GraphReader<A>, aside: GraphReader<A>) -> bool
+fn append(reader: &mut GraphReader, aside: GraphReader) -> bool
     ensures { IsAppended (read_of reader.old) (read_of aside) (read_of reader.new) result }
 {
     let Some(now) = reader.size else {
@@ -36,10 +35,10 @@ fn append<A: MadeArc>(reader: &mut GraphReader<A>, aside: GraphReader<A>) -> boo
     }
 }
 
-impl<A: MadeArc + Send> BlockReader for GraphReader<A> {
+impl BlockReader for GraphReader {
     ghost IsAside = { λ reader. BeginsAside (read_of reader) };
 
-    fn aside(&mut self, alloc: Global) -> Option<GraphReader<A>> {
+    fn aside(&mut self, alloc: Global) -> Option<GraphReader> {
         let size = self.size?;
         let here = mem::replace(&mut self.spare_here, Vec::new(alloc));
         let mut arcs = mem::replace(&mut self.spare, here);
@@ -53,7 +52,7 @@ impl<A: MadeArc + Send> BlockReader for GraphReader<A> {
         })
     }
 
-    fn take_aside(&mut self, aside: GraphReader<A>) -> bool {
+    fn take_aside(&mut self, aside: GraphReader) -> bool {
         append(self, aside)
     }
 }

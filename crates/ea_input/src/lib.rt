@@ -17,12 +17,12 @@ mod streams;
 mod table;
 mod way;
 
-pub use ea_raw::{MadeArc, RawArc, RawGraph, RawKind, RawTable};
+pub use ea_raw::{RawArc, RawGraph, RawKind, RawTable};
 pub use ea_text::{
     ByteIn, ByteOut, Device, DeviceFault, ReadFault, StdIn, StdOut, number, read_all,
 };
 pub use fault::{FaultKind, InputFault};
-pub use graph::{graph_law, read_gr, read_gr_as, read_gr_by, read_gr_from, read_gr_from_as};
+pub use graph::{graph_law, read_gr, read_gr_by, read_gr_from};
 pub use pairs::{pair_law, read_p2p, read_p2p_from};
 pub use sources::{read_ss, read_ss_from, source_law};
 pub use streams::StreamFault;

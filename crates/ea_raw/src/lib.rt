@@ -4,5 +4,5 @@
 mod graph;
 mod table;
 
-pub use graph::{MadeArc, RawArc, RawGraph};
+pub use graph::{RawArc, RawGraph};
 pub use table::{RawKind, RawTable};

@@ -4,8 +4,6 @@
 #[cfg(test)]
 mod explained;
 #[cfg(test)]
-mod made_arcs;
-#[cfg(test)]
 mod readers;
 #[cfg(test)]
 mod streams;

@@ -10,7 +10,7 @@ use std::thread::Threads;
 const PLAIN: &[u8] = b"p sp 4 5\na 1 2 7\na 1 3 2\na 3 2 3\na 2 4 1\na 3 4 9\n";
 
 /// How many bytes a device may have here.
-pub(crate) const LIMIT: u64 = 1 << 33;
+const LIMIT: u64 = 1 << 33;
 
 /// A device that gives a text by pieces, is interrupted before each second read, and fails once so many bytes were given.
 #[derive(Drop)]
@@ -188,7 +188,7 @@ fn pieces_of_lines(rt: HostRuntime) {
 const MANY: u32 = 80_000;
 
 /// A text of many arcs, among as many nodes, and then this line.
-pub(crate) fn large_text(alloc: Global, last: &str) -> Result<Vec<u8>, Fail> {
+fn large_text(alloc: Global, last: &str) -> Result<Vec<u8>, Fail> {
     let mut text = Vec::new(alloc);
     let head = format!(in alloc; "c\np sp {MANY} {MANY}\n")?;
     text.extend_from_slice(head.as_bytes())?;

@@ -3,4 +3,4 @@ use Rattle.ea_input.proofs.Piecewise.{taken_up}
 use Rattle.ea_input.proofs.graph_pieces.GraphReaderBlockReader.take_aside.Goals as goal
 
 pub returns : goal.returns
-returns g c = taken_up g.A.MadeArc.made read_of c.args.self.now c.args.aside c.append.new.reader c.append.result c.append.ensures
+returns c = taken_up read_of c.args.self.now c.args.aside c.append.new.reader c.append.result c.append.ensures
