@@ -137,7 +137,9 @@ fn read_both<R: BlockReader, H: Threads + Sync, X, B: FnMut() -> X>(
         back,
         before,
     } = halves;
-    let mut at_back = move || -> Result<u64, InputFault> { read_lines(alloc, aside, 0, back) };
+    let mut at_back = move || -> Result<u64, InputFault>
+        ensures { ReadsAll R.step R.state 0 aside.entry.now aside.exit.now back.entry.now result }
+    { read_lines(alloc, aside, 0, back) };
     let mut others = move || -> (Result<u64, InputFault>, X)
         requires { (before + length front.now < 2 ^ 64) × B.pre beside.now × IsSync H.row }
         ensures { ReadsAll R.step R.state before reader.entry.now reader.exit.now front.entry.now
@@ -210,7 +212,10 @@ fn read_three<R: BlockReader, H: Threads + Sync, X, B: FnMut() -> X>(
         halves.entry.front.now result.1.1.0 }
     ensures beside { B.step beside.old result.1.1.1 beside.new }
 {
-    let mut at_piece = move || -> Result<u64, InputFault> { read_lines(alloc, further, 0, piece) };
+    let mut at_piece = move || -> Result<u64, InputFault>
+        ensures { ReadsAll R.step R.state 0 further.entry.now further.exit.now piece.entry.now
+            result }
+    { read_lines(alloc, further, 0, piece) };
     let mut others = move || -> (Result<u64, InputFault>, (Result<u64, InputFault>, X))
         requires { (halves.before + length halves.front.now < 2 ^ 64) × B.pre beside.now
             × IsSync H.row }
@@ -259,7 +264,9 @@ fn read_four<R: BlockReader, H: Threads + Sync, X, B: FnMut() -> X>(
         back: last,
         before: _,
     } = backs;
-    let mut at_last = move || -> Result<u64, InputFault> { read_lines(alloc, fourth, 0, last) };
+    let mut at_last = move || -> Result<u64, InputFault>
+        ensures { ReadsAll R.step R.state 0 fourth.entry.now fourth.exit.now last.entry.now result }
+    { read_lines(alloc, fourth, 0, last) };
     let mut others = move || -> (
         Result<u64, InputFault>,
         (Result<u64, InputFault>, (Result<u64, InputFault>, X)),
