@@ -58,17 +58,31 @@ fn count_asked(
     }
 }
 
+/// How often the closure is asked for the answer for all nodes, from node 1 at 0.
+fn asked_for_all(alloc: Global, nodes: u32, rows: &[Row], walks: bool) -> Result<u64, Fail> {
+    let given = pose(alloc, nodes, rows, &[(1, 0)])?.ok_or("rows")?;
+    Ok(count_asked(alloc, &given, walks, nodes)?.ok_or("an answer")?)
+}
+
+/// How often the closure is asked for the pair of nodes 1 and 2 of a path of 1,000 nodes.
+fn asked_for_pair(alloc: Global, walks: bool) -> Result<u64, Fail> {
+    let rows = path(alloc, 1000)?;
+    let start = Source {
+        node: 1,
+        departure: 0,
+    };
+    let given = with_query(alloc, 1000, &rows, Query::pair(start, 2))?.ok_or("rows")?;
+    Ok(count_asked(alloc, &given, walks, 1000)?.ok_or("an answer")?)
+}
+
 /// Each arc is followed once by the search, and once more where walks are asked for.
 #[test]
 fn closure_is_asked_once_for_each_scan_of_an_arc(rt: HostRuntime) -> Result<(), Fail> {
-    let alloc = rt.alloc();
-    let rows = path(alloc, 1000)?;
+    let rows = path(rt.alloc(), 1000)?;
     for (walks, times) in [(false, 1), (true, 2)] {
-        let given = pose(alloc, 4, &FOUR_NODES, &[(1, 0)])?.ok_or("rows")?;
-        let asked = count_asked(alloc, &given, walks, 4)?.ok_or("an answer")?;
+        let asked = asked_for_all(rt.alloc(), 4, &FOUR_NODES, walks)?;
         assert!(rt; 5 <= asked && asked <= 5 * times, "{asked} for 5 arcs");
-        let given = pose(alloc, 1000, &rows, &[(1, 0)])?.ok_or("rows")?;
-        let asked = count_asked(alloc, &given, walks, 1000)?.ok_or("an answer")?;
+        let asked = asked_for_all(rt.alloc(), 1000, &rows, walks)?;
         assert!(rt;
             999 <= asked && asked <= 999 * times,
             "{asked} for 999 arcs"
@@ -80,15 +94,8 @@ fn closure_is_asked_once_for_each_scan_of_an_arc(rt: HostRuntime) -> Result<(), 
 /// A pair query asks nothing far beyond its target.
 #[test]
 fn pair_query_asks_no_more_than_it_needs(rt: HostRuntime) -> Result<(), Fail> {
-    let alloc = rt.alloc();
-    let rows = path(alloc, 1000)?;
-    let start = Source {
-        node: 1,
-        departure: 0,
-    };
     for walks in [false, true] {
-        let given = with_query(alloc, 1000, &rows, Query::pair(start, 2))?.ok_or("rows")?;
-        let asked = count_asked(alloc, &given, walks, 1000)?.ok_or("an answer")?;
+        let asked = asked_for_pair(rt.alloc(), walks)?;
         assert!(rt;
             1 <= asked && asked <= 8,
             "{asked} for the first of 999 arcs"

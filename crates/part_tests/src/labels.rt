@@ -4,6 +4,7 @@ ghost use Rattle.std.specs.Thread.{IsSync};
 
 use ea_labels::{LabelSeat, Labels, Offered};
 use ea_road::{AnyPair, Known, NONE};
+use std::alloc::Allocator;
 use std::test::Fail;
 use std::thread::{Threads, join};
 
@@ -23,53 +24,92 @@ fn offer_and_read<K: Known>(
     (seat, offered, read)
 }
 
+// Two threads offer 10 and 8 and then read: what was answered and read.
+fn offer_by_two<R: Threads + Sync>(
+    rt: &R,
+    labels: &Labels<AnyPair>,
+    mut first: LabelSeat<AnyPair>,
+) -> (LabelSeat<AnyPair>, (Offered, u64), (Offered, u64))
+    requires table { (first.table ≡ labels.now.table) × (1 ≤ labels.now.nodes) }
+    requires shares { 2 ≤ first.history.shares }
+    ensures { (result.0.table ≡ first.table) × (result.0.history.shares ≡ first.history.shares) }
+{
+    let second = labels.split(&mut first);
+    let ((mut first, offered, read), (second, by_second, read_second)) = join(
+        rt,
+        move || -> (LabelSeat<AnyPair>, Offered, u64)
+            requires { (first.table ≡ labels.now.table) × (1 ≤ labels.now.nodes) }
+            ensures { (result.0.table ≡ first.table) × (result.0.history.shares ≡ first.history.shares) }
+        { offer_and_read(labels, first, 10) },
+        move || -> (LabelSeat<AnyPair>, Offered, u64)
+            requires { (second.table ≡ labels.now.table) × (1 ≤ labels.now.nodes) }
+            ensures { (result.0.table ≡ second.table) × (result.0.history.shares ≡ second.history.shares) }
+        { offer_and_read(labels, second, 8) },
+    );
+    labels.join(&mut first, second);
+    (first, (offered, read), (by_second, read_second))
+}
+
 #[test]
 fn two_offers(rt: HostRuntime) -> Result<(), Fail> {
     for _round in 0..300 {
-        let (labels, mut first) = Labels::<AnyPair>::open(rt.alloc(), 2)?;
-        let second = labels.split(&mut first);
-        let shared = &labels;
-        let (a, b) = join(
-            &rt,
-            move || -> (LabelSeat<AnyPair>, Offered, u64)
-                requires { (first.table ≡ shared.now.table) × (1 ≤ shared.now.nodes) }
-                ensures { (result.0.table ≡ first.table) × (result.0.history.shares ≡ first.history.shares) }
-            { offer_and_read(shared, first, 10) },
-            move || -> (LabelSeat<AnyPair>, Offered, u64)
-                requires { (second.table ≡ shared.now.table) × (1 ≤ shared.now.nodes) }
-                ensures { (result.0.table ≡ second.table) × (result.0.history.shares ≡ second.history.shares) }
-            { offer_and_read(shared, second, 8) },
+        let (labels, seat) = Labels::<AnyPair>::open(rt.alloc(), 2)?;
+        let (seat, (offered, read), second) = offer_by_two(&rt, &labels, seat);
+        assert!(rt;
+            offered == Offered::Lowered || offered == Offered::Kept(8),
+            "{offered:?}"
         );
-        let (mut first, offered, read) = a;
-        assert!(rt; offered == Offered::Lowered || offered == Offered::Kept(8));
-        assert!(rt; read == 10 || read == 8);
-        let (second, offered, read) = b;
-        assert_eq!(rt; offered, Offered::Lowered);
-        assert_eq!(rt; read, 8);
-        labels.join(&mut first, second);
-        let words = labels.close(first);
-        assert_eq!(rt; words.as_slice(), [8, NONE].as_slice());
+        assert!(rt; read == 10 || read == 8, "{read}");
+        assert_eq!(rt; second, (Offered::Lowered, 8));
+        assert_eq!(rt; labels.close(seat).as_slice(), [8, NONE].as_slice());
     }
     Ok(())
 }
+
+// What a table of three nodes tells of node 2 while 7, 5, 9 and 5 are offered by one seat: the label before, what is answered, and
+// the label after, by either seat.
+pub fn offers_told<A: Allocator>(
+    labels: &Labels<AnyPair, A>,
+    seat: &mut LabelSeat<AnyPair>,
+    other: &mut LabelSeat<AnyPair>,
+) -> (u64, [Offered; 4], (u64, u64))
+    requires tables { (seat.old.table ≡ labels.now.table) × (other.old.table ≡ labels.now.table) }
+    requires nodes { labels.now.nodes ≡ 3 }
+    ensures seat { (seat.new.table ≡ seat.old.table) × (seat.new.history.shares ≡ seat.old.history.shares) }
+    ensures other { (other.new.table ≡ other.old.table) × (other.new.history.shares ≡ other.old.history.shares) }
+{
+    let before = labels.read(seat, 2);
+    let answers = [
+        labels.offer(seat, 2, 7),
+        labels.offer(seat, 2, 5),
+        labels.offer(seat, 2, 9),
+        labels.offer(seat, 2, 5),
+    ];
+    let after = (labels.read(seat, 2), labels.read(other, 2));
+    (before, answers, after)
+}
+
+/// What it tells.
+pub const TOLD: (u64, [Offered; 4], (u64, u64)) = (
+    NONE,
+    [
+        Offered::Lowered,
+        Offered::Lowered,
+        Offered::Kept(5),
+        Offered::Kept(5),
+    ],
+    (5, 5),
+);
 
 #[test]
 fn labels_two_seats(rt: HostRuntime) -> Result<(), Fail> {
     let (labels, mut seat) = Labels::<AnyPair>::open(rt.alloc(), 3)?;
     let mut other = labels.split(&mut seat);
-    assert_eq!(rt; labels.read(&mut seat, 2), NONE);
-    assert_eq!(rt; labels.offer(&mut seat, 2, 7), Offered::Lowered);
-    assert_eq!(rt; labels.offer(&mut seat, 2, 5), Offered::Lowered);
-    assert_eq!(rt; labels.offer(&mut seat, 2, 9), Offered::Kept(5));
-    assert_eq!(rt; labels.offer(&mut seat, 2, 5), Offered::Kept(5));
-    assert_eq!(rt; labels.read(&mut seat, 2), 5);
-    assert_eq!(rt; labels.read(&mut other, 2), 5);
-    assert_eq!(rt; seat.shares(), 63);
-    assert_eq!(rt; other.shares(), 1);
+    assert_eq!(rt; offers_told(&labels, &mut seat, &mut other), TOLD);
+    assert_eq!(rt; (seat.shares(), other.shares()), (63, 1));
     labels.join(&mut seat, other);
     assert_eq!(rt; seat.shares(), 64);
-    let words = labels.close(seat);
-    assert_eq!(rt; words.as_slice(), [NONE, 5, NONE].as_slice());
+    assert_eq!(rt; labels.close(seat).as_slice(), [NONE, 5, NONE].as_slice());
     Ok(())
 }
 

@@ -59,24 +59,30 @@ fn same_leaving(one: &Network, two: &Network, node: u32) -> Option<usize> {
     Some(here.arcs.len())
 }
 
+/// How many arcs leave the nodes of both, as the same numbers and arcs; none where they differ.
+fn arcs_alike(one: &Network, two: &Network) -> Option<usize> {
+    let mut arcs = 0usize;
+    for node in 1..NODES + 1 {
+        let Some(leaving) = same_leaving(one, two, node) else {
+            return None;
+        };
+        arcs = arcs.wrapping_add(leaving);
+    }
+    Some(arcs)
+}
+
+/// A network's greatest class and mean weight.
+fn told(network: &Network) -> (u32, u64) {
+    (network.top_class(), network.mean_weight())
+}
+
 #[test]
 fn two_threads_make_the_same_network(rt: HostRuntime) -> Result<(), Fail> {
     for step in [1, 7, 69_999] {
-        let networks = networks_by(rt.alloc(), &rt, step)?;
-        assert!(rt; networks.is_some());
-        if let Some((one, two)) = networks {
-            assert_eq!(rt; one.top_class(), 4);
-            assert_eq!(rt; one.mean_weight(), 499);
-            assert_eq!(rt; two.top_class(), 4);
-            assert_eq!(rt; two.mean_weight(), 499);
-            let mut arcs = 0usize;
-            for node in 1..NODES + 1 {
-                let leaving = same_leaving(&one, &two, node);
-                assert!(rt; leaving.is_some());
-                arcs = arcs.wrapping_add(leaving.unwrap_or(0));
-            }
-            assert_eq!(rt; arcs, 70_000);
-        }
+        let (one, two) = networks_by(rt.alloc(), &rt, step)?.ok_or("arcs")?;
+        assert_eq!(rt; told(&one), (4, 499));
+        assert_eq!(rt; told(&two), (4, 499));
+        assert_eq!(rt; arcs_alike(&one, &two), Some(70_000));
     }
     Ok(())
 }

@@ -1,4 +1,4 @@
-ghost use Rattle.std.specs.Prelude.{◌≡◌, ◌+◌, ◌*◌, ◌%◌, ◌^◌, ◌<◌, ◌≤◌, ◌↔◌, ℕ, length};
+ghost use Rattle.std.specs.Prelude.{◌≡◌, ◌+◌, ◌*◌, ◌%◌, ◌^◌, ◌<◌, ◌≤◌, ◌↔◌, ℕ, length, IfOk};
 ghost use Rattle.ea_limits.specs.declared.TheConstants.{HORIZON};
 ghost use Rattle.ea_road.specs.Answers.{IsFifoFunction};
 ghost use Rattle.ea_road.specs.Arrivals.{Reaches};
@@ -8,6 +8,7 @@ use ea_road::*;
 use std::alloc::{AllocError, Global};
 use std::marker::{Brand, PhantomData};
 use std::test::Fail;
+use tests_given::networks::{FOUR_NODES, Row, network_of, query_of, times_of};
 
 fn arc(tail: u32, head: u32, weight: u32, class: u32) -> Arc
     ensures { result ≡ record { tail = tail; head = head; weight = weight; class = class } }
@@ -38,224 +39,261 @@ fn walked(
     run_walk(network, times, start, walk, departure)
 }
 
-/// Class 0 is plain, class 1 leaves at each multiple of the period.
-fn every(alloc: Global, period: u32) -> Result<Timetables, AllocError> {
-    if period == 0 {
-        return Ok(Timetables::new(Vec::new(alloc)));
+/// A walk from node 1, when it departs, and where and when it ends.
+type Case = (&'static [u32], u64, Option<(u32, u64)>);
+
+/// The first of the walks that ends otherwise than is said: its place, and where and when it ends. Where class 1 has a period, it
+/// leaves at each multiple.
+fn wrong_walk(
+    alloc: Global,
+    nodes: u32,
+    rows: &[Row],
+    period: u32,
+    cases: &[Case],
+) -> Result<Option<(usize, Option<(u32, u64)>)>, Fail> {
+    let network = network_of(alloc, nodes, rows)?.ok_or("rows")?;
+    let times = times_of(alloc, period)?;
+    for (place, (walk, departure, end)) in cases.iter().enumerate() {
+        let ends = walked(&network, &times, 1, walk, *departure);
+        if ends != *end {
+            return Ok(Some((place, ends)));
+        }
     }
-    let kinds = [RawKind::Every {
-        period: u64::from(period),
-        offset: 0,
-    }];
-    Timetables::of(alloc, &kinds)
+    Ok(None)
+}
+
+/// The first departure at which an arc of weight 3 arrives otherwise than is said, and when it arrives.
+fn wrong_arrival(timetable: &Timetable, cases: &[(u64, u64)]) -> Option<(u64, u64)> {
+    for (departure, arrival) in cases {
+        let arrives = timetable.arrive(3, (*departure).min(HORIZON));
+        if arrives != *arrival {
+            return Some((*departure, arrives));
+        }
+    }
+    None
 }
 
 #[test]
-fn timetable_values(rt: HostRuntime) -> Result<(), Fail> {
+fn timetable_values(rt: HostRuntime) {
     let closed = Timetable::of(RawKind::Closed { lo: 10, hi: 20 });
-    for (departure, arrival) in [(9, 12), (10, 23), (19, 23), (20, 23)] {
-        assert_eq!(rt; closed.arrive(3, departure), arrival);
-    }
+    let cases = [(9, 12), (10, 23), (19, 23), (20, 23)];
+    assert_eq!(rt; wrong_arrival(&closed, &cases), None);
     let rush = Timetable::of(RawKind::Rush {
         lo: 10,
         hi: 20,
         extra: 5,
     });
-    for (departure, arrival) in [(9, 12), (10, 18), (19, 27), (20, 28), (25, 28), (26, 29)] {
-        assert_eq!(rt; rush.arrive(3, departure), arrival);
-    }
+    let cases = [(9, 12), (10, 18), (19, 27), (20, 28), (25, 28), (26, 29)];
+    assert_eq!(rt; wrong_arrival(&rush, &cases), None);
     let plain = Timetable::of(RawKind::Plain);
-    assert_eq!(rt; plain.arrive(3, 9), 12);
-    Ok(())
+    assert_eq!(rt; wrong_arrival(&plain, &[(9, 12)]), None);
 }
 
 #[test]
 fn every_ten(rt: HostRuntime) -> Result<(), Fail> {
-    let arcs = vec![in rt.alloc(); arc(1, 2, 3, 1)]?;
-    assert!(rt; Network::fits(2, &arcs));
-    let network = Network::new(rt.alloc(), 2, arcs)?;
-    let times = every(rt.alloc(), 10)?;
-    for (departure, arrival) in [(0, 3), (1, 13), (10, 13)] {
-        assert_eq!(rt;
-            walked(&network, &times, 1, &[1], departure),
-            Some((2, arrival))
-        );
-    }
-    let kinds = [RawKind::Every {
-        period: 10,
-        offset: 0,
-    }];
-    let same = Timetables::of(rt.alloc(), &kinds)?;
-    assert_eq!(rt; walked(&network, &same, 1, &[1], 1), Some((2, 13)));
+    let walks: [Case; 3] = [
+        (&[1], 0, Some((2, 3))),
+        (&[1], 1, Some((2, 13))),
+        (&[1], 10, Some((2, 13))),
+    ];
+    assert_eq!(rt;
+        wrong_walk(rt.alloc(), 2, &[(1, 2, 3, 1)], 10, &walks)?,
+        None
+    );
     Ok(())
 }
 
 #[test]
 fn two_ways_to_fifteen(rt: HostRuntime) -> Result<(), Fail> {
-    let arcs = vec![in rt.alloc();
-        arc(1, 2, 4, 0),
-        arc(1, 3, 1, 0),
-        arc(3, 2, 1, 0),
-        arc(2, 4, 5, 1),
-    ]?;
-    assert!(rt; Network::fits(4, &arcs));
-    let network = Network::new(rt.alloc(), 4, arcs)?;
-    let times = every(rt.alloc(), 10)?;
-    assert_eq!(rt; walked(&network, &times, 1, &[1, 4], 1), Some((4, 15)));
-    assert_eq!(rt; walked(&network, &times, 1, &[2, 3, 4], 1), Some((4, 15)));
-    assert_eq!(rt; walked(&network, &times, 1, &[2, 3], 1), Some((2, 3)));
+    let rows = [(1, 2, 4, 0), (1, 3, 1, 0), (3, 2, 1, 0), (2, 4, 5, 1)];
+    let walks: [Case; 3] = [
+        (&[1, 4], 1, Some((4, 15))),
+        (&[2, 3, 4], 1, Some((4, 15))),
+        (&[2, 3], 1, Some((2, 3))),
+    ];
+    assert_eq!(rt; wrong_walk(rt.alloc(), 4, &rows, 10, &walks)?, None);
     Ok(())
 }
 
 #[test]
 fn parallel_arcs(rt: HostRuntime) -> Result<(), Fail> {
-    let arcs = vec![in rt.alloc(); arc(1, 2, 1, 1), arc(1, 2, 50, 0)]?;
-    assert!(rt; Network::fits(2, &arcs));
-    let network = Network::new(rt.alloc(), 2, arcs)?;
-    let times = every(rt.alloc(), 100)?;
-    assert_eq!(rt; network.top_class(), 1);
-    assert_eq!(rt; network.out(1), [1, 2].as_slice());
-    for (departure, by_first, by_second) in [(1, 101, 51), (100, 101, 150)] {
-        assert_eq!(rt;
-            walked(&network, &times, 1, &[1], departure),
-            Some((2, by_first))
-        );
-        assert_eq!(rt;
-            walked(&network, &times, 1, &[2], departure),
-            Some((2, by_second))
-        );
-    }
+    let rows = [(1, 2, 1, 1), (1, 2, 50, 0)];
+    let walks: [Case; 4] = [
+        (&[1], 1, Some((2, 101))),
+        (&[2], 1, Some((2, 51))),
+        (&[1], 100, Some((2, 101))),
+        (&[2], 100, Some((2, 150))),
+    ];
+    assert_eq!(rt; wrong_walk(rt.alloc(), 2, &rows, 100, &walks)?, None);
+    assert_eq!(rt; laid_out(rt.alloc(), 2, &rows)?, (2, 2, 1, 25));
+    assert_eq!(rt; wrong_out(rt.alloc(), 2, &rows, &[&[1, 2], &[]])?, None);
     Ok(())
-}
-
-fn four_nodes(alloc: Global) -> Result<Vec<Arc>, AllocError> {
-    Ok(vec![in alloc;
-        arc(1, 2, 7, 0),
-        arc(1, 3, 2, 0),
-        arc(3, 2, 3, 0),
-        arc(2, 4, 1, 0),
-        arc(3, 4, 9, 0),
-    ]?)
 }
 
 #[test]
 fn walk_values(rt: HostRuntime) -> Result<(), Fail> {
-    let arcs = four_nodes(rt.alloc())?;
-    assert!(rt; Network::fits(4, &arcs));
-    let network = Network::new(rt.alloc(), 4, arcs)?;
-    let plain = Timetables::new(Vec::new(rt.alloc()));
-    assert_eq!(rt; walked(&network, &plain, 1, &[2, 3, 4], 0), Some((4, 6)));
-    assert_eq!(rt; walked(&network, &plain, 1, &[], 0), Some((1, 0)));
-    assert_eq!(rt; walked(&network, &plain, 1, &[2, 4], 0), None);
-    assert_eq!(rt; walked(&network, &plain, 1, &[6], 0), None);
-    assert_eq!(rt; walked(&network, &plain, 1, &[0], 0), None);
     let late = 281_474_976_710_650;
-    assert_eq!(rt;
-        walked(&network, &plain, 1, &[2, 3], late),
-        Some((2, HORIZON))
-    );
-    assert_eq!(rt; walked(&network, &plain, 1, &[2, 3, 4], late), None);
+    let walks: [Case; 7] = [
+        (&[2, 3, 4], 0, Some((4, 6))),
+        (&[], 0, Some((1, 0))),
+        (&[2, 4], 0, None),
+        (&[6], 0, None),
+        (&[0], 0, None),
+        (&[2, 3], late, Some((2, HORIZON))),
+        (&[2, 3, 4], late, None),
+    ];
+    assert_eq!(rt; wrong_walk(rt.alloc(), 4, &FOUR_NODES, 0, &walks)?, None);
     Ok(())
+}
+
+/// What a network tells of itself: how many nodes and arcs it has, its greatest class and its mean weight.
+fn laid_out(alloc: Global, nodes: u32, rows: &[Row]) -> Result<(u32, usize, u32, u64), Fail> {
+    let network = network_of(alloc, nodes, rows)?.ok_or("rows")?;
+    Ok((
+        network.nodes(),
+        network.arcs().len(),
+        network.top_class(),
+        network.mean_weight(),
+    ))
+}
+
+/// The first node that other arcs leave than those of these numbers, or whose arcs do not lie beside the numbers as in the rows,
+/// and the numbers of those that do leave it.
+fn wrong_out(
+    alloc: Global,
+    nodes: u32,
+    rows: &[Row],
+    outs: &[&[u32]],
+) -> Result<Option<(u32, Vec<u32>)>, Fail> {
+    let network = network_of(alloc, nodes, rows)?.ok_or("rows")?;
+    for node in 1..network.nodes() + 1 {
+        let out = network.out(node);
+        let leaving = network.leaving(node);
+        if Some(&out) != outs.get(node as usize - 1)
+            || leaving.numbers != out
+            || !lie_beside(leaving.arcs, rows, node, out)
+        {
+            return Ok(Some((node, out.to_vec(alloc)?)));
+        }
+    }
+    Ok(None)
+}
+
+/// The arc of a row's number; none where there is no such row.
+fn numbered(rows: &[Row], number: u32) -> Option<Arc> {
+    let (tail, head, weight, class) = *rows.get((number as usize).wrapping_sub(1))?;
+    Some(arc(tail, head, weight, class))
+}
+
+/// Whether arcs are those of these numbers that leave a node, with their tails and without.
+fn lie_beside(arcs: &[LeavingArc], rows: &[Row], node: u32, numbers: &[u32]) -> bool {
+    let mut beside = arcs.len() == numbers.len();
+    for (leaving, number) in arcs.iter().zip(numbers) {
+        beside &= match numbered(rows, *number) {
+            Some(arc) => *leaving == LeavingArc::of(arc) && leaving.with_tail(node) == arc,
+            None => false,
+        };
+    }
+    beside
+}
+
+/// The arc of a number of a network of these rows.
+fn arc_of(alloc: Global, nodes: u32, rows: &[Row], number: u32) -> Result<Option<Arc>, Fail> {
+    let network = network_of(alloc, nodes, rows)?.ok_or("rows")?;
+    if number == 0 || number as usize > network.arcs().len() {
+        return Ok(None);
+    }
+    Ok(Some(network.arc(number)))
 }
 
 #[test]
 fn arcs_lie_by_tail(rt: HostRuntime) -> Result<(), Fail> {
-    let arcs = vec![in rt.alloc();
-        arc(3, 1, 1, 0),
-        arc(1, 1, 2, 0),
-        arc(3, 2, 3, 0),
-        arc(1, 3, 4, 2),
-    ]?;
-    assert!(rt; Network::fits(3, &arcs));
-    let network = Network::new(rt.alloc(), 3, arcs)?;
-    assert_eq!(rt; network.nodes(), 3);
-    assert_eq!(rt; network.arcs().len(), 4);
-    assert_eq!(rt; network.arc(4), arc(1, 3, 4, 2));
-    assert_eq!(rt; network.top_class(), 2);
-    assert_eq!(rt; network.mean_weight(), 2);
-    assert_eq!(rt; network.out(1), [2, 4].as_slice());
-    assert_eq!(rt; network.out(2), [].as_slice());
-    assert_eq!(rt; network.out(3), [1, 3].as_slice());
-    let from_three = network.leaving(3);
-    assert_eq!(rt; from_three.numbers, [1, 3].as_slice());
-    let (first, second) = (arc(3, 1, 1, 0), arc(3, 2, 3, 0));
+    let rows = [(3, 1, 1, 0), (1, 1, 2, 0), (3, 2, 3, 0), (1, 3, 4, 2)];
+    assert_eq!(rt; laid_out(rt.alloc(), 3, &rows)?, (3, 4, 2, 2));
+    assert_eq!(rt; arc_of(rt.alloc(), 3, &rows, 4)?, Some(arc(1, 3, 4, 2)));
     assert_eq!(rt;
-        from_three.arcs,
-        [LeavingArc::of(first), LeavingArc::of(second)].as_slice()
+        wrong_out(rt.alloc(), 3, &rows, &[&[2, 4], &[], &[1, 3]])?,
+        None
     );
-    assert_eq!(rt; from_three.arcs[1].with_tail(3), second);
     assert_eq!(rt; size_of::<LeavingArc>(), 12);
     Ok(())
 }
 
 #[test]
 fn ordered_arcs_lie_by_tail(rt: HostRuntime) -> Result<(), Fail> {
-    let arcs = vec![in rt.alloc();
-        arc(1, 4, 3, 0),
-        arc(1, 1, 2, 1),
-        arc(3, 2, 9, 0),
-        arc(3, 2, 5, 2),
-    ]?;
-    assert!(rt; Network::fits(4, &arcs));
-    let network = Network::new(rt.alloc(), 4, arcs)?;
-    assert_eq!(rt; network.out(1), [1, 2].as_slice());
-    assert_eq!(rt; network.out(2), [].as_slice());
-    assert_eq!(rt; network.out(3), [3, 4].as_slice());
-    assert_eq!(rt; network.out(4), [].as_slice());
-    let last = LeavingArc::of(arc(3, 2, 5, 2));
-    assert_eq!(rt; network.leaving(3).arcs.last(), Some(&last));
-    assert_eq!(rt; network.mean_weight(), 4);
+    let rows = [(1, 4, 3, 0), (1, 1, 2, 1), (3, 2, 9, 0), (3, 2, 5, 2)];
+    assert_eq!(rt; laid_out(rt.alloc(), 4, &rows)?, (4, 4, 2, 4));
+    assert_eq!(rt;
+        wrong_out(rt.alloc(), 4, &rows, &[&[1, 2], &[], &[3, 4], &[]])?,
+        None
+    );
     Ok(())
 }
 
+/// The first of the arcs beside which a network of two nodes fits.
+fn first_inside(arcs: &[Arc]) -> Option<Arc> {
+    for outside in arcs {
+        if Network::fits(2, &[arc(1, 1, 0, 0), *outside]) {
+            return Some(*outside);
+        }
+    }
+    None
+}
+
 #[test]
-fn limits_of_networks(rt: HostRuntime) -> Result<(), Fail> {
+fn limits_of_networks(rt: HostRuntime) {
+    let last = [arc(67_108_864, 67_108_864, u32::MAX, u32::MAX)];
     assert!(rt; Network::fits(1, &[]));
     assert!(rt; !Network::fits(0, &[]));
-    assert!(rt;
-        Network::fits(
-            67_108_864,
-            &[arc(67_108_864, 67_108_864, u32::MAX, u32::MAX)]
-        )
-    );
+    assert!(rt; Network::fits(67_108_864, &last));
     assert!(rt; !Network::fits(67_108_865, &[]));
     assert!(rt; Network::fits(2, &[arc(1, 2, 0, 0)]));
-    for outside in [
+    let outside = [
         arc(0, 1, 0, 0),
         arc(1, 0, 0, 0),
         arc(3, 1, 0, 0),
         arc(1, 3, 0, 0),
-    ] {
-        assert!(rt; !Network::fits(2, &[arc(1, 1, 0, 0), outside]));
-    }
-    Ok(())
+    ];
+    assert_eq!(rt; first_inside(&outside), None);
 }
 
-#[test]
-fn classes_are_assigned(rt: HostRuntime) -> Result<(), Fail> {
+/// Three arcs of a text, all the same.
+fn three_alike(alloc: Global) -> Result<RawGraph, AllocError>
+    ensures { IfOk result (λ graph. length graph.arcs.items ≡ 3) }
+{
     let raw = RawArc {
         tail: 1,
         head: 2,
         weight: 5,
     };
-    let graph = RawGraph {
+    Ok(RawGraph {
         nodes: 2,
-        arcs: vec![in rt.alloc(); raw, raw, raw]?,
-    };
+        arcs: vec![in alloc; raw, raw, raw]?,
+    })
+}
+
+/// The classes of the three, without a table of classes or with one that gives some of them several times.
+fn classes_of(alloc: Global, with_table: bool) -> Result<Vec<Arc>, AllocError> {
+    let graph = three_alike(alloc)?;
+    if !with_table {
+        return arcs_of(alloc, &graph, None);
+    }
     let table = RawTable {
-        kinds: Vec::new(rt.alloc()),
-        assigned: vec![in rt.alloc(); (3, 7), (1, 4), (3, 0), (3, 9), (1, 2)]?,
-        steps: Vec::new(rt.alloc()),
+        kinds: Vec::new(alloc),
+        assigned: vec![in alloc; (3, 7), (1, 4), (3, 0), (3, 9), (1, 2)]?,
+        steps: Vec::new(alloc),
     };
-    let plain = arcs_of(rt.alloc(), &graph, None)?;
+    arcs_of(alloc, &graph, Some(&table))
+}
+
+#[test]
+fn classes_are_assigned(rt: HostRuntime) -> Result<(), Fail> {
+    let plain = [arc(1, 2, 5, 0), arc(1, 2, 5, 0), arc(1, 2, 5, 0)];
+    assert_eq!(rt; classes_of(rt.alloc(), false)?.as_slice(), plain.as_slice());
+    let classed = [arc(1, 2, 5, 2), arc(1, 2, 5, 0), arc(1, 2, 5, 9)];
     assert_eq!(rt;
-        plain.as_slice(),
-        [arc(1, 2, 5, 0), arc(1, 2, 5, 0), arc(1, 2, 5, 0)].as_slice()
-    );
-    let classed = arcs_of(rt.alloc(), &graph, Some(&table))?;
-    assert_eq!(rt;
-        classed.as_slice(),
-        [arc(1, 2, 5, 2), arc(1, 2, 5, 0), arc(1, 2, 5, 9)].as_slice()
+        classes_of(rt.alloc(), true)?.as_slice(),
+        classed.as_slice()
     );
     Ok(())
 }
@@ -282,64 +320,94 @@ fn raw_arc(tail: u32, weight: u32) -> RawArc {
     }
 }
 
-#[test]
-fn classes_lie_beside_the_arcs(rt: HostRuntime) -> Result<(), Fail> {
-    let alloc = rt.alloc();
-    let wanted = [arc(1, 2, 5, 2), arc(2, 3, 7, 0), arc(3, 4, 0, 9)];
+/// Three arcs of a text, of which some have classes.
+fn classed(alloc: Global) -> Result<ArcList, AllocError> {
     let raw = vec![in alloc; raw_arc(1, 5), raw_arc(2, 7), raw_arc(3, 0)]?;
     let table = RawTable {
         kinds: Vec::new(alloc),
         assigned: vec![in alloc; (3, 7), (1, 4), (3, 0), (3, 9), (1, 2)]?,
         steps: Vec::new(alloc),
     };
-    let classed = ArcList::with_classes(alloc, raw, &table)?;
-    assert!(rt; has(&classed, &wanted));
-    assert!(rt; has(&ArcList::of(alloc, &wanted)?, &wanted));
-    Ok(())
+    ArcList::with_classes(alloc, raw, &table)
 }
 
 #[test]
-fn arcs_without_classes_are_plain(rt: HostRuntime) -> Result<(), Fail> {
-    let alloc = rt.alloc();
-    let wanted = [arc(1, 2, 5, 0), arc(2, 3, 7, 0)];
+fn classes_lie_beside_the_arcs(rt: HostRuntime) -> Result<(), Fail> {
+    let wanted = [arc(1, 2, 5, 2), arc(2, 3, 7, 0), arc(3, 4, 0, 9)];
+    assert!(rt; has(&classed(rt.alloc())?, &wanted));
+    assert!(rt; has(&ArcList::of(rt.alloc(), &wanted)?, &wanted));
+    Ok(())
+}
+
+/// Two arcs of a text, of which none has a class.
+fn unclassed(alloc: Global) -> Result<ArcList, AllocError> {
     let raw = vec![in alloc; raw_arc(1, 5), raw_arc(2, 7)]?;
     let table = RawTable {
         kinds: Vec::new(alloc),
         assigned: Vec::new(alloc),
         steps: Vec::new(alloc),
     };
-    let plain = ArcList::with_classes(alloc, raw, &table)?;
-    assert!(rt; has(&plain, &wanted));
+    ArcList::with_classes(alloc, raw, &table)
+}
+
+#[test]
+fn arcs_without_classes_are_plain(rt: HostRuntime) -> Result<(), Fail> {
+    let wanted = [arc(1, 2, 5, 0), arc(2, 3, 7, 0)];
+    assert!(rt; has(&unclassed(rt.alloc())?, &wanted));
     Ok(())
+}
+
+/// A query's target, and whether it asks for nodes 1 and 2.
+fn asked(query: &Query) -> (Option<u32>, bool, bool) {
+    (query.target(), query.asks(1), query.asks(2))
+}
+
+/// Whether a query makes a problem with an arc of class 1 from node 1 to node 2, without classes and with one.
+fn is_posed(alloc: Global, query: &Query) -> Result<(bool, bool), Fail> {
+    let network = network_of(alloc, 2, &[(1, 2, 3, 1)])?.ok_or("rows")?;
+    Ok((
+        is_problem(&network, 0, query),
+        is_problem(&network, 1, query),
+    ))
+}
+
+/// Whether the pair of two nodes makes such a problem.
+fn pair_is_posed(alloc: Global, from: u32, to: u32) -> Result<(bool, bool), Fail> {
+    if from == 0 || to == 0 {
+        return Ok((false, false));
+    }
+    let source = Source {
+        node: from,
+        departure: 5,
+    };
+    is_posed(alloc, &Query::pair(source, to))
 }
 
 #[test]
 fn problems(rt: HostRuntime) -> Result<(), Fail> {
-    let arcs = vec![in rt.alloc(); arc(1, 2, 3, 1)]?;
-    assert!(rt; Network::fits(2, &arcs));
-    let network = Network::new(rt.alloc(), 2, arcs)?;
     let source = Source {
         node: 2,
         departure: 5,
     };
-    let all = Query::new(vec![in rt.alloc(); source, source]?);
+    let all = query_of(rt.alloc(), &[(2, 5), (2, 5)])?.ok_or("sources")?;
     assert_eq!(rt; all.sources(), [source, source].as_slice());
-    assert!(rt; all.target().is_none());
-    assert!(rt; all.asks(1));
-    assert!(rt; is_problem(&network, 1, &all));
-    assert!(rt; !is_problem(&network, 0, &all));
-    let pair = Query::pair(source, 1);
-    assert_eq!(rt; pair.sources(), [source].as_slice());
-    assert_eq!(rt; pair.target(), Some(1));
-    assert!(rt; pair.asks(1));
-    assert!(rt; !pair.asks(2));
-    assert!(rt; is_problem(&network, 1, &pair));
-    assert!(rt; !is_problem(&network, 1, &Query::pair(source, 3)));
-    let outside = Source {
-        node: 3,
+    assert_eq!(rt; asked(&all), (None, true, true));
+    assert_eq!(rt; is_posed(rt.alloc(), &all)?, (false, true));
+    Ok(())
+}
+
+#[test]
+fn problems_of_pairs(rt: HostRuntime) -> Result<(), Fail> {
+    let source = Source {
+        node: 2,
         departure: 5,
     };
-    assert!(rt; !is_problem(&network, 1, &Query::pair(outside, 1)));
+    let pair = Query::pair(source, 1);
+    assert_eq!(rt; pair.sources(), [source].as_slice());
+    assert_eq!(rt; asked(&pair), (Some(1), true, false));
+    assert_eq!(rt; pair_is_posed(rt.alloc(), 2, 1)?, (false, true));
+    assert_eq!(rt; pair_is_posed(rt.alloc(), 2, 3)?, (false, false));
+    assert_eq!(rt; pair_is_posed(rt.alloc(), 3, 1)?, (false, false));
     Ok(())
 }
 
@@ -371,13 +439,11 @@ fn boxed_profile(
 
 #[test]
 fn boxed_profile_arrives(rt: HostRuntime) -> Result<(), Fail> {
-    let arcs = vec![in rt.alloc(); arc(1, 2, 3, 1), arc(2, 2, 3, 0)]?;
-    assert!(rt; Network::fits(2, &arcs));
-    let network = Network::new(rt.alloc(), 2, arcs)?;
-    let arrivals = boxed_profile(rt.alloc(), &network)?;
-    assert_eq!(rt; arrivals.0, 10);
-    assert_eq!(rt; arrivals.1, 7);
-    assert_eq!(rt; arrivals.2, Some((2, 13)));
+    let network = network_of(rt.alloc(), 2, &[(1, 2, 3, 1), (2, 2, 3, 0)])?.ok_or("rows")?;
+    assert_eq!(rt;
+        boxed_profile(rt.alloc(), &network)?,
+        (10, 7, Some((2, 13)))
+    );
     Ok(())
 }
 
@@ -436,26 +502,27 @@ fn first_reached_by<F: ArrivalFunction + Drop>(
     first_reached(network, &profiles, query)
 }
 
-#[test]
-fn a_call_picks_its_known_pairs(rt: HostRuntime) -> Result<(), Fail> {
-    let arcs = vec![in rt.alloc(); arc(1, 2, 3, 0)]?;
-    assert!(rt; Network::fits(2, &arcs));
-    let network = Network::new(rt.alloc(), 2, arcs)?;
+/// The same under a closure that is made here, for a source that departs at 5.
+fn first_by_closure(network: &Network) -> u64 {
     let source = Source {
         node: 1,
         departure: 5,
     };
-    let query = Query::pair(source, 2);
-    let first = first_reached_by(
-        &network,
+    first_reached_by(
+        network,
         |_class: u32, weight: u64, departure: u64| -> u64
             requires { departure + weight < 2 ^ 64 }
             ensures { result ≡ departure + weight }
         { departure + weight },
         0,
-        &query,
-    );
-    assert_eq!(rt; first, 5);
+        &Query::pair(source, 2),
+    )
+}
+
+#[test]
+fn a_call_picks_its_known_pairs(rt: HostRuntime) -> Result<(), Fail> {
+    let network = network_of(rt.alloc(), 2, &[(1, 2, 3, 0)])?.ok_or("rows")?;
+    assert_eq!(rt; first_by_closure(&network), 5);
     Ok(())
 }
 
@@ -472,20 +539,16 @@ fn held_by_any(node: u32, time: u64) -> Held<AnyPair>
 }
 
 #[test]
-fn any_pair_is_known_up_to_the_horizon(rt: HostRuntime) -> Result<(), Fail> {
+fn any_pair_is_known_up_to_the_horizon(rt: HostRuntime) {
     for (node, time) in [(0, 0), (1, HORIZON), (u32::MAX, HORIZON)] {
         let held = held_by_any(node, time.min(HORIZON));
-        assert_eq!(rt; held.node, node);
-        assert_eq!(rt; time_held(&held), time);
+        assert_eq!(rt; (held.node, time_held(&held)), (node, time));
     }
-    Ok(())
 }
 
 /// Where one timetable for all classes leads over an arc of the greatest class that there can be.
-fn over_the_last_class(network: &Network) -> Option<(u32, u64)>
-    requires { network.now.nodes ≡ 2 }
-{
-    if network.top_class() < u32::MAX {
+fn over_the_last_class(network: &Network) -> Option<(u32, u64)> {
+    if network.nodes() == 0 || network.top_class() < u32::MAX {
         return None;
     }
     let plain = Timetable::of(RawKind::Plain);
@@ -494,9 +557,7 @@ fn over_the_last_class(network: &Network) -> Option<(u32, u64)>
 
 #[test]
 fn one_timetable_serves_the_last_class(rt: HostRuntime) -> Result<(), Fail> {
-    let arcs = vec![in rt.alloc(); arc(1, 2, 3, u32::MAX)]?;
-    assert!(rt; Network::fits(2, &arcs));
-    let network = Network::new(rt.alloc(), 2, arcs)?;
+    let network = network_of(rt.alloc(), 2, &[(1, 2, 3, u32::MAX)])?.ok_or("rows")?;
     assert_eq!(rt; network.top_class(), u32::MAX);
     assert_eq!(rt; over_the_last_class(&network), Some((2, 8)));
     Ok(())

@@ -1,11 +1,12 @@
 //! Tests: walks on many small networks beside a slow search that follows the definition.
 ghost use Rattle.std.specs.Prelude.{◌<◌};
 
-use crate::alone::{Row, from_sources};
+use crate::alone::from_sources;
 use ea_finish::*;
 use ea_road::NONE;
 use std::alloc::{AllocError, Global};
 use std::test::Fail;
+use tests_given::networks::Row;
 
 /// The next of a row of random words.
 fn word(state: &mut u64) -> u64 {

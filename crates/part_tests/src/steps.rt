@@ -9,11 +9,12 @@ const PAST: u64 = 281_474_976_710_656;
 fn arrives(
     alloc: Global,
     kind: RawKind,
-    steps: Vec<(u64, u64)>,
+    steps: &[(u64, u64)],
     weight: u64,
     cases: &[(u64, u64)],
 ) -> Result<bool, AllocError> {
     let kinds = vec![in alloc; kind]?;
+    let steps = steps.to_vec(alloc)?;
     if !Timetables::fits(&kinds, &steps) {
         return Ok(false);
     }
@@ -47,7 +48,7 @@ fn trips(period: u64, count: usize) -> RawKind {
 
 #[test]
 fn full_speed_is_plain(rt: HostRuntime) -> Result<(), Fail> {
-    let steps = vec![in rt.alloc(); (0, 1000), (4, 1000)]?;
+    let steps = [(0, 1000), (4, 1000)];
     let cases = [
         (0, 3),
         (3, 6),
@@ -56,13 +57,13 @@ fn full_speed_is_plain(rt: HostRuntime) -> Result<(), Fail> {
         (281_474_976_710_653, PAST),
         (281_474_976_710_655, PAST),
     ];
-    assert!(rt; arrives(rt.alloc(), speeds(7, 2), steps, 3, &cases)?);
+    assert!(rt; arrives(rt.alloc(), speeds(7, 2), &steps, 3, &cases)?);
     Ok(())
 }
 
 #[test]
 fn closed_stretch(rt: HostRuntime) -> Result<(), Fail> {
-    let steps = vec![in rt.alloc(); (0, 1000), (6, 0)]?;
+    let steps = [(0, 1000), (6, 0)];
     let cases = [
         (0, 3),
         (3, 6),
@@ -72,13 +73,13 @@ fn closed_stretch(rt: HostRuntime) -> Result<(), Fail> {
         (10, 13),
         (13, 16),
     ];
-    assert!(rt; arrives(rt.alloc(), speeds(10, 2), steps, 3, &cases)?);
+    assert!(rt; arrives(rt.alloc(), speeds(10, 2), &steps, 3, &cases)?);
     Ok(())
 }
 
 #[test]
 fn half_speed_then_full(rt: HostRuntime) -> Result<(), Fail> {
-    let steps = vec![in rt.alloc(); (0, 500), (10, 1000)]?;
+    let steps = [(0, 500), (10, 1000)];
     let cases = [
         (0, 6),
         (4, 10),
@@ -89,54 +90,54 @@ fn half_speed_then_full(rt: HostRuntime) -> Result<(), Fail> {
         (10, 13),
         (18, 22),
     ];
-    assert!(rt; arrives(rt.alloc(), speeds(20, 2), steps, 3, &cases)?);
+    assert!(rt; arrives(rt.alloc(), speeds(20, 2), &steps, 3, &cases)?);
     Ok(())
 }
 
 #[test]
 fn over_the_period(rt: HostRuntime) -> Result<(), Fail> {
-    let steps = vec![in rt.alloc(); (0, 250), (5, 1000)]?;
+    let steps = [(0, 250), (5, 1000)];
     let cases = [(7, 10), (8, 14), (9, 16), (10, 17), (15, 18)];
-    assert!(rt; arrives(rt.alloc(), speeds(10, 2), steps, 3, &cases)?);
-    let steps = vec![in rt.alloc(); (0, 250), (5, 1000)]?;
+    assert!(rt; arrives(rt.alloc(), speeds(10, 2), &steps, 3, &cases)?);
+    let steps = [(0, 250), (5, 1000)];
     let cases = [(0, 40), (3, 43), (9, 49)];
-    assert!(rt; arrives(rt.alloc(), speeds(10, 2), steps, 25, &cases)?);
+    assert!(rt; arrives(rt.alloc(), speeds(10, 2), &steps, 25, &cases)?);
     Ok(())
 }
 
 #[test]
 fn never_above_2_to_48(rt: HostRuntime) -> Result<(), Fail> {
     let kind = speeds(4_294_967_296, 2);
-    let steps = vec![in rt.alloc(); (0, 1), (1, 0)]?;
+    let steps = [(0, 1), (1, 0)];
     let cases = [
         (0, 4_290_672_328_705),
         (1, 4_294_967_296_001),
         (281_474_976_710_655, PAST),
     ];
-    assert!(rt; arrives(rt.alloc(), kind, steps, 1, &cases)?);
-    let steps = vec![in rt.alloc(); (0, 1), (1, 0)]?;
+    assert!(rt; arrives(rt.alloc(), kind, &steps, 1, &cases)?);
+    let steps = [(0, 1), (1, 0)];
     let cases = [(0, PAST), (281_474_976_710_655, PAST)];
-    assert!(rt; arrives(rt.alloc(), kind, steps, 4_294_967_295, &cases)?);
-    let steps = vec![in rt.alloc(); (0, 1), (1, 0)]?;
+    assert!(rt; arrives(rt.alloc(), kind, &steps, 4_294_967_295, &cases)?);
+    let steps = [(0, 1), (1, 0)];
     let cases = [(281_474_976_710_655, 281_474_976_710_655)];
-    assert!(rt; arrives(rt.alloc(), kind, steps, 0, &cases)?);
+    assert!(rt; arrives(rt.alloc(), kind, &steps, 0, &cases)?);
     Ok(())
 }
 
 #[test]
 fn weight_of_zero(rt: HostRuntime) -> Result<(), Fail> {
-    let steps = vec![in rt.alloc(); (0, 0), (5, 1000)]?;
+    let steps = [(0, 0), (5, 1000)];
     let cases = [(0, 0), (3, 3), (5, 5), (10, 10)];
-    assert!(rt; arrives(rt.alloc(), speeds(10, 2), steps, 0, &cases)?);
-    let steps = vec![in rt.alloc(); (0, 0), (5, 1000)]?;
+    assert!(rt; arrives(rt.alloc(), speeds(10, 2), &steps, 0, &cases)?);
+    let steps = [(0, 0), (5, 1000)];
     let cases = [(0, 6), (3, 6), (5, 6), (9, 10), (10, 16)];
-    assert!(rt; arrives(rt.alloc(), speeds(10, 2), steps, 1, &cases)?);
+    assert!(rt; arrives(rt.alloc(), speeds(10, 2), &steps, 1, &cases)?);
     Ok(())
 }
 
 #[test]
 fn next_departure(rt: HostRuntime) -> Result<(), Fail> {
-    let steps = vec![in rt.alloc(); (2, 0), (7, 4)]?;
+    let steps = [(2, 0), (7, 4)];
     let cases = [
         (0, 5),
         (2, 5),
@@ -147,63 +148,90 @@ fn next_departure(rt: HostRuntime) -> Result<(), Fail> {
         (12, 15),
         (13, 24),
     ];
-    assert!(rt; arrives(rt.alloc(), trips(10, 2), steps, 3, &cases)?);
-    let steps = vec![in rt.alloc(); (2, 0), (7, 4)]?;
+    assert!(rt; arrives(rt.alloc(), trips(10, 2), &steps, 3, &cases)?);
+    let steps = [(2, 0), (7, 4)];
     let cases = [(2, 2), (7, 11), (8, 12), (281_474_976_710_655, PAST)];
-    assert!(rt; arrives(rt.alloc(), trips(10, 2), steps, 0, &cases)?);
+    assert!(rt; arrives(rt.alloc(), trips(10, 2), &steps, 0, &cases)?);
     Ok(())
 }
 
 #[test]
 fn last_departure(rt: HostRuntime) -> Result<(), Fail> {
-    let steps = vec![in rt.alloc(); (2, 0), (7, 4)]?;
+    let steps = [(2, 0), (7, 4)];
     let cases = [(0, 5), (3, 14), (7, 14), (8, PAST)];
-    assert!(rt; arrives(rt.alloc(), trips(0, 2), steps, 3, &cases)?);
+    assert!(rt; arrives(rt.alloc(), trips(0, 2), &steps, 3, &cases)?);
     Ok(())
 }
 
 #[test]
 fn equal_arrivals(rt: HostRuntime) -> Result<(), Fail> {
-    let steps = vec![in rt.alloc(); (2, 9), (7, 4)]?;
+    let steps = [(2, 9), (7, 4)];
     let cases = [(2, 12), (3, 12), (7, 12)];
-    assert!(rt; arrives(rt.alloc(), trips(0, 2), steps, 1, &cases)?);
+    assert!(rt; arrives(rt.alloc(), trips(0, 2), &steps, 1, &cases)?);
     Ok(())
 }
 
-#[test]
-fn no_overtaking(rt: HostRuntime) -> Result<(), Fail> {
-    let twenty = [trips(20, 2)];
-    assert!(rt; !Timetables::fits(&twenty, &[(2, 9), (7, 3)]));
-    assert!(rt; Timetables::fits(&twenty, &[(2, 9), (7, 4)]));
-    let ten = [trips(10, 2)];
-    assert!(rt; !Timetables::fits(&ten, &[(2, 0), (7, 6)]));
-    assert!(rt; Timetables::fits(&ten, &[(2, 0), (7, 5)]));
-    assert!(rt; Timetables::fits(&[trips(0, 2)], &[(2, 0), (7, 6)]));
-    assert!(rt; Timetables::fits(&[trips(10, 1)], &[(9, 4_294_967_296)]));
-    Ok(())
-}
+/// A period, how many steps are counted, the steps, and whether they fit.
+type Fit = (u64, usize, &'static [(u64, u64)], bool);
+
+const OVERTAKING: [Fit; 6] = [
+    (20, 2, &[(2, 9), (7, 3)], false),
+    (20, 2, &[(2, 9), (7, 4)], true),
+    (10, 2, &[(2, 0), (7, 6)], false),
+    (10, 2, &[(2, 0), (7, 5)], true),
+    (0, 2, &[(2, 0), (7, 6)], true),
+    (10, 1, &[(9, 4_294_967_296)], true),
+];
 
 #[test]
-fn step_ranges(rt: HostRuntime) -> Result<(), Fail> {
-    let one = [speeds(10, 1)];
-    assert!(rt; !Timetables::fits(&one, &[(1, 1)]));
-    assert!(rt; !Timetables::fits(&one, &[(0, 0)]));
-    assert!(rt; Timetables::fits(&one, &[(0, 1_000_000)]));
-    assert!(rt; !Timetables::fits(&one, &[(0, 1_000_001)]));
-    assert!(rt; !Timetables::fits(&one, &[]));
-    let two = [speeds(10, 2)];
-    assert!(rt; !Timetables::fits(&two, &[(0, 1), (0, 1)]));
-    assert!(rt; Timetables::fits(&two, &[(0, 1), (9, 0)]));
-    assert!(rt; !Timetables::fits(&two, &[(0, 1), (10, 1)]));
-    assert!(rt; !Timetables::fits(&two, &[(0, 0), (5, 0)]));
-    assert!(rt; !Timetables::fits(&[speeds(0, 1)], &[(0, 1)]));
-    assert!(rt; !Timetables::fits(&[speeds(4_294_967_297, 1)], &[(0, 1)]));
-    assert!(rt; !Timetables::fits(&[trips(10, 1)], &[(10, 0)]));
-    assert!(rt; !Timetables::fits(&[trips(10, 1)], &[(9, 4_294_967_297)]));
-    assert!(rt; Timetables::fits(&[trips(0, 1)], &[(281_474_976_710_655, 0)]));
-    assert!(rt; !Timetables::fits(&[trips(0, 1)], &[(PAST, 0)]));
-    assert!(rt; !Timetables::fits(&[trips(4_294_967_297, 1)], &[(0, 1)]));
-    Ok(())
+fn no_overtaking(rt: HostRuntime) {
+    for (period, count, steps, fits) in OVERTAKING {
+        assert_eq!(rt;
+            Timetables::fits(&[trips(period, count)], steps),
+            fits,
+            "{count} of {steps:?} in {period}"
+        );
+    }
+}
+
+const SPEEDS: [Fit; 11] = [
+    (10, 1, &[(1, 1)], false),
+    (10, 1, &[(0, 0)], false),
+    (10, 1, &[(0, 1_000_000)], true),
+    (10, 1, &[(0, 1_000_001)], false),
+    (10, 1, &[], false),
+    (10, 2, &[(0, 1), (0, 1)], false),
+    (10, 2, &[(0, 1), (9, 0)], true),
+    (10, 2, &[(0, 1), (10, 1)], false),
+    (10, 2, &[(0, 0), (5, 0)], false),
+    (0, 1, &[(0, 1)], false),
+    (4_294_967_297, 1, &[(0, 1)], false),
+];
+
+const TRIPS: [Fit; 5] = [
+    (10, 1, &[(10, 0)], false),
+    (10, 1, &[(9, 4_294_967_297)], false),
+    (0, 1, &[(281_474_976_710_655, 0)], true),
+    (0, 1, &[(PAST, 0)], false),
+    (4_294_967_297, 1, &[(0, 1)], false),
+];
+
+#[test]
+fn step_ranges(rt: HostRuntime) {
+    for (period, count, steps, fits) in SPEEDS {
+        assert_eq!(rt;
+            Timetables::fits(&[speeds(period, count)], steps),
+            fits,
+            "{count} speeds of {steps:?} in {period}"
+        );
+    }
+    for (period, count, steps, fits) in TRIPS {
+        assert_eq!(rt;
+            Timetables::fits(&[trips(period, count)], steps),
+            fits,
+            "{count} trips of {steps:?} in {period}"
+        );
+    }
 }
 
 /// The next number of a simple generator.
@@ -298,11 +326,10 @@ fn patterns(alloc: Global, count: u64) -> Result<Vec<(u64, u64)>, AllocError> {
     Ok(steps)
 }
 
-#[test]
-fn patterns_of_a_day(rt: HostRuntime) -> Result<(), Fail> {
-    let steps = patterns(rt.alloc(), 200)?;
-    let again = patterns(rt.alloc(), 200)?;
-    let mut kinds = Vec::new(rt.alloc());
+/// Travel times of 200 classes, each of which has one of the patterns; none where they don't fit.
+fn times_of_patterns(alloc: Global) -> Result<Option<Timetables>, AllocError> {
+    let steps = patterns(alloc, 200)?;
+    let mut kinds = Vec::new(alloc);
     for pattern in 0..200usize {
         kinds.push(RawKind::Speeds {
             period: 86_400,
@@ -310,42 +337,82 @@ fn patterns_of_a_day(rt: HostRuntime) -> Result<(), Fail> {
             count: 96,
         })?;
     }
-    let fits = Timetables::fits(&kinds, &steps);
-    assert!(rt; fits);
-    if fits {
-        let times = Timetables::with_steps(rt.alloc(), kinds, steps)?;
-        assert_eq!(rt; times.classes(), 200);
-        for pattern in 0..200usize {
-            let departure = pattern as u64 * 431;
-            if times.classes() == 200 && again.len() == 19_200 {
-                let own = &again[pattern * 96..pattern * 96 + 96];
-                let arrival = times.arrive(pattern as u32 + 1, 1234, departure);
-                assert_eq!(rt; arrival, slowly(own, 86_400, 1234, departure));
-            }
+    if !Timetables::fits(&kinds, &steps) {
+        return Ok(None);
+    }
+    Ok(Some(Timetables::with_steps(alloc, kinds, steps)?))
+}
+
+/// The first of the patterns by which an arc of weight 1,234 arrives otherwise than by the definition, and when it arrives.
+fn wrong_pattern(times: &Timetables, steps: &[(u64, u64)]) -> Option<(usize, u64)> {
+    for pattern in 0..200usize {
+        let departure = pattern as u64 * 431;
+        if times.classes() != 200 || steps.len() != 19_200 {
+            return Some((pattern, PAST));
+        }
+        let own = &steps[pattern * 96..pattern * 96 + 96];
+        let arrival = times.arrive(pattern as u32 + 1, 1234, departure);
+        if arrival != slowly(own, 86_400, 1234, departure) {
+            return Some((pattern, arrival));
         }
     }
+    None
+}
+
+#[test]
+fn patterns_of_a_day(rt: HostRuntime) -> Result<(), Fail> {
+    let times = times_of_patterns(rt.alloc())?.ok_or("fitting patterns")?;
+    assert_eq!(rt; times.classes(), 200);
+    let steps = patterns(rt.alloc(), 200)?;
+    assert_eq!(rt; wrong_pattern(&times, steps.as_slice()), None);
     Ok(())
+}
+
+/// As many steps as a class may have.
+fn most_steps(alloc: Global) -> Result<Vec<(u64, u64)>, AllocError> {
+    let mut steps = Vec::new(alloc);
+    for place in 0..65_536u64 {
+        steps.push((place * 2, 1 + place % 1000))?;
+    }
+    Ok(steps)
+}
+
+/// Travel times of one class with these steps; none where they don't fit.
+fn times_of_most(alloc: Global) -> Result<Option<Timetables>, AllocError> {
+    let steps = most_steps(alloc)?;
+    let kinds = vec![in alloc; speeds(131_072, 65_536)]?;
+    if !Timetables::fits(&kinds, &steps) {
+        return Ok(None);
+    }
+    Ok(Some(Timetables::with_steps(alloc, kinds, steps)?))
+}
+
+/// The first of the departures at which an arc of weight 20 arrives otherwise than by the definition, and when it arrives.
+fn wrong_departure(
+    times: &Timetables,
+    steps: &[(u64, u64)],
+    departures: &[u64],
+) -> Option<(u64, u64)> {
+    for departure in departures {
+        if times.classes() != 1 || *departure > HORIZON {
+            return Some((*departure, PAST));
+        }
+        let arrival = times.arrive(1, 20, *departure);
+        if arrival != slowly(steps, 131_072, 20, *departure) {
+            return Some((*departure, arrival));
+        }
+    }
+    None
 }
 
 #[test]
 fn class_of_the_most_steps(rt: HostRuntime) -> Result<(), Fail> {
-    let mut steps = Vec::new(rt.alloc());
-    let mut again = Vec::new(rt.alloc());
-    for place in 0..65_536u64 {
-        steps.push((place * 2, 1 + place % 1000))?;
-        again.push((place * 2, 1 + place % 1000))?;
-    }
-    let kinds = vec![in rt.alloc(); speeds(131_072, 65_536)]?;
-    let fits = Timetables::fits(&kinds, &steps);
-    assert!(rt; fits);
-    if fits {
-        let times = Timetables::with_steps(rt.alloc(), kinds, steps)?;
-        for departure in [0, 1, 77_777, 131_071, 131_072, 1_000_000] {
-            if times.classes() == 1 {
-                let arrival = times.arrive(1, 20, departure);
-                assert_eq!(rt; arrival, slowly(&again, 131_072, 20, departure));
-            }
-        }
-    }
+    let times = times_of_most(rt.alloc())?.ok_or("fitting steps")?;
+    let steps = most_steps(rt.alloc())?;
+    let departures = [0, 1, 77_777, 131_071, 131_072, 1_000_000];
+    assert_eq!(rt;
+        wrong_departure(&times, steps.as_slice(), &departures),
+        None
+    );
     Ok(())
 }

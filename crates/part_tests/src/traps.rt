@@ -1,12 +1,14 @@
 //! Tests: how often a search offers where one window holds the whole network, and so at most how many nodes it scans, beside the search
 //! by single times, which is Dijkstra's method.
 ghost use Rattle.std.specs.Prelude.{◌<◌};
+ghost use Rattle.ea_road.specs.Queries.{IsSource};
 
-use crate::alone::{Row, network_of, timetables};
+use crate::alone::timetables;
 use ea_finish::count_offers;
-use ea_road::{Query, Source, TravelTimes, is_problem};
+use ea_road::{Network, Query, Source, TravelTimes, is_problem};
 use std::alloc::{AllocError, Global};
 use std::test::Fail;
+use tests_given::networks::{Row, network_of};
 
 const HEAVY: u32 = u32::MAX;
 
@@ -17,6 +19,30 @@ fn below(state: &mut u64, bound: u32) -> u32 {
     z = (z ^ (z >> 30)).wrapping_mul(0xBF58_476D_1CE4_E5B9);
     z = (z ^ (z >> 27)).wrapping_mul(0x94D0_49BB_1331_11EB);
     ((z ^ (z >> 31)) % u64::from(bound.max(1))) as u32
+}
+
+/// How often a search offers by windows of a width; none where network and query make no problem.
+fn offers_by(
+    alloc: Global,
+    network: &Network,
+    query: &Query,
+    width: u64,
+) -> Result<Option<u64>, AllocError> {
+    let times = timetables(alloc)?;
+    if !is_problem(network, times.classes(), query) {
+        return Ok(None);
+    }
+    Ok(Some(count_offers(alloc, network, &times, query, width)?))
+}
+
+/// Where the searches start.
+fn first() -> Source
+    ensures { IsSource result }
+{
+    Source {
+        node: 1,
+        departure: 0,
+    }
 }
 
 /// How often a search from node 1 offers for a pair, by windows of the mean weight; none where the rows do not make a
@@ -33,17 +59,8 @@ fn pair_offers(
     if target == 0 {
         return Ok(None);
     }
-    let times = timetables(alloc)?;
-    let source = Source {
-        node: 1,
-        departure: 0,
-    };
-    let query = Query::pair(source, target);
-    if !is_problem(&network, times.classes(), &query) {
-        return Ok(None);
-    }
-    let width = network.mean_weight();
-    Ok(Some(count_offers(alloc, &network, &times, &query, width)?))
+    let query = Query::pair(first(), target);
+    offers_by(alloc, &network, &query, network.mean_weight())
 }
 
 /// How often a search from node 1 offers by windows of the mean weight, and by single times; none where the rows do not
@@ -52,19 +69,13 @@ fn offers(alloc: Global, nodes: u32, rows: &[Row]) -> Result<Option<(u64, u64)>,
     let Some(network) = network_of(alloc, nodes, rows)? else {
         return Ok(None);
     };
-    let times = timetables(alloc)?;
-    let source = Source {
-        node: 1,
-        departure: 0,
-    };
-    let query = Query::from_one(source);
-    if !is_problem(&network, times.classes(), &query) {
-        return Ok(None);
+    let query = Query::from_one(first());
+    let wide = offers_by(alloc, &network, &query, network.mean_weight())?;
+    let single = offers_by(alloc, &network, &query, 0)?;
+    match (wide, single) {
+        (Some(wide), Some(single)) => Ok(Some((wide, single))),
+        _ => Ok(None),
     }
-    let width = network.mean_weight();
-    let wide = count_offers(alloc, &network, &times, &query, width)?;
-    let single = count_offers(alloc, &network, &times, &query, 0)?;
-    Ok(Some((wide, single)))
 }
 
 /// Whether each arc offers once at most by single times, and all together at most twice as often by windows.

@@ -21,13 +21,25 @@ pub struct Given {
     pub query: Query,
 }
 
-/// Makes them of rows and sources; none where they don't fit.
-pub fn pose(
-    alloc: Global,
-    nodes: u32,
-    rows: &[Row],
-    sources: &[(u32, u64)],
-) -> Result<Option<Given>, AllocError> {
+/// The network of these rows; none where they make none.
+pub fn network_of(alloc: Global, nodes: u32, rows: &[Row]) -> Result<Option<Network>, AllocError> {
+    let mut arcs = Vec::new(alloc);
+    for (tail, head, weight, class) in rows {
+        arcs.push(Arc {
+            tail: *tail,
+            head: *head,
+            weight: *weight,
+            class: *class,
+        })?;
+    }
+    if !Network::fits(nodes, &arcs) {
+        return Ok(None);
+    }
+    Ok(Some(Network::new(alloc, nodes, arcs)?))
+}
+
+/// The query for all nodes from these sources; none where they don't fit.
+pub fn query_of(alloc: Global, sources: &[(u32, u64)]) -> Result<Option<Query>, AllocError> {
     let mut list = Vec::new(alloc);
     for (node, departure) in sources {
         list.push(Source {
@@ -38,7 +50,20 @@ pub fn pose(
     if !Query::fits(&list) {
         return Ok(None);
     }
-    with_query(alloc, nodes, rows, Query::new(list))
+    Ok(Some(Query::new(list)))
+}
+
+/// Makes them of rows and sources; none where they don't fit.
+pub fn pose(
+    alloc: Global,
+    nodes: u32,
+    rows: &[Row],
+    sources: &[(u32, u64)],
+) -> Result<Option<Given>, AllocError> {
+    match query_of(alloc, sources)? {
+        Some(query) => with_query(alloc, nodes, rows, query),
+        None => Ok(None),
+    }
 }
 
 /// Makes them of rows and a query.
@@ -59,19 +84,9 @@ pub fn with_period(
     period: u32,
     query: Query,
 ) -> Result<Option<Given>, AllocError> {
-    let mut arcs = Vec::new(alloc);
-    for (tail, head, weight, class) in rows {
-        arcs.push(Arc {
-            tail: *tail,
-            head: *head,
-            weight: *weight,
-            class: *class,
-        })?;
-    }
-    if !Network::fits(nodes, &arcs) {
+    let Some(network) = network_of(alloc, nodes, rows)? else {
         return Ok(None);
-    }
-    let network = Network::new(alloc, nodes, arcs)?;
+    };
     let times = times_of(alloc, period)?;
     Ok(Some(Given {
         network,
@@ -80,8 +95,8 @@ pub fn with_period(
     }))
 }
 
-/// Travel times without classes, or with class 1 that leaves at each multiple of the period.
-fn times_of(alloc: Global, period: u32) -> Result<Timetables, AllocError> {
+/// Travel times without classes, or with class 1 that leaves at each multiple of the period. None is 0.
+pub fn times_of(alloc: Global, period: u32) -> Result<Timetables, AllocError> {
     if period == 0 {
         return Ok(Timetables::new(Vec::new(alloc)));
     }

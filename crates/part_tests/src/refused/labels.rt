@@ -1,5 +1,6 @@
 // Each allocation of a label table, refused in turn.
-use ea_labels::{Labels, Offered};
+use crate::labels::{TOLD, offers_told};
+use ea_labels::Labels;
 use ea_road::{AnyPair, NONE};
 use linked_list_allocator::LocalHeap;
 use std::test::Fail;
@@ -15,16 +16,9 @@ fn open_is_refused_or_whole(rt: HostRuntime) -> Result<(), Fail> {
             Ok((labels, mut seat)) => {
                 opened = opened.wrapping_add(1);
                 let mut other = labels.split(&mut seat);
-                assert_eq!(rt; labels.read(&mut seat, 2), NONE);
-                assert_eq!(rt; labels.offer(&mut seat, 2, 7), Offered::Lowered);
-                assert_eq!(rt; labels.offer(&mut seat, 2, 5), Offered::Lowered);
-                assert_eq!(rt; labels.offer(&mut seat, 2, 9), Offered::Kept(5));
-                assert_eq!(rt; labels.offer(&mut seat, 2, 5), Offered::Kept(5));
-                assert_eq!(rt; labels.read(&mut seat, 2), 5);
-                assert_eq!(rt; labels.read(&mut other, 2), 5);
+                assert_eq!(rt; offers_told(&labels, &mut seat, &mut other), TOLD);
                 labels.join(&mut seat, other);
-                let words = labels.close(seat);
-                assert_eq!(rt; words.as_slice(), [NONE, 5, NONE].as_slice());
+                assert_eq!(rt; labels.close(seat).as_slice(), [NONE, 5, NONE].as_slice());
             }
         }
         assert_eq!(rt; memory.used(), 0);
