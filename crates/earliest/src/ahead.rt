@@ -14,7 +14,7 @@ ghost use Rattle.earliest.specs.Reported.{IsReportOf};
 ghost use Rattle.earliest.specs.Solved.{Serves};
 
 use crate::answering::Watched;
-use crate::drafts::{Draft, Job, Place, Plan, make_row, rows_of, take_drafts};
+use crate::drafts::{Draft, Job, Place, Plan, Rows, make_row, rows_of, take_drafts};
 use crate::progress::{Progress, fault_after};
 use ea_files::Road;
 use ea_input::ByteOut;
@@ -29,7 +29,14 @@ use std::thread::{Threads, available_parallelism};
 use std::{mem, thread};
 
 /// How many bytes of reports a thread keeps before they are sent, at most.
-const KEPT: usize = 33_554_432;
+const KEPT: usize = 67_108_864;
+
+/// How many lines the reports have, about, that a thread makes one after the other: where one thread is kept waiting by another,
+/// that counts the less the longer it works.
+const LINES_IN_PART: usize = 2_097_152;
+
+/// How many bytes a report's line has, about.
+const LINE: usize = 16;
 
 /// How many problems a thread takes at once, at most.
 const MOST_IN_PART: usize = 256;
@@ -62,11 +69,13 @@ fn plan_of(problems: usize, threads: usize, lines: usize, walks: bool) -> Plan
     ensures walks { result.walks ≡ walks }
 {
     let few = (problems / (threads * 4)).min(MOST_IN_PART).max(1);
-    let part = (1_048_576 / lines).max(1).min(few);
+    let part = (LINES_IN_PART / lines).max(1).min(few);
+    let most = KEPT / part;
     Plan {
         walks,
         part,
-        most: KEPT / part,
+        room: lines.saturating_mul(LINE).min(most),
+        most,
     }
 }
 
@@ -90,6 +99,17 @@ impl Progress {
                 Ok(())
             }
             Err(fault) => Err(fault_after(self.written, fault)),
+        }
+    }
+
+    /// Leaves the memory of a text that was sent to those who make others.
+    fn keep_memory(&mut self, memory: Vec<u8>)
+        ensures written { self.new.written ≡ self.old.written }
+        ensures totals { self.new.totals ≡ self.old.totals }
+        ensures search { self.new.search ≡ self.old.search }
+    {
+        if let Some(used) = &mut self.used {
+            let _ = used.push(memory);
         }
     }
 
@@ -119,7 +139,11 @@ impl Progress {
     {
         match draft {
             Draft::Nothing => self.report_alone(alloc, road, query, walks, out),
-            Draft::Text(text) => self.send_text(&text, out),
+            Draft::Text(text) => {
+                self.send_text(&text, out)?;
+                self.keep_memory(text);
+                Ok(())
+            }
             Draft::Answer(found) => {
                 self.write(alloc, road, query, found.answer(), walks, out)?;
                 self.search = Some(found);
@@ -260,14 +284,19 @@ pub(crate) fn report_ahead<H: Threads + Sync, W: ByteOut, V: Watch>(
     ensures balanced { IfOk result (λ progress. AreBalanced progress.totals) }
 {
     let Watched { options, watch } = watched;
-    let mut progress = Progress::begin();
     let lines = lines_of(road, &queries[0]);
     let plan = plan_of(queries.len(), threads, lines, options.walks);
     let count = threads * plan.part;
-    let (mut places, mut drafts) = match rows_of(alloc, count) {
+    let Rows {
+        mut places,
+        mut drafts,
+        used,
+        spare,
+    } = match rows_of(alloc, count) {
         Ok(rows) => rows,
         Err(_) => return Err(AnswerFault::OutOfMemory { written: 0 }),
     };
+    let mut progress = Progress::begin(Some(used));
     let row = places.as_mut_slice();
     let ready = drafts.as_mut_slice();
     let job = Job {
@@ -276,6 +305,7 @@ pub(crate) fn report_ahead<H: Threads + Sync, W: ByteOut, V: Watch>(
         queries,
         options,
         plan,
+        spare: &spare,
     };
     // Tells that the count is one of 64 bits.
     let _ = out.interruptions();

@@ -9,6 +9,7 @@ ghost use Rattle.earliest.specs.Solved.{Serves};
 
 use crate::finding::search;
 use crate::sheet::Sheet;
+use crossbeam_deque::{Steal, Stealer, Worker};
 use ea_files::Road;
 use ea_finish::Search;
 use ea_report::{ReportOptions, write_problem};
@@ -45,8 +46,22 @@ pub(crate) struct Plan {
     pub walks: bool,
     /// How many problems a thread takes at once.
     pub part: usize,
+    /// For how many bytes of a report it takes memory at first.
+    pub room: usize,
     /// How many bytes of a report it keeps at most.
     pub most: usize,
+}
+
+/// Problems on a road, and how their drafts are made.
+#[derive(Clone, Copy)]
+pub(crate) struct Job<'a> {
+    pub alloc: Global,
+    pub road: &'a Road,
+    pub queries: &'a [Query],
+    pub options: &'a RunOptions,
+    pub plan: Plan,
+    /// Where memory of texts that were sent is found.
+    pub spare: &'a Stealer<Vec<u8>>,
 }
 
 /// So many places where nothing was made.
@@ -65,27 +80,39 @@ fn places_of(alloc: Global, count: usize) -> Result<Vec<Place>, AllocError>
     Ok(row)
 }
 
+/// Memory for a text: that of one that was sent, else new memory for so many bytes, or none yet where that is refused.
+fn take_memory(job: Job<'_>) -> Vec<u8> {
+    match job.spare.steal() {
+        Steal::Success(memory) => memory,
+        _ => match Vec::with_capacity(job.alloc, job.plan.room) {
+            Ok(memory) => memory,
+            Err(_) => Vec::new(job.alloc),
+        },
+    }
+}
+
 /// Makes the draft of a problem, on the arrays of the last search where there are some. They are left there where they aren't
-/// the draft.
-fn make_draft(
-    alloc: Global,
-    road: &Road,
-    query: &Query,
-    plan: Plan,
-    last: &mut Option<Search>,
-) -> Draft
-    requires problem { IsProblem road.now.network (length road.now.times.list.items) query.now }
+/// the draft. A text is written into the memory of an earlier one.
+fn make_draft(job: Job<'_>, query: &Query, last: &mut Option<Search>) -> Draft
+    requires problem { IsProblem job.road.now.network
+        (length job.road.now.times.list.items) query.now }
     requires few { (length query.now.sources ≤ MOST_STARTS)
-        × (road.now.network.nodes ≤ MOST_NODES) }
-    requires search { IfSome last.old (Serves road.now.network plan.walks) }
-    ensures draft { IsDraftOf plan.walks road.now query.now result }
-    ensures search { IfSome last.new (Serves road.now.network plan.walks) }
+        × (job.road.now.network.nodes ≤ MOST_NODES) }
+    requires search { IfSome last.old (Serves job.road.now.network job.plan.walks) }
+    ensures draft { IsDraftOf job.entry.plan.walks job.entry.road.now query.now result }
+    ensures search { IfSome last.new (Serves job.entry.road.now.network job.entry.plan.walks) }
 {
+    let Job {
+        alloc,
+        road,
+        plan,
+        ..
+    } = job;
     let found = match search(alloc, road, query, plan.walks, last.take()) {
         Ok(found) => found,
         Err(_) => return Draft::Nothing,
     };
-    let mut sheet = Sheet::new(alloc, plan.most);
+    let mut sheet = Sheet::over(take_memory(job), plan.most);
     let options = ReportOptions { walks: plan.walks };
     match write_problem(
         alloc,
@@ -105,26 +132,17 @@ fn make_draft(
 
 /// Makes the draft of the problem with this number, from 0, where there is one; but for the first one of a part it is made
 /// only where arrays are left.
-fn make_draft_at(
-    alloc: Global,
-    road: &Road,
-    queries: &[Query],
-    plan: Plan,
-    at: usize,
-    is_first: bool,
-    last: &mut Option<Search>,
-) -> Draft
-    requires problems { AreProblems road.now queries.now }
-    requires few { road.now.network.nodes ≤ MOST_NODES }
-    requires search { IfSome last.old (Serves road.now.network plan.walks) }
-    ensures draft { (query : Asking) → slice_get queries.now at ≡ Some query
-        → IsDraftOf plan.walks road.now query result }
-    ensures search { IfSome last.new (Serves road.now.network plan.walks) }
+fn make_draft_at(job: Job<'_>, at: usize, is_first: bool, last: &mut Option<Search>) -> Draft
+    requires job { IsJob job }
+    requires search { IfSome last.old (Serves job.road.now.network job.plan.walks) }
+    ensures draft { (query : Asking) → slice_get job.entry.queries.now at ≡ Some query
+        → IsDraftOf job.entry.plan.walks job.entry.road.now query result }
+    ensures search { IfSome last.new (Serves job.entry.road.now.network job.entry.plan.walks) }
 {
-    match queries.get(at) {
+    match job.queries.get(at) {
         Some(query) => {
             if is_first || last.is_some() {
-                make_draft(alloc, road, query, plan, last)
+                make_draft(job, query, last)
             } else {
                 Draft::Nothing
             }
@@ -135,26 +153,19 @@ fn make_draft_at(
 
 /// Makes the drafts of a part of a row that begins at this place of it. After one that is too long to be kept no more are
 /// made there.
-fn make_part(
-    alloc: Global,
-    road: &Road,
-    queries: &[Query],
-    plan: Plan,
-    start: usize,
-    part: &mut [Place],
-)
-    requires problems { AreProblems road.now queries.now }
-    requires few { road.now.network.nodes ≤ MOST_NODES }
-    requires serving { AreServing road.now.network plan.walks part.old }
+fn make_part(job: Job<'_>, start: usize, part: &mut [Place])
+    requires job { IsJob job }
+    requires serving { AreServing job.road.now.network job.plan.walks part.old }
     requires some { 0 < length part.old }
     requires room { start + length part.old < 2 ^ 64 }
     ensures length { length part.new ≡ length part.old }
-    ensures serving { AreServing road.now.network plan.walks part.new }
-    ensures drafts { AreDraftsFrom plan.walks road.now queries.now start part.new }
+    ensures serving { AreServing job.entry.road.now.network job.entry.plan.walks part.new }
+    ensures drafts { AreDraftsFrom job.entry.plan.walks job.entry.road.now
+        job.entry.queries.now start part.new }
 {
     let mut last = part[0].search.take();
     for k in 0..part.len() {
-        part[k].draft = make_draft_at(alloc, road, queries, plan, start + k, k == 0, &mut last);
+        part[k].draft = make_draft_at(job, start + k, k == 0, &mut last);
     }
     part[0].search = last;
 }
@@ -170,15 +181,35 @@ fn no_drafts(alloc: Global, count: usize) -> Result<Vec<Draft>, AllocError>
     Ok(drafts)
 }
 
+/// What a row is made and sent with.
+pub(crate) struct Rows {
+    /// Where drafts are made.
+    pub places: Vec<Place>,
+    /// Those that are sent meanwhile.
+    pub drafts: Vec<Draft>,
+    /// Where memory of texts that were sent is left.
+    pub used: Worker<Vec<u8>>,
+    /// Where others find it.
+    pub spare: Stealer<Vec<u8>>,
+}
+
 /// So many places where nothing was made, and as many drafts that are nothing.
-pub(crate) fn rows_of(alloc: Global, count: usize) -> Result<(Vec<Place>, Vec<Draft>), AllocError>
-    ensures count { IfOk result (λ rows. (vec_len rows.0 ≡ count) × (vec_len rows.1 ≡ count)) }
+pub(crate) fn rows_of(alloc: Global, count: usize) -> Result<Rows, AllocError>
+    ensures count { IfOk result (λ rows.
+        (vec_len rows.places ≡ count) × (vec_len rows.drafts ≡ count)) }
     ensures serving { IfOk result (λ rows.
-        (roads : Roads) (walks : Bool) → AreServing roads walks rows.0.items) }
+        (roads : Roads) (walks : Bool) → AreServing roads walks rows.places.items) }
 {
     let places = places_of(alloc, count)?;
     let drafts = no_drafts(alloc, count)?;
-    Ok((places, drafts))
+    let used = Worker::new_lifo(alloc, 16)?;
+    let spare = used.stealer()?;
+    Ok(Rows {
+        places,
+        drafts,
+        used,
+        spare,
+    })
 }
 
 /// Takes the drafts of a row, and leaves the arrays of searches there.
@@ -190,16 +221,6 @@ pub(crate) fn take_drafts(row: &mut [Place], ready: &mut [Draft])
     for k in 0..row.len() {
         ready[k] = mem::replace(&mut row[k].draft, Draft::Nothing);
     }
-}
-
-/// Problems on a road, and how their drafts are made.
-#[derive(Clone, Copy)]
-pub(crate) struct Job<'a> {
-    pub alloc: Global,
-    pub road: &'a Road,
-    pub queries: &'a [Query],
-    pub options: &'a RunOptions,
-    pub plan: Plan,
 }
 
 /// Makes the drafts of a row for the problems from this one on, each part of it in a thread of its own where one can be
@@ -221,21 +242,13 @@ pub(crate) fn make_row<H: Threads + Sync, X, B: FnMut() -> X>(
         job.entry.queries.now first row.new }
     ensures beside { B.step beside.old result beside.new }
 {
-    let Job {
-        alloc,
-        road,
-        queries,
-        plan,
-        ..
-    } = job;
     let make_one = |start: usize, places: &mut [Place]|
-        requires { AreProblems road.now queries.now × (road.now.network.nodes ≤ MOST_NODES)
-            × AreServing road.now.network plan.walks places.now
+        requires { IsJob job × AreServing job.road.now.network job.plan.walks places.now
             × (0 < length places.now) × (first + start + length places.now < 2 ^ 64) }
         ensures { (length places.exit.now ≡ length places.entry.now)
-            × AreServing road.entry.now.network plan.walks places.exit.now
-            × AreDraftsFrom plan.walks road.entry.now queries.entry.now
+            × AreServing job.entry.road.now.network job.entry.plan.walks places.exit.now
+            × AreDraftsFrom job.entry.plan.walks job.entry.road.now job.entry.queries.now
             (first + start) places.exit.now }
-    { make_part(alloc, road, queries, plan, first + start, places) };
-    for_each_chunk_mut_beside(rt, plan.part, &make_one, row, beside)
+    { make_part(job, first + start, places) };
+    for_each_chunk_mut_beside(rt, job.plan.part, &make_one, row, beside)
 }

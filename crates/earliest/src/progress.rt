@@ -19,6 +19,7 @@ use crate::ahead::{report_ahead, threads_at_once};
 use crate::answering::Watched;
 use crate::finding::{Found, find, search, workers_of};
 use crate::totals::{add_totals, no_totals};
+use crossbeam_deque::Worker;
 use ea_engine::Answer;
 use ea_files::Road;
 use ea_finish::Search;
@@ -37,11 +38,13 @@ pub(crate) struct Progress {
     pub totals: Totals,
     pub written: u128,
     pub search: Option<Search>,
+    /// Where memory of texts that were sent is left, if others make texts.
+    pub used: Option<Worker<Vec<u8>>>,
 }
 
 impl Progress {
-    /// Nothing went out.
-    pub(crate) fn begin() -> Progress
+    /// Nothing went out. What is left of texts that are sent goes there, if others make texts.
+    pub(crate) fn begin(used: Option<Worker<Vec<u8>>>) -> Progress
         ensures totals { result.totals ≡ totals_of [] }
         ensures balanced { AreBalanced result.totals }
         ensures small { AreSmall 0 result.totals }
@@ -52,6 +55,7 @@ impl Progress {
             totals: no_totals(),
             written: 0,
             search: None,
+            used,
         }
     }
 }
@@ -253,7 +257,7 @@ fn report_each<H: Threads + Sync, W: ByteOut, V: Watch>(
         → AreTotals (settings_by options.now) queries.now progress.totals) }
     ensures balanced { IfOk result (λ progress. AreBalanced progress.totals) }
 {
-    let mut progress = Progress::begin();
+    let mut progress = Progress::begin(None);
     // Tells that the count is one of 64 bits.
     let _ = out.interruptions();
     let mut done = 0;

@@ -3,7 +3,6 @@ ghost use Rattle.std.specs.Prelude.{◌≡◌, [], Some};
 ghost use Rattle.ea_text.specs.Device.{Seen, one_more};
 
 use ea_input::{ByteOut, Device, DeviceFault};
-use std::alloc::Global;
 
 /// A device that keeps the bytes that it takes, up to so many. A write of more fails, and so does one for which memory is
 /// refused; it takes nothing then.
@@ -18,14 +17,15 @@ pub(crate) struct Sheet {
 }
 
 impl Sheet {
-    /// An empty sheet for so many bytes. It takes no memory yet.
-    pub(crate) fn new(alloc: Global, most: usize) -> Sheet
+    /// An empty sheet for so many bytes, in memory in which another text stood. It takes no more memory yet.
+    pub(crate) fn over(mut memory: Vec<u8>, most: usize) -> Sheet
         ensures text { result.text.items ≡ [] }
         ensures most { result.most ≡ most }
         ensures failures { result.failures ≡ 0 }
     {
+        memory.clear();
         Sheet {
-            text: Vec::new(alloc),
+            text: memory,
             most,
             failures: 0,
         }

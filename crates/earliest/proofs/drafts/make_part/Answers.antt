@@ -11,9 +11,9 @@ loop-k-preserved c =
     let k = c.loop-k.k in
     let part = c.loop-k.part in
     let inv = c.loop-k.invariant in
-    let Serves : ℕ → Place → Type 0 = λ j place. IsServing c.args.road.now.network c.args.plan.walks place in
-    let Drafts : ℕ → Place → Type 0 = λ j place. (query : Asking) → slice_get c.args.queries.now (c.args.start + j) ≡ Some query
-    → IsDraftOf c.args.plan.walks c.args.road.now query place.draft in
+    let Serves : ℕ → Place → Type 0 = λ j place. IsServing c.args.job.road.now.network c.args.job.plan.walks place in
+    let Drafts : ℕ → Place → Type 0 = λ j place. (query : Asking) → slice_get c.args.job.queries.now (c.args.start + j) ≡ Some query
+    → IsDraftOf c.args.job.plan.walks c.args.job.road.now query place.draft in
     let new : Place = record { search = (slice_index_or part k c.index-part-k.result).search; draft = c.make_draft_at.result } in
     let inside : k < length part = omega (arith, c.loop-k-test.true, c.loop-k.auto.k-end, inv.same) in
     record {

@@ -9,8 +9,8 @@ use Rattle.earliest.proofs.drafts.make_part.Given as goal
 abbrev pub invariant-loop-k : goal.invariant-loop-k
 invariant-loop-k l = record {
   same : length l.part ≡ length l.fn.part;
-  serving : AreServing l.road.network l.plan.walks l.part;
-  last : IfSome l.last (Serves l.road.network l.plan.walks);
-  drafts : (j : ℕ) (d : Place) → j < l.k → (query : Asking) → slice_get l.queries (l.start + j) ≡ Some query
-      → IsDraftOf l.plan.walks l.road query (slice_index_or l.part j d).draft;
+  serving : AreServing l.job.road.now.network l.job.plan.walks l.part;
+  last : IfSome l.last (Serves l.job.road.now.network l.job.plan.walks);
+  drafts : (j : ℕ) (d : Place) → j < l.k → (query : Asking) → slice_get l.job.queries.now (l.start + j) ≡ Some query
+      → IsDraftOf l.job.plan.walks l.job.road.now query (slice_index_or l.part j d).draft;
 }
