@@ -13,6 +13,9 @@ folder of kept work, over which these functions are proved as they stand once al
 counts. What isn't refused so is tried alone, by a check of its functions; and where that refuses nothing, or the edit changes more than
 functions, rt's own trial of the whole crate decides. What is read as a refusal is what rt reads as one.
 
+That folder begins with what rt ci proved of the crate as it stands, which the library that it built holds: so no check proves again what
+the edited functions call.
+
 What an edit came to is kept where rt keeps what its own runs proved, under a sum of all that it rests on, and taken from there where
 nothing has changed since.
 """
@@ -29,7 +32,7 @@ from collections import namedtuple
 from crates import kit
 
 # At most so many edits go over the same kept work.
-TOGETHER = 48
+TOGETHER = 96
 
 FUNCTION = re.compile(r"^( *)(?:pub(?:\([^)]*\))? )?(?:final |const )*fn (\w+)", re.M)
 IMPL = re.compile(r"^impl\b.*$", re.M)
@@ -181,6 +184,12 @@ def paths_of(place, functions):
     return found + closures if found else [place.module]
 
 
+def are_functions(places, functions):
+    """Whether a check can be asked for the functions at these places alone: not where a module has none."""
+    found = {path for place in places for path in paths_of(place, functions)}
+    return not functions or all(any(it == path or it.startswith(f"{path}::") for it in functions) for path in found)
+
+
 def only(places, functions):
     """The flags for a check of these places alone."""
     paths = [path for place in places for path in paths_of(place, functions)]
@@ -252,7 +261,8 @@ def quickly(rt, crate, edits, kept):
     """Tries edits in checks of the functions that they change: the first line of what refused each, none where nothing did. Of those
     that are made in their place nothing is said where these functions are not proved as they stand once all were tried."""
     every = {edit: changed(crate.folder, edit) for edit in edits}
-    places, functions = {edit: every[edit] for edit in edits if every[edit]}, functions_of(crate)
+    functions = functions_of(crate)
+    places = {edit: every[edit] for edit in edits if every[edit] and are_functions(every[edit], functions)}
     aside = side_by_side(rt, crate, list(places), places, functions, kept)
     places = {edit: places[edit] for edit in places if edit not in aside}
     return {**aside, **in_place(rt, crate, places, functions, kept)}
@@ -388,6 +398,26 @@ def names_of(rt, kept, crate, edits):
     return {edit: kept.of_edit(edit, key) for edit in edits}
 
 
+def begin(crate, kept):
+    """Puts into a folder of kept work what the library of a crate holds of the checks that proved it, a file for each module as the prover itself
+    keeps them; nothing where the library is written otherwise."""
+    library = f"{crate.folder}/out/rlib/{crate.name}.rlib"
+    try:
+        build = re.search(r"^rattle-build (\S+)$", text_of(f"{library}/format"), re.M)[1].replace("/", "_")
+        with open(f"{library}/toolchain/checked.json", encoding="utf-8") as file:
+            places = [json.loads(line) for line in file]
+        with open(f"{library}/toolchain/checked.a", "rb") as file:
+            checked = file.read()
+        os.makedirs(f"{kept}/{build}")
+        for module, at, size in places:
+            if re.fullmatch(r"[\w.+-]+", module):
+                with open(f"{kept}/{build}/{module}.oantt", "wb") as file:
+                    file.write(checked[at : at + size])
+    except (OSError, ValueError, TypeError):
+        shutil.rmtree(kept)
+        os.makedirs(kept)
+
+
 def main():
     """python3 tests/edits.py ROOM ROOT NAME AT: tries group AT of a crate's edits in ROOM, a copy of the repository ROOT
     where rt ci has built the libraries."""
@@ -402,8 +432,10 @@ def main():
     names = names_of(rt, store, crate, edits)
     known = {edit: told for edit in edits for told in [store.tried(names[edit])] if told}
     with tempfile.TemporaryDirectory(prefix="edits-") as kept:
+        begin(crate, kept)
         first = quickly(rt, crate, [edit for edit in edits if edit not in known], kept)
     with tempfile.TemporaryDirectory(prefix="edits-") as kept:
+        begin(crate, kept)
         for edit in edits:
             label = f"must-fail {name}/{os.path.basename(edit)}"
             if edit in known:

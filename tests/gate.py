@@ -38,13 +38,22 @@ def copied(room, names):
     subprocess.run(["git", "init", "-q", room], check=True)
 
 
+def words_beside():
+    """What rt ci is told by the environment: one job for each crate where there is memory for one on each processor, since a check by two
+    takes a third more of the processors in all, and the edits beside it fill what is left free."""
+    processors = crates.processors()
+    has_room = os.sysconf("SC_PHYS_PAGES") * os.sysconf("SC_PAGE_SIZE") >= processors * MEMORY_OF_A_LANE
+    return {**os.environ, "RT_JOBS": str(processors)} if has_room else None
+
+
 class Proofs:
     """A run of rt ci: what it says as it goes, which crates it has proved or an earlier run has, what it says of those that it has
     not, and how it ended."""
 
     def __init__(self, room):
         self.proved, self.part, self.failures, self.last, self.status = set(), [], [], "", None
-        self.process = subprocess.Popen(["rt", "ci"], cwd=room, stdout=subprocess.PIPE, text=True, errors="replace")
+        how = {"stdout": subprocess.PIPE, "text": True, "errors": "replace"}
+        self.process = subprocess.Popen(["rt", "ci"], cwd=room, env=words_beside(), **how)
         threading.Thread(target=self.follow, daemon=True).start()
 
     def follow(self):

@@ -2,7 +2,7 @@
 tells which of how many are done, and then proves, builds and runs the program once, which answers the run that is stored in it.
 
 The library with the longest chain of others above it decides when all are done: it gets every processor. Others that are ready run beside
-it at a lower priority, by half of the processors each, and so take what it leaves.
+it at a lower priority, by one job each, and so take what it leaves: a check by two jobs takes a third more of the processors in all.
 
 What an earlier build proved is kept in crates/NAME/out and not proved again. Each library is built as `rt lib` builds it. Of `rt lib` itself
 one call would wait for the other wherever both stand on one library, so all are built by one process, which holds their folders, as `rt ci`
@@ -79,7 +79,7 @@ class Libraries:
             longest = max([chain[crate.name] for crate in left] + [chain[crate.name] for crate, _ in running.values()])
             for crate in [crate for crate in left if all(below.name in built for below in crate.below())]:
                 is_longest = chain[crate.name] == longest
-                jobs = processors if is_longest else max(1, processors // 2)
+                jobs = processors if is_longest else 1
                 needs = MEMORY + MEMORY_OF_A_JOB * jobs
                 if running and needs > memory - sum(taken for _, taken in running.values()):
                     break
