@@ -3,26 +3,40 @@ ghost use Rattle.std.specs.Prelude.{◌≡◌, ◌↔◌, ℕ, ◌+◌, ◌<◌,
 ghost use Rattle.ea_limits.specs.declared.TheConstants.{HORIZON};
 ghost use Rattle.ea_road.specs.declared.source.Source.{Source};
 ghost use Rattle.ea_road.specs.Labels.{IsLabel, label_of};
-ghost use Rattle.ea_road.specs.Roads.{IsArc, top_class};
+ghost use Rattle.ea_road.specs.Roads.{IsArc, IsNode, top_class};
 ghost use Rattle.ea_finish.specs.Confirmed.{AreBegun, AreConfirmed, ArePreset, AreReady, IsReady};
 ghost use Rattle.ea_finish.specs.Links.{AreLinks, AreStarts, link, no_link};
 ghost use Rattle.ea_finish.specs.Listings.{AreLabelsListed, AreLinksListed, IsListed, KeepsListed};
-ghost use Rattle.ea_finish.specs.Offers.{IsSpread, MeetsBound, Offers, Precedes};
+ghost use Rattle.ea_finish.specs.Offers.{IsSpent, IsSpread, MeetsBound, Offers, Precedes};
 
-use crate::levels::Levels;
+use crate::levels::{Levels, UNNOTED};
 use crate::link::{Link, NO_ARC, NO_LEVEL, NO_LINK};
-use crate::unwinding::{link_all, pass, sow};
+use crate::unwinding::{link_all, pass, sow, spread};
 use crate::waiting::Waiting;
 use ea_road::{Arc, HORIZON, Network, Source, TravelTimes};
 
+/// Of so many nodes one is mended at most. Beyond that it costs less to find all links anew.
+const PART: usize = 8;
+
+/// The level that was noted for a node.
+fn level_of(noted: u16) -> u32
+    ensures { result ≤ NO_LEVEL }
+{
+    if noted < UNNOTED {
+        u32::from(noted)
+    } else {
+        NO_LEVEL
+    }
+}
+
 /// Gives each node its noted level, and no arc yet.
-fn preset(levels: &[u32], links: &mut [Link])
+fn preset(levels: &[u16], links: &mut [Link])
     ensures places { length links.new ≡ length links.old }
     ensures preset { ArePreset links.new }
 {
     for place in 0..links.len() {
         let level = match levels.get(place) {
-            Some(level) => *level,
+            Some(noted) => level_of(*noted),
             None => NO_LEVEL,
         };
         links[place] = Link {
@@ -33,30 +47,19 @@ fn preset(levels: &[u32], links: &mut [Link])
     }
 }
 
-/// Links the sources that depart at their nodes' labels; false where the level of one falls.
-fn confirm_sources(
-    table: &[u64],
-    sources: &[Source],
-    links: &mut [Link],
-    waiting: &mut Waiting,
-) -> bool
+/// Links the sources that depart at their nodes' labels.
+fn confirm_sources(table: &[u64], sources: &[Source], links: &mut [Link], waiting: &mut Waiting)
     requires sources { AreStarts waiting.old.nodes sources.now }
     requires places { (length table.now ≡ waiting.old.nodes)
         × (length links.old ≡ waiting.old.nodes) }
     requires preset { ArePreset links.old }
-    requires nobody { waiting.old.waiting ≡ [] }
     ensures places { length links.new ≡ length links.old }
     ensures nodes { waiting.new.nodes ≡ waiting.old.nodes }
-    ensures begun { IsTrue result → AreBegun sources.now table.now links.new (length sources.now) }
-    ensures exact { IsTrue result ↔ (length waiting.new.waiting ≡ 0) }
+    ensures begun { AreBegun sources.now table.now links.new (length sources.now) }
 {
     for source in sources {
         sow(table, *source, links, waiting);
-        if waiting.len() > 0 {
-            return false;
-        }
     }
-    true
 }
 
 /// Offers the head of an arc a link by it, one level above its tail.
@@ -98,27 +101,26 @@ fn confirm<T: TravelTimes>(
     }
 }
 
-/// Offers links by all arcs, in the order of their numbers; false where the level of a node falls.
+/// Offers links by all arcs, in the order of their numbers. Nodes whose levels fall wait.
 fn confirm_arcs<T: TravelTimes>(
     network: &Network,
     times: &T,
     table: &[u64],
     links: &mut [Link],
     waiting: &mut Waiting,
-) -> bool
+)
     requires classes { top_class network.now.arcs ≤ T.classes times.now }
     requires places { (length table.now ≡ network.now.nodes)
         × (length links.old ≡ network.now.nodes) }
     requires nodes { waiting.old.nodes ≡ network.now.nodes }
-    requires nobody { waiting.old.waiting ≡ [] }
     ensures places { length links.new ≡ length links.old }
     ensures nodes { waiting.new.nodes ≡ waiting.old.nodes }
-    ensures confirmed { IsTrue result → (sources : List Source)
-        → AreConfirmed network.now (T.answers times.now) sources table.now links.old 0
-        → AreConfirmed network.now (T.answers times.now) sources table.now links.new
-        (length network.now.arcs) }
-    ensures levels { IsTrue result → (v : ℕ) → (link links.new v).level ≡ (link links.old v).level }
-    ensures exact { IsTrue result ↔ (length waiting.new.waiting ≡ 0) }
+    ensures confirmed { (sources : List Source)
+        → AreConfirmed network.now (T.answers times.now) sources table.now
+        links.old waiting.old.waiting 0
+        → AreConfirmed network.now (T.answers times.now) sources table.now
+        links.new waiting.new.waiting (length network.now.arcs) }
+    ensures lower { (v : ℕ) → (link links.new v).level ≤ (link links.old v).level }
 {
     let arcs = network.arcs();
     for place in 0..arcs.len() {
@@ -131,11 +133,68 @@ fn confirm_arcs<T: TravelTimes>(
             links,
             waiting,
         );
-        if waiting.len() > 0 {
-            return false;
-        }
     }
-    true
+}
+
+/// Offers links by the arcs from a node, one level above it.
+fn mend<T: TravelTimes>(
+    network: &Network,
+    times: &T,
+    table: &[u64],
+    node: u32,
+    links: &mut [Link],
+    waiting: &mut Waiting,
+)
+    requires node { IsNode network.now.nodes node }
+    requires classes { top_class network.now.arcs ≤ T.classes times.now }
+    requires places { (length table.now ≡ network.now.nodes)
+        × (length links.old ≡ network.now.nodes) }
+    requires nodes { waiting.old.nodes ≡ network.now.nodes }
+    ensures offers { Offers network.now.nodes
+        (IsSpread network.now (T.answers times.now) table.now node
+        ((link links.old node).level + 1))
+        links.old waiting.old.waiting links.new waiting.new.waiting }
+    ensures spent { (link links.old node).level + 1 < NO_LEVEL
+        → IsSpent network.now (T.answers times.now) table.now links.new node
+        ((link links.old node).level + 1) }
+    ensures nodes { waiting.new.nodes ≡ waiting.old.nodes }
+{
+    let time = table[node as usize - 1];
+    let level = links[node as usize - 1].level;
+    if time <= HORIZON && level < NO_LEVEL - 1 {
+        spread(network, times, table, node, links, waiting);
+    }
+}
+
+/// Offers links by the arcs from the nodes that wait; false where there are too many of these.
+fn mend_waiting<T: TravelTimes>(
+    network: &Network,
+    times: &T,
+    table: &[u64],
+    links: &mut [Link],
+    waiting: &mut Waiting,
+) -> bool
+    requires classes { top_class network.now.arcs ≤ T.classes times.now }
+    requires places { (length table.now ≡ network.now.nodes)
+        × (length links.old ≡ network.now.nodes) }
+    requires nodes { waiting.old.nodes ≡ network.now.nodes }
+    ensures places { length links.new ≡ length links.old }
+    ensures nodes { waiting.new.nodes ≡ waiting.old.nodes }
+    ensures confirmed { (sources : List Source) (count : ℕ)
+        → AreConfirmed network.now (T.answers times.now) sources table.now
+        links.old waiting.old.waiting count
+        → AreConfirmed network.now (T.answers times.now) sources table.now
+        links.new waiting.new.waiting count }
+    ensures lower { (v : ℕ) → (link links.new v).level ≤ (link links.old v).level }
+    ensures nobody { IsTrue result → waiting.new.waiting ≡ [] }
+{
+    'mending: for _ in 0..links.len() / PART + 1 {
+        let Some(node) = waiting.take() else {
+            return true;
+        };
+        mend(network, times, table, node, links, waiting);
+    }
+    false
 }
 
 /// Whether a link has its arc, if it needs one.
@@ -157,13 +216,13 @@ fn are_ready(links: &[Link]) -> bool
     true
 }
 
-/// Whether the noted levels are right. Then the links are found.
+/// Whether the links are found from the noted levels.
 fn confirm_levels<T: TravelTimes>(
     network: &Network,
     times: &T,
     sources: &[Source],
     table: &[u64],
-    levels: &[u32],
+    levels: &[u16],
     links: &mut [Link],
     waiting: &mut Waiting,
 ) -> bool
@@ -172,7 +231,6 @@ fn confirm_levels<T: TravelTimes>(
     requires places { (length table.now ≡ network.now.nodes)
         × (length links.old ≡ network.now.nodes) }
     requires nodes { waiting.old.nodes ≡ network.now.nodes }
-    requires nobody { waiting.old.waiting ≡ [] }
     ensures places { length links.new ≡ length links.old }
     ensures nodes { waiting.new.nodes ≡ waiting.old.nodes }
     ensures nobody { IsTrue result → waiting.new.waiting ≡ [] }
@@ -181,16 +239,15 @@ fn confirm_levels<T: TravelTimes>(
 {
     network.keeps_limits();
     preset(levels, links);
-    if !confirm_sources(table, sources, links, waiting) {
-        return false;
-    }
-    if !confirm_arcs(network, times, table, links, waiting) {
+    confirm_sources(table, sources, links, waiting);
+    confirm_arcs(network, times, table, links, waiting);
+    if !mend_waiting(network, times, table, links, waiting) {
         return false;
     }
     are_ready(links)
 }
 
-/// What `link_all` finds, sooner where the noted levels are right.
+/// What `link_all` finds, sooner where hardly a noted level is wrong.
 pub(crate) fn link_noted<T: TravelTimes>(
     network: &Network,
     times: &T,

@@ -59,19 +59,22 @@ impl Track for Listed {
     fn met(&mut self, _node: u32) {}
 }
 
-/// The nodes that were reached, and a level for each node.
+/// In the place of a level that is not noted. Levels from here on are too high to be noted.
+pub(crate) const UNNOTED: u16 = 65_535;
+
+/// The nodes that were reached, and a level for each node, in as little memory as serves: a search waits for each line of it.
 #[derive(Drop)]
 pub(crate) struct Levels {
     pub listed: Listed,
-    pub noted: Vec<u32>,
+    pub noted: Vec<u16>,
     /// The level to which the arcs lead that are followed.
-    above: u32,
+    above: u16,
     falls: usize,
 }
 
 impl Levels {
     /// No level is noted yet.
-    pub(crate) fn new(listed: Listed, noted: Vec<u32>) -> Levels
+    pub(crate) fn new(listed: Listed, noted: Vec<u16>) -> Levels
         ensures { result.listed ≡ listed }
     {
         Levels {

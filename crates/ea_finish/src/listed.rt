@@ -5,7 +5,8 @@ ghost use Rattle.ea_finish.specs.Links.{link, no_link};
 ghost use Rattle.ea_finish.specs.Listings.{AreLabelsListed, AreLinksListed, IsListed, KeepsListed, nothing};
 ghost use Rattle.ea_finish.specs.Underway.{bound_of};
 
-use crate::link::{Link, NO_LEVEL, NO_LINK};
+use crate::levels::UNNOTED;
+use crate::link::{Link, NO_LINK};
 use ea_road::NONE;
 use std::alloc::Global;
 use std::marker::Model;
@@ -58,9 +59,9 @@ fn take_link(links: &mut [Link], node: u32)
 }
 
 /// Takes the noted level of a node away.
-fn take_level(noted: &mut [u32], node: u32) {
+fn take_level(noted: &mut [u16], node: u32) {
     if let Some(level) = noted.get_mut((node as usize).wrapping_sub(1)) {
-        *level = NO_LEVEL;
+        *level = UNNOTED;
     }
 }
 
@@ -99,7 +100,7 @@ impl Listed {
     }
 
     /// Puts back what the listed nodes have of labels, links and noted levels. Then no node is listed.
-    pub(crate) fn put_back(&mut self, table: &mut [u64], links: &mut [Link], noted: &mut [u32])
+    pub(crate) fn put_back(&mut self, table: &mut [u64], links: &mut [Link], noted: &mut [u16])
         requires labels { AreLabelsListed table.old (IsListed self.old) }
         requires links { AreLinksListed links.old (IsListed self.old) }
         ensures nothing { self.new ≡ nothing }
@@ -109,7 +110,7 @@ impl Listed {
         if self.all {
             table.fill(NONE);
             links.fill(NO_LINK);
-            noted.fill(NO_LEVEL);
+            noted.fill(UNNOTED);
             self.nodes.clear();
             self.all = false;
             return;

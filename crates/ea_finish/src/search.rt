@@ -11,8 +11,8 @@ use crate::answer::Answer;
 use crate::confirming::link_noted;
 use crate::finishing::{Finished, finish_noted};
 use crate::frontier::{Frontier, empty_lists};
-use crate::levels::{Levels, Track};
-use crate::link::{NO_LEVEL, NO_LINK};
+use crate::levels::{Levels, Track, UNNOTED};
+use crate::link::NO_LINK;
 use crate::listed::Listed;
 use crate::open::Open;
 use crate::searching::search;
@@ -30,7 +30,7 @@ pub struct Search {
     waiting: Waiting,
     lists: Vec<Vec<(u64, u32)>>,
     listed: Listed,
-    noted: Vec<u32>,
+    noted: Vec<u16>,
 }
 
 impl Model for Search {
@@ -105,7 +105,7 @@ impl Search {
         let table = vec![in alloc; NONE; nodes as usize]?;
         let room = room_of(nodes, walks);
         let links = vec![in alloc; NO_LINK; room]?;
-        let noted = vec![in alloc; NO_LEVEL; room]?;
+        let noted = vec![in alloc; UNNOTED; room]?;
         Ok(Search {
             answer: Answer::new(nodes, None, table, links, false),
             walks,
@@ -148,7 +148,7 @@ impl Search {
     }
 
     /// The arrays as they were at first, and what lists the nodes that are reached.
-    fn into_arrays(self) -> (Arrays, Listed, Vec<u32>)
+    fn into_arrays(self) -> (Arrays, Listed, Vec<u16>)
         ensures labels { result.0.table.items ≡ replicate self.nodes NONE }
         ensures todo { result.0.todo
             ≡ record { nodes = self.nodes; waiting = []; walks = self.walks } }

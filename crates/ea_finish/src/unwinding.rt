@@ -78,7 +78,7 @@ pub(crate) fn pass<T: TravelTimes>(
 }
 
 /// Offers each head a link by the tight arcs from a node. The arcs are read as they lie by tail.
-fn spread<T: TravelTimes>(
+pub(crate) fn spread<T: TravelTimes>(
     network: &Network,
     times: &T,
     table: &[u64],

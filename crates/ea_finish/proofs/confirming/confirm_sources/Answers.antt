@@ -19,7 +19,6 @@ loop-source-init c = record {
   places = refl;
   nodes = refl;
   begun = AreBegun-preset _ _ _ c.requires.preset;
-  nobody = ap length c.requires.nobody;
 }
 
 pub sow-requires-clause-node : goal.sow-requires-clause-node
@@ -34,9 +33,8 @@ loop-source-preserved c =
     let here = get_or sources place none in
     let among = among_at sources place c.loop-source-test.true in
     let start = c.requires.sources here among in
-    let nobody : length c.sow.new.waiting.waiting ≡ 0 = omega (arith, c.if-len-gt0.false) in
     let begun : AreBegun sources c.args.table.now c.sow.new.links (place + 1) = elim (cases_eq here.departure (bound_of c.args.table.now here.node)) [
-      | inl departs ↦ (let seeds = c.sow.ensures.seeds departs in AreBegun-seed sources c.args.table.now _ place none _ _ _ _ c.loop-source-test.true among start.1 nobody c.loop-source.invariant.begun departs seeds.0 seeds.1)
+      | inl departs ↦ (let seeds = c.sow.ensures.seeds departs in AreBegun-seed sources c.args.table.now _ place none _ _ _ _ c.loop-source-test.true among start.1 c.loop-source.invariant.begun departs seeds.0 seeds.1)
       | inr differs ↦ AreBegun-other sources c.args.table.now 0 place none _ _ [] [] c.loop-source-test.true c.loop-source.invariant.begun differs (c.sow.ensures.others differs).0
     ] in
     let places : length c.sow.new.links ≡ length c.loop-source.links = elim (cases_eq here.departure (bound_of c.args.table.now here.node)) [
@@ -47,5 +45,4 @@ loop-source-preserved c =
       places = places ∙ c.loop-source.invariant.places;
       nodes = c.sow.ensures.nodes ∙ c.loop-source.invariant.nodes;
       begun = begun;
-      nobody = nobody;
     }

@@ -8,5 +8,4 @@ invariant-loop-source l = record {
   places : length l.links ≡ length l.initial.links;
   nodes : l.waiting.nodes ≡ l.initial.waiting.nodes;
   begun : AreBegun l.sources l.table l.links l.source-index;
-  nobody : length l.waiting.waiting ≡ 0;
 }

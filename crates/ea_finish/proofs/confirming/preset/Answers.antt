@@ -10,9 +10,8 @@ loop-place-init c = record { places = refl; preset = Preset-none c.args.links.no
 
 pub loop-place-preserved : goal.loop-place-preserved
 loop-place-preserved c =
-    let fits = c.type_inv.levels c.loop-place.place in
     let low : c.match-get.level ≤ NO_LEVEL = elim c.match-get.branch [
-      | in-Some w ↦ (let read = w.in-Some.ensures.lookup.1 in omega (arith, fits, read, w.level-is))
+      | in-Some w ↦ omega (arith, w.level_of-level.ensures, w.level-is)
       | in-None w ↦ omega (arith, w.level-is)
     ] in
     record {
