@@ -15,8 +15,8 @@ use crate::unwinding::{link_all, pass, sow, spread};
 use crate::waiting::Waiting;
 use ea_road::{Arc, HORIZON, Network, Source, TravelTimes};
 
-/// Of so many nodes one is mended at most. Beyond that it costs less to find all links anew.
-const PART: usize = 8;
+/// Of so many nodes one is mended at most. Beyond that it may cost less to find all links anew.
+const PART: usize = 2;
 
 /// The level that was noted for a node.
 fn level_of(noted: u16) -> u32

@@ -53,6 +53,20 @@ fn room_of(nodes: u32, walks: bool) -> usize
     if walks { nodes as usize } else { 0 }
 }
 
+/// The least mean weight for which windows are wide: below it many walks come to a node at the same time, of different levels.
+const LARGE_MEAN: u64 = 8;
+
+/// How wide the windows of a search with walks are. In a wide one a node may be scanned before its level is known. Where all arcs are
+/// plain, its heads' levels are too high then, and they are mended. Where arcs are waited for, they may be too low, and then all links
+/// are found anew; so the windows are narrow there.
+fn width_with_walks(network: &Network) -> u64 {
+    let mean = network.mean_weight();
+    if network.top_class() > 0 || mean < LARGE_MEAN {
+        return mean / 8;
+    }
+    mean.saturating_mul(2)
+}
+
 /// The arrays on which a search runs.
 #[derive(Drop)]
 struct Arrays {
@@ -209,8 +223,7 @@ impl Search {
     {
         let (arrays, listed, noted) = self.into_arrays();
         let mut levels = Levels::new(listed, noted);
-        // In so narrow a window hardly a node is scanned before its label and its level are right.
-        let width = network.mean_weight() / 8;
+        let width = width_with_walks(network);
         let found = find(network, times, query, width, arrays, &mut levels);
         let (mut waiting, mut links) = found.todo.into_parts();
         link_noted(
