@@ -9,8 +9,9 @@ ghost use Rattle.ea_finish.specs.Links.{AreLinks, AreStarts, link, no_link};
 ghost use Rattle.ea_finish.specs.Listings.{AreLabelsListed, AreLinksListed, IsListed, KeepsListed};
 ghost use Rattle.ea_finish.specs.Offers.{IsSpent, IsSpread, MeetsBound, Offers, Precedes};
 
-use crate::levels::{Levels, UNNOTED};
+use crate::levels::Levels;
 use crate::link::{Link, NO_ARC, NO_LEVEL, NO_LINK};
+use crate::notes::UNNOTED;
 use crate::unwinding::{link_all, pass, sow, spread};
 use crate::waiting::Waiting;
 use ea_road::{Arc, HORIZON, Network, Source, TravelTimes};
@@ -278,7 +279,7 @@ pub(crate) fn link_noted<T: TravelTimes>(
             times,
             sources,
             table,
-            &levels.noted,
+            levels.notes.levels(),
             links,
             waiting,
         ) {

@@ -3,6 +3,7 @@ ghost use Rattle.std.specs.Prelude.{◌≡◌, ℕ};
 ghost use Rattle.ea_finish.specs.Listings.{KeepsListed};
 
 use crate::listed::Listed;
+use crate::notes::Notes;
 
 /// What a search notes, which is known where it is compiled: the nodes that it reached, and levels.
 pub(crate) trait Track {
@@ -59,27 +60,30 @@ impl Track for Listed {
     fn met(&mut self, _node: u32) {}
 }
 
-/// In the place of a level that is not noted. Levels from here on are too high to be noted.
-pub(crate) const UNNOTED: u16 = 65_535;
-
-/// The nodes that were reached, and a level for each node, in as little memory as serves: a search waits for each line of it.
+/// The nodes that were reached, and what is noted of them.
 #[derive(Drop)]
 pub(crate) struct Levels {
     pub listed: Listed,
-    pub noted: Vec<u16>,
-    /// The level to which the arcs lead that are followed.
+    pub notes: Notes,
+    /// Whether arcs may be waited for. Then a label may stay where that of the node before it falls, and its level rises.
+    waits: bool,
+    /// The node whose arcs are followed; 0 for the sources.
+    from: u32,
+    /// The level to which they lead.
     above: u16,
     falls: usize,
 }
 
 impl Levels {
     /// No level is noted yet.
-    pub(crate) fn new(listed: Listed, noted: Vec<u16>) -> Levels
+    pub(crate) fn new(listed: Listed, notes: Notes, waits: bool) -> Levels
         ensures { result.listed ≡ listed }
     {
         Levels {
             listed,
-            noted,
+            notes,
+            waits,
+            from: 0,
             above: 0,
             falls: 0,
         }
@@ -87,7 +91,7 @@ impl Levels {
 
     /// Whether so many nodes were reached that one look at each arc costs less than to find their links anew.
     pub(crate) fn are_many(&self) -> bool {
-        self.falls >= self.noted.len() / 4
+        self.falls >= self.notes.levels().len() / 4
     }
 }
 
@@ -97,27 +101,33 @@ impl Track for Levels {
     ghost lists = { λ levels node. IsListed levels.listed node };
 
     fn begin(&mut self) {
+        self.from = 0;
         self.above = 0;
     }
 
+    #[inline(always)]
     fn leave(&mut self, node: u32) {
-        self.above = match self.noted.get((node as usize).wrapping_sub(1)) {
-            Some(level) => level.saturating_add(1),
-            None => 0,
-        };
+        self.from = node;
+        self.above = self.notes.level(node).saturating_add(1);
     }
 
+    #[inline(always)]
     fn fell(&mut self, node: u32) {
         self.listed.add(node);
-        if let Some(noted) = self.noted.get_mut((node as usize).wrapping_sub(1)) {
-            *noted = self.above;
-            self.falls = self.falls.saturating_add(1);
-        }
+        self.notes.renew(node, self.above, self.waits);
+        self.falls = self.falls.saturating_add(1);
     }
 
     fn met(&mut self, node: u32) {
-        if let Some(noted) = self.noted.get_mut((node as usize).wrapping_sub(1)) {
-            *noted = self.above.min(*noted);
+        let noted = self.notes.level(node);
+        if self.above < noted {
+            self.notes.note(node, self.above);
+        } else if self.above > noted {
+            // What is noted may be from the same arc, before the level of its tail rose.
+            if self.notes.has_risen(self.from) {
+                self.notes.note(node, self.above);
+                self.notes.rise(node);
+            }
         }
     }
 }

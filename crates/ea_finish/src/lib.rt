@@ -11,6 +11,7 @@ mod frontier;
 mod levels;
 mod link;
 mod listed;
+mod notes;
 mod open;
 mod opens;
 mod search;

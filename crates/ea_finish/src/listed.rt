@@ -5,8 +5,8 @@ ghost use Rattle.ea_finish.specs.Links.{link, no_link};
 ghost use Rattle.ea_finish.specs.Listings.{AreLabelsListed, AreLinksListed, IsListed, KeepsListed, nothing};
 ghost use Rattle.ea_finish.specs.Underway.{bound_of};
 
-use crate::levels::UNNOTED;
 use crate::link::{Link, NO_LINK};
+use crate::notes::Notes;
 use ea_road::NONE;
 use std::alloc::Global;
 use std::marker::Model;
@@ -58,13 +58,6 @@ fn take_link(links: &mut [Link], node: u32)
     }
 }
 
-/// Takes the noted level of a node away.
-fn take_level(noted: &mut [u16], node: u32) {
-    if let Some(level) = noted.get_mut((node as usize).wrapping_sub(1)) {
-        *level = UNNOTED;
-    }
-}
-
 impl Listed {
     /// No node is listed, of so many.
     pub(crate) fn new(alloc: Global, nodes: u32) -> Listed
@@ -99,8 +92,8 @@ impl Listed {
         self.all = true;
     }
 
-    /// Puts back what the listed nodes have of labels, links and noted levels. Then no node is listed.
-    pub(crate) fn put_back(&mut self, table: &mut [u64], links: &mut [Link], noted: &mut [u16])
+    /// Puts back what the listed nodes have of labels and links, and what is noted of them. Then no node is listed.
+    pub(crate) fn put_back(&mut self, table: &mut [u64], links: &mut [Link], notes: &mut Notes)
         requires labels { AreLabelsListed table.old (IsListed self.old) }
         requires links { AreLinksListed links.old (IsListed self.old) }
         ensures nothing { self.new ≡ nothing }
@@ -110,7 +103,7 @@ impl Listed {
         if self.all {
             table.fill(NONE);
             links.fill(NO_LINK);
-            noted.fill(UNNOTED);
+            notes.forget_all();
             self.nodes.clear();
             self.all = false;
             return;
@@ -118,7 +111,7 @@ impl Listed {
         while let Some(node) = self.nodes.pop() {
             take_label(table, node);
             take_link(links, node);
-            take_level(noted, node);
+            notes.forget(node);
         }
     }
 }

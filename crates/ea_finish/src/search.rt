@@ -11,9 +11,10 @@ use crate::answer::Answer;
 use crate::confirming::link_noted;
 use crate::finishing::{Finished, finish_noted};
 use crate::frontier::{Frontier, empty_lists};
-use crate::levels::{Levels, Track, UNNOTED};
+use crate::levels::{Levels, Track};
 use crate::link::NO_LINK;
 use crate::listed::Listed;
+use crate::notes::Notes;
 use crate::open::Open;
 use crate::searching::search;
 use crate::waiting::Waiting;
@@ -30,7 +31,7 @@ pub struct Search {
     waiting: Waiting,
     lists: Vec<Vec<(u64, u32)>>,
     listed: Listed,
-    noted: Vec<u16>,
+    notes: Notes,
 }
 
 impl Model for Search {
@@ -57,12 +58,15 @@ fn room_of(nodes: u32, walks: bool) -> usize
 const LARGE_MEAN: u64 = 8;
 
 /// How wide the windows of a search with walks are. In a wide one a node may be scanned before its level is known. Where all arcs are
-/// plain, its heads' levels are too high then, and they are mended. Where arcs are waited for, they may be too low, and then all links
-/// are found anew; so the windows are narrow there.
+/// plain, its heads' levels are too high then, and they are mended. Where arcs are waited for, a level may be too low, so that all links
+/// are found anew; so the windows are narrower there.
 fn width_with_walks(network: &Network) -> u64 {
     let mean = network.mean_weight();
-    if network.top_class() > 0 || mean < LARGE_MEAN {
+    if mean < LARGE_MEAN {
         return mean / 8;
+    }
+    if network.top_class() > 0 {
+        return mean / 2;
     }
     mean.saturating_mul(2)
 }
@@ -119,14 +123,14 @@ impl Search {
         let table = vec![in alloc; NONE; nodes as usize]?;
         let room = room_of(nodes, walks);
         let links = vec![in alloc; NO_LINK; room]?;
-        let noted = vec![in alloc; UNNOTED; room]?;
+        let notes = Notes::reserve(alloc, room)?;
         Ok(Search {
             answer: Answer::new(nodes, None, table, links, false),
             walks,
             waiting,
             lists,
             listed: Listed::new(alloc, nodes),
-            noted,
+            notes,
         })
     }
 
@@ -162,7 +166,7 @@ impl Search {
     }
 
     /// The arrays as they were at first, and what lists the nodes that are reached.
-    fn into_arrays(self) -> (Arrays, Listed, Vec<u16>)
+    fn into_arrays(self) -> (Arrays, Listed, Notes)
         ensures labels { result.0.table.items ≡ replicate self.nodes NONE }
         ensures todo { result.0.todo
             ≡ record { nodes = self.nodes; waiting = []; walks = self.walks } }
@@ -176,12 +180,12 @@ impl Search {
             waiting,
             lists,
             mut listed,
-            mut noted,
+            mut notes,
         } = self;
         let (mut table, mut links) = answer.into_arrays();
-        listed.put_back(&mut table, &mut links, &mut noted);
+        listed.put_back(&mut table, &mut links, &mut notes);
         let todo = Open::of(waiting, links, walks);
-        (Arrays { table, todo, lists }, listed, noted)
+        (Arrays { table, todo, lists }, listed, notes)
     }
 
     /// Answers a query without walks: the search is handed over and comes back with its answer. It takes no memory but what
@@ -199,7 +203,7 @@ impl Search {
         ensures room { (result.nodes ≡ self.nodes) × (result.walks ≡ self.walks) }
     {
         let walks = self.walks;
-        let (arrays, mut listed, noted) = self.into_arrays();
+        let (arrays, mut listed, notes) = self.into_arrays();
         let width = network.mean_weight();
         let found = find(network, times, query, width, arrays, &mut listed);
         let (waiting, links) = found.todo.into_parts();
@@ -209,7 +213,7 @@ impl Search {
             waiting,
             lists: found.lists,
             listed,
-            noted,
+            notes,
         }
     }
 
@@ -221,8 +225,8 @@ impl Search {
         ensures answer { IsAnswer network.now (T.answers times.now) query.now result.answer }
         ensures room { (result.nodes ≡ self.nodes) × (result.walks ≡ true) }
     {
-        let (arrays, listed, noted) = self.into_arrays();
-        let mut levels = Levels::new(listed, noted);
+        let (arrays, listed, notes) = self.into_arrays();
+        let mut levels = Levels::new(listed, notes, network.top_class() > 0);
         let width = width_with_walks(network);
         let found = find(network, times, query, width, arrays, &mut levels);
         let (mut waiting, mut links) = found.todo.into_parts();
@@ -241,7 +245,7 @@ impl Search {
             waiting,
             lists: found.lists,
             listed: levels.listed,
-            noted: levels.noted,
+            notes: levels.notes,
         }
     }
 }
