@@ -118,6 +118,7 @@ impl Track for Levels {
         self.falls = self.falls.saturating_add(1);
     }
 
+    #[inline(never)]
     fn met(&mut self, node: u32) {
         let noted = self.notes.level(node);
         if self.above < noted {

@@ -51,6 +51,7 @@ impl Notes {
     }
 
     /// The level of a node rose.
+    #[inline(never)]
     pub(crate) fn rise(&mut self, node: u32) {
         if let Some(risen) = self.risen.get_mut((node as usize).wrapping_sub(1)) {
             *risen = true;
