@@ -1,5 +1,5 @@
-//! Tests of the parts of a run: networks and travel times, tables and heaps, and one thread's searches, where memory is refused, at
-//! the size of real use, and one after the other on the same arrays.
+//! Tests of the parts of a run: networks and travel times, and one thread's searches, where memory is refused, at the size of real
+//! use, and one after the other on the same arrays.
 #![tactic(auto)]
 
 #[cfg(test)]
@@ -9,13 +9,7 @@ mod asked;
 #[cfg(test)]
 mod constants;
 #[cfg(test)]
-mod heaps;
-#[cfg(test)]
-mod labels;
-#[cfg(test)]
 mod networks;
-#[cfg(test)]
-mod pools;
 #[cfg(test)]
 mod refused;
 #[cfg(test)]

@@ -7,3 +7,4 @@ pub mod in_turn;
 pub mod memory;
 pub mod networks;
 pub mod numbered;
+pub mod tally;

@@ -7,6 +7,7 @@ use ea_road::{Network, Query, Timetables, is_problem};
 use std::alloc::{AllocError, Global};
 use std::test::Fail;
 use tests_given::memory::{Held, pieces};
+use tests_given::tally::Tally;
 
 /// Whether an answer has the arrivals of the four nodes.
 pub fn has_four(answer: &Answer) -> bool {
@@ -17,40 +18,53 @@ pub fn has_four(answer: &Answer) -> bool {
     right
 }
 
+/// How many of eight nodes a worklist has after they were added.
+fn added(mut todo: Open) -> usize
+    requires { todo.nodes ≡ 8 }
+{
+    for node in 1..9u32 {
+        todo.add(node);
+    }
+    todo.len()
+}
+
+/// Whether a worklist of eight nodes that is made where such a piece is left has room for all without more memory; none where it
+/// was refused.
+fn has_room(alloc: Global, walks: bool, small: &mut Held, piece: Vec<u8>) -> Option<bool> {
+    small.leave(piece);
+    let answer = if walks {
+        Open::reserve(alloc, 8)
+    } else {
+        Open::reserve_without_walks(alloc, 8)
+    };
+    small.take_all();
+    let came = match answer {
+        Ok(todo) => Some(added(todo) == 8),
+        Err(_) => None,
+    };
+    small.release();
+    came
+}
+
+/// How worklists fare with ever more memory.
+fn fare_with_worklists(alloc: Global, walks: bool) -> Result<Tally, AllocError> {
+    let mut tally = Tally::new();
+    let mut small = Held::new(alloc, 20_000)?;
+    let pieces = pieces(alloc, 0, 24, 32)?;
+    let mut large = Held::of_large(alloc, 1)?;
+    for piece in pieces {
+        tally.note(has_room(alloc, walks, &mut small, piece), true);
+    }
+    large.release();
+    Ok(tally)
+}
+
 #[test]
 fn worklist_is_refused_or_whole(rt: HostRuntime) -> Result<(), Fail> {
-    let alloc = rt.alloc();
     for (walks, least) in [(true, 3), (false, 2)] {
-        let mut small = Held::new(alloc, 20_000)?;
-        let pieces = pieces(alloc, 0, 24, 32)?;
-        let mut large = Held::of_large(alloc, 1)?;
-        let mut refused: u32 = 0;
-        let mut made: u32 = 0;
-        for piece in pieces {
-            small.leave(piece);
-            let answer = if walks {
-                Open::reserve(alloc, 8)
-            } else {
-                Open::reserve_without_walks(alloc, 8)
-            };
-            small.take_all();
-            match answer {
-                Err(_) => refused = refused.wrapping_add(1),
-                Ok(mut todo) => {
-                    made = made.wrapping_add(1);
-                    for node in 1..9u32 {
-                        todo.add(node);
-                    }
-                    assert_eq!(rt; todo.len(), 8);
-                }
-            }
-            small.release();
-        }
-        large.release();
-        assert!(rt;
-            least <= refused && 2 <= made,
-            "{refused} refused, {made} made"
-        );
+        let tally = fare_with_worklists(rt.alloc(), walks)?;
+        assert_eq!(rt; tally.wrong, 0);
+        assert!(rt; least <= tally.refused && 2 <= tally.right, "{tally:?}");
     }
     Ok(())
 }
@@ -91,67 +105,98 @@ fn answer_alone(
     }
 }
 
+/// Whether a call answers rightly where such a piece is left; none where it was refused.
+fn answers(
+    alloc: Global,
+    call: Alone,
+    network: &Network,
+    query: &Query,
+    small: &mut Held,
+    piece: Vec<u8>,
+) -> Option<bool> {
+    small.leave(piece);
+    let answer = answer_alone(alloc, call, network, query);
+    small.release();
+    let walks = call == Alone::Walks || call == Alone::WalksBy;
+    match answer {
+        Ok(Some(answer)) => Some(has_four(&answer) && answer.has_walks() == walks),
+        Ok(None) => Some(false),
+        Err(_) => None,
+    }
+}
+
+/// How a call fares with ever more memory.
+fn fare_with_answers(
+    alloc: Global,
+    call: Alone,
+    network: &Network,
+    query: &Query,
+) -> Result<Tally, AllocError> {
+    let mut tally = Tally::new();
+    let mut small = Held::new(alloc, 20_000)?;
+    let pieces = pieces(alloc, 0, 32, 96)?;
+    let mut large = Held::of_large(alloc, 1)?;
+    for piece in pieces {
+        tally.note(
+            answers(alloc, call, network, query, &mut small, piece),
+            true,
+        );
+    }
+    large.release();
+    Ok(tally)
+}
+
 #[test]
 fn answer_is_refused_or_right(rt: HostRuntime) -> Result<(), Fail> {
-    let alloc = rt.alloc();
-    let network = four_nodes(alloc)?.ok_or("arcs")?;
-    let query = from_first(alloc)?;
+    let network = four_nodes(rt.alloc())?.ok_or("arcs")?;
+    let query = from_first();
     for call in [
         Alone::Walks,
         Alone::Arrivals,
         Alone::WalksBy,
         Alone::ArrivalsBy,
     ] {
-        let mut small = Held::new(alloc, 20_000)?;
-        let pieces = pieces(alloc, 0, 32, 96)?;
-        let mut large = Held::of_large(alloc, 1)?;
-        let mut refused: u32 = 0;
-        let mut right: u32 = 0;
-        for piece in pieces {
-            small.leave(piece);
-            let answer = answer_alone(alloc, call, &network, &query);
-            small.release();
-            match answer {
-                Err(_) => refused = refused.wrapping_add(1),
-                Ok(answer) => {
-                    let answer = answer.ok_or("a problem")?;
-                    right = right.wrapping_add(1);
-                    assert!(rt; has_four(&answer));
-                    let walks = call == Alone::Walks || call == Alone::WalksBy;
-                    assert_eq!(rt; answer.has_walks(), walks);
-                }
-            }
-        }
-        large.release();
-        assert!(rt;
-            4 <= refused && 2 <= right,
-            "{refused} refused, {right} right"
-        );
+        let tally = fare_with_answers(rt.alloc(), call, &network, &query)?;
+        assert_eq!(rt; tally.wrong, 0);
+        assert!(rt; 4 <= tally.refused && 2 <= tally.right, "{tally:?}");
     }
     Ok(())
 }
 
-#[test]
-fn walk_is_refused_or_right(rt: HostRuntime) -> Result<(), Fail> {
-    let alloc = rt.alloc();
-    let network = four_nodes(alloc)?.ok_or("arcs")?;
-    let times = Timetables::new(Vec::new(alloc));
-    let query = from_first(alloc)?;
-    if !is_problem(&network, times.classes(), &query) {
-        assert!(rt; false);
-        return Ok(());
-    }
-    let answer = solve_alone(alloc, &network, &times, &query)?;
+/// Whether a walk to node 4 is refused where there is no memory; none where the answer has no such walk.
+fn is_refused(alloc: Global, answer: &Answer) -> Result<Option<bool>, AllocError> {
     if !answer.asks(4) || !answer.has_walks() {
-        assert!(rt; false);
-        return Ok(());
+        return Ok(None);
     }
     let mut held = Held::of_large(alloc, 1)?;
     held.take_all();
     let refused = answer.walk(alloc, 4).is_err();
     held.release();
-    assert!(rt; refused);
-    let walk = answer.walk(alloc, 4)?.ok_or("a walk")?;
-    assert_eq!(rt; walk.as_slice(), [2, 3, 4].as_slice());
+    Ok(Some(refused))
+}
+
+/// Whether the walk to node 4 is this one.
+fn walks(alloc: Global, answer: &Answer, walk: &[u32]) -> Result<bool, AllocError> {
+    if !answer.asks(4) || !answer.has_walks() {
+        return Ok(false);
+    }
+    match answer.walk(alloc, 4)? {
+        Some(arcs) => Ok(arcs.as_slice() == walk),
+        None => Ok(false),
+    }
+}
+
+/// The answer of one thread for the four nodes with walks.
+fn answer_with_walks(alloc: Global) -> Result<Answer, Fail> {
+    let network = four_nodes(alloc)?.ok_or("arcs")?;
+    let query = from_first();
+    Ok(answer_alone(alloc, Alone::Walks, &network, &query)?.ok_or("a problem")?)
+}
+
+#[test]
+fn walk_is_refused_or_right(rt: HostRuntime) -> Result<(), Fail> {
+    let answer = answer_with_walks(rt.alloc())?;
+    assert_eq!(rt; is_refused(rt.alloc(), &answer)?, Some(true));
+    assert!(rt; walks(rt.alloc(), &answer, &[2, 3, 4])?);
     Ok(())
 }

@@ -67,11 +67,9 @@ pub fn four_nodes(alloc: Global) -> Result<Option<Network>, AllocError> {
 }
 
 /// All nodes from node 1 at 0.
-pub fn from_first(alloc: Global) -> Result<Query, AllocError> {
-    let mut sources = Vec::new(alloc);
-    sources.push(Source {
+pub fn from_first() -> Query {
+    Query::from_one(Source {
         node: 1,
         departure: 0,
-    })?;
-    Ok(Query::new(sources))
+    })
 }

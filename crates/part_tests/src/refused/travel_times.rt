@@ -1,41 +1,50 @@
 // Each allocation of travel times, refused in turn.
-ghost use Rattle.std.specs.Prelude.{◌≡◌, ◌≤◌, ◌+◌, ◌%◌, ◌^◌};
+ghost use Rattle.std.specs.Prelude.{◌≡◌, ◌<◌, ◌≤◌, ◌+◌, ◌%◌, ◌^◌};
 
 use ea_road::{Profile, ProfileList, RawKind, Timetables};
+use std::alloc::{AllocError, Global};
 use std::test::Fail;
 use tests_given::memory::{Held, pieces};
+use tests_given::tally::Tally;
 
-#[test]
-fn timetables_are_refused_or_whole(rt: HostRuntime) -> Result<(), Fail> {
-    let alloc = rt.alloc();
+/// Whether three classes that leave every 10 arrive so.
+fn are_whole(times: &Timetables) -> bool {
+    times.classes() == 3 && times.arrive(0, 3, 1) == 4 && times.arrive(3, 3, 1) == 13
+}
+
+/// Whether travel times that are made where such a piece is left are whole; none where they were refused.
+fn are_made(alloc: Global, small: &mut Held, piece: Vec<u8>) -> Option<bool> {
     let every = RawKind::Every {
         period: 10,
         offset: 0,
     };
-    let kinds = [every, every, every];
+    small.leave(piece);
+    let answer = Timetables::of(alloc, &[every, every, every]);
+    small.release();
+    match answer {
+        Ok(times) => Some(are_whole(&times)),
+        Err(_) => None,
+    }
+}
+
+/// How travel times fare with ever more memory.
+fn fare_with_timetables(alloc: Global) -> Result<Tally, AllocError> {
+    let mut tally = Tally::new();
     let mut small = Held::new(alloc, 20_000)?;
     let pieces = pieces(alloc, 0, 16, 32)?;
     let mut large = Held::of_large(alloc, 1)?;
-    let mut refused: u32 = 0;
-    let mut made: u32 = 0;
     for piece in pieces {
-        small.leave(piece);
-        let answer = Timetables::of(alloc, &kinds);
-        small.release();
-        match answer {
-            Err(_) => refused = refused.wrapping_add(1),
-            Ok(times) => {
-                made = made.wrapping_add(1);
-                assert_eq!(rt; times.classes(), 3);
-                if times.classes() == 3 {
-                    assert_eq!(rt; times.arrive(0, 3, 1), 4);
-                    assert_eq!(rt; times.arrive(3, 3, 1), 13);
-                }
-            }
-        }
+        tally.note(are_made(alloc, &mut small, piece), true);
     }
     large.release();
-    assert!(rt; 1 <= refused && 2 <= made, "{refused} refused, {made} made");
+    Ok(tally)
+}
+
+#[test]
+fn timetables_are_refused_or_whole(rt: HostRuntime) -> Result<(), Fail> {
+    let tally = fare_with_timetables(rt.alloc())?;
+    assert_eq!(rt; tally.wrong, 0);
+    assert!(rt; 1 <= tally.refused && 2 <= tally.right, "{tally:?}");
     Ok(())
 }
 
@@ -50,13 +59,33 @@ fn has_profiles(list: &ProfileList, count: u32) -> bool {
     right
 }
 
-#[test]
-fn profile_comes_back_or_is_pushed(rt: HostRuntime) -> Result<(), Fail> {
-    let alloc = rt.alloc();
+/// Pushes a class's profile without memory, and again where it comes back: whether it comes back as it was, and the list is as it
+/// was; none where it is pushed at once.
+fn comes_back(
+    list: &mut ProfileList,
+    class: u32,
+    profile: Profile,
+    small: &mut Held,
+) -> Option<bool>
+    requires { (0 < class) × (class < 13) }
+{
+    small.take_all();
+    let answer = list.push(profile);
+    small.release();
+    let Err((profile, _)) = answer else {
+        return None;
+    };
+    let arrives = profile.arrive(3, 4) == 7 + u64::from(class);
+    let stays = has_profiles(list, class - 1);
+    Some(list.push(profile).is_ok() && arrives && stays)
+}
+
+/// How many of twelve profiles come back first, each of which arrives a moment later than the one before, and whether the list has all up to each one then.
+fn fare_with_profiles(alloc: Global) -> Result<(u32, bool), AllocError> {
+    let (mut back, mut right) = (0u32, true);
     let mut list = ProfileList::new(alloc);
     let mut small = Held::new(alloc, 20_000)?;
     let mut large = Held::of_large(alloc, 1)?;
-    let mut refused: u32 = 0;
     for class in 1..13u32 {
         let arrival: Box<dyn Fn(u64, u64) -> u64 + Send + Sync> = Box::new(
             alloc,
@@ -65,18 +94,20 @@ fn profile_comes_back_or_is_pushed(rt: HostRuntime) -> Result<(), Fail> {
                 ensures { result ≡ departure + weight + class % 32 }
             { departure + weight + u64::from(class % 32) },
         )?;
-        small.take_all();
-        let answer = list.push(Profile::new(arrival));
-        small.release();
-        if let Err((profile, _)) = answer {
-            refused = refused.wrapping_add(1);
-            assert_eq!(rt; profile.arrive(3, 4), 7 + u64::from(class));
-            assert!(rt; has_profiles(&list, class - 1));
-            assert!(rt; list.push(profile).is_ok());
+        if let Some(same) = comes_back(&mut list, class, Profile::new(arrival), &mut small) {
+            back = back.wrapping_add(1);
+            right &= same;
         }
-        assert!(rt; has_profiles(&list, class));
+        right &= has_profiles(&list, class);
     }
     large.release();
+    Ok((back, right))
+}
+
+#[test]
+fn profile_comes_back_or_is_pushed(rt: HostRuntime) -> Result<(), Fail> {
+    let (refused, right) = fare_with_profiles(rt.alloc())?;
+    assert!(rt; right);
     assert!(rt; 2 <= refused && refused < 12, "{refused} refused");
     Ok(())
 }

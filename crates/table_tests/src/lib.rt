@@ -1,0 +1,11 @@
+//! Tests of tables and heaps: of one thread and shared by threads, where memory is refused, and at the size of real use.
+#![tactic(auto)]
+
+#[cfg(test)]
+mod heaps;
+#[cfg(test)]
+mod labels;
+#[cfg(test)]
+mod pools;
+#[cfg(test)]
+mod refused;

@@ -1,0 +1,31 @@
+//! How calls fare that are refused memory.
+
+/// How often a call was refused, how often it came to what it should, and how often it went otherwise.
+#[derive(Clone, Copy, PartialEq, Eq, Debug)]
+pub struct Tally {
+    pub refused: u32,
+    pub right: u32,
+    pub wrong: u32,
+}
+
+impl Tally {
+    pub fn new() -> Tally {
+        Tally {
+            refused: 0,
+            right: 0,
+            wrong: 0,
+        }
+    }
+
+    /// Notes a call: whether it came to what it should, if it wasn't refused, and whether all was as it should be behind it.
+    pub fn note(&mut self, came: Option<bool>, behind: bool) {
+        match came {
+            None => self.refused = self.refused.wrapping_add(1),
+            Some(true) => self.right = self.right.wrapping_add(1),
+            Some(false) => self.wrong = self.wrong.wrapping_add(1),
+        }
+        if !behind {
+            self.wrong = self.wrong.wrapping_add(1);
+        }
+    }
+}
