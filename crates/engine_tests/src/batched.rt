@@ -1,5 +1,5 @@
 //! Runs with batches of several entries.
-use crate::ran::{Came, arrives, has_four, run};
+use crate::ran::{Came, Count, Told, Wrong, arrives, four, posed, run, run_with, seeded, told};
 use ea_engine::{Answer, Counters, Crew, Flow, NoGate, Settings, Turn, TurnKind, solve_alone};
 use ea_road::is_problem;
 use rand_core::{Rng, SeedableRng};
@@ -9,7 +9,7 @@ use std::sync::atomic::{AtomicU64, Ordering};
 use std::test::Fail;
 use std::thread::Threads;
 use tests_given::constant::Constant;
-use tests_given::networks::{FOUR_NODES, Given, Row, pose};
+use tests_given::networks::{Given, Row};
 
 /// The key, the node and the lowered heads of each turn that visits an entry, in their order, with batches of two.
 const VISITED: [(u64, u32, u64); 6] = [
@@ -37,61 +37,75 @@ fn is_right(turn: &Turn) -> bool {
 }
 
 /// One worker over two heaps with batches of two, whose generator always gives 0. Tells how many turns were right.
-fn run_of_two<H: Threads + Sync>(alloc: Global, rt: &H, turns: u64) -> Result<(Came, u64), Fail> {
-    let given = pose(alloc, 4, &FOUR_NODES, &[(1, 0)])?.ok_or("rows")?;
+fn run_of_two<H: Threads + Sync>(
+    alloc: Global,
+    rt: &H,
+    turns: u64,
+    wanted: &[Wrong],
+) -> Result<(Told, u64), Fail> {
     let right = AtomicU64::new(0);
     let rights = &right;
-    let mut rngs = Vec::new(alloc);
-    rngs.push(Constant(0))?;
-    let mut tracers = Vec::new(alloc);
-    tracers.push(move |turn: Turn| -> Flow {
+    let tracer = move |turn: Turn| -> Flow {
         if is_right(&turn) {
             rights.fetch_add(1, Ordering::SeqCst);
         }
         Flow::Go
-    })?;
-    let crew = Crew {
-        settings: Settings {
-            workers: 1,
-            heaps: 2,
-            turns,
-            batch: 2,
-            patience: 32,
-        },
-        rngs,
-        gate: &NoGate,
-        tracers,
     };
-    let came = run(alloc, rt, &given, crew)?.ok_or("problem")?;
-    Ok((came, right.load(Ordering::SeqCst)))
+    let settings = Settings {
+        workers: 1,
+        heaps: 2,
+        turns,
+        batch: 2,
+        patience: 32,
+    };
+    let came = run_with(alloc, rt, &four(alloc)?, settings, Constant(0), tracer)?;
+    Ok((told(&came, wanted), right.load(Ordering::SeqCst)))
 }
+
+const BY_TWOS: [Wrong; 14] = [
+    (Count::Handed, 0),
+    (Count::Drained, 0),
+    (Count::Finish, 0),
+    (Count::Workers, 1),
+    (Count::Turns, 38),
+    (Count::Empty, 32),
+    (Count::Pops, 36),
+    (Count::Popped, 6),
+    (Count::Unvisited, 0),
+    (Count::Stale, 2),
+    (Count::Scanned, 4),
+    (Count::Pushes, 3),
+    (Count::Pushed, 5),
+    (Count::Returned, 0),
+];
 
 #[test]
 fn batch_of_two(rt: HostRuntime) -> Result<(), Fail> {
-    let (came, right) = run_of_two(rt.alloc(), &rt, 100)?;
-    assert!(rt; has_four(&came.answer));
+    let (told, right) = run_of_two(rt.alloc(), &rt, 100, &BY_TWOS)?;
     assert_eq!(rt; right, 38);
-    assert_eq!(rt; (came.returned, came.drained, came.finish), (0, 0, 0));
-    assert_eq!(rt; came.counters.len(), 1);
-    for c in &came.counters {
-        assert_eq!(rt; (c.turns, c.empty, c.pops, c.popped), (38, 32, 36, 6));
-        assert_eq!(rt; (c.unvisited, c.stale, c.scanned), (0, 2, 4));
-        assert_eq!(rt; (c.pushes, c.pushed, c.returned), (3, 5, 0));
-    }
+    assert_eq!(rt; told, (true, None));
     Ok(())
 }
 
+const IN_TWO_TURNS: [Wrong; 11] = [
+    (Count::Handed, 1),
+    (Count::Drained, 2),
+    (Count::Finish, 2),
+    (Count::Workers, 1),
+    (Count::Pops, 2),
+    (Count::Popped, 3),
+    (Count::Unvisited, 1),
+    (Count::Scanned, 2),
+    (Count::Pushes, 2),
+    (Count::Pushed, 4),
+    (Count::Returned, 1),
+];
+
 #[test]
 fn batch_of_two_in_two_turns(rt: HostRuntime) -> Result<(), Fail> {
-    let (came, right) = run_of_two(rt.alloc(), &rt, 2)?;
-    assert!(rt; has_four(&came.answer));
+    let (told, right) = run_of_two(rt.alloc(), &rt, 2, &IN_TWO_TURNS)?;
     assert_eq!(rt; right, 2);
-    assert_eq!(rt; (came.returned, came.drained, came.finish), (1, 2, 2));
-    assert_eq!(rt; came.counters.len(), 1);
-    for c in &came.counters {
-        assert_eq!(rt; (c.pops, c.popped, c.unvisited, c.scanned), (2, 3, 1, 2));
-        assert_eq!(rt; (c.pushes, c.pushed, c.returned), (2, 4, 1));
-    }
+    assert_eq!(rt; told, (true, None));
     Ok(())
 }
 
@@ -110,7 +124,7 @@ fn rows_of(alloc: Global, seed: u64) -> Result<Vec<Row>, AllocError> {
     Ok(rows)
 }
 
-/// Runs workers that leave at a turn of this number; none where the settings or what is given don't fit.
+/// Runs workers that leave at a turn of this number.
 fn run_until<H: Threads + Sync>(
     alloc: Global,
     rt: &H,
@@ -118,11 +132,9 @@ fn run_until<H: Threads + Sync>(
     settings: Settings,
     seed: u64,
     last: u64,
-) -> Result<Option<Came>, AllocError> {
-    let mut rngs = Vec::new(alloc);
+) -> Result<Came, Fail> {
     let mut tracers = Vec::new(alloc);
-    for worker in 0..settings.workers {
-        rngs.push(Xoshiro256PlusPlus::seed_from_u64(seed ^ u64::from(worker)))?;
+    for _ in 0..settings.workers {
         tracers.push(move |turn: Turn| -> Flow {
             if turn.number == last {
                 Flow::Leave
@@ -131,17 +143,13 @@ fn run_until<H: Threads + Sync>(
             }
         })?;
     }
-    run(
-        alloc,
-        rt,
-        given,
-        Crew {
-            settings,
-            rngs,
-            gate: &NoGate,
-            tracers,
-        },
-    )
+    let crew = Crew {
+        settings,
+        rngs: seeded(alloc, settings.workers, seed)?,
+        gate: &NoGate,
+        tracers,
+    };
+    run(alloc, rt, given, crew)
 }
 
 /// Whether a worker's counts hang together.
@@ -182,42 +190,77 @@ fn arrives_as(came: &Came, alone: &Answer) -> bool {
     same
 }
 
-/// Runs of one network with each number of workers, whose turns are few or whose tracers leave, and whether each gives the
-/// answer of one thread and counts that are in balance.
+/// Whether a run of workers that leave at a turn of this number gives the answer of one thread and counts that are in balance.
+fn is_right_until<H: Threads + Sync>(
+    alloc: Global,
+    rt: &H,
+    given: &Given,
+    settings: Settings,
+    seed: u64,
+    last: u64,
+    alone: &Answer,
+) -> Result<bool, Fail> {
+    let came = run_until(alloc, rt, given, settings, seed, last)?;
+    Ok(is_balanced(&came) && arrives_as(&came, alone))
+}
+
+/// The answer of one thread; none where what is given makes no problem.
+fn answer_alone(alloc: Global, given: &Given) -> Result<Option<Answer>, AllocError> {
+    if !is_problem(&given.network, given.times.classes(), &given.query) {
+        return Ok(None);
+    }
+    let answer = solve_alone(alloc, &given.network, &given.times, &given.query)?;
+    Ok(Some(answer))
+}
+
+/// How many turns each worker makes at most, and at which it leaves.
+const ENDS: [(u64, u64); 7] = [
+    (0, 9),
+    (1, 9),
+    (2, 9),
+    (3, 9),
+    (900, 0),
+    (900, 5),
+    (900, 900),
+];
+
+/// Whether so many workers are right, whose turns are few or whose tracers leave.
+fn are_workers_right<H: Threads + Sync>(
+    alloc: Global,
+    rt: &H,
+    given: &Given,
+    settings: Settings,
+    seed: u64,
+    alone: &Answer,
+) -> Result<bool, Fail> {
+    for (turns, last) in ENDS {
+        let settings = Settings { turns, ..settings };
+        if !is_right_until(alloc, rt, given, settings, seed, last, alone)? {
+            return Ok(false);
+        }
+    }
+    Ok(true)
+}
+
+/// Whether each number of workers is right on one network.
 fn all_right<H: Threads + Sync>(
     alloc: Global,
     rt: &H,
     given: &Given,
     batch: u32,
     seed: u64,
-) -> Result<bool, AllocError> {
-    if !is_problem(&given.network, given.times.classes(), &given.query) {
-        return Ok(false);
-    }
-    let alone = solve_alone(alloc, &given.network, &given.times, &given.query)?;
+    alone: &Answer,
+) -> Result<bool, Fail> {
     for workers in [1, 2, 3, 4, 16] {
-        for (turns, last) in [
-            (0, 9),
-            (1, 9),
-            (2, 9),
-            (3, 9),
-            (900, 0),
-            (900, 5),
-            (900, 900),
-        ] {
-            let settings = Settings {
-                workers,
-                heaps: 2 + (seed % 7) as u32,
-                turns,
-                batch,
-                patience: 1 + (seed % 40) as u32,
-            };
-            let Some(came) = run_until(alloc, rt, given, settings, seed, last)? else {
-                return Ok(false);
-            };
-            if !is_balanced(&came) || !arrives_as(&came, &alone) {
-                return Ok(false);
-            }
+        let settings = Settings {
+            workers,
+            heaps: 2 + (seed % 7) as u32,
+            turns: 0,
+            batch,
+            patience: 1 + (seed % 40) as u32,
+        };
+        if !are_workers_right(alloc, rt, given, settings, seed, alone)? {
+            return Ok(false);
         }
     }
     Ok(true)
@@ -226,10 +269,11 @@ fn all_right<H: Threads + Sync>(
 /// Whether all runs of a random network are right, with batches of each size.
 fn are_batches_right<H: Threads + Sync>(alloc: Global, rt: &H, seed: u64) -> Result<bool, Fail> {
     let rows = rows_of(alloc, seed)?;
-    let given = pose(alloc, NODES, &rows, &[(1, 3), (2, 0)])?.ok_or("rows")?;
+    let given = posed(alloc, NODES, &rows, &[(1, 3), (2, 0)])?;
+    let alone = answer_alone(alloc, &given)?.ok_or("problem")?;
     let mut right = true;
     for batch in [1, 2, 3, 16, 64] {
-        right &= all_right(alloc, rt, &given, batch, seed)?;
+        right &= all_right(alloc, rt, &given, batch, seed, &alone)?;
     }
     Ok(right)
 }

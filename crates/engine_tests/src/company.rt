@@ -19,11 +19,7 @@ fn after_falls(member: &mut Member<'_>, number: u64, kind: TurnKind, lowered: u6
 
 /// Whether a worker goes on after so many turns that found nothing.
 fn goes_on(member: &mut Member<'_>, turns: u32) -> bool {
-    let mut goes = true;
-    for number in 0..turns {
-        goes = goes && after(member, u64::from(number), TurnKind::Empty);
-    }
-    goes
+    goes_on_with(member, TurnKind::Empty, 0, u64::from(turns))
 }
 
 #[test]
@@ -33,34 +29,63 @@ fn nobody_leaves_before_the_first_entry_is_found(rt: HostRuntime) {
     assert!(rt; goes_on(&mut early, 1_000));
 }
 
+/// Which of two workers makes turns of a kind, from which number on and how many, and whether it goes on after all.
+type Row = (usize, TurnKind, u64, u64, bool);
+
+/// The first of the rows that goes otherwise with two workers of a new company.
+fn wrong_row(rows: &[Row]) -> Option<usize> {
+    let company = Company::new();
+    let mut members = [company.member(), company.member()];
+    for (place, (worker, kind, first, turns, goes)) in rows.iter().enumerate() {
+        let Some(member) = members.get_mut(*worker) else {
+            return Some(place);
+        };
+        if goes_on_with(member, *kind, *first, *turns) != *goes {
+            return Some(place);
+        }
+    }
+    None
+}
+
+/// Whether a worker goes on after so many turns of a kind.
+fn goes_on_with(member: &mut Member<'_>, kind: TurnKind, first: u64, turns: u64) -> bool {
+    let mut goes = true;
+    for turn in 0..turns {
+        goes = goes && after(member, first.wrapping_add(turn), kind);
+    }
+    goes
+}
+
+/// Short pauses, those of 20 turns, are no end.
+const ALL_LEAVE: [Row; 11] = [
+    (0, TurnKind::Scanned, 1, 1, true),
+    (1, TurnKind::Empty, 0, 1_000, true),
+    (1, TurnKind::Stale, 1, 1, true),
+    (0, TurnKind::Empty, 0, 1_000, true),
+    (0, TurnKind::Cut, 1, 1, true),
+    (1, TurnKind::Empty, 0, 1_000, true),
+    (0, TurnKind::Empty, 0, 20, true),
+    (1, TurnKind::Empty, 0, 20, true),
+    (0, TurnKind::Scanned, 1, 1, true),
+    (0, TurnKind::Empty, 0, 1_000, false),
+    (1, TurnKind::Empty, 0, 100, false),
+];
+
 #[test]
 fn all_leave_when_none_is_active(rt: HostRuntime) {
-    let company = Company::new();
-    let mut one = company.member();
-    let mut other = company.member();
-    assert!(rt; after(&mut one, 1, TurnKind::Scanned));
-    assert!(rt; goes_on(&mut other, 1_000));
-    assert!(rt; after(&mut other, 1, TurnKind::Stale));
-    assert!(rt; goes_on(&mut one, 1_000));
-    assert!(rt; after(&mut one, 1, TurnKind::Cut));
-    assert!(rt; goes_on(&mut other, 1_000));
-    // A short pause is no end.
-    assert!(rt; goes_on(&mut one, 20));
-    assert!(rt; goes_on(&mut other, 20));
-    assert!(rt; after(&mut one, 1, TurnKind::Scanned));
-    assert!(rt; !goes_on(&mut one, 1_000));
-    assert!(rt; !goes_on(&mut other, 100));
+    assert_eq!(rt; wrong_row(&ALL_LEAVE), None);
 }
+
+const REFUSED: [Row; 4] = [
+    (0, TurnKind::Scanned, 0, 1, true),
+    (1, TurnKind::Empty, 0, 1_000, true),
+    (0, TurnKind::Refused, 1, 1, false),
+    (1, TurnKind::Empty, 0, 100, false),
+];
 
 #[test]
 fn a_refused_worker_leaves(rt: HostRuntime) {
-    let company = Company::new();
-    let mut one = company.member();
-    let mut other = company.member();
-    assert!(rt; after(&mut one, 0, TurnKind::Scanned));
-    assert!(rt; goes_on(&mut other, 1_000));
-    assert!(rt; !after(&mut one, 1, TurnKind::Refused));
-    assert!(rt; !goes_on(&mut other, 100));
+    assert_eq!(rt; wrong_row(&REFUSED), None);
 }
 
 /// After how many visits a worker leaves in each of which so many labels fall, at most 100,000.

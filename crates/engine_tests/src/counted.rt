@@ -1,14 +1,10 @@
 //! The worked examples, by their counters.
-use crate::ran::{Came, Ran, has_four, run_crew_on_four, run_four, run_with};
+use crate::ran::{Count, Told, Wrong, constants, run_crew_on_four, run_four, seeded, told};
 use ea_engine::{Flow, NoGate, Turn, TurnKind};
-use rand_core::SeedableRng;
-use rand_xoshiro::Xoshiro256PlusPlus;
 use std::alloc::Global;
 use std::sync::atomic::{AtomicU64, Ordering};
 use std::test::Fail;
 use std::thread::Threads;
-use tests_given::constant::Constant;
-use tests_given::networks::{FOUR_NODES, pose};
 
 /// The key, the node and the lowered heads of each turn that popped an entry, in their order.
 const POPPED: [(u64, u32, u64); 6] = [
@@ -34,8 +30,12 @@ fn is_right(turn: &Turn) -> bool {
     kind && shown == POPPED[turn.number as usize]
 }
 
-/// A run of one worker, how many turns its tracer was shown, and how many of them were right.
-fn run_watched<H: Threads + Sync>(alloc: Global, rt: &H) -> Result<(Ran, u64, u64), Fail> {
+/// What is told of a run of one worker, how many turns its tracer was shown, and how many of them were right.
+fn run_watched<H: Threads + Sync>(
+    alloc: Global,
+    rt: &H,
+    wanted: &[Wrong],
+) -> Result<(Told, u64, u64), Fail> {
     let calls = AtomicU64::new(0);
     let right = AtomicU64::new(0);
     let (shown, rights) = (&calls, &right);
@@ -45,98 +45,101 @@ fn run_watched<H: Threads + Sync>(alloc: Global, rt: &H) -> Result<(Ran, u64, u6
         }
         Flow::Go
     };
-    let ran = run_four(alloc, rt, 100, tracer)?;
-    Ok((
-        ran,
-        calls.load(Ordering::SeqCst),
-        right.load(Ordering::SeqCst),
-    ))
+    let came = run_four(alloc, rt, 100, tracer)?;
+    let (calls, right) = (calls.load(Ordering::SeqCst), right.load(Ordering::SeqCst));
+    Ok((told(&came, wanted), calls, right))
 }
+
+/// With batches of one entry each turn pops once, and each lowered head is pushed by itself.
+const OF_ONE_WORKER: [Wrong; 15] = [
+    (Count::Workers, 1),
+    (Count::Seeded, 1),
+    (Count::Handed, 0),
+    (Count::Drained, 0),
+    (Count::Finish, 0),
+    (Count::Turns, 38),
+    (Count::Empty, 32),
+    (Count::Popped, 6),
+    (Count::Stale, 2),
+    (Count::Scanned, 4),
+    (Count::Pushed, 5),
+    (Count::Pops, 38),
+    (Count::Unvisited, 0),
+    (Count::Lowered, 5),
+    (Count::Pushes, 5),
+];
 
 #[test]
 fn one_worker(rt: HostRuntime) -> Result<(), Fail> {
-    let (ran, calls, right) = run_watched(rt.alloc(), &rt)?;
+    let (told, calls, right) = run_watched(rt.alloc(), &rt, &OF_ONE_WORKER)?;
     assert_eq!(rt; (calls, right), (38, 38));
-    assert!(rt; has_four(&ran.answer));
-    assert_eq!(rt;
-        (ran.seeded, ran.returned, ran.drained, ran.finish),
-        (1, 0, 0, 0)
-    );
-    let counters = ran.counters;
-    assert_eq!(rt;
-        (counters.turns, counters.empty, counters.popped),
-        (38, 32, 6)
-    );
-    assert_eq!(rt;
-        (counters.stale, counters.scanned, counters.pushed),
-        (2, 4, 5)
-    );
-    // With batches of one entry each turn pops once, and each lowered head is pushed by itself.
-    assert_eq!(rt;
-        (
-            counters.pops,
-            counters.unvisited,
-            counters.lowered,
-            counters.pushes
-        ),
-        (38, 0, 5, 5)
-    );
+    assert_eq!(rt; told, (true, None));
     Ok(())
 }
 
-/// A run of four workers that make no turn.
-fn run_idle<H: Threads + Sync>(alloc: Global, rt: &H) -> Result<Came, Fail> {
-    let mut rngs = Vec::new(alloc);
-    for seed in 0..4 {
-        rngs.push(Xoshiro256PlusPlus::seed_from_u64(seed))?;
-    }
-    run_crew_on_four(alloc, rt, 2, 0, rngs, &NoGate)
+/// What is told of a run of four workers that make no turn.
+fn run_idle<H: Threads + Sync>(alloc: Global, rt: &H, wanted: &[Wrong]) -> Result<Told, Fail> {
+    let rngs = seeded(alloc, 4, 0)?;
+    let came = run_crew_on_four(alloc, rt, 2, 0, rngs, &NoGate)?;
+    Ok(told(&came, wanted))
 }
 
 #[test]
 fn no_turns(rt: HostRuntime) -> Result<(), Fail> {
-    let came = run_idle(rt.alloc(), &rt)?;
-    assert!(rt; has_four(&came.answer));
-    assert_eq!(rt;
-        (came.seeded, came.returned, came.drained, came.finish),
-        (1, 0, 1, 1)
-    );
-    assert_eq!(rt; came.counters.len(), 4);
-    for counters in &came.counters {
-        assert_eq!(rt; counters.turns, 0);
-    }
+    let wanted = [
+        (Count::Seeded, 1),
+        (Count::Handed, 0),
+        (Count::Drained, 1),
+        (Count::Finish, 1),
+        (Count::Workers, 4),
+        (Count::Turns, 0),
+    ];
+    assert_eq!(rt; run_idle(rt.alloc(), &rt, &wanted)?, (true, None));
     Ok(())
+}
+
+/// What is told of a run of one worker that leaves at its first turn.
+fn run_leaving<H: Threads + Sync>(alloc: Global, rt: &H, wanted: &[Wrong]) -> Result<Told, Fail> {
+    let came = run_four(alloc, rt, 100, |_turn: Turn| -> Flow { Flow::Leave })?;
+    Ok(told(&came, wanted))
 }
 
 #[test]
 fn leave_at_once(rt: HostRuntime) -> Result<(), Fail> {
-    let ran = run_four(rt.alloc(), &rt, 100, |_turn: Turn| -> Flow { Flow::Leave })?;
-    assert!(rt; has_four(&ran.answer));
-    assert_eq!(rt; (ran.drained, ran.finish), (2, 2));
-    let counters = ran.counters;
-    assert_eq!(rt;
-        (counters.pushed, counters.popped, counters.scanned),
-        (2, 1, 1)
-    );
+    let wanted = [
+        (Count::Drained, 2),
+        (Count::Finish, 2),
+        (Count::Workers, 1),
+        (Count::Pushed, 2),
+        (Count::Popped, 1),
+        (Count::Scanned, 1),
+    ];
+    assert_eq!(rt; run_leaving(rt.alloc(), &rt, &wanted)?, (true, None));
     Ok(())
 }
 
-/// A run of one worker over eight heaps whose words pick heap 2 first, and then heap 5.
-fn run_over_eight<H: Threads + Sync>(alloc: Global, rt: &H) -> Result<Ran, Fail> {
-    let given = pose(alloc, 4, &FOUR_NODES, &[(1, 0)])?.ok_or("rows")?;
-    let go = |_turn: Turn| -> Flow { Flow::Go };
-    Ok(run_with(alloc, rt, &given, 8, 100, Constant(2), go)?.ok_or("problem")?)
+/// What is told of a run of one worker over eight heaps whose words pick heap 2 first, and then heap 5.
+fn run_over_eight<H: Threads + Sync>(
+    alloc: Global,
+    rt: &H,
+    wanted: &[Wrong],
+) -> Result<Told, Fail> {
+    let rngs = constants(alloc, 1, 2)?;
+    let came = run_crew_on_four(alloc, rt, 8, 100, rngs, &NoGate)?;
+    Ok(told(&came, wanted))
 }
 
 #[test]
 fn eight_heaps(rt: HostRuntime) -> Result<(), Fail> {
-    let ran = run_over_eight(rt.alloc(), &rt)?;
-    assert!(rt; has_four(&ran.answer));
-    assert_eq!(rt; (ran.seeded, ran.drained, ran.finish), (1, 1, 1));
-    let counters = ran.counters;
-    assert_eq!(rt;
-        (counters.turns, counters.empty, counters.popped),
-        (32, 32, 0)
-    );
+    let wanted = [
+        (Count::Seeded, 1),
+        (Count::Drained, 1),
+        (Count::Finish, 1),
+        (Count::Workers, 1),
+        (Count::Turns, 32),
+        (Count::Empty, 32),
+        (Count::Popped, 0),
+    ];
+    assert_eq!(rt; run_over_eight(rt.alloc(), &rt, &wanted)?, (true, None));
     Ok(())
 }

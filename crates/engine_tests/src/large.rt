@@ -1,12 +1,11 @@
 //! Inputs of the size of real use.
-use crate::ran::{Came, arrives, run_crew};
+use crate::ran::{Count, Wrong, arrives, constants, posed, run_crew, total, wrong_count};
 use ea_engine::{Answer, NoGate, solve_alone};
 use ea_road::is_problem;
 use std::alloc::{AllocError, Global};
 use std::test::Fail;
 use std::thread::Threads;
-use tests_given::constant::Constant;
-use tests_given::networks::{Given, Row, pose};
+use tests_given::networks::{Given, Row};
 
 const NODES: u32 = 1_000_000;
 
@@ -16,7 +15,7 @@ fn path(alloc: Global) -> Result<Given, Fail> {
     for node in 1..NODES {
         rows.push((node, node + 1, 3, 0))?;
     }
-    Ok(pose(alloc, NODES, &rows, &[(1, 7)])?.ok_or("rows")?)
+    posed(alloc, NODES, &rows, &[(1, 7)])
 }
 
 /// Whether the walk of the last node has all arcs in their order.
@@ -40,37 +39,24 @@ fn has_arrivals(answer: &Answer) -> bool {
         && arrives(answer, NODES, Some(3_000_004))
 }
 
-/// Runs so many workers with eight heaps each, whose generators give this word alone.
-fn run_all_by<H: Threads + Sync>(
+/// Whether two workers with eight heaps each, whose generators give 16 alone, have the path's arrivals and its walk, and how many entries
+/// they pop.
+fn run_along<H: Threads + Sync>(
     alloc: Global,
     rt: &H,
     given: &Given,
-    turns: u32,
-    workers: u32,
-    word: u64,
-) -> Result<Came, Fail> {
-    let mut rngs = Vec::new(alloc);
-    for _ in 0..workers {
-        rngs.push(Constant(word))?;
-    }
-    Ok(run_crew(alloc, rt, given, 8, turns, rngs, &NoGate)?.ok_or("problem")?)
-}
-
-/// How many entries a run popped.
-fn popped(came: &Came) -> u64 {
-    let mut popped = 0u64;
-    for counters in &came.counters {
-        popped = popped.saturating_add(counters.popped);
-    }
-    popped
+) -> Result<((bool, bool), u64), Fail> {
+    let rngs = constants(alloc, 2, 16)?;
+    let came = run_crew(alloc, rt, given, 8, 1_000_000, rngs, &NoGate)?;
+    Ok((is_along(alloc, &came.answer)?, total(&came, Count::Popped)))
 }
 
 #[test]
 fn two_workers_along_a_million_nodes(rt: HostRuntime) -> Result<(), Fail> {
-    let came = run_all_by(rt.alloc(), &rt, &path(rt.alloc())?, 1_000_000, 2, 16)?;
-    assert!(rt; has_arrivals(&came.answer));
-    assert!(rt; walks_all(rt.alloc(), &came.answer)?);
-    assert!(rt; popped(&came) > 0);
+    let given = path(rt.alloc())?;
+    let (along, popped) = run_along(rt.alloc(), &rt, &given)?;
+    assert_eq!(rt; along, (true, true));
+    assert!(rt; popped > 0);
     Ok(())
 }
 
@@ -83,11 +69,24 @@ fn answer_alone(alloc: Global, given: &Given) -> Result<Option<Answer>, AllocErr
     Ok(Some(answer))
 }
 
+/// Whether an answer has the path's arrivals and its walk.
+fn is_along(alloc: Global, answer: &Answer) -> Result<(bool, bool), AllocError> {
+    let walks = walks_all(alloc, answer)?;
+    Ok((has_arrivals(answer), walks))
+}
+
+/// Whether the answer of one thread has them.
+fn alone_along(alloc: Global, given: &Given) -> Result<(bool, bool), AllocError> {
+    match answer_alone(alloc, given)? {
+        Some(answer) => is_along(alloc, &answer),
+        None => Ok((false, false)),
+    }
+}
+
 #[test]
 fn one_thread_along_a_million_nodes(rt: HostRuntime) -> Result<(), Fail> {
-    let answer = answer_alone(rt.alloc(), &path(rt.alloc())?)?.ok_or("problem")?;
-    assert!(rt; has_arrivals(&answer));
-    assert!(rt; walks_all(rt.alloc(), &answer)?);
+    let given = path(rt.alloc())?;
+    assert_eq!(rt; alone_along(rt.alloc(), &given)?, (true, true));
     Ok(())
 }
 
@@ -107,7 +106,7 @@ fn late_ring(alloc: Global) -> Result<Given, Fail> {
     for place in 1..RING - 1 {
         rows.push((101 + place, 102 + place, 1, 0))?;
     }
-    Ok(pose(alloc, 100 + RING, &rows, &[(1, 0)])?.ok_or("rows")?)
+    posed(alloc, 100 + RING, &rows, &[(1, 0)])
 }
 
 /// Whether nodes of the ring have their arrivals.
@@ -119,13 +118,27 @@ fn has_ring(answer: &Answer) -> bool {
     right
 }
 
+/// The first of the counts that is otherwise in a run of four workers on the ring whose generators give 2 alone, and whether it has
+/// the ring's arrivals.
+fn run_round<H: Threads + Sync>(
+    alloc: Global,
+    rt: &H,
+    turns: u32,
+    wanted: &[Wrong],
+) -> Result<(Option<Wrong>, bool), Fail> {
+    let given = late_ring(alloc)?;
+    let rngs = constants(alloc, 4, 2)?;
+    let came = run_crew(alloc, rt, &given, 8, turns, rngs, &NoGate)?;
+    Ok((wrong_count(&came, wanted), has_ring(&came.answer)))
+}
+
 /// With no turns, and with heaps that the workers' words never meet, all is left to the end of the run.
 #[test]
 fn late_work_is_done_in_the_order_of_labels(rt: HostRuntime) -> Result<(), Fail> {
+    let wanted = [(Count::Drained, 1), (Count::Finish, 1)];
     for turns in [0, 1000] {
-        let came = run_all_by(rt.alloc(), &rt, &late_ring(rt.alloc())?, turns, 4, 2)?;
-        assert_eq!(rt; (came.drained, came.finish), (1, 1));
-        assert!(rt; has_ring(&came.answer));
+        let came = run_round(rt.alloc(), &rt, turns, &wanted)?;
+        assert_eq!(rt; came, (None, true));
     }
     Ok(())
 }

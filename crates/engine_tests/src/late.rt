@@ -1,12 +1,12 @@
 //! A network whose open nodes are few for long and then many at once, on which several workers have nothing to gain.
-use crate::ran::{Came, arrives, run};
+use crate::ran::{Came, Count, arrives, posed, run, total};
 use ea_engine::{Company, Crew, Flow, NoGate, Settings, Turn};
 use rand_core::SeedableRng;
 use rand_xoshiro::Xoshiro256PlusPlus;
 use std::alloc::Global;
 use std::test::Fail;
 use std::thread::Threads;
-use tests_given::networks::{Given, Row, pose};
+use tests_given::networks::{Given, Row};
 
 /// How many nodes lie on the path before the ring.
 const PATH: u32 = 100;
@@ -30,7 +30,7 @@ fn late_ring(alloc: Global) -> Result<Given, Fail> {
     for node in PATH + 2..NODES {
         rows.push((node, node + 1, 1, 0))?;
     }
-    Ok(pose(alloc, NODES, &rows, &[(1, 0)])?.ok_or("rows")?)
+    posed(alloc, NODES, &rows, &[(1, 0)])
 }
 
 /// Two workers of a company on the ring, which take so many entries at once.
@@ -58,16 +58,7 @@ fn search<H: Threads + Sync>(alloc: Global, rt: &H, batch: u32) -> Result<Came, 
         gate: &NoGate,
         tracers,
     };
-    Ok(run(alloc, rt, &given, crew)?.ok_or("problem")?)
-}
-
-/// How many entries a run scanned.
-fn scanned(came: &Came) -> u64 {
-    let mut scanned = 0u64;
-    for counters in &came.counters {
-        scanned = scanned.saturating_add(counters.scanned);
-    }
-    scanned
+    run(alloc, rt, &given, crew)
 }
 
 /// Whether the i-th node after the ring's first has the arrival i + 1, by the ring.
@@ -79,18 +70,24 @@ fn goes_round(came: &Came) -> bool {
     right
 }
 
+/// Whether such a search has the ring's arrivals, and how many entries it scans.
+fn leave_by<H: Threads + Sync>(alloc: Global, rt: &H, batch: u32) -> Result<(bool, u64), Fail> {
+    let came = search(alloc, rt, batch)?;
+    Ok((goes_round(&came), total(&came, Count::Scanned)))
+}
+
 #[test]
 fn two_workers_leave_a_late_ring(rt: HostRuntime) -> Result<(), Fail> {
-    let came = search(rt.alloc(), &rt, 32)?;
-    assert!(rt; goes_round(&came));
-    assert!(rt; scanned(&came) > 0 && scanned(&came) <= 4 * u64::from(NODES));
+    let (round, scanned) = leave_by(rt.alloc(), &rt, 32)?;
+    assert!(rt; round);
+    assert!(rt; scanned > 0 && scanned <= 4 * u64::from(NODES));
     Ok(())
 }
 
 #[test]
 fn two_workers_leave_a_late_ring_entry_by_entry(rt: HostRuntime) -> Result<(), Fail> {
-    let came = search(rt.alloc(), &rt, 1)?;
-    assert!(rt; goes_round(&came));
-    assert!(rt; scanned(&came) > 0 && scanned(&came) <= 4 * u64::from(NODES));
+    let (round, scanned) = leave_by(rt.alloc(), &rt, 1)?;
+    assert!(rt; round);
+    assert!(rt; scanned > 0 && scanned <= 4 * u64::from(NODES));
     Ok(())
 }

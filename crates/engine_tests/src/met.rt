@@ -1,13 +1,14 @@
 //! Two workers that wait for each other: each is there while the other one is.
-use crate::ran::{Came, arrives, has_four, run, run_crew_on_four};
-use ea_engine::{Crew, Flow, Gate, Settings, Turn};
+use crate::ran::{
+    Came, Count, arrives, constants, has_four, posed, run, run_crew_on_four, singly, total,
+};
+use ea_engine::{Crew, Flow, Gate, Turn};
 use std::alloc::{AllocError, Global};
 use std::hint;
 use std::sync::atomic::{AtomicU64, Ordering};
 use std::test::Fail;
 use std::thread::Threads;
-use tests_given::constant::Constant;
-use tests_given::networks::{Row, pose};
+use tests_given::networks::{Given, Row};
 
 /// Each worker raises its flag before its first turn and then looks for the other's.
 #[derive(Drop)]
@@ -39,20 +40,22 @@ fn run_meeting<H: Threads + Sync, G: Gate>(
     workers: u32,
     gate: &G,
 ) -> Result<Came, Fail> {
-    let mut rngs = Vec::new(alloc);
-    for _ in 0..workers {
-        rngs.push(Constant(0))?;
-    }
+    let rngs = constants(alloc, workers, 0)?;
     run_crew_on_four(alloc, rt, 2, 100, rngs, gate)
 }
 
-/// Whether a run popped some entry.
-fn pops_some(came: &Came) -> bool {
-    let mut popped = 0;
-    for counters in &came.counters {
-        popped = counters.popped.max(popped);
-    }
-    popped > 0
+/// What is told of a run of two workers that meet, how many missed the other one, and how many entries they pop.
+fn run_two<H: Threads + Sync>(
+    alloc: Global,
+    rt: &H,
+    meeting: &Meeting,
+) -> Result<(bool, u64, u64), Fail> {
+    let came = run_meeting(alloc, rt, 2, meeting)?;
+    Ok((
+        has_four(&came.answer),
+        meeting.missed.load(Ordering::SeqCst),
+        total(&came, Count::Popped),
+    ))
 }
 
 #[test]
@@ -61,13 +64,12 @@ fn two_workers_meet(rt: HostRuntime) -> Result<(), Fail> {
         flags: [AtomicU64::new(0), AtomicU64::new(0)],
         missed: AtomicU64::new(0),
     };
-    let came = run_meeting(rt.alloc(), &rt, 2, &meeting)?;
-    assert_eq!(rt; meeting.missed.load(Ordering::SeqCst), 0);
+    let (four, missed, popped) = run_two(rt.alloc(), &rt, &meeting)?;
+    assert_eq!(rt; (four, missed), (true, 0));
+    assert!(rt; popped > 0);
     for flag in &meeting.flags {
         assert_eq!(rt; flag.load(Ordering::SeqCst), 1);
     }
-    assert!(rt; has_four(&came.answer));
-    assert!(rt; pops_some(&came));
     Ok(())
 }
 
@@ -118,14 +120,24 @@ impl Gate for MeetingOfFour {
     }
 }
 
+/// Whether a run of four workers has the arrivals, how many workers there were, and whether all were there, none missing another one.
+fn run_four_meeting<H: Threads + Sync>(
+    alloc: Global,
+    rt: &H,
+) -> Result<(bool, usize, bool, u64), Fail> {
+    let meeting = MeetingOfFour::new();
+    let came = run_meeting(alloc, rt, 4, &meeting)?;
+    Ok((
+        has_four(&came.answer),
+        came.counters.len(),
+        meeting.are_all_there(),
+        meeting.missed.load(Ordering::SeqCst),
+    ))
+}
+
 #[test]
 fn four_workers_meet(rt: HostRuntime) -> Result<(), Fail> {
-    let meeting = MeetingOfFour::new();
-    let came = run_meeting(rt.alloc(), &rt, 4, &meeting)?;
-    assert_eq!(rt; meeting.missed.load(Ordering::SeqCst), 0);
-    assert!(rt; meeting.are_all_there());
-    assert_eq!(rt; came.counters.len(), 4);
-    assert!(rt; has_four(&came.answer));
+    assert_eq!(rt; run_four_meeting(rt.alloc(), &rt)?, (true, 4, true, 0));
     Ok(())
 }
 
@@ -169,56 +181,58 @@ impl Gate for Sharing {
     }
 }
 
-/// The rows of a star.
-fn star(alloc: Global) -> Result<Vec<Row>, AllocError> {
+/// A star, from its middle at 0.
+fn star(alloc: Global) -> Result<Given, Fail> {
     let mut rows: Vec<Row> = Vec::new(alloc);
     for node in 2..4_001u32 {
         rows.push((1, node, node, 0))?;
     }
-    Ok(rows)
+    posed(alloc, 4_000, &rows, &[(1, 0)])
 }
 
 /// A run of four workers on the star, which share what there is.
-fn run_sharing<H: Threads + Sync>(alloc: Global, rt: &H, sharing: &Sharing) -> Result<Came, Fail> {
-    let rows = star(alloc)?;
-    let given = pose(alloc, 4_000, &rows, &[(1, 0)])?.ok_or("rows")?;
-    let mut rngs = Vec::new(alloc);
+fn run_sharing<H: Threads + Sync>(
+    alloc: Global,
+    rt: &H,
+    given: &Given,
+    sharing: &Sharing,
+) -> Result<Came, Fail> {
     let mut tracers = Vec::new(alloc);
     for worker in 0..4u32 {
-        rngs.push(Constant(0))?;
         tracers.push(move |turn: Turn| -> Flow {
             sharing.show(worker, turn);
             Flow::Go
         })?;
     }
-    let settings = Settings {
-        workers: 4,
-        heaps: 2,
-        turns: 10_000,
-        batch: 1,
-        patience: 32,
-    };
     let crew = Crew {
-        settings,
-        rngs,
+        settings: singly(4, 2, 10_000),
+        rngs: constants(alloc, 4, 0)?,
         gate: sharing,
         tracers,
     };
-    Ok(run(alloc, rt, &given, crew)?.ok_or("problem")?)
+    run(alloc, rt, given, crew)
 }
 
-#[test]
-fn each_of_four_workers_pops_some(rt: HostRuntime) -> Result<(), Fail> {
+/// How many workers share the star, how many of them pop something, how many missed another one, and whether its last node is reached.
+fn share<H: Threads + Sync>(alloc: Global, rt: &H) -> Result<(usize, usize, u64, bool), Fail> {
     let sharing = Sharing {
         popped: MeetingOfFour::new(),
         spread: AtomicU64::new(0),
     };
-    let came = run_sharing(rt.alloc(), &rt, &sharing)?;
-    assert_eq!(rt; sharing.popped.missed.load(Ordering::SeqCst), 0);
-    assert_eq!(rt; came.counters.len(), 4);
+    let came = run_sharing(alloc, rt, &star(alloc)?, &sharing)?;
+    let mut popping = 0usize;
     for counters in &came.counters {
-        assert!(rt; counters.popped > 0);
+        if counters.popped > 0 {
+            popping = popping.wrapping_add(1);
+        }
     }
-    assert!(rt; arrives(&came.answer, 4_000, Some(4_000)));
+    let missed = sharing.popped.missed.load(Ordering::SeqCst);
+    let reached = arrives(&came.answer, 4_000, Some(4_000));
+    Ok((came.counters.len(), popping, missed, reached))
+}
+
+#[test]
+fn each_of_four_workers_pops_some(rt: HostRuntime) -> Result<(), Fail> {
+    assert_eq!(rt; share(rt.alloc(), &rt)?, (4, 4, 0, true));
     Ok(())
 }

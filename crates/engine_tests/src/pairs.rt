@@ -1,8 +1,8 @@
 //! Pair queries.
 ghost use Rattle.std.specs.Prelude.{◌<◌};
 
-use crate::ran::{Ran, arrives, run_one, walks};
-use ea_engine::{Flow, Turn};
+use crate::ran::{Came, Count, Wrong, arrives, run_one, walks, wrong_count};
+use ea_engine::{Answer, Flow, Turn};
 use ea_road::{Query, Source};
 use std::alloc::Global;
 use std::test::Fail;
@@ -22,26 +22,39 @@ fn run_pair<H: Threads + Sync>(
     nodes: u32,
     rows: &[Row],
     target: u32,
-) -> Result<Ran, Fail>
+) -> Result<Came, Fail>
     requires { 0 < target }
 {
     let given = with_query(alloc, nodes, rows, Query::pair(START, target))?.ok_or("rows")?;
-    let go = |_turn: Turn| -> Flow { Flow::Go };
-    Ok(run_one(alloc, rt, &given, 100, go)?.ok_or("problem")?)
+    run_one(alloc, rt, &given, 100, |_turn: Turn| -> Flow { Flow::Go })
 }
 
 const ONE_ARC_TOO_FAR: [Row; 2] = [(1, 2, 1, 0), (1, 3, 5, 0)];
 
+/// Whether an answer asks for node 2 alone of three, and has its arrival.
+fn asks_two(answer: &Answer) -> bool {
+    arrives(answer, 2, Some(1)) && !answer.asks(1) && !answer.asks(3)
+}
+
+/// Whether the pair of nodes 1 and 2 is answered so, and the first of the counts that is otherwise.
+fn run_to_two<H: Threads + Sync>(
+    alloc: Global,
+    rt: &H,
+    wanted: &[Wrong],
+) -> Result<(bool, Option<Wrong>), Fail> {
+    let came = run_pair(alloc, rt, 3, &ONE_ARC_TOO_FAR, 2)?;
+    Ok((asks_two(&came.answer), wrong_count(&came, wanted)))
+}
+
 #[test]
 fn pair_queries(rt: HostRuntime) -> Result<(), Fail> {
-    let ran = run_pair(rt.alloc(), &rt, 3, &ONE_ARC_TOO_FAR, 2)?;
-    let counters = ran.counters;
-    assert!(rt; arrives(&ran.answer, 2, Some(1)));
-    assert!(rt; !ran.answer.asks(1) && !ran.answer.asks(3));
-    assert_eq!(rt;
-        (counters.popped, counters.scanned, counters.cut),
-        (3, 2, 1)
-    );
+    let wanted = [
+        (Count::Workers, 1),
+        (Count::Popped, 3),
+        (Count::Scanned, 2),
+        (Count::Cut, 1),
+    ];
+    assert_eq!(rt; run_to_two(rt.alloc(), &rt, &wanted)?, (true, None));
     Ok(())
 }
 
@@ -54,10 +67,15 @@ pub const EQUAL_KEYS: [Row; 6] = [
     (6, 3, 1, 0),
 ];
 
+/// Whether the pair of nodes 1 and 3 has its arrival, and its walk.
+fn run_to_three<H: Threads + Sync>(alloc: Global, rt: &H) -> Result<(bool, bool), Fail> {
+    let came = run_pair(alloc, rt, 6, &EQUAL_KEYS, 3)?;
+    let walked = walks(alloc, &came.answer, 3, &[1, 2, 3])?;
+    Ok((arrives(&came.answer, 3, Some(3)), walked))
+}
+
 #[test]
 fn cut_at_equal_keys(rt: HostRuntime) -> Result<(), Fail> {
-    let ran = run_pair(rt.alloc(), &rt, 6, &EQUAL_KEYS, 3)?;
-    assert!(rt; arrives(&ran.answer, 3, Some(3)));
-    assert!(rt; walks(rt.alloc(), &ran.answer, 3, &[1, 2, 3])?);
+    assert_eq!(rt; run_to_three(rt.alloc(), &rt)?, (true, true));
     Ok(())
 }

@@ -2,14 +2,15 @@
 //! function.
 ghost use Rattle.std.specs.Prelude.{All};
 
-use ea_engine::{Answer, Counters, Crew, Flow, Gate, NoGate, Settings, Turn, solve};
+use ea_engine::{Answer, Counters, Crew, Flow, Gate, NoGate, Settings, Solved, Turn, solve};
 use ea_road::is_problem;
 use rand_core::{Rng, SeedableRng};
 use rand_xoshiro::Xoshiro256PlusPlus;
 use std::alloc::{AllocError, Global};
 use std::test::Fail;
 use std::thread::Threads;
-use tests_given::networks::{FOUR_NODES, Given, pose};
+use tests_given::constant::Constant;
+use tests_given::networks::{FOUR_NODES, Given, Row, pose};
 
 /// What a run came to.
 #[derive(Drop)]
@@ -22,13 +23,25 @@ pub struct Came {
     pub counters: Vec<Counters>,
 }
 
+/// What is read of a run's outcome: generators and tracers are let go.
+pub fn came_of<R: Drop, T: Drop>(solved: Solved<R, T>) -> Came {
+    Came {
+        answer: solved.answer,
+        seeded: solved.seeded,
+        returned: solved.returned,
+        drained: solved.drained,
+        finish: solved.finish,
+        counters: solved.counters,
+    }
+}
+
 /// Runs a crew; none where it doesn't fit or what is given makes no problem.
-pub fn run<H: Threads + Sync, R: Rng + Send + Drop, G: Gate, T: FnMut(Turn) -> Flow + Send + Drop>(
-    alloc: Global,
-    rt: &H,
-    given: &Given,
-    crew: Crew<'_, R, G, T>,
-) -> Result<Option<Came>, AllocError>
+pub fn attempt<
+    H: Threads + Sync,
+    R: Rng + Send + Drop,
+    G: Gate,
+    T: FnMut(Turn) -> Flow + Send + Drop,
+>(alloc: Global, rt: &H, given: &Given, crew: Crew<'_, R, G, T>) -> Result<Option<Came>, AllocError>
     requires tracers { All T.IsAlwaysCallable crew.tracers.items }
 {
     let settings = crew.settings;
@@ -48,14 +61,45 @@ pub fn run<H: Threads + Sync, R: Rng + Send + Drop, G: Gate, T: FnMut(Turn) -> F
         return Ok(None);
     }
     let solved = solve(alloc, rt, &given.network, &given.times, &given.query, crew)?;
-    Ok(Some(Came {
-        answer: solved.answer,
-        seeded: solved.seeded,
-        returned: solved.returned,
-        drained: solved.drained,
-        finish: solved.finish,
-        counters: solved.counters,
-    }))
+    Ok(Some(came_of(solved)))
+}
+
+/// Runs a crew that fits on what makes a problem.
+pub fn run<H: Threads + Sync, R: Rng + Send + Drop, G: Gate, T: FnMut(Turn) -> Flow + Send + Drop>(
+    alloc: Global,
+    rt: &H,
+    given: &Given,
+    crew: Crew<'_, R, G, T>,
+) -> Result<Came, Fail>
+    requires tracers { All T.IsAlwaysCallable crew.tracers.items }
+{
+    Ok(attempt(alloc, rt, given, crew)?.ok_or("problem")?)
+}
+
+/// What is given by rows for all nodes, from these sources.
+pub fn posed(
+    alloc: Global,
+    nodes: u32,
+    rows: &[Row],
+    sources: &[(u32, u64)],
+) -> Result<Given, Fail> {
+    Ok(pose(alloc, nodes, rows, sources)?.ok_or("rows")?)
+}
+
+/// What is given in the example four-nodes, from node 1 at 0.
+pub fn four(alloc: Global) -> Result<Given, Fail> {
+    posed(alloc, 4, &FOUR_NODES, &[(1, 0)])
+}
+
+/// Workers that pop entry by entry.
+pub fn singly(workers: u32, heaps: u32, turns: u64) -> Settings {
+    Settings {
+        workers,
+        heaps,
+        turns,
+        batch: 1,
+        patience: 32,
+    }
 }
 
 /// Runs workers by generators of the test, one a worker, that are shown to nobody.
@@ -67,80 +111,80 @@ pub fn run_crew<H: Threads + Sync, R: Rng + Send + Drop, G: Gate>(
     turns: u32,
     rngs: Vec<R>,
     gate: &G,
-) -> Result<Option<Came>, AllocError> {
+) -> Result<Came, Fail> {
     let mut tracers = Vec::new(alloc);
     for _ in 0..rngs.len() {
         tracers.push(|_turn: Turn| -> Flow { Flow::Go })?;
     }
-    let settings = Settings {
-        workers: rngs.len().min(17) as u32,
-        heaps,
-        turns: u64::from(turns),
-        batch: 1,
-        patience: 32,
+    let settings = singly(rngs.len().min(17) as u32, heaps, u64::from(turns));
+    let crew = Crew {
+        settings,
+        rngs,
+        gate,
+        tracers,
     };
-    run(
-        alloc,
-        rt,
-        given,
-        Crew {
-            settings,
-            rngs,
-            gate,
-            tracers,
-        },
-    )
+    run(alloc, rt, given, crew)
 }
 
-/// Runs workers whose generators begin with a seed.
+/// Runs workers on the example four-nodes by generators of the test.
+pub fn run_crew_on_four<H: Threads + Sync, R: Rng + Send + Drop, G: Gate>(
+    alloc: Global,
+    rt: &H,
+    heaps: u32,
+    turns: u32,
+    rngs: Vec<R>,
+    gate: &G,
+) -> Result<Came, Fail> {
+    run_crew(alloc, rt, &four(alloc)?, heaps, turns, rngs, gate)
+}
+
+/// So many generators that give one word alone.
+pub fn constants(alloc: Global, workers: u32, word: u64) -> Result<Vec<Constant>, AllocError> {
+    let mut rngs = Vec::new(alloc);
+    for _ in 0..workers {
+        rngs.push(Constant(word))?;
+    }
+    Ok(rngs)
+}
+
+/// So many generators that begin with seeds.
+pub fn seeded(
+    alloc: Global,
+    workers: u32,
+    seed: u64,
+) -> Result<Vec<Xoshiro256PlusPlus>, AllocError> {
+    let mut rngs = Vec::new(alloc);
+    for worker in 0..workers {
+        rngs.push(Xoshiro256PlusPlus::seed_from_u64(seed ^ u64::from(worker)))?;
+    }
+    Ok(rngs)
+}
+
+/// The answer of workers whose generators begin with a seed.
 pub fn run_all<H: Threads + Sync>(
     alloc: Global,
     rt: &H,
     given: &Given,
     settings: Settings,
     seed: u64,
-) -> Result<Option<Answer>, AllocError> {
-    let mut rngs = Vec::new(alloc);
-    for worker in 0..settings.workers {
-        rngs.push(Xoshiro256PlusPlus::seed_from_u64(seed ^ u64::from(worker)))?;
-    }
+) -> Result<Answer, Fail> {
+    let rngs = seeded(alloc, settings.workers, seed)?;
     let turns = settings.turns.min(1000) as u32;
-    match run_crew(alloc, rt, given, settings.heaps, turns, rngs, &NoGate)? {
-        Some(came) => Ok(Some(came.answer)),
-        None => Ok(None),
-    }
+    let came = run_crew(alloc, rt, given, settings.heaps, turns, rngs, &NoGate)?;
+    Ok(came.answer)
 }
 
-/// A run of one worker.
-#[derive(Drop)]
-pub struct Ran {
-    pub answer: Answer,
-    pub seeded: u128,
-    pub returned: u128,
-    pub drained: u128,
-    pub finish: u128,
-    pub counters: Counters,
-}
-
-/// Runs one worker over so many heaps with a generator and a tracer.
+/// Runs one worker with a generator and a tracer.
 pub fn run_with<H: Threads + Sync, R: Rng + Send + Drop, T: FnMut(Turn) -> Flow + Send + Drop>(
     alloc: Global,
     rt: &H,
     given: &Given,
-    heaps: u32,
-    turns: u32,
+    settings: Settings,
     rng: R,
     tracer: T,
-) -> Result<Option<Ran>, AllocError>
+) -> Result<Came, Fail>
     requires { T.IsAlwaysCallable tracer }
 {
-    let settings = Settings {
-        workers: 1,
-        heaps,
-        turns: u64::from(turns),
-        batch: 1,
-        patience: 32,
-    };
     let mut rngs = Vec::new(alloc);
     rngs.push(rng)?;
     let mut tracers = Vec::new(alloc);
@@ -151,21 +195,7 @@ pub fn run_with<H: Threads + Sync, R: Rng + Send + Drop, T: FnMut(Turn) -> Flow 
         gate: &NoGate,
         tracers,
     };
-    let Some(came) = run(alloc, rt, given, crew)? else {
-        return Ok(None);
-    };
-    if came.counters.len() != 1 {
-        return Ok(None);
-    }
-    let counters = came.counters[0];
-    Ok(Some(Ran {
-        answer: came.answer,
-        seeded: came.seeded,
-        returned: came.returned,
-        drained: came.drained,
-        finish: came.finish,
-        counters,
-    }))
+    run(alloc, rt, given, crew)
 }
 
 /// Runs one worker over two heaps, with the words of seed 1.
@@ -173,46 +203,126 @@ pub fn run_one<H: Threads + Sync, T: FnMut(Turn) -> Flow + Send + Drop>(
     alloc: Global,
     rt: &H,
     given: &Given,
-    turns: u32,
+    turns: u64,
     tracer: T,
-) -> Result<Option<Ran>, AllocError>
+) -> Result<Came, Fail>
     requires { T.IsAlwaysCallable tracer }
 {
-    run_with(
-        alloc,
-        rt,
-        given,
-        2,
-        turns,
-        Xoshiro256PlusPlus::seed_from_u64(1),
-        tracer,
-    )
+    let words = Xoshiro256PlusPlus::seed_from_u64(1);
+    run_with(alloc, rt, given, singly(1, 2, turns), words, tracer)
 }
 
-/// Runs one worker over two heaps on the example four-nodes, from node 1 at 0.
+/// Runs one worker over two heaps on the example four-nodes.
 pub fn run_four<H: Threads + Sync, T: FnMut(Turn) -> Flow + Send + Drop>(
     alloc: Global,
     rt: &H,
-    turns: u32,
+    turns: u64,
     tracer: T,
-) -> Result<Ran, Fail>
+) -> Result<Came, Fail>
     requires { T.IsAlwaysCallable tracer }
 {
-    let given = pose(alloc, 4, &FOUR_NODES, &[(1, 0)])?.ok_or("rows")?;
-    Ok(run_one(alloc, rt, &given, turns, tracer)?.ok_or("problem")?)
+    run_one(alloc, rt, &four(alloc)?, turns, tracer)
 }
 
-/// Runs workers on the example four-nodes, from node 1 at 0, by generators of the test.
-pub fn run_crew_on_four<H: Threads + Sync, R: Rng + Send + Drop, G: Gate>(
-    alloc: Global,
-    rt: &H,
-    heaps: u32,
-    turns: u32,
-    rngs: Vec<R>,
-    gate: &G,
-) -> Result<Came, Fail> {
-    let given = pose(alloc, 4, &FOUR_NODES, &[(1, 0)])?.ok_or("rows")?;
-    Ok(run_crew(alloc, rt, &given, heaps, turns, rngs, gate)?.ok_or("problem")?)
+/// What is counted of a run, and what each of its workers counts.
+#[derive(Clone, Copy, PartialEq, Eq, Debug)]
+pub enum Count {
+    Workers,
+    Seeded,
+    Handed,
+    Drained,
+    Finish,
+    Turns,
+    Empty,
+    Pops,
+    Popped,
+    Unvisited,
+    Stale,
+    Scanned,
+    Refused,
+    Cut,
+    Lowered,
+    Pushes,
+    Pushed,
+    Returned,
+}
+
+/// A count of a run as a whole; none where its workers count it.
+fn of_run(came: &Came, count: Count) -> Option<u128> {
+    match count {
+        Count::Workers => Some(came.counters.len() as u128),
+        Count::Seeded => Some(came.seeded),
+        Count::Handed => Some(came.returned),
+        Count::Drained => Some(came.drained),
+        Count::Finish => Some(came.finish),
+        _ => None,
+    }
+}
+
+/// What a worker counts.
+fn of_worker(counters: &Counters, count: Count) -> u64 {
+    match count {
+        Count::Turns => counters.turns,
+        Count::Empty => counters.empty,
+        Count::Pops => counters.pops,
+        Count::Popped => counters.popped,
+        Count::Unvisited => counters.unvisited,
+        Count::Stale => counters.stale,
+        Count::Scanned => counters.scanned,
+        Count::Refused => counters.refused,
+        Count::Cut => counters.cut,
+        Count::Lowered => counters.lowered,
+        Count::Pushes => counters.pushes,
+        Count::Pushed => counters.pushed,
+        Count::Returned => counters.returned,
+        _ => u64::MAX,
+    }
+}
+
+/// A count that is wrong, and what it is.
+pub type Wrong = (Count, u128);
+
+/// What the first of the workers counts that counts otherwise.
+fn wrong_worker(workers: &[Counters], count: Count, wanted: u128) -> Option<Wrong> {
+    for counters in workers {
+        let counted = u128::from(of_worker(counters, count));
+        if counted != wanted {
+            return Some((count, counted));
+        }
+    }
+    None
+}
+
+/// The first of the counts that is otherwise, and what it is.
+pub fn wrong_count(came: &Came, wanted: &[Wrong]) -> Option<Wrong> {
+    for (count, number) in wanted {
+        let wrong = match of_run(came, *count) {
+            Some(counted) if counted == *number => None,
+            Some(counted) => Some((*count, counted)),
+            None => wrong_worker(came.counters.as_slice(), *count, *number),
+        };
+        if wrong.is_some() {
+            return wrong;
+        }
+    }
+    None
+}
+
+/// Whether a run has the arrivals of the four nodes, and the first of the counts that is otherwise.
+pub type Told = (bool, Option<Wrong>);
+
+/// What is told of a run on four-nodes.
+pub fn told(came: &Came, wanted: &[Wrong]) -> Told {
+    (has_four(&came.answer), wrong_count(came, wanted))
+}
+
+/// How often workers together did something.
+pub fn total(came: &Came, count: Count) -> u64 {
+    let mut sum = 0u64;
+    for counters in &came.counters {
+        sum = sum.saturating_add(of_worker(counters, count));
+    }
+    sum
 }
 
 /// Whether an answer gives an arrival for an asked node.

@@ -1,13 +1,13 @@
 //! Many small networks, solved by several workers and by one thread.
-use crate::ran::run_all;
-use ea_engine::{Answer, Settings, solve_alone};
+use crate::ran::{posed, run_all, singly};
+use ea_engine::{Answer, solve_alone};
 use ea_road::is_problem;
 use rand_core::{Rng, SeedableRng};
 use rand_xoshiro::Xoshiro256PlusPlus;
 use std::alloc::{AllocError, Global};
 use std::test::Fail;
 use std::thread::Threads;
-use tests_given::networks::{Given, Row, pose};
+use tests_given::networks::{Given, Row};
 
 const NODES: u32 = 24;
 
@@ -42,22 +42,27 @@ fn answer_alone(alloc: Global, given: &Given) -> Result<Option<Answer>, AllocErr
     Ok(Some(answer))
 }
 
+/// Whether a run of so many workers gives the answer of one thread.
+fn is_same<H: Threads + Sync>(
+    alloc: Global,
+    rt: &H,
+    given: &Given,
+    workers: u32,
+    turns: u64,
+    alone: &Answer,
+) -> Result<bool, Fail> {
+    let answer = run_all(alloc, rt, given, singly(workers, 2, turns), 0)?;
+    Ok(are_same(&answer, alone))
+}
+
 /// Whether runs of one to four workers on a random network all give the answer of one thread.
 fn are_all_same<H: Threads + Sync>(alloc: Global, rt: &H, seed: u64) -> Result<bool, Fail> {
     let rows = rows_of(alloc, seed)?;
-    let given = pose(alloc, NODES, &rows, &[(1, 3), (2, 0)])?.ok_or("rows")?;
+    let given = posed(alloc, NODES, &rows, &[(1, 3), (2, 0)])?;
     let alone = answer_alone(alloc, &given)?.ok_or("problem")?;
     let mut same = true;
     for workers in 1..5u32 {
-        let settings = Settings {
-            workers,
-            heaps: 2,
-            turns: 7 * (seed % 9),
-            batch: 1,
-            patience: 32,
-        };
-        let answer = run_all(alloc, rt, &given, settings, 0)?.ok_or("problem")?;
-        same &= are_same(&answer, &alone);
+        same &= is_same(alloc, rt, &given, workers, 7 * (seed % 9), &alone)?;
     }
     Ok(same)
 }

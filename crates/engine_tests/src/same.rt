@@ -2,7 +2,7 @@
 ghost use Rattle.ea_road.specs.Queries.{IsSource};
 
 use crate::pairs::EQUAL_KEYS;
-use crate::ran::{arrives, run_all, walks};
+use crate::ran::{arrives, run_all, singly, walks};
 use ea_engine::{Answer, Settings};
 use ea_road::{Query, Source};
 use std::alloc::{AllocError, Global};
@@ -38,30 +38,35 @@ fn is_told(alloc: Global, answer: &Answer, lines: &[Line]) -> Result<bool, Alloc
     Ok(right)
 }
 
+/// Whether each run with seeds 1 to 5 gives these lines.
+fn told_by_seeds<H: Threads + Sync>(
+    alloc: Global,
+    rt: &H,
+    given: &Given,
+    settings: Settings,
+    lines: &[Line],
+) -> Result<bool, Fail> {
+    let mut right = true;
+    for seed in 1..6 {
+        let answer = run_all(alloc, rt, given, settings, seed)?;
+        right &= is_told(alloc, &answer, lines)?;
+    }
+    Ok(right)
+}
+
 /// Whether each run gives these lines: by 1, 2 and 4 workers, 2 and 8 heaps for each, 0, 1 and 100 turns, seeds 1 to 5.
 fn all_told<H: Threads + Sync>(
     alloc: Global,
     rt: &H,
     given: &Given,
     lines: &[Line],
-) -> Result<bool, AllocError> {
+) -> Result<bool, Fail> {
     let mut right = true;
     for workers in [1, 2, 4] {
         for heaps in [2, 8] {
             for turns in [0, 1, 100] {
-                for seed in 1..6 {
-                    let settings = Settings {
-                        workers,
-                        heaps,
-                        turns,
-                        batch: 1,
-                        patience: 32,
-                    };
-                    right &= match run_all(alloc, rt, given, settings, seed)? {
-                        Some(answer) => is_told(alloc, &answer, lines)?,
-                        None => false,
-                    };
-                }
+                let settings = singly(workers, heaps, turns);
+                right &= told_by_seeds(alloc, rt, given, settings, lines)?;
             }
         }
     }
@@ -90,7 +95,7 @@ fn all_told_from<H: Threads + Sync>(
 ) -> Result<bool, Fail> {
     let query = Query::from_one(from_first(departure));
     let given = with_period(alloc, nodes, rows, period, query)?.ok_or("rows")?;
-    Ok(all_told(alloc, rt, &given, lines)?)
+    all_told(alloc, rt, &given, lines)
 }
 
 #[test]
@@ -146,7 +151,7 @@ fn same_bytes_canonical_ties(rt: HostRuntime) -> Result<(), Fail> {
 fn pair_told<H: Threads + Sync>(alloc: Global, rt: &H) -> Result<bool, Fail> {
     let query = Query::pair(from_first(0), 3);
     let given = with_period(alloc, 6, &EQUAL_KEYS, 0, query)?.ok_or("rows")?;
-    Ok(all_told(alloc, rt, &given, &[(3, 3, &[1, 2, 3])])?)
+    all_told(alloc, rt, &given, &[(3, 3, &[1, 2, 3])])
 }
 
 #[test]

@@ -1,19 +1,20 @@
 // Runs whose growths are refused.
-ghost use Rattle.std.specs.Prelude.{◌≡◌, ◌<◌, ◌+◌, ◌^◌};
+ghost use Rattle.std.specs.Prelude.{◌≡◌, ◌<◌, ◌+◌, ◌^◌, All};
 
-use crate::ran::{Came, has_four, run};
-use crate::refused::greedy::Greedy;
-use ea_engine::{
-    Answer, Counters, Crew, Flow, Gate, NoGate, Settings, Turn, TurnKind, solve, solve_arrivals,
-    solve_by,
+use crate::ran::{
+    Came, Count, Told, Wrong, attempt, came_of, four, has_four, run_with, singly, told, total,
 };
+use crate::refused::greedy::Greedy;
+use ea_engine::{Crew, Flow, Gate, Settings, Turn, TurnKind, solve_arrivals, solve_by};
 use ea_road::is_problem;
+use rand_core::Rng;
 use std::alloc::{AllocError, Global};
 use std::sync::atomic::{AtomicU64, Ordering};
 use std::test::Fail;
 use std::thread::Threads;
 use tests_given::memory::{Held, pieces};
-use tests_given::networks::{FOUR_NODES, Given, pose};
+use tests_given::networks::Given;
+use tests_given::tally::Tally;
 
 /// Counts its calls.
 #[derive(Drop)]
@@ -40,14 +41,16 @@ fn greedy(alloc: Global, workers: u32, calls: u32, room: usize) -> Result<Vec<Gr
     Ok(rngs)
 }
 
-/// A run of one worker whose first push finds no memory, how many turns its tracer was shown, and how many of them
-/// were the refused one.
-fn run_greedy<H: Threads + Sync>(
+/// A run of one worker in batches of a size whose first push finds no memory.
+fn run_refused<H: Threads + Sync, T: FnMut(Turn) -> Flow + Send + Drop>(
     alloc: Global,
     rt: &H,
     batch: u32,
-) -> Result<(Came, u64, u64), Fail> {
-    let given = pose(alloc, 4, &FOUR_NODES, &[(1, 0)])?.ok_or("rows")?;
+    tracer: T,
+) -> Result<Came, Fail>
+    requires { T.IsAlwaysCallable tracer }
+{
+    let given = four(alloc)?;
     let settings = Settings {
         workers: 1,
         heaps: 2,
@@ -56,53 +59,59 @@ fn run_greedy<H: Threads + Sync>(
         patience: 32,
     };
     // A turn draws two words before it pops; the third word is that of the worker's first push.
-    let rngs = greedy(alloc, 1, 2, 20_000)?;
+    let words = Greedy {
+        word: 1,
+        calls_left: 2,
+        held: Held::new(alloc, 20_000)?,
+    };
+    let mut large = Held::of_large(alloc, 1)?;
+    let came = run_with(alloc, rt, &given, settings, words, tracer);
+    large.release();
+    came
+}
+
+/// What is told of such a run, how many turns its tracer was shown, and how many of them were the refused one.
+fn run_greedy<H: Threads + Sync>(
+    alloc: Global,
+    rt: &H,
+    batch: u32,
+    wanted: &[Wrong],
+) -> Result<(Told, u64, u64), Fail> {
     let shown = AtomicU64::new(0);
     let right = AtomicU64::new(0);
     let (calls, rights) = (&shown, &right);
-    let mut tracers = Vec::new(alloc);
-    tracers.push(move |turn: Turn| -> Flow {
+    let tracer = move |turn: Turn| -> Flow {
         calls.fetch_add(1, Ordering::SeqCst);
-        if matches!(turn.kind, TurnKind::Refused)
-            && turn.node == 1
-            && turn.key == 0
-            && turn.lowered == u64::from(batch)
-        {
+        let refused = matches!(turn.kind, TurnKind::Refused);
+        if refused && (turn.node, turn.key, turn.lowered) == (1, 0, u64::from(batch)) {
             rights.fetch_add(1, Ordering::SeqCst);
         }
         Flow::Go
-    })?;
-    let crew = Crew {
-        settings,
-        rngs,
-        gate: &NoGate,
-        tracers,
     };
-    let mut large = Held::of_large(alloc, 1)?;
-    let answer = run(alloc, rt, &given, crew);
-    large.release();
-    let came = answer?.ok_or("problem")?;
-    Ok((
-        came,
-        shown.load(Ordering::SeqCst),
-        right.load(Ordering::SeqCst),
-    ))
+    let came = run_refused(alloc, rt, batch, tracer)?;
+    let (shown, right) = (shown.load(Ordering::SeqCst), right.load(Ordering::SeqCst));
+    Ok((told(&came, wanted), shown, right))
 }
 
 /// The batch is full with the first head that is lowered, or with the second.
 #[test]
 fn refused_push(rt: HostRuntime) -> Result<(), Fail> {
     for (batch, back) in [(1u32, 2u128), (2, 3)] {
-        let (came, shown, right) = run_greedy(rt.alloc(), &rt, batch)?;
-        assert!(rt; has_four(&came.answer));
+        let wanted = [
+            (Count::Seeded, 1),
+            (Count::Handed, back),
+            (Count::Drained, 0),
+            (Count::Finish, back),
+            (Count::Workers, 1),
+            (Count::Pushed, 0),
+            (Count::Popped, 1),
+            (Count::Scanned, 0),
+            (Count::Refused, 1),
+            (Count::Returned, back),
+        ];
+        let (told, shown, right) = run_greedy(rt.alloc(), &rt, batch, &wanted)?;
         assert_eq!(rt; (shown, right), (1, 1));
-        assert_eq!(rt; (came.seeded, came.returned), (1, back));
-        assert_eq!(rt; (came.drained, came.finish), (0, back));
-        assert_eq!(rt; came.counters.len(), 1);
-        for c in &came.counters {
-            assert_eq!(rt; (c.pushed, c.popped, c.scanned), (0, 1, 0));
-            assert_eq!(rt; (c.refused, u128::from(c.returned)), (1, back));
-        }
+        assert_eq!(rt; told, (true, None));
     }
     Ok(())
 }
@@ -123,8 +132,86 @@ enum Fared {
     Wrong,
 }
 
+/// Runs a crew without walks; none where it doesn't fit.
+fn attempt_arrivals<
+    H: Threads + Sync,
+    R: Rng + Send + Drop,
+    G: Gate,
+    T: FnMut(Turn) -> Flow + Send + Drop,
+>(alloc: Global, rt: &H, given: &Given, crew: Crew<'_, R, G, T>) -> Result<Option<Came>, AllocError>
+    requires tracers { All T.IsAlwaysCallable crew.tracers.items }
+{
+    let (settings, times) = (crew.settings, &given.times);
+    if settings.workers == 0
+        || settings.workers > 16
+        || settings.heaps != 2
+        || settings.turns != 100
+        || settings.batch != 1
+        || settings.patience != 32
+        || crew.rngs.len() != settings.workers as usize
+        || crew.tracers.len() != settings.workers as usize
+        || !is_problem(&given.network, times.classes(), &given.query)
+    {
+        return Ok(None);
+    }
+    let solved = solve_arrivals(alloc, rt, &given.network, times, &given.query, crew)?;
+    Ok(Some(came_of(solved)))
+}
+
+/// Runs a crew by a closure that is made here; none where it doesn't fit.
+fn attempt_by_closure<
+    H: Threads + Sync,
+    R: Rng + Send + Drop,
+    G: Gate,
+    T: FnMut(Turn) -> Flow + Send + Drop,
+>(alloc: Global, rt: &H, given: &Given, crew: Crew<'_, R, G, T>) -> Result<Option<Came>, AllocError>
+    requires tracers { All T.IsAlwaysCallable crew.tracers.items }
+{
+    let settings = crew.settings;
+    if settings.workers == 0
+        || settings.workers > 16
+        || settings.heaps != 2
+        || settings.turns != 100
+        || settings.batch != 1
+        || settings.patience != 32
+        || crew.rngs.len() != settings.workers as usize
+        || crew.tracers.len() != settings.workers as usize
+        || !is_problem(&given.network, 0, &given.query)
+    {
+        return Ok(None);
+    }
+    let plain = |_class: u32, weight: u64, departure: u64| -> u64
+        requires { departure + weight < 2 ^ 64 }
+        ensures { result ≡ departure + weight }
+    { departure + weight };
+    let solved = solve_by(alloc, rt, &given.network, plain, 0, &given.query, crew)?;
+    Ok(Some(came_of(solved)))
+}
+
+/// Runs a crew by one of the calls.
+fn attempt_by<
+    H: Threads + Sync,
+    R: Rng + Send + Drop,
+    G: Gate,
+    T: FnMut(Turn) -> Flow + Send + Drop,
+>(
+    alloc: Global,
+    rt: &H,
+    call: Call,
+    given: &Given,
+    crew: Crew<'_, R, G, T>,
+) -> Result<Option<Came>, AllocError>
+    requires tracers { All T.IsAlwaysCallable crew.tracers.items }
+{
+    match call {
+        Call::Walks => attempt(alloc, rt, given, crew),
+        Call::Arrivals => attempt_arrivals(alloc, rt, given, crew),
+        Call::Closure => attempt_by_closure(alloc, rt, given, crew),
+    }
+}
+
 /// Runs the four nodes with little memory left, where there is a piece, by generators of the test.
-fn run_with<H: Threads + Sync>(
+fn run_small<H: Threads + Sync>(
     alloc: Global,
     rt: &H,
     call: Call,
@@ -139,73 +226,54 @@ fn run_with<H: Threads + Sync>(
     }
     // These generators take no memory: no run draws so many words.
     let rngs = greedy(alloc, workers, 1_000_000, 0)?;
-    if workers == 0
-        || workers > 16
-        || rngs.len() != workers as usize
-        || tracers.len() != workers as usize
-        || !is_problem(&given.network, given.times.classes(), &given.query)
-        || !is_problem(&given.network, 0, &given.query)
-    {
-        return Ok(Fared::Wrong);
-    }
-    let settings = Settings {
-        workers,
-        heaps: 2,
-        turns: 100,
-        batch: 1,
-        patience: 32,
-    };
     let gate = Counted {
         calls: AtomicU64::new(0),
     };
-    if let Some(piece) = piece {
-        small.leave(piece);
-    }
     let crew = Crew {
-        settings,
+        settings: singly(workers, 2, 100),
         rngs,
         gate: &gate,
         tracers,
     };
-    let (network, times, query) = (&given.network, &given.times, &given.query);
-    let answer = match call {
-        Call::Walks => solve(alloc, rt, network, times, query, crew),
-        Call::Arrivals => solve_arrivals(alloc, rt, network, times, query, crew),
-        Call::Closure => solve_by(
-            alloc,
-            rt,
-            network,
-            |_class: u32, weight: u64, departure: u64| -> u64
-                requires { departure + weight < 2 ^ 64 }
-                ensures { result ≡ departure + weight }
-            { departure + weight },
-            0,
-            query,
-            crew,
-        ),
-    };
+    if let Some(piece) = piece {
+        small.leave(piece);
+    }
+    let answer = attempt_by(alloc, rt, call, given, crew);
     small.release();
-    Ok(match answer {
-        Err(_) => if gate.calls.load(Ordering::SeqCst) == 0 {
-            Fared::Refused
-        } else {
-            Fared::Wrong
-        },
-        Ok(solved) => verdict(&solved.answer, &solved.counters, &gate),
-    })
+    Ok(verdict(answer, gate.calls.load(Ordering::SeqCst)))
 }
 
-/// The arrivals are right, and the gate was called as often as the workers made turns.
-fn verdict(answer: &Answer, counters: &[Counters], gate: &Counted) -> Fared {
-    let mut turns = 0u64;
-    for worker in counters {
-        turns = turns.wrapping_add(worker.turns);
-    }
-    if has_four(answer) && turns > 0 && gate.calls.load(Ordering::SeqCst) == turns {
+/// Whether a run is refused before its first turn, or its arrivals are right and the gate was called as often as the workers made turns.
+fn verdict(answer: Result<Option<Came>, AllocError>, calls: u64) -> Fared {
+    let right = match answer {
+        Err(_) if calls == 0 => return Fared::Refused,
+        Ok(Some(came)) => has_four(&came.answer) && calls == total(&came, Count::Turns),
+        _ => false,
+    };
+    if right && calls > 0 {
         Fared::Right
     } else {
         Fared::Wrong
     }
+}
+
+/// Runs with little memory left, and after a refusal with all that there is: how it went at first if it wasn't refused, and whether
+/// it went right in the end.
+fn run_again<H: Threads + Sync>(
+    alloc: Global,
+    rt: &H,
+    call: Call,
+    given: &Given,
+    workers: u32,
+    small: &mut Held,
+    piece: Vec<u8>,
+) -> Result<(Option<bool>, bool), AllocError> {
+    let came = run_small(alloc, rt, call, given, workers, small, Some(piece))?;
+    if came != Fared::Refused {
+        return Ok((Some(came == Fared::Right), true));
+    }
+    let came = run_small(alloc, rt, call, given, workers, small, None)?;
+    Ok((None, came == Fared::Right))
 }
 
 /// Gives a call less memory than it needs, ever a little more, and after each refusal all that there is.
@@ -213,41 +281,29 @@ fn each_growth<H: Threads + Sync>(
     alloc: Global,
     rt: &H,
     call: Call,
+    given: &Given,
     workers: u32,
-) -> Result<(u32, u32, u32), AllocError> {
-    let (mut refused, mut right, mut wrong): (u32, u32, u32) = (0, 0, 0);
-    let Some(given) = pose(alloc, 4, &FOUR_NODES, &[(1, 0)])? else {
-        return Ok((0, 0, 1));
-    };
+) -> Result<Tally, AllocError> {
+    let mut tally = Tally::new();
     let mut small = Held::new(alloc, 20_000)?;
     let pieces = pieces(alloc, 0, 200, 48)?;
     let mut large = Held::of_large(alloc, 1)?;
     for piece in pieces {
-        let mut came = run_with(alloc, rt, call, &given, workers, &mut small, Some(piece))?;
-        if came == Fared::Refused {
-            refused = refused.wrapping_add(1);
-            came = run_with(alloc, rt, call, &given, workers, &mut small, None)?;
-        } else {
-            right = right.wrapping_add(1);
-        }
-        if came != Fared::Right {
-            wrong = wrong.wrapping_add(1);
-        }
+        let (came, behind) = run_again(alloc, rt, call, given, workers, &mut small, piece)?;
+        tally.note(came, behind);
     }
     large.release();
-    Ok((refused, right, wrong))
+    Ok(tally)
 }
 
 #[test]
 fn each_growth_refused(rt: HostRuntime) -> Result<(), Fail> {
+    let given = four(rt.alloc())?;
     for call in [Call::Walks, Call::Arrivals, Call::Closure] {
         for workers in 1..3u32 {
-            let (refused, right, wrong) = each_growth(rt.alloc(), &rt, call, workers)?;
-            assert_eq!(rt; wrong, 0);
-            assert!(rt;
-                10 <= refused && 2 <= right,
-                "{refused} refused, {right} right"
-            );
+            let tally = each_growth(rt.alloc(), &rt, call, &given, workers)?;
+            assert_eq!(rt; tally.wrong, 0);
+            assert!(rt; 10 <= tally.refused && 2 <= tally.right, "{tally:?}");
         }
     }
     Ok(())
