@@ -204,7 +204,8 @@ impl Search {
     {
         let walks = self.walks;
         let (arrays, mut listed, notes) = self.into_arrays();
-        let width = network.mean_weight();
+        // Wider ones scan more nodes again, narrower ones spread their lists more often.
+        let width = network.mean_weight().saturating_mul(2);
         let found = find(network, times, query, width, arrays, &mut listed);
         let (waiting, links) = found.todo.into_parts();
         Search {
