@@ -32,7 +32,7 @@ from collections import namedtuple
 from crates import kit
 
 # At most so many edits go over the same kept work.
-TOGETHER = 96
+TOGETHER = 48
 
 FUNCTION = re.compile(r"^( *)(?:pub(?:\([^)]*\))? )?(?:final |const )*fn (\w+)", re.M)
 IMPL = re.compile(r"^impl\b.*$", re.M)
