@@ -13,8 +13,8 @@ folder of kept work, over which these functions are proved as they stand once al
 counts. What isn't refused so is tried alone, by a check of its functions; and where that refuses nothing, or the edit changes more than
 functions, rt's own trial of the whole crate decides. What is read as a refusal is what rt reads as one.
 
-That folder begins with what rt ci proved of the crate as it stands, which the library that it built holds: so no check proves again what
-the edited functions call.
+That folder begins with what rt ci proved of the crate as it stands, which the library that it built holds: so no check of functions proves
+again what these call. A trial of the whole crate begins with nothing, since nothing tells there that the crate as it stands is proved.
 
 What an edit came to is kept where rt keeps what its own runs proved, under a sum of all that it rests on, and taken from there where
 nothing has changed since.
@@ -435,7 +435,6 @@ def main():
         begin(crate, kept)
         first = quickly(rt, crate, [edit for edit in edits if edit not in known], kept)
     with tempfile.TemporaryDirectory(prefix="edits-") as kept:
-        begin(crate, kept)
         for edit in edits:
             label = f"must-fail {name}/{os.path.basename(edit)}"
             if edit in known:

@@ -38,7 +38,7 @@ def copied(room, names):
     subprocess.run(["git", "init", "-q", room], check=True)
 
 
-def words_beside():
+def environment():
     """What rt ci is told by the environment: one job for each crate where there is memory for one on each processor, since a check by two
     takes a third more of the processors in all, and the edits beside it fill what is left free."""
     processors = crates.processors()
@@ -53,7 +53,7 @@ class Proofs:
     def __init__(self, room):
         self.proved, self.part, self.failures, self.last, self.status = set(), [], [], "", None
         how = {"stdout": subprocess.PIPE, "text": True, "errors": "replace"}
-        self.process = subprocess.Popen(["rt", "ci"], cwd=room, env=words_beside(), **how)
+        self.process = subprocess.Popen(["rt", "ci"], cwd=room, env=environment(), **how)
         threading.Thread(target=self.follow, daemon=True).start()
 
     def follow(self):
