@@ -13,11 +13,12 @@ folder of kept work, over which these functions are proved as they stand once al
 counts. What isn't refused so is tried alone, by a check of its functions; and where that refuses nothing, or the edit changes more than
 functions, rt's own trial of the whole crate decides. What is read as a refusal is what rt reads as one.
 
-That folder begins with what rt ci proved of the crate as it stands, which the library that it built holds: so no check of functions proves
-again what these call. A trial of the whole crate begins with nothing, since nothing tells there that the crate as it stands is proved.
+That folder begins with what rt ci proved of the crate as it stands, where the library that it built holds that: so no check of functions
+proves again what these call. Some kits' libraries hold statements alone; there the folder goes on from one group of a crate's edits to the
+next. A trial of the whole crate begins with nothing, since nothing tells there that the crate as it stands is proved.
 
 What an edit came to is kept where rt keeps what its own runs proved, under a sum of all that it rests on, and taken from there where
-nothing has changed since.
+nothing has changed since. Some kits keep nothing between runs; then each edit is tried in each run.
 """
 import copy
 import hashlib
@@ -389,64 +390,107 @@ def side_by_side(rt, crate, edits, places, functions, kept):
     return found
 
 
-def names_of(rt, kept, crate, edits):
-    """The names under which it is kept what these edits came to: sums of each and of all that its trial reads."""
-    for below in crate.below():
-        kept.is_built(below)
-    how = hashlib.sha256(text_of(os.path.abspath(__file__)).encode()).hexdigest()
-    key = f"{how} {kept.key(crate)}"
-    return {edit: kept.of_edit(edit, key) for edit in edits}
+class Store:
+    """What these edits came to in earlier runs on this machine, where the kit keeps that: by sums of each and of all that its trial reads."""
+
+    def __init__(self, rt, crate, edits):
+        self.kept = rt.Kept([crate, *crate.below()]) if hasattr(rt, "Kept") else None
+        if self.kept:
+            for below in crate.below():
+                self.kept.is_built(below)
+            how = hashlib.sha256(text_of(os.path.abspath(__file__)).encode()).hexdigest()
+            key = f"{how} {self.kept.key(crate)}"
+            self.names = {edit: self.kept.of_edit(edit, key) for edit in edits}
+
+    def tried(self, edit):
+        """Whether an edit was refused, and what was said of it; none where no earlier run tried it."""
+        return self.kept and self.kept.tried(self.names[edit])
+
+    def keep(self, edit, kind, text):
+        if self.kept:
+            self.kept.keep_tried(self.names[edit], kind, text)
+
+
+def refusal(rt):
+    """How this kit's trials say that the prover refused an edit."""
+    return getattr(rt, "REFUSED", True)
+
+
+def is_refusal(rt, kind):
+    """Whether what a trial of this kit says is a refusal, be it at the prover's limit."""
+    return kind in (refusal(rt), getattr(rt, "AT_LIMIT", True))
+
+
+def modules_of(library):
+    """What a library holds of the checks that proved it: a file, and for each module a name and where its text lies in that file. No module
+    where the library is written otherwise, or holds statements alone."""
+    library = f"{library}/toolchain"
+    try:
+        with open(f"{library}/checked.json", encoding="utf-8") as file:
+            places = [json.loads(line) for line in file]
+        return f"{library}/checked.a", [(module, at, size) for module, at, size in places if re.fullmatch(r"[\w.+-]+", module)]
+    except (OSError, ValueError, TypeError):
+        return None, []
 
 
 def begin(crate, kept):
     """Puts into a folder of kept work what the library of a crate holds of the checks that proved it, a file for each module as the prover itself
     keeps them; nothing where the library is written otherwise."""
     library = f"{crate.folder}/out/rlib/{crate.name}.rlib"
+    archive, modules = modules_of(library)
     try:
         build = re.search(r"^rattle-build (\S+)$", text_of(f"{library}/format"), re.M)[1].replace("/", "_")
-        with open(f"{library}/toolchain/checked.json", encoding="utf-8") as file:
-            places = [json.loads(line) for line in file]
-        with open(f"{library}/toolchain/checked.a", "rb") as file:
+        with open(archive, "rb") as file:
             checked = file.read()
         os.makedirs(f"{kept}/{build}")
-        for module, at, size in places:
-            if re.fullmatch(r"[\w.+-]+", module):
-                with open(f"{kept}/{build}/{module}.oantt", "wb") as file:
-                    file.write(checked[at : at + size])
-    except (OSError, ValueError, TypeError):
+        for module, at, size in modules:
+            with open(f"{kept}/{build}/{module}.oantt", "wb") as file:
+                file.write(checked[at : at + size])
+    except (OSError, TypeError):
         shutil.rmtree(kept)
         os.makedirs(kept)
 
 
+def work_on(room, name, count):
+    """In which parts this many groups of a crate's edits are tried, each part by one process: each group apart where each can begin with what
+    rt ci proved, else all in turn."""
+    _, modules = modules_of(f"{room}/crates/{name}/out/rlib/{name}.rlib")
+    return [[at] for at in range(count)] if modules else [list(range(count))]
+
+
+def try_group(rt, crate, edits, kept):
+    """Tries a group of a crate's edits over kept work, and prints what each came to."""
+    store = Store(rt, crate, edits)
+    known = {edit: told for edit in edits for told in [store.tried(edit)] if told}
+    first = quickly(rt, crate, [edit for edit in edits if edit not in known], kept)
+    with tempfile.TemporaryDirectory(prefix="edits-") as anew:
+        for edit in edits:
+            label = f"must-fail {crate.name}/{os.path.basename(edit)}"
+            if edit in known:
+                kind, text = known[edit]
+            elif first.get(edit):
+                kind, text = refusal(rt), f"{label}: refused, as it must be: {first[edit][:160]}"
+            else:
+                kind, text = rt.must_fail(crate, edit, ["--jobs", "1"], anew)
+            mark = "refused" if is_refusal(rt, kind) else "NOT"
+            print("kept" if edit in known and mark == "refused" else mark, text.replace("\n", " "), flush=True)
+            if mark == "refused" and edit not in known:
+                store.keep(edit, kind, text)
+
+
 def main():
-    """python3 tests/edits.py ROOM ROOT NAME AT: tries group AT of a crate's edits in ROOM, a copy of the repository ROOT
+    """python3 tests/edits.py ROOM ROOT NAME AT..: tries these groups of a crate's edits in ROOM, a copy of the repository ROOT
     where rt ci has built the libraries."""
     rt, rtlib = kit()
-    room, root, name, at = sys.argv[1:]
+    room, root, name, *numbers = sys.argv[1:]
     os.chdir(room)
     rtlib.guarded()
     crate = next(it for it in rtlib.crates_below(room) if it.name == name)
     type(crate).allowed = rt.handles_of(room)
-    edits = groups(root, name)[int(at)]
-    store = rt.Kept([crate, *crate.below()])
-    names = names_of(rt, store, crate, edits)
-    known = {edit: told for edit in edits for told in [store.tried(names[edit])] if told}
     with tempfile.TemporaryDirectory(prefix="edits-") as kept:
         begin(crate, kept)
-        first = quickly(rt, crate, [edit for edit in edits if edit not in known], kept)
-    with tempfile.TemporaryDirectory(prefix="edits-") as kept:
-        for edit in edits:
-            label = f"must-fail {name}/{os.path.basename(edit)}"
-            if edit in known:
-                kind, text = known[edit]
-            elif first.get(edit):
-                kind, text = rt.REFUSED, f"{label}: refused, as it must be: {first[edit][:160]}"
-            else:
-                kind, text = rt.must_fail(crate, edit, ["--jobs", "1"], kept)
-            mark = "refused" if kind in (rt.REFUSED, rt.AT_LIMIT) else "NOT"
-            print("kept" if edit in known and mark == "refused" else mark, text.replace("\n", " "), flush=True)
-            if mark == "refused" and edit not in known:
-                store.keep_tried(names[edit], kind, text)
+        for at in numbers:
+            try_group(rt, crate, groups(root, name)[int(at)], kept)
 
 
 if __name__ == "__main__":

@@ -41,6 +41,9 @@ const LINE: usize = 16;
 /// How many problems a thread takes at once, at most.
 const MOST_IN_PART: usize = 256;
 
+/// As many reports are made in the time that one takes to send.
+const MADE_WHILE_SENT: usize = 12;
+
 /// How many problems are searched at once: as many as are asked for, else one where workers or statistics are asked for,
 /// else one for each processor.
 pub(crate) fn threads_at_once<H: Threads>(rt: &H, options: &RunOptions) -> usize
@@ -77,6 +80,21 @@ fn plan_of(problems: usize, threads: usize, lines: usize, walks: bool) -> Plan
         room: lines.saturating_mul(LINE).min(most),
         most,
     }
+}
+
+/// Of how many problems a row is. This thread sends the reports of the row before meanwhile, as many as all threads made: where
+/// they are of many lines, it makes a part that is shorter than the others' by as much. With walks it sends for longer than
+/// others make, and two threads share what is left better by turns.
+fn count_in_row(part: usize, threads: usize, lines: usize, walks: bool) -> usize
+    requires { (1 ≤ threads) × (threads ≤ 16) × (0 < part) × (part ≤ MOST_IN_PART) }
+    ensures { (0 < result) × (result ≤ part * threads) }
+{
+    let whole = part * threads;
+    if walks || lines == 1 || threads <= 2 || part == 1 {
+        return whole;
+    }
+    let short = whole.div_ceil(MADE_WHILE_SENT).min(part - 1);
+    whole - short
 }
 
 impl Progress {
@@ -286,7 +304,7 @@ pub(crate) fn report_ahead<H: Threads + Sync, W: ByteOut, V: Watch>(
     let Watched { options, watch } = watched;
     let lines = lines_of(road, &queries[0]);
     let plan = plan_of(queries.len(), threads, lines, options.walks);
-    let count = threads * plan.part;
+    let count = count_in_row(plan.part, threads, lines, options.walks);
     let Rows {
         mut places,
         mut drafts,

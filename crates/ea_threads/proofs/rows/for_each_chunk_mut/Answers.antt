@@ -5,7 +5,7 @@ use native.Mathlib.Omega.{arith}
 use lib.ListN.{length}
 use Rattle.std.specs.Fork.{slice_chunk, IsChunk, ChangesAt, ChangesChunks}
 use Rattle.ea_threads.proofs.Parts.{covers, is_chunk, in_chunk}
-use Rattle.ea_threads.proofs.for_each_chunk_mut.Goals as goal
+use Rattle.ea_threads.proofs.rows.for_each_chunk_mut.Goals as goal
 
 pub parts_from-requires : goal.parts_from-requires
 parts_from-requires g c =

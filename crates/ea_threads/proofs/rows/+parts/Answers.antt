@@ -7,7 +7,7 @@ use native.Mathlib.Omega.{arith}
 use Rattle.std.specs.Fork.{AcceptsAt, ChangesAt}
 use Rattle.std.specs.Fork.Halves.{IsChunked}
 use Rattle.ea_threads.proofs.Parts.{covers_one, low_inside, at_only, by_only, by_both, ready_halves}
-use Rattle.ea_threads.proofs.+parts.Goals as goal
+use Rattle.ea_threads.proofs.rows.+parts.Goals as goal
 
 pub parts_from-f-requires : goal.parts_from-f-requires
 parts_from-f-requires g t c =

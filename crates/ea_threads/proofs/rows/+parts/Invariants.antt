@@ -1,5 +1,5 @@
 use Prim.Native.Nat.{◌+◌, ◌-◌, ◌*◌}
-use Rattle.ea_threads.proofs.+parts.Given as goal
+use Rattle.ea_threads.proofs.rows.+parts.Given as goal
 
 abbrev pub decreases-parts_from : goal.decreases-parts_from
 decreases-parts_from g l = 4 * l.count

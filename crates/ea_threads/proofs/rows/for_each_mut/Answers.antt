@@ -3,7 +3,7 @@ use native.Mathlib.Omega.{arith}
 use lib.ListN.{get_or}
 use Rattle.std.specs.Fork.{ChangesAt}
 use Rattle.ea_threads.proofs.Parts.{moved}
-use Rattle.ea_threads.proofs.for_each_mut.Goals as goal
+use Rattle.ea_threads.proofs.rows.for_each_mut.Goals as goal
 
 pub returns : goal.returns
 returns g c i d l =

@@ -5,7 +5,7 @@ use native.Mathlib.Omega.{arith}
 use lib.ListN.{length}
 use Rattle.std.specs.Fork.{slice_chunk, IsChunk, ChangesAt, ChangesChunks}
 use Rattle.ea_threads.proofs.Parts.{covers, is_chunk, in_chunk}
-use Rattle.ea_threads.proofs.for_each_chunk_mut_beside.Goals as goal
+use Rattle.ea_threads.proofs.beside.for_each_chunk_mut_beside.Goals as goal
 
 pub parts_beside-requires-clause-row : goal.parts_beside-requires-clause-row
 parts_beside-requires-clause-row g c κs within =

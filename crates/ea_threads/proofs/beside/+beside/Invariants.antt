@@ -1,5 +1,5 @@
 use Prim.Native.Nat.{◌+◌, ◌-◌, ◌*◌}
-use Rattle.ea_threads.proofs.+beside.Given as goal
+use Rattle.ea_threads.proofs.beside.+beside.Given as goal
 
 abbrev pub decreases-parts_beside : goal.decreases-parts_beside
 decreases-parts_beside g l = 4 * l.count

@@ -6,7 +6,7 @@ use native.Mathlib.Omega.{arith}
 use Rattle.std.specs.Fork.{AcceptsAt, ChangesAt}
 use Rattle.std.specs.Fork.Halves.{IsChunked}
 use Rattle.ea_threads.proofs.Parts.{low_inside, by_both, ready_halves}
-use Rattle.ea_threads.proofs.+beside.Goals as goal
+use Rattle.ea_threads.proofs.beside.+beside.Goals as goal
 
 pub parts_beside-returns-then-count-eq1 : goal.parts_beside-returns-then-count-eq1
 parts_beside-returns-then-count-eq1 g t c = record { row = c.part_beside.ensures.part; beside = c.part_beside.ensures.beside }

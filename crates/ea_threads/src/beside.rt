@@ -1,0 +1,135 @@
+//! Each part of a row, in a thread of its own, and something beside.
+ghost use Rattle.std.specs.Prelude.{◌≡◌, ◌<◌, length};
+ghost use denote.Param.Send.{IsSend, IsSync};
+ghost use Rattle.std.specs.Fork.{AcceptsAt, AcceptsChunksMut, AllInChunks, ChangesAt, ChangesChunks};
+ghost use Rattle.std.specs.Fork.Halves.{ChangesByChunks, IsChunked};
+
+use crate::rows::parts_from;
+use std::thread::{Threads, join_mut};
+
+/// Calls f(start, part) at each part of so many places that a row has, the last one maybe shorter, each in a thread of its own
+/// where one can be started, while this thread does something beside, and answers what that gave. A last part that is shorter is
+/// done in this thread, after what is beside: so the two can share what one thread has time for. Each part makes the stack deeper:
+/// for as few parts as there are threads to use.
+pub fn for_each_chunk_mut_beside<
+    R: Threads + Sync,
+    T: Send,
+    F: Fn(usize, &mut [T]) + Sync,
+    X,
+    B: FnMut() -> X,
+>(rt: &R, size: usize, f: &F, row: &mut [T], beside: &mut B) -> X
+    requires size { 0 < size }
+    requires accepts { AcceptsChunksMut F.Fn f.now size row.old }
+    requires beside { B.pre beside.old }
+    ensures chunks { ChangesChunks F.Fn f.now size row.old row.new }
+    ensures by_index { AllInChunks F.Fn f.now size row.old row.new }
+    ensures beside { B.step beside.old result beside.new }
+{
+    if row.is_empty() {
+        return beside();
+    }
+    parts_beside(rt, f, 0, size, row.len().div_ceil(size), row, beside)
+}
+
+/// Calls f at so many parts of a row, which stands at this place of the whole row, while this thread does something beside.
+#[cycle(beside)]
+fn parts_beside<R: Threads + Sync, T: Send, F: Fn(usize, &mut [T]) + Sync, X, B: FnMut() -> X>(
+    rt: &R,
+    f: &F,
+    base: usize,
+    size: usize,
+    count: usize,
+    row: &mut [T],
+    beside: &mut B,
+) -> X
+    requires row { IsChunked (AcceptsAt F.Fn f.now) base size count row.old }
+    requires beside { B.pre beside.old }
+    ensures row { ChangesByChunks (ChangesAt F.Fn f.now) base size row.old row.new }
+    ensures beside { B.step beside.old result beside.new }
+{
+    if count == 1 {
+        return part_beside(rt, f, base, size, count, row, beside);
+    }
+    let (first, rest) = row.split_at_mut(size);
+    first_beside_rest(
+        rt,
+        f,
+        size,
+        base,
+        1,
+        first,
+        base + size,
+        count - 1,
+        rest,
+        beside,
+    )
+}
+
+/// Does what is beside and the one part that is left: in this thread after what is beside where the part is shorter than the
+/// others, else in a thread of its own.
+fn part_beside<R: Threads + Sync, T: Send, F: Fn(usize, &mut [T]) + Sync, X, B: FnMut() -> X>(
+    rt: &R,
+    f: &F,
+    base: usize,
+    size: usize,
+    one: usize,
+    part: &mut [T],
+    beside: &mut B,
+) -> X
+    requires part { IsChunked (AcceptsAt F.Fn f.now) base size one part.old }
+    requires beside { B.pre beside.old }
+    ensures part { ChangesByChunks (ChangesAt F.Fn f.now) base size part.old part.new }
+    ensures beside { B.step beside.old result beside.new }
+{
+    if part.len() < size {
+        let gave = beside();
+        parts_from(rt, f, base, size, one, part);
+        return gave;
+    }
+    let mut starting = move ||
+        requires { IsSync R.row × IsSync F.row × IsSend T.row
+            × IsChunked (AcceptsAt F.Fn f.now) base size one part.now }
+        ensures { ChangesByChunks (ChangesAt F.Fn f.entry.now) base size
+            part.entry.now part.exit.now }
+    { parts_from(rt, f, base, size, one, part) };
+    let (_, gave) = join_mut(rt, &mut starting, beside);
+    gave
+}
+
+/// Starts a thread for the first part, and goes on with the others in this one.
+#[cycle(beside)]
+fn first_beside_rest<R: Threads + Sync, T: Send, F: Fn(usize, &mut [T]) + Sync, X, B: FnMut() -> X>(
+    rt: &R,
+    f: &F,
+    size: usize,
+    base: usize,
+    one: usize,
+    first: &mut [T],
+    next: usize,
+    left: usize,
+    rest: &mut [T],
+    beside: &mut B,
+) -> X
+    requires first { IsChunked (AcceptsAt F.Fn f.now) base size one first.old }
+    requires rest { IsChunked (AcceptsAt F.Fn f.now) next size left rest.old }
+    requires beside { B.pre beside.old }
+    ensures first { ChangesByChunks (ChangesAt F.Fn f.now) base size first.old first.new }
+    ensures rest { ChangesByChunks (ChangesAt F.Fn f.now) next size rest.old rest.new }
+    ensures beside { B.step beside.old result beside.new }
+{
+    let mut starting = move ||
+        requires { IsSync R.row × IsSync F.row × IsSend T.row
+            × IsChunked (AcceptsAt F.Fn f.now) base size one first.now }
+        ensures { ChangesByChunks (ChangesAt F.Fn f.entry.now) base size
+            first.entry.now first.exit.now }
+    { parts_from(rt, f, base, size, one, first) };
+    let mut going_on = move || -> X
+        requires { IsSync R.row × IsSync F.row × IsSend T.row
+            × IsChunked (AcceptsAt F.Fn f.now) next size left rest.now × B.pre beside.now }
+        ensures { ChangesByChunks (ChangesAt F.Fn f.entry.now) next size
+            rest.entry.now rest.exit.now
+            × B.step beside.entry.now result beside.exit.now }
+    { parts_beside(rt, f, next, size, left, rest, beside) };
+    let (_, gave) = join_mut(rt, &mut starting, &mut going_on);
+    gave
+}
