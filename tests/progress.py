@@ -49,7 +49,7 @@ def slow(program):
                 file.write(text)
         for words, first, after in (
             ("run - three.ss --at-once 1", (1, 3), b""),
-            ("run - three.ss --at-once 4", (3, 3), b""),
+            ("run - three.ss --at-once 4", (1, 3), b""),
             ("run - three.ss --stats --workers 1", (1, 3), b""),
             ("run - three.ss --joint", (1, 1), b""),
             ("pairs - three.p2p --workers 2", (1, 3), b""),

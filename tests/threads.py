@@ -47,11 +47,11 @@ def results(program):
         write(folder, 12)
         for words, processors, wanted in (
             ("--at-once 1", here, 1),
-            # One more sends the reports that are made.
-            ("--at-once 3", here, 4),
-            ("--at-once 5", here[:1], 6),
+            # The one that sends the reports makes some too.
+            ("--at-once 3", here, 3),
+            ("--at-once 5", here[:1], 5),
             ("", here[:1], 1),
-            ("", here[:2], 3 if here[1:] else 1),
+            ("", here[:2], 2 if here[1:] else 1),
             ("--workers 1", here, 1),
             ("--workers 4", here, 4),
             ("--workers 2 --at-once 1", here[:1], 2),

@@ -8,8 +8,7 @@ use crate::rows::parts_from;
 use std::thread::{Threads, join_mut};
 
 /// Calls f(start, part) at each part of so many places that a row has, the last one maybe shorter, each in a thread of its own
-/// where one can be started, while this thread does something beside, and answers what that gave. A last part that is shorter is
-/// done in this thread, after what is beside: so the two can share what one thread has time for. Each part makes the stack deeper:
+/// where one can be started, while this thread does something beside, and answers what that gave. Each part makes the stack deeper:
 /// for as few parts as there are threads to use.
 pub fn for_each_chunk_mut_beside<
     R: Threads + Sync,
@@ -65,8 +64,7 @@ fn parts_beside<R: Threads + Sync, T: Send, F: Fn(usize, &mut [T]) + Sync, X, B:
     )
 }
 
-/// Does what is beside and the one part that is left: in this thread after what is beside where the part is shorter than the
-/// others, else in a thread of its own.
+/// Starts a thread for one part, while this one does something beside.
 fn part_beside<R: Threads + Sync, T: Send, F: Fn(usize, &mut [T]) + Sync, X, B: FnMut() -> X>(
     rt: &R,
     f: &F,
@@ -81,11 +79,6 @@ fn part_beside<R: Threads + Sync, T: Send, F: Fn(usize, &mut [T]) + Sync, X, B: 
     ensures part { ChangesByChunks (ChangesAt F.Fn f.now) base size part.old part.new }
     ensures beside { B.step beside.old result beside.new }
 {
-    if part.len() < size {
-        let gave = beside();
-        parts_from(rt, f, base, size, one, part);
-        return gave;
-    }
     let mut starting = move ||
         requires { IsSync R.row × IsSync F.row × IsSend T.row
             × IsChunked (AcceptsAt F.Fn f.now) base size one part.now }

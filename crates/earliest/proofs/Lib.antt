@@ -1,8 +1,9 @@
 pub mod Copied
 pub mod Counting
 pub mod Placing
+pub mod Going
+pub mod Held
 pub mod Sending
-pub mod Taking
 pub mod Verdicts
 pub mod OneReport
 pub mod Agreeing

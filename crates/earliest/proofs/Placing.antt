@@ -1,7 +1,8 @@
 -- Rows of which one place is set.
-use Rattle.std.proofs.Common.{◌≡◌, ℕ, ◌+◌, ◌<◌, ◌≤◌, List, length, get_or, set, inl, inr, sym, subst, arith}
+use Rattle.std.proofs.Common.{◌≡◌, ℕ, ◌+◌, ◌<◌, ◌≤◌, List, [], ◌∷◌, ◌++◌, length, get_or, set, inl, inr, sym, subst, arith, length-append}
+use Rattle.std.proofs.Math.Seq.{get_or-append_seam}
 use Rattle.std.proofs.lemmas.Bool.{cases_eq}
-use Rattle.std.proofs.lemmas.List.{get_or-set_same, get_or-set_other, length-set}
+use Rattle.std.proofs.lemmas.List.{get_or-set_same, get_or-set_other, length-set, get_or_append_left}
 
 -- What held at each place still does, where it holds of what was set.
 pub set_each : {X : Type 0} (P : ℕ → X → Type 0) (xs : List X) (i : ℕ) (y : X) → i < length xs → P i y
@@ -13,14 +14,20 @@ set_each {X} P xs i y inside new j d old = elim (cases_eq j i) [
   | inr differs ↦ subst (P j) (sym (get_or-set_other xs i j y d differs)) (old differs)
 ]
 
--- What held at each place before that one still does, and at that one too.
-pub set_next : {X : Type 0} (P : ℕ → X → Type 0) (xs : List X) (i : ℕ) (y : X) → i < length xs → P i y
-    → ((j : ℕ) (d : X) → j < i → P j (get_or xs j d)) → (j : ℕ) (d : X) → j < i + 1 → P j (get_or (set xs i y) j d)
-set_next P xs i y inside new before j d less =
-    set_each P xs i y inside new j d (λ differs. before j d (omega (arith, less, differs)))
-
 -- What held at each place from that one on still does after it.
 pub set_later : {X : Type 0} (P : ℕ → X → Type 0) (xs : List X) (i : ℕ) (y : X) → i < length xs
     → ((j : ℕ) (d : X) → i ≤ j → j < length xs → P j (get_or xs j d)) → (j : ℕ) (d : X) → i + 1 ≤ j → j < length (set xs i y) → P j (get_or (set xs i y) j d)
 set_later P xs i y inside later j d low high =
     subst (P j) (sym (get_or-set_other xs i j y d (λ same. omega (arith, same, low)))) (later j d (omega (arith, low)) (omega (arith, high, length-set xs i y)))
+
+-- What held at each place of a list from a number on still does where one is put behind them of which it holds.
+pub put_behind : {X : Type 0} (P : ℕ → X → Type 0) (start : ℕ) (xs : List X) (y : X) → ((k : ℕ) (d : X) → k < length xs → P (start + k) (get_or xs k d))
+    → P (start + length xs) y → (k : ℕ) (d : X) → k < length (xs ++ y ∷ []) → P (start + k) (get_or (xs ++ y ∷ []) k d)
+put_behind {X} P start xs y held new k d inside = elim (cases_eq k (length xs)) [
+  | inl same ↦ (
+      let Q : ℕ → Type 0 = λ n. P (start + n) (get_or (xs ++ y ∷ []) n d) in
+      subst Q (sym same) (subst (P (start + length xs)) (sym (get_or-append_seam xs y [] d)) new))
+  | inr differs ↦ (
+      let before : k < length xs = omega (arith, inside, length-append xs (y ∷ []), differs) in
+      subst (P (start + k)) (sym (get_or_append_left xs (y ∷ []) d k before)) (held k d before))
+]

@@ -1,8 +1,7 @@
 -- Reports of problems that are made before their turn.
-use Rattle.std.specs.Prelude.{◌≡◌, ℕ, ◌<◌, ◌≤◌, ◌^◌, Bool, true, List, IfSome, Some, length, take, slice_get, slice_index_or}
+use Rattle.std.specs.Prelude.{◌≡◌, ◌↔◌, ℕ, ◌+◌, ◌*◌, ◌<◌, ◌≤◌, ◌^◌, Bool, true, List, IfSome, Some, length, take, slice_get, slice_index_or}
 use Rattle.ea_text.specs.Device.{Seen}
 use Rattle.ea_road.specs.Queries.{Asking}
-use Rattle.ea_road.specs.Roads.{Roads}
 use Rattle.ea_files.specs.declared.road.Road.{Road}
 use Rattle.ea_engine.specs.Parts.{AllFrom}
 use Rattle.ea_limits.specs.declared.TheConstants.{MOST_NODES, MOST_STARTS}
@@ -11,23 +10,11 @@ use Rattle.ea_outcomes.specs.Posed.{AreProblems, times_on}
 use Rattle.earliest.specs.declared.drafts.Draft.{Draft}
 use Rattle.earliest.specs.declared.drafts.Draft.TheVariants as draft
 use Rattle.earliest.specs.declared.drafts.Job.{Job}
-use Rattle.earliest.specs.declared.drafts.Place.{Place}
+use Rattle.earliest.specs.declared.drafts.Made.{Made}
+use Rattle.earliest.specs.declared.progress.Progress.{Progress}
 use Rattle.earliest.specs.Fronts.{AreSent, IsCutShort}
 use Rattle.earliest.specs.Reported.{IsReportOf}
 use Rattle.earliest.specs.Solved.{AnswersOn, ArrivesOn, Serves}
-
--- The arrays at a place serve searches on these roads, where there are some.
-abbrev pub IsServing : Roads → Bool → Place → Type 0
-IsServing roads walks place = IfSome place.search (Serves roads walks)
-
-abbrev pub AreServing : Roads → Bool → List Place → Type 0
-AreServing roads walks = AllFrom (λ k place. IsServing roads walks place) 0
-
--- Each draft of a row was taken, and the arrays stay at their places.
-abbrev pub AreTaken : List Place → List Place → List Draft → Type 0
-AreTaken before after taken =
-    ((k : ℕ) (d : Draft) → k < length taken → (e : Place) → slice_index_or taken k d ≡ (slice_index_or before k e).draft)
-    × ((k : ℕ) (d : Place) → k < length after → (e : Place) → (slice_index_or after k d).search ≡ (slice_index_or before k e).search)
 
 -- The problems are problems on the road, few enough, their drafts are as the options say, and threads take some at once.
 pub record IsJob (job : Job) : Type 0 where
@@ -44,15 +31,51 @@ IsDraftOf walks road query (draft.Text text) = IsReportOf walks road.network (ti
 IsDraftOf walks road query (draft.Answer search) =
     Serves road.network walks search × ArrivesOn road query search.answer × (walks ≡ true → AnswersOn road query search.answer)
 
--- These are drafts of the problems from this one on, counted from 0.
-abbrev pub AreDraftsAt : Bool → Road → List Asking → ℕ → List Draft → Type 0
-AreDraftsAt walks road queries =
-    AllFrom (λ k draft. (query : Asking) → slice_get queries k ≡ Some query → IsDraftOf walks road query draft)
+-- A draft of the problem with this number, from 0, where there is one.
+abbrev pub IsDraftAt : Bool → Road → List Asking → ℕ → Draft → Type 0
+IsDraftAt walks road queries number draft = (query : Asking) → slice_get queries number ≡ Some query → IsDraftOf walks road query draft
 
--- The places from a place of the row on have drafts of the problems with the same numbers, from 0.
-abbrev pub AreDraftsFrom : Bool → Road → List Asking → ℕ → List Place → Type 0
-AreDraftsFrom walks road queries =
-    AllFrom (λ k place. (query : Asking) → slice_get queries k ≡ Some query → IsDraftOf walks road query place.draft)
+-- These are drafts of the problems from this one on.
+abbrev pub AreDraftsAt : Bool → Road → List Asking → ℕ → List Draft → Type 0
+AreDraftsAt walks road queries = AllFrom (IsDraftAt walks road queries)
+
+-- So are those of a list from its place k on.
+abbrev pub AreUnsent : Bool → Road → List Asking → ℕ → ℕ → List Draft → Type 0
+AreUnsent walks road queries from k drafts =
+    (j : ℕ) (d : Draft) → k ≤ j → j < length drafts → IsDraftAt walks road queries (from + j) (slice_index_or drafts j d)
+
+-- These are what is named drafts of the problems from the first one on.
+abbrev pub IsFit : (ℕ → Draft → Type 0) → Made → Type 0
+IsFit fits made = AllFrom fits made.from made.drafts.items
+
+-- What is named a draft of a problem is one of the job's.
+pub record IsFor (fits : ℕ → Draft → Type 0) (job : Job) : Type 0 where
+  pub same : (number : ℕ) (draft : Draft) → fits number draft ↔ IsDraftAt job.plan.walks job.road.now job.queries.now number draft
+
+-- The reports of the problems from one on went out, up to another one: where those before them were sent, these are too.
+pub record GoesOn (job : Job) (from to : ℕ) (before : Seen) (written : ℕ) (now : Seen) (after : ℕ) : Type 0 where
+  pub sent : (first : Seen) → first.interrupted < 2 ^ 64
+      → AreSent job.options.now.walks job.road.now.network (times_on job.road.now) (take from job.queries.now) first before written
+      → AreSent job.options.now.walks job.road.now.network (times_on job.road.now) (take to job.queries.now) first now after
+
+-- Each of these is drafts of the job's problems from its first one on.
+abbrev pub ArePiled : Job → List Made → Type 0
+ArePiled job pile = (k : ℕ) (d : Made) → k < length pile
+    → AreDraftsAt job.plan.walks job.road.now job.queries.now (slice_index_or pile k d).from (slice_index_or pile k d).drafts.items
+
+-- The reports of the problems from one on can be sent: so many bytes went out, the arrays serve, and what is piled up are drafts of theirs.
+pub record CanSend (job : Job) (from : ℕ) (progress : Progress) (pile : List Made) : Type 0 where
+  pub is_job : IsJob job
+  pub inside : from ≤ length job.queries.now
+  pub room : progress.written ≤ from * 2 ^ 90
+  pub search : IfSome progress.search (Serves job.road.now.network job.options.now.walks)
+  pub piled : ArePiled job pile
+
+-- The reports of the problems from one on went out, up to another one, from which on they can be sent.
+pub record HaveGone (job : Job) (from to : ℕ) (old : Seen) (before : Progress) (now : Seen) (after : Progress) (pile : List Made) : Type 0 where
+  pub went : GoesOn job from to old before.written now after.written
+  pub onward : from ≤ to
+  pub can : CanSend job to after pile
 
 -- A fault that stops the sending of the problems from this one on: where those before it were sent, the reports are cut short.
 pub record StopsAfter (job : Job) (from : ℕ) (before : Seen) (written : ℕ) (now : Seen) (fault : AnswerFault) : Type 0 where

@@ -1,39 +1,42 @@
-//! Reports of problems that are searched at once: several threads make those of some, while those before are sent, and so on.
-ghost use Rattle.std.specs.Prelude.{◌≡◌, ◌≤◌, ◌<◌, ◌+◌, ◌-◌, ◌*◌, ◌^◌, ℕ, IfErr, IfOk, IfSome, OnOk, length, take};
-ghost use Rattle.ea_text.specs.Device.{GivesUp, Seen};
+//! Reports of problems that are searched at once: several threads make those of some, while those before are sent.
+ghost use Rattle.std.specs.Prelude.{◌≡◌, ◌≤◌, ◌<◌, ◌+◌, ◌-◌, ◌*◌, ◌^◌, ℕ, IfErr, IfOk, IfSome, OnOk, length};
+ghost use Rattle.ea_text.specs.Device.{GivesUp};
 ghost use Rattle.ea_limits.specs.declared.TheConstants.{MOST_AT_ONCE, MOST_NODES, MOST_STARTS};
-ghost use Rattle.ea_road.specs.Queries.{Asking, IsProblem};
-ghost use Rattle.ea_road.specs.Roads.{Roads};
+ghost use Rattle.ea_road.specs.Queries.{IsProblem};
 ghost use Rattle.ea_report.specs.Sent.{IsCutAt, IsWhole};
 ghost use Rattle.ea_words.specs.Limits.{AreOptions};
 ghost use Rattle.earliest.specs.Counted.{AreBalanced};
 ghost use Rattle.ea_outcomes.specs.Posed.{AreProblems, times_on};
-ghost use Rattle.earliest.specs.Drafts.{AreDraftsAt, AreDraftsFrom, AreServing, IsDraftOf, IsJob, StopsAfter};
+ghost use Rattle.earliest.specs.Drafts.{AreDraftsAt, AreUnsent, CanSend, GoesOn, HaveGone, IsDraftAt, IsDraftOf, IsFor, IsJob, StopsAfter};
 ghost use Rattle.earliest.specs.Fronts.{AreSent, IsCutShort, IsSent, IsStoppedBy};
-ghost use Rattle.earliest.specs.Reported.{IsReportOf};
 ghost use Rattle.earliest.specs.Solved.{Serves};
 
 use crate::answering::Watched;
-use crate::drafts::{Draft, Job, Place, Plan, Rows, make_row, rows_of, take_drafts};
+use crate::drafts::{Draft, Job, Plan, Span, memory_of_texts};
+use crate::handing::Asks;
+use crate::lanes::{Desk, Lane, Lanes, make_in_lane};
 use crate::progress::{Progress, fault_after};
+use crate::round::Round;
+use crossbeam_deque::Worker;
 use ea_files::Road;
 use ea_input::ByteOut;
 use ea_limits::MOST_AT_ONCE;
 use ea_outcomes::AnswerFault;
 use ea_report::write_pieces;
 use ea_road::Query;
+use ea_threads::for_each_chunk_mut_beside;
 use ea_watch::Watch;
 use ea_words::RunOptions;
 use std::alloc::Global;
+use std::marker::Brand;
+use std::mem;
 use std::thread::{Threads, available_parallelism};
-use std::{mem, thread};
 
 /// How many bytes of reports a thread keeps before they are sent, at most.
 const KEPT: usize = 67_108_864;
 
-/// How many lines the reports have, about, that a thread makes one after the other: where one thread is kept waiting by another,
-/// that counts the less the longer it works.
-const LINES_IN_PART: usize = 2_097_152;
+/// How many lines the reports have, about, that a thread makes one after the other before it leaves them to be sent.
+const LINES_IN_PART: usize = 262_144;
 
 /// How many bytes a report's line has, about.
 const LINE: usize = 16;
@@ -41,8 +44,8 @@ const LINE: usize = 16;
 /// How many problems a thread takes at once, at most.
 const MOST_IN_PART: usize = 256;
 
-/// As many reports are made in the time that one takes to send.
-const MADE_WHILE_SENT: usize = 12;
+/// How many parts are made before those before them are sent, for each thread.
+const PARTS_AHEAD: usize = 2;
 
 /// How many problems are searched at once: as many as are asked for, else one where workers or statistics are asked for,
 /// else one for each processor.
@@ -65,10 +68,10 @@ pub(crate) fn threads_at_once<H: Threads>(rt: &H, options: &RunOptions) -> usize
 }
 
 /// How drafts are made: each thread takes several problems at once where they are many and their reports have few lines, so
-/// that threads are started seldom; and so few that no thread waits long for another.
+/// that threads seldom meet.
 fn plan_of(problems: usize, threads: usize, lines: usize, walks: bool) -> Plan
     requires { (1 ≤ threads) × (1 ≤ lines) × (threads ≤ 16) }
-    ensures part { (0 < result.part) × (result.part ≤ MOST_IN_PART) }
+    ensures part { 0 < result.part }
     ensures walks { result.walks ≡ walks }
 {
     let few = (problems / (threads * 4)).min(MOST_IN_PART).max(1);
@@ -77,24 +80,10 @@ fn plan_of(problems: usize, threads: usize, lines: usize, walks: bool) -> Plan
     Plan {
         walks,
         part,
+        ahead: part * threads * PARTS_AHEAD,
         room: lines.saturating_mul(LINE).min(most),
         most,
     }
-}
-
-/// Of how many problems a row is. This thread sends the reports of the row before meanwhile, as many as all threads made: where
-/// they are of many lines, it makes a part that is shorter than the others' by as much. With walks it sends for longer than
-/// others make, and two threads share what is left better by turns.
-fn count_in_row(part: usize, threads: usize, lines: usize, walks: bool) -> usize
-    requires { (1 ≤ threads) × (threads ≤ 16) × (0 < part) × (part ≤ MOST_IN_PART) }
-    ensures { (0 < result) × (result ≤ part * threads) }
-{
-    let whole = part * threads;
-    if walks || lines == 1 || threads <= 2 || part == 1 {
-        return whole;
-    }
-    let short = whole.div_ceil(MADE_WHILE_SENT).min(part - 1);
-    whole - short
 }
 
 impl Progress {
@@ -171,15 +160,23 @@ impl Progress {
     }
 }
 
-/// Problems from one to just before another, counted from 0.
-#[derive(Clone, Copy)]
-struct Span {
-    from: usize,
-    to: usize,
+/// Takes a draft out of a list, nothing where the list is too short.
+fn take_draft(job: Job<'_>, span: Span, k: usize, ready: &mut [Draft]) -> Draft
+    requires left { AreUnsent job.options.now.walks job.road.now job.queries.now span.from k ready.old }
+    ensures draft { IsDraftAt job.entry.options.now.walks job.entry.road.now
+        job.entry.queries.now (span.from + k) result }
+    ensures left { AreUnsent job.entry.options.now.walks job.entry.road.now
+        job.entry.queries.now span.from (k + 1) ready.new }
+{
+    if k < ready.len() {
+        mem::replace(&mut ready[k], Draft::Nothing)
+    } else {
+        Draft::Nothing
+    }
 }
 
-/// Sends the reports of problems by their drafts, in their order.
-fn send_row<W: ByteOut>(
+/// Sends the reports of problems by their drafts, in their order. What isn't there is made now.
+fn send_part<W: ByteOut>(
     progress: &mut Progress,
     job: Job<'_>,
     span: Span,
@@ -187,20 +184,14 @@ fn send_row<W: ByteOut>(
     out: &mut W,
 ) -> Result<(), AnswerFault>
     requires job { IsJob job }
-    requires span { (span.from ≤ span.to) × (span.to ≤ length job.queries.now)
-        × (span.to ≤ span.from + length ready.old) }
+    requires span { (span.from ≤ span.to) × (span.to ≤ length job.queries.now) }
     requires room { progress.old.written ≤ span.from * 2 ^ 90 }
     requires search { IfSome progress.old.search
         (Serves job.road.now.network job.options.now.walks) }
     requires drafts { AreDraftsAt job.options.now.walks job.road.now
         job.queries.now span.from ready.old }
-    ensures ok { OnOk result ((first : Seen) → first.interrupted < 2 ^ 64
-        → AreSent job.entry.options.now.walks
-        job.entry.road.now.network (times_on job.entry.road.now)
-        (take span.from job.entry.queries.now) first (W.seen out.old) progress.old.written
-        → AreSent job.entry.options.now.walks
-        job.entry.road.now.network (times_on job.entry.road.now)
-        (take span.to job.entry.queries.now) first (W.seen out.new) progress.new.written) }
+    ensures ok { OnOk result (GoesOn job.entry span.from span.to
+        (W.seen out.old) progress.old.written (W.seen out.new) progress.new.written) }
     ensures err { IfErr result (StopsAfter job.entry span.from
         (W.seen out.old) progress.old.written (W.seen out.new)) }
     ensures bound { OnOk result (progress.new.written ≤ span.to * 2 ^ 90) }
@@ -208,64 +199,68 @@ fn send_row<W: ByteOut>(
     ensures search { OnOk result
         (IfSome progress.new.search
         (Serves job.entry.road.now.network job.entry.options.now.walks)) }
-    ensures length { length ready.new ≡ length ready.old }
 {
     let queries = job.queries;
     for k in 0..span.to - span.from {
-        let draft = mem::replace(&mut ready[k], Draft::Nothing);
+        let draft = take_draft(job, span, k, ready);
         let query = &queries[span.from + k];
         progress.send_draft(job.alloc, job.road, query, job.options.walks, draft, out)?;
     }
     Ok(())
 }
 
-/// Sends the reports of problems by their drafts, while those of the problems after them are made in a row, where there are
-/// some.
-fn send_and_make<H: Threads + Sync, W: ByteOut>(
-    progress: &mut Progress,
-    rt: &H,
-    job: Job<'_>,
-    span: Span,
-    ready: &mut [Draft],
-    row: &mut [Place],
-    out: &mut W,
-) -> Result<(), AnswerFault>
+/// Where the part of a job's problems ends that begins with this one.
+fn end_of_part(job: Job<'_>, from: usize) -> usize
     requires job { IsJob job }
-    requires span { (span.from ≤ span.to) × (span.to ≤ length job.queries.now)
-        × (span.to ≤ span.from + length ready.old) }
-    requires few { length row.old ≤ 4096 }
-    requires room { progress.old.written ≤ span.from * 2 ^ 90 }
-    requires search { IfSome progress.old.search
-        (Serves job.road.now.network job.options.now.walks) }
-    requires serving { AreServing job.road.now.network job.plan.walks row.old }
-    requires drafts { AreDraftsAt job.options.now.walks job.road.now
-        job.queries.now span.from ready.old }
-    ensures ok { OnOk result ((first : Seen) → first.interrupted < 2 ^ 64
-        → AreSent job.entry.options.now.walks
-        job.entry.road.now.network (times_on job.entry.road.now)
-        (take span.from job.entry.queries.now) first (W.seen out.old) progress.old.written
-        → AreSent job.entry.options.now.walks
-        job.entry.road.now.network (times_on job.entry.road.now)
-        (take span.to job.entry.queries.now) first (W.seen out.new) progress.new.written) }
-    ensures err { IfErr result (StopsAfter job.entry span.from
-        (W.seen out.old) progress.old.written (W.seen out.new)) }
-    ensures bound { OnOk result (progress.new.written ≤ span.to * 2 ^ 90) }
-    ensures totals { progress.new.totals ≡ progress.old.totals }
-    ensures search { OnOk result
-        (IfSome progress.new.search
-        (Serves job.entry.road.now.network job.entry.options.now.walks)) }
-    ensures lengths { (length ready.new ≡ length ready.old) × (length row.new ≡ length row.old) }
-    ensures serving { AreServing job.entry.road.now.network job.entry.plan.walks row.new }
-    ensures made { span.to < length job.entry.queries.now
-        → AreDraftsFrom job.entry.plan.walks job.entry.road.now
-        job.entry.queries.now span.to row.new }
+    requires inside { from < length job.queries.now }
+    ensures { (from < result) × (result ≤ length job.entry.queries.now) }
 {
-    if span.to >= job.queries.len() {
-        return send_row(progress, job, span, ready, out);
+    from.saturating_add(job.plan.part).min(job.queries.len())
+}
+
+/// Sends the reports of the problems from one on by what is made of them, and makes some too, until all are sent or nobody makes
+/// the next. The watch is told after each part.
+fn send_round<J: Asks, W: ByteOut, V: Watch>(
+    progress: &mut Progress,
+    job: Job<'_>,
+    round: &Round,
+    desk: &mut Desk<J>,
+    from: usize,
+    out: &mut W,
+    watch: &mut V,
+) -> Result<usize, AnswerFault>
+    requires named { IsFor J.fits job }
+    requires can { CanSend job from progress.old desk.old.pile.items }
+    ensures ok { IfOk result (λ to. HaveGone job.entry from to (W.seen out.old) progress.old
+        (W.seen out.new) progress.new desk.new.pile.items) }
+    ensures err { IfErr result (StopsAfter job.entry from
+        (W.seen out.old) progress.old.written (W.seen out.new)) }
+    ensures totals { progress.new.totals ≡ progress.old.totals }
+{
+    let mut sent = from;
+    for _ in 0..u64::MAX {
+        if sent >= job.queries.len() {
+            break;
+        }
+        match desk.take(job, sent) {
+            Some(mut ready) => {
+                let span = Span {
+                    from: sent,
+                    to: end_of_part(job, sent),
+                };
+                send_part(progress, job, span, &mut ready, out)?;
+                sent = span.to;
+                round.tell_sent(sent);
+                watch.did(sent, job.queries.len());
+            }
+            None => {
+                if !desk.help(job, round, &mut progress.search) {
+                    break;
+                }
+            }
+        }
     }
-    let next = span.to;
-    let mut sending = || -> Result<(), AnswerFault> { send_row(progress, job, span, ready, out) };
-    make_row(rt, job, next, row, &mut sending)
+    Ok(sent)
 }
 
 /// How many lines a report has, about.
@@ -278,7 +273,98 @@ fn lines_of(road: &Road, query: &Query) -> usize
     }
 }
 
-/// Writes the reports of problems in their order, where so many threads search at once. The watch is told after each row.
+/// Sends the reports of the problems from one on, while other threads make those of the next ones.
+fn run_round<J: Asks, H: Threads + Sync, W: ByteOut, V: Watch>(
+    progress: &mut Progress,
+    rt: &H,
+    job: Job<'_>,
+    lanes: &mut Lanes<J>,
+    from: usize,
+    out: &mut W,
+    watch: &mut V,
+) -> Result<usize, AnswerFault>
+    requires named { IsFor J.fits job }
+    requires can { CanSend job from progress.old lanes.old.desk.pile.items }
+    ensures ok { IfOk result (λ to. HaveGone job.entry from to (W.seen out.old) progress.old
+        (W.seen out.new) progress.new lanes.new.desk.pile.items) }
+    ensures err { IfErr result (StopsAfter job.entry from
+        (W.seen out.old) progress.old.written (W.seen out.new)) }
+    ensures totals { progress.new.totals ≡ progress.old.totals }
+{
+    let Lanes { row, round, desk } = lanes;
+    let round: &Round = round;
+    round.begin(row.len());
+    let mut sending = || -> Result<usize, AnswerFault>
+        requires { IsFor J.fits job × CanSend job from progress.now desk.now.pile.items }
+        ensures { IfOk result (λ to. HaveGone job.entry from to (W.seen out.entry.now)
+            progress.entry.now (W.seen out.exit.now) progress.exit.now desk.exit.now.pile.items)
+            × IfErr result (StopsAfter job.entry from (W.seen out.entry.now)
+            progress.entry.now.written (W.seen out.exit.now))
+            × (progress.exit.now.totals ≡ progress.entry.now.totals) }
+    {
+        let sent = send_round(progress, job, round, desk, from, out, watch);
+        if sent.is_err() {
+            round.stop();
+        }
+        sent
+    };
+    let making = |_start: usize, part: &mut [Lane<J>]|
+        requires { IsJob job × IsFor J.fits job × (0 < length part.now) }
+    { make_in_lane(job, round, &mut part[0]) };
+    for_each_chunk_mut_beside(rt, 1, &making, row, &mut sending)
+}
+
+/// Writes the reports of problems in their order, where so many threads search at once. The watch is told after each part.
+fn report_asked<J: Asks, H: Threads + Sync, W: ByteOut, V: Watch>(
+    rt: &H,
+    job: Job<'_>,
+    used: Worker<Vec<u8>>,
+    threads: usize,
+    watch: &mut V,
+    out: &mut W,
+) -> Result<Progress, AnswerFault>
+    requires job { IsJob job }
+    requires named { IsFor J.fits job }
+    requires some { 0 < length job.queries.now }
+    requires threads { 1 ≤ threads }
+    ensures ok { IfOk result (λ progress.
+        AreSent job.entry.options.now.walks job.entry.road.now.network
+        (times_on job.entry.road.now) job.entry.queries.now
+        (W.seen out.old) (W.seen out.new) progress.written) }
+    ensures err { IfErr result
+        (IsCutShort job.entry.options.now job.entry.road.now.network
+        (times_on job.entry.road.now) job.entry.queries.now
+        (W.seen out.old) (W.seen out.new)) }
+    ensures bound { IfOk result (λ progress. progress.written ≤ MOST_STARTS * 2 ^ 90) }
+    ensures balanced { IfOk result (λ progress. AreBalanced progress.totals) }
+{
+    let mut lanes = match Lanes::<J>::open(job.alloc, threads - 1) {
+        Ok(lanes) => lanes,
+        Err(_) => return Err(AnswerFault::OutOfMemory { written: 0 }),
+    };
+    let mut progress = Progress::begin(Some(used));
+    // Tells that the count is one of 64 bits.
+    let _ = out.interruptions();
+    let mut sent = 0;
+    while sent < job.queries.len() {
+        let gone = run_round(&mut progress, rt, job, &mut lanes, sent, out, watch)?;
+        if gone > sent {
+            sent = gone;
+        } else {
+            let span = Span {
+                from: gone,
+                to: end_of_part(job, gone),
+            };
+            send_part(&mut progress, job, span, &mut [], out)?;
+            sent = span.to;
+            lanes.round.tell_sent(sent);
+            watch.did(sent, job.queries.len());
+        }
+    }
+    Ok(progress)
+}
+
+/// Writes the reports of problems in their order, where so many threads search at once. The watch is told as they are sent.
 pub(crate) fn report_ahead<H: Threads + Sync, W: ByteOut, V: Watch>(
     alloc: Global,
     rt: &H,
@@ -303,42 +389,17 @@ pub(crate) fn report_ahead<H: Threads + Sync, W: ByteOut, V: Watch>(
 {
     let Watched { options, watch } = watched;
     let lines = lines_of(road, &queries[0]);
-    let plan = plan_of(queries.len(), threads, lines, options.walks);
-    let count = count_in_row(plan.part, threads, lines, options.walks);
-    let Rows {
-        mut places,
-        mut drafts,
-        used,
-        spare,
-    } = match rows_of(alloc, count) {
-        Ok(rows) => rows,
+    let (used, spare) = match memory_of_texts(alloc) {
+        Ok(ends) => ends,
         Err(_) => return Err(AnswerFault::OutOfMemory { written: 0 }),
     };
-    let mut progress = Progress::begin(Some(used));
-    let row = places.as_mut_slice();
-    let ready = drafts.as_mut_slice();
     let job = Job {
         alloc,
         road,
         queries,
         options,
-        plan,
+        plan: plan_of(queries.len(), threads, lines, options.walks),
         spare: &spare,
     };
-    // Tells that the count is one of 64 bits.
-    let _ = out.interruptions();
-    let mut nothing = || {};
-    make_row(rt, job, 0, row, &mut nothing);
-    let mut sent = 0;
-    while sent < queries.len() {
-        take_drafts(row, ready);
-        let span = Span {
-            from: sent,
-            to: (sent + count).min(queries.len()),
-        };
-        send_and_make(&mut progress, rt, job, span, ready, row, out)?;
-        sent = span.to;
-        watch.did(sent, queries.len());
-    }
-    Ok(progress)
+    report_asked::<Brand, H, W, V>(rt, job, used, threads, watch, out)
 }

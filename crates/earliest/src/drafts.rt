@@ -1,10 +1,8 @@
 //! Reports of problems that are made before their turn, by several threads.
-ghost use Rattle.std.specs.Prelude.{◌≡◌, ◌≤◌, ◌<◌, ◌+◌, ◌^◌, ℕ, Bool, IfOk, IfSome, Some, length, slice_get, vec_len};
+ghost use Rattle.std.specs.Prelude.{◌≡◌, ◌≤◌, ◌<◌, [], IfSome, Some, length, slice_get};
 ghost use Rattle.ea_limits.specs.declared.TheConstants.{MOST_NODES, MOST_STARTS};
 ghost use Rattle.ea_road.specs.Queries.{Asking, IsProblem};
-ghost use Rattle.ea_road.specs.Roads.{Roads};
-ghost use Rattle.ea_outcomes.specs.Posed.{AreProblems};
-ghost use Rattle.earliest.specs.Drafts.{AreDraftsFrom, AreServing, AreTaken, IsDraftOf, IsJob};
+ghost use Rattle.earliest.specs.Drafts.{AreDraftsAt, IsDraftOf, IsJob};
 ghost use Rattle.earliest.specs.Solved.{Serves};
 
 use crate::finding::search;
@@ -14,11 +12,8 @@ use ea_files::Road;
 use ea_finish::Search;
 use ea_report::{ReportOptions, write_problem};
 use ea_road::Query;
-use ea_threads::for_each_chunk_mut_beside;
 use ea_words::RunOptions;
 use std::alloc::{AllocError, Global};
-use std::mem;
-use std::thread::Threads;
 
 /// What was made of a problem.
 #[derive(Drop)]
@@ -31,14 +26,6 @@ pub(crate) enum Draft {
     Answer(Search),
 }
 
-/// The place of a problem in a row: its draft, and in the first place of a thread's part the arrays of that thread's
-/// searches.
-#[derive(Drop)]
-pub(crate) struct Place {
-    pub search: Option<Search>,
-    pub draft: Draft,
-}
-
 /// How drafts are made.
 #[derive(Clone, Copy)]
 pub(crate) struct Plan {
@@ -46,6 +33,8 @@ pub(crate) struct Plan {
     pub walks: bool,
     /// How many problems a thread takes at once.
     pub part: usize,
+    /// How many problems are taken before those before them are sent, at most.
+    pub ahead: usize,
     /// For how many bytes of a report it takes memory at first.
     pub room: usize,
     /// How many bytes of a report it keeps at most.
@@ -64,20 +53,13 @@ pub(crate) struct Job<'a> {
     pub spare: &'a Stealer<Vec<u8>>,
 }
 
-/// So many places where nothing was made.
-fn places_of(alloc: Global, count: usize) -> Result<Vec<Place>, AllocError>
-    ensures count { IfOk result (λ row. vec_len row ≡ count) }
-    ensures serving { IfOk result (λ row. (roads : Roads) (walks : Bool)
-        → AreServing roads walks row.items) }
-{
-    let mut row = Vec::with_capacity(alloc, count)?;
-    for i in 0..count {
-        row.push(Place {
-            search: None,
-            draft: Draft::Nothing,
-        })?;
-    }
-    Ok(row)
+/// Where memory of texts that were sent is left, and where others find it. An error comes only where memory is refused.
+pub(crate) fn memory_of_texts(
+    alloc: Global,
+) -> Result<(Worker<Vec<u8>>, Stealer<Vec<u8>>), AllocError> {
+    let used = Worker::new_lifo(alloc, 16)?;
+    let spare = used.stealer()?;
+    Ok((used, spare))
 }
 
 /// Memory for a text: that of one that was sent, else new memory for so many bytes, or none yet where that is refused.
@@ -151,104 +133,48 @@ fn make_draft_at(job: Job<'_>, at: usize, is_first: bool, last: &mut Option<Sear
     }
 }
 
-/// Makes the drafts of a part of a row that begins at this place of it. After one that is too long to be kept no more are
-/// made there.
-fn make_part(job: Job<'_>, start: usize, part: &mut [Place])
-    requires job { IsJob job }
-    requires serving { AreServing job.road.now.network job.plan.walks part.old }
-    requires some { 0 < length part.old }
-    requires room { start + length part.old < 2 ^ 64 }
-    ensures length { length part.new ≡ length part.old }
-    ensures serving { AreServing job.entry.road.now.network job.entry.plan.walks part.new }
-    ensures drafts { AreDraftsFrom job.entry.plan.walks job.entry.road.now
-        job.entry.queries.now start part.new }
-{
-    let mut last = part[0].search.take();
-    for k in 0..part.len() {
-        part[k].draft = make_draft_at(job, start + k, k == 0, &mut last);
-    }
-    part[0].search = last;
-}
-
-/// So many drafts that are nothing.
-fn no_drafts(alloc: Global, count: usize) -> Result<Vec<Draft>, AllocError>
-    ensures count { IfOk result (λ drafts. vec_len drafts ≡ count) }
-{
-    let mut drafts = Vec::with_capacity(alloc, count)?;
-    for i in 0..count {
-        drafts.push(Draft::Nothing)?;
-    }
-    Ok(drafts)
-}
-
-/// What a row is made and sent with.
-pub(crate) struct Rows {
-    /// Where drafts are made.
-    pub places: Vec<Place>,
-    /// Those that are sent meanwhile.
+/// Drafts of the problems from one on, counted from 0, in their order.
+#[derive(Drop)]
+pub(crate) struct Made {
+    pub from: usize,
     pub drafts: Vec<Draft>,
-    /// Where memory of texts that were sent is left.
-    pub used: Worker<Vec<u8>>,
-    /// Where others find it.
-    pub spare: Stealer<Vec<u8>>,
 }
 
-/// So many places where nothing was made, and as many drafts that are nothing.
-pub(crate) fn rows_of(alloc: Global, count: usize) -> Result<Rows, AllocError>
-    ensures count { IfOk result (λ rows.
-        (vec_len rows.places ≡ count) × (vec_len rows.drafts ≡ count)) }
-    ensures serving { IfOk result (λ rows.
-        (roads : Roads) (walks : Bool) → AreServing roads walks rows.places.items) }
-{
-    let places = places_of(alloc, count)?;
-    let drafts = no_drafts(alloc, count)?;
-    let used = Worker::new_lifo(alloc, 16)?;
-    let spare = used.stealer()?;
-    Ok(Rows {
-        places,
-        drafts,
-        used,
-        spare,
-    })
+/// Problems from one to just before another, counted from 0.
+#[derive(Clone, Copy)]
+pub(crate) struct Span {
+    pub from: usize,
+    pub to: usize,
 }
 
-/// Takes the drafts of a row, and leaves the arrays of searches there.
-pub(crate) fn take_drafts(row: &mut [Place], ready: &mut [Draft])
-    requires length { length ready.old ≡ length row.old }
-    ensures length { (length row.new ≡ length row.old) × (length ready.new ≡ length row.old) }
-    ensures taken { AreTaken row.old row.new ready.new }
-{
-    for k in 0..row.len() {
-        ready[k] = mem::replace(&mut row[k].draft, Draft::Nothing);
-    }
-}
-
-/// Makes the drafts of a row for the problems from this one on, each part of it in a thread of its own where one can be
-/// started, while this thread does something beside.
-pub(crate) fn make_row<H: Threads + Sync, X, B: FnMut() -> X>(
-    rt: &H,
-    job: Job<'_>,
-    first: usize,
-    row: &mut [Place],
-    beside: &mut B,
-) -> X
+/// Makes the drafts of problems in their order, on the arrays of the last search where there are some. After one that is too long
+/// to be kept no more are made; where memory for the list is refused, it ends there.
+pub(crate) fn make_drafts(job: Job<'_>, span: Span, last: &mut Option<Search>) -> Made
     requires job { IsJob job }
-    requires room { first + length row.old < 2 ^ 64 }
-    requires serving { AreServing job.road.now.network job.plan.walks row.old }
-    requires beside { B.pre beside.old }
-    ensures length { length row.new ≡ length row.old }
-    ensures serving { AreServing job.entry.road.now.network job.entry.plan.walks row.new }
-    ensures drafts { AreDraftsFrom job.entry.plan.walks job.entry.road.now
-        job.entry.queries.now first row.new }
-    ensures beside { B.step beside.old result beside.new }
+    requires search { IfSome last.old (Serves job.road.now.network job.plan.walks) }
+    ensures drafts { AreDraftsAt job.entry.plan.walks job.entry.road.now
+        job.entry.queries.now result.from result.drafts.items }
+    ensures search { IfSome last.new (Serves job.entry.road.now.network job.entry.plan.walks) }
 {
-    let make_one = |start: usize, places: &mut [Place]|
-        requires { IsJob job × AreServing job.road.now.network job.plan.walks places.now
-            × (0 < length places.now) × (first + start + length places.now < 2 ^ 64) }
-        ensures { (length places.exit.now ≡ length places.entry.now)
-            × AreServing job.entry.road.now.network job.entry.plan.walks places.exit.now
-            × AreDraftsFrom job.entry.plan.walks job.entry.road.now job.entry.queries.now
-            (first + start) places.exit.now }
-    { make_part(job, first + start, places) };
-    for_each_chunk_mut_beside(rt, job.plan.part, &make_one, row, beside)
+    let mut made = Made {
+        from: span.from,
+        drafts: room_for(job, span),
+    };
+    for at in span.from..span.to {
+        let draft = make_draft_at(job, at, at == span.from, last);
+        if made.drafts.push(draft).is_err() {
+            return made;
+        }
+    }
+    made
+}
+
+/// A list with room for the drafts of problems, or with none where memory is refused.
+fn room_for(job: Job<'_>, span: Span) -> Vec<Draft>
+    ensures { result.items ≡ [] }
+{
+    match Vec::with_capacity(job.alloc, span.to.saturating_sub(span.from)) {
+        Ok(drafts) => drafts,
+        Err(_) => Vec::new(job.alloc),
+    }
 }

@@ -6,9 +6,12 @@ mod answering;
 mod checking;
 mod drafts;
 mod finding;
+mod handing;
+mod lanes;
 pub mod laws;
 mod performing;
 mod progress;
+mod round;
 mod sheet;
 mod totals;
 
