@@ -68,7 +68,7 @@ pub(crate) fn threads_at_once<H: Threads>(rt: &H, options: &RunOptions) -> usize
 }
 
 /// How drafts are made: each thread takes several problems at once where they are many and their reports have few lines, so
-/// that threads seldom meet.
+/// that threads seldom meet. Where a text is too long to be kept, the search that has its answer is: then less is made ahead.
 fn plan_of(problems: usize, threads: usize, lines: usize, walks: bool) -> Plan
     requires { (1 ≤ threads) × (1 ≤ lines) × (threads ≤ 16) }
     ensures part { 0 < result.part }
@@ -77,11 +77,17 @@ fn plan_of(problems: usize, threads: usize, lines: usize, walks: bool) -> Plan
     let few = (problems / (threads * 4)).min(MOST_IN_PART).max(1);
     let part = (LINES_IN_PART / lines).max(1).min(few);
     let most = KEPT / part;
+    let length = lines.saturating_mul(LINE);
+    let parts = if walks || length > most {
+        1
+    } else {
+        PARTS_AHEAD
+    };
     Plan {
         walks,
         part,
-        ahead: part * threads * PARTS_AHEAD,
-        room: lines.saturating_mul(LINE).min(most),
+        ahead: part * threads * parts,
+        room: length.min(most),
         most,
     }
 }
