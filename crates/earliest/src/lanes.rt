@@ -14,6 +14,13 @@ use std::thread::yield_now;
 /// writes to a slow device doesn't keep processors busy meanwhile.
 const MOST_WAITS: u32 = 524_288;
 
+/// How often the thread that sends lets others run while the next part isn't there and no other is to be made, before it begins anew
+/// without it: some seconds. Nothing is waited for longer, were a part lost for want of memory.
+const MOST_IDLE: u32 = 16_777_216;
+
+/// How many parts are taken out of the queue of one thread at once, at most.
+const MOST_TAKEN: usize = 64;
+
 /// A thread that makes reports: where it leaves what it made.
 #[derive(Drop)]
 pub(crate) struct Lane<J: Asks> {
@@ -67,6 +74,8 @@ pub(crate) fn make_in_lane<J: Asks>(job: Job<'_>, round: &Round, lane: &mut Lane
 pub(crate) struct Desk<J: Asks> {
     pub left: Vec<Taker<J>>,
     pub pile: Vec<Made>,
+    /// How often in a row others were let run since nothing was there.
+    idle: u32,
 }
 
 /// So many threads, how they share the problems, and the desk for what they make.
@@ -95,6 +104,7 @@ impl<J: Asks> Lanes<J> {
             desk: Desk {
                 left,
                 pile: Vec::with_capacity(alloc, 64)?,
+                idle: 0,
             },
         })
     }
@@ -110,17 +120,31 @@ fn place_of(pile: &[Made], from: usize) -> usize {
     pile.len()
 }
 
+/// Puts what a thread left on the pile. What finds no memory there is dropped, and is made when it is its turn.
+fn collect<J: Asks>(taker: &Taker<J>, job: Job<'_>, pile: &mut Vec<Made>)
+    requires named { IsFor J.fits job }
+    requires pile { ArePiled job pile.old.items }
+    ensures pile { ArePiled job.entry pile.new.items }
+{
+    for _ in 0..MOST_TAKEN {
+        match get(taker, job) {
+            Some(made) => {
+                let _ = pile.push(made);
+            }
+            None => return,
+        }
+    }
+}
+
 impl<J: Asks> Desk<J> {
-    /// Puts what threads left on the pile. What finds no memory there is dropped, and is made when it is its turn.
+    /// Puts what threads left on the pile.
     fn gather(&mut self, job: Job<'_>)
         requires named { IsFor J.fits job }
         requires pile { ArePiled job self.old.pile.items }
         ensures pile { ArePiled job.entry self.new.pile.items }
     {
         for taker in &self.left {
-            if let Some(made) = get(taker, job) {
-                let _ = self.pile.push(made);
-            }
+            collect(taker, job, &mut self.pile);
         }
     }
 
@@ -137,6 +161,7 @@ impl<J: Asks> Desk<J> {
         if at >= self.pile.len() {
             return None;
         }
+        self.idle = 0;
         let made = self.pile.swap_remove(at);
         if made.from == from {
             Some(made.drafts)
@@ -145,7 +170,7 @@ impl<J: Asks> Desk<J> {
         }
     }
 
-    /// Makes drafts too, or lets others run: false where nobody else makes any.
+    /// Makes drafts too, or lets others run: false where nobody else makes any, or nothing came for long.
     pub(crate) fn help(&mut self, job: Job<'_>, round: &Round, last: &mut Option<Search>) -> bool
         requires job { IsJob job }
         requires pile { ArePiled job self.old.pile.items }
@@ -158,11 +183,19 @@ impl<J: Asks> Desk<J> {
         }
         match round.take(job) {
             Some(span) => {
+                self.idle = 0;
                 let made = make_drafts(job, span, last);
                 let _ = self.pile.push(made);
             }
-            None => yield_now(),
+            None => {
+                self.idle = self.idle.saturating_add(1);
+                yield_now();
+            }
         }
-        true
+        if self.idle < MOST_IDLE {
+            return true;
+        }
+        self.idle = 0;
+        false
     }
 }
