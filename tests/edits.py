@@ -2,24 +2,22 @@
 
 A check loads much before it proves anything. So many edits go into one check: for each, the function that it changes is written
 once more beside itself, under a name of its own, with the edit made there and with its proofs, and once as it stands. What a function
-promises rests on what others promise, and never on their bodies, and nobody calls a function written once more: so each edit is tried
-as if it were alone. It is refused there where its function isn't proved, a line says so of that function, and the one as it stands is
-proved; else nothing that was seen counts.
+promises rests on what others promise, and never on their bodies or proofs, and nobody calls a function written once more: so each edit
+is tried as if it were alone. All other functions have been proved by rt ci, so in these checks their proofs are left out, a hole in each
+one's place: no check of an edit proves again what the edited function calls. An edit is refused where its function isn't proved, whatever
+stands in these holes, a line says so of that function, and the one as it stands has no hole of its own; else nothing that was seen counts.
 
 What can't be written twice (functions of traits, functions with closures) is edited in its place, edits of functions of which none calls another
 together, in one check of these functions alone. An edit is refused there where one of its own functions isn't proved and a line says so
-of that function; where rt says that a function calls another that isn't proved, its edit is tried again later. All this is done over one
-folder of kept work, over which these functions are proved as they stand once all edits were tried there: else nothing that was seen
-counts. What isn't refused so is tried alone, by a check of its functions; and where that refuses nothing, or the edit changes more than
-functions, rt's own trial of the whole crate decides. What is read as a refusal is what rt reads as one.
-
-That folder begins with what rt ci proved of the crate as it stands, where the library that it built holds that: so no check of functions
-proves again what these call. Some kits' libraries hold statements alone; there the folder goes on from one group of a crate's edits to the
-next. A trial of the whole crate begins with nothing, since nothing tells there that the crate as it stands is proved.
+of that function; where rt says that a function calls another that isn't proved, its edit is tried again later. Once all edits were tried
+there, these functions as they stand have no hole of their own: else nothing that was seen counts. What isn't refused so is tried alone,
+by a check of its functions; and where that refuses nothing, or the edit changes more than functions, rt's own trial of the whole crate
+decides, with all proofs. What is read as a refusal is what rt reads as one.
 
 What an edit came to is kept where rt keeps what its own runs proved, under a sum of all that it rests on, and taken from there where
 nothing has changed since. Some kits keep nothing between runs; then each edit is tried in each run.
 """
+import contextlib
 import copy
 import hashlib
 import json
@@ -37,6 +35,13 @@ TOGETHER = 48
 
 FUNCTION = re.compile(r"^( *)(?:pub(?:\([^)]*\))? )?(?:final |const )*fn (\w+)", re.M)
 IMPL = re.compile(r"^impl\b.*$", re.M)
+
+# What a check that passes holes says of a function: the second is well too.
+SAID = re.compile(r"^fn \w+?::(\S+): (no holes|depends on a hole|not proved|no proof|could not tell)\b(.*)$", re.M)
+WELL = ("no holes", "depends on a hole")
+
+# Functions that call one another have one proof of them all.
+OF_A_CYCLE = re.compile(r"#\[cycle\(\w+\)\]\n(?: *(?:#|//).*\n)* *(?:pub(?:\([^)]*\))? )?fn (\w+)")
 
 # What a proof says of a name that an edit took away: it tells nothing of the contract.
 NAMES = re.compile(r"(\./)?proofs/.*(has no field|is not in scope|has no `|was not admitted)")
@@ -215,13 +220,51 @@ def is_told_of(line, place, paths, texts):
 def told_by(rt, ran, texts):
     """The lines of a check of functions that refuse some of them; none where it refused none or could not read what it was given."""
     lines = ran.stdout.rstrip("\n").split("\n")
-    counts = re.fullmatch(r"only=(\d+) proved=(\d+)", lines[-1])
-    if ran.returncode != 1 or not counts or int(counts[2]) >= int(counts[1]):
+    if ran.returncode != 1 or not re.fullmatch(r"only=\d+ holes=\d+", lines[-1]):
         return []
     if any(rt.unread(line, texts) for line in lines):
         return []
     told = [line for line in lines if re.match(r"(note: )?\S+:\d+:\d+:", line)]
     return [line for line in told if (": error" in line or line.startswith("note: ")) and not NAMES.match(line)]
+
+
+@contextlib.contextmanager
+def copied(crate):
+    """The crate in a folder of its own."""
+    with tempfile.TemporaryDirectory(prefix="edits-") as room:
+        for part in ("src", "specs", "proofs"):
+            if os.path.isdir(f"{crate.folder}/{part}"):
+                shutil.copytree(f"{crate.folder}/{part}", f"{room}/{part}")
+        made = copy.copy(crate)
+        made.folder = room
+        yield made
+
+
+def leave_hole(crate, path):
+    """Puts a hole in the place of a function's proof."""
+    folder, name = f"{crate.folder}/proofs/{path.replace('::', '/')}", path.split("::")[-1]
+    os.makedirs(folder, exist_ok=True)
+    for file in ("Invariants.antt", "Answers.antt"):
+        if os.path.isfile(f"{folder}/{file}"):
+            os.remove(f"{folder}/{file}")
+    with open(f"{folder}/Proof.antt", "w", encoding="utf-8") as file:
+        file.write(f"use Rattle.{crate.name}.proofs.{path.replace('::', '.')}.Statement.{{statement}}\n\n")
+        file.write(f"pub {name}_spec : {{M : Type 1}} → statement M\n{name}_spec = ?\n")
+
+
+def leave_holes(crate, paths):
+    """Puts holes in the places of functions' proofs, but for what has no proof of its own: closures, what is let go of, what a trait
+    declares, and functions that call one another."""
+    files = [f"{at}/{name}" for at, _, names in os.walk(f"{crate.folder}/src") for name in names]
+    cycles = {name for file in files for name in OF_A_CYCLE.findall(text_of(file))}
+    for path in paths:
+        if path.split("::")[-1] not in cycles and not re.search(r"\+\+|\+decl$|(^|::)fn::", path):
+            leave_hole(crate, path)
+
+
+def checked(rt, crate, texts, flags, kept):
+    """Checks functions of a crate where others' proofs are holes."""
+    return rt.checked(crate, texts, ["--jobs", "1", "--allow-holes", *flags], kept)
 
 
 def joined(edits):
@@ -233,8 +276,8 @@ def together(rt, crate, edits, places, functions, kept):
     """Tries edits that are apart in one check: the line that refused each, and those of which it says nothing, since a function
     that they change calls one that isn't proved."""
     texts, _ = rt.edited(joined(edits), crate.folder)
-    ran = rt.checked(crate, texts, ["--jobs", "1"] + only([it for edit in edits for it in places[edit]], functions), kept)
-    said = re.findall(r"^fn \w+?::(\S+): (not proved|no proof)\b(.*)$", ran.stdout, re.M)
+    ran = checked(rt, crate, texts, only([it for edit in edits for it in places[edit]], functions), kept)
+    said = [it for it in SAID.findall(ran.stdout) if it[1] in ("not proved", "no proof")]
     above = {path for path, _, why in said if "which is not proved" in why}
     failed = {path for path, _, _ in said} - above
     told, found, later = told_by(rt, ran, texts), {}, []
@@ -254,8 +297,10 @@ def alone(rt, crate, edit, places, functions, kept):
     texts, why = rt.read_edit(edit, crate.folder)
     if why:
         return None
-    ran = rt.checked(crate, texts, ["--jobs", "1"] + only(places, functions), kept)
-    return next(iter(told_by(rt, ran, texts)), None)
+    ran = checked(rt, crate, texts, only(places, functions), kept)
+    paths = tuple(f"{path}::" for place in places for path in paths_of(place, functions))
+    failed = any(said in ("not proved", "no proof") and f"{path}::".startswith(paths) for path, said, _ in SAID.findall(ran.stdout))
+    return next(iter(told_by(rt, ran, texts)), None) if failed else None
 
 
 def quickly(rt, crate, edits, kept):
@@ -266,7 +311,10 @@ def quickly(rt, crate, edits, kept):
     places = {edit: every[edit] for edit in edits if every[edit] and are_functions(every[edit], functions)}
     aside = side_by_side(rt, crate, list(places), places, functions, kept)
     places = {edit: places[edit] for edit in places if edit not in aside}
-    return {**aside, **in_place(rt, crate, places, functions, kept)}
+    standing = {path for edit in places for place in places[edit] for path in paths_of(place, functions)}
+    with copied(crate) as bare:
+        leave_holes(bare, [path for path in functions if path not in standing])
+        return {**aside, **in_place(rt, bare, places, functions, kept)}
 
 
 def in_place(rt, crate, places, functions, kept):
@@ -282,8 +330,11 @@ def in_place(rt, crate, places, functions, kept):
             elif edit not in refused:
                 found[edit] = alone(rt, crate, edit, places[edit], functions, kept)
         left = [edit for edit in left if edit not in found]
+    if not places:
+        return {}
     standing = only([it for edit in places for it in places[edit]], functions)
-    return found if places and not rt.checked(crate, {}, ["--jobs", "1"] + standing, kept).returncode else {}
+    said = SAID.findall(checked(rt, crate, {}, standing, kept).stdout)
+    return found if said and all(it[1] in WELL for it in said) else {}
 
 
 def home_of(folder, place):
@@ -346,19 +397,16 @@ def written_once_more(room, item, texts, mark):
     return path, re.sub(rf"\bfn {name}\b", f"fn {name}_{mark}", texts[item.file], count=1)
 
 
-def beside(crate, room, items, texts):
-    """Copies a crate into a folder, with each edited function written once more beside itself, once for each of its edits and once as it
-    stands: the path of each one that stands, that of each edit's, and the texts of the files."""
-    for part in ("src", "specs", "proofs"):
-        if os.path.isdir(f"{crate.folder}/{part}"):
-            shutil.copytree(f"{crate.folder}/{part}", f"{room}/{part}")
+def beside(crate, items, texts):
+    """Writes each edited function of a crate once more beside itself, once for each of its edits and once as it stands: the path of each
+    one that stands, that of each edit's, and the texts of the files."""
     standing, paths, added = {}, {}, {}
     for at, edit in enumerate(texts):
         item = items[edit]
         if item not in standing:
-            standing[item], text = written_once_more(room, item, {item.file: item.text}, "as_it_stands")
+            standing[item], text = written_once_more(crate.folder, item, {item.file: item.text}, "as_it_stands")
             added.setdefault(item.file, []).append((item.end, text))
-        paths[edit], text = written_once_more(room, item, texts[edit], f"edit_{at}")
+        paths[edit], text = written_once_more(crate.folder, item, texts[edit], f"edit_{at}")
         added[item.file].append((item.end, text))
     whole = {file: text_of(f"{crate.folder}/{file}") for file in added}
     for file, more in added.items():
@@ -374,18 +422,17 @@ def side_by_side(rt, crate, edits, places, functions, kept):
     texts = {edit: made for edit, made in texts.items() if made}
     if not texts:
         return {}
-    with tempfile.TemporaryDirectory(prefix="edits-") as room:
-        standing, paths, whole = beside(crate, room, items, texts)
-        copied = copy.copy(crate)
-        copied.folder = room
+    with copied(crate) as bare:
+        standing, paths, whole = beside(bare, items, texts)
+        leave_holes(bare, functions)
         flags = [word for path in [*standing.values(), *paths.values()] for word in ("--only", path)]
-        ran = rt.checked(copied, whole, ["--jobs", "1", *flags], kept)
-    said = dict(re.findall(r"^fn \w+?::(\S+): (proved|not proved|no proof)\b", ran.stdout, re.M))
+        ran = checked(rt, bare, whole, flags, kept)
+    said = {path: what for path, what, _ in SAID.findall(ran.stdout)}
     told, found = told_by(rt, ran, whole), {}
     for edit, path in paths.items():
         place = places[edit][0]._replace(function=path.split("::")[-1])
         line = next((line for line in told if is_told_of(line, place, [path], whole)), None)
-        if line and said.get(path) in ("not proved", "no proof") and said.get(standing[items[edit]]) == "proved":
+        if line and said.get(path) in ("not proved", "no proof") and said.get(standing[items[edit]]) in WELL:
             found[edit] = line
     return found
 
@@ -421,43 +468,6 @@ def is_refusal(rt, kind):
     return kind in (refusal(rt), getattr(rt, "AT_LIMIT", True))
 
 
-def modules_of(library):
-    """What a library holds of the checks that proved it: a file, and for each module a name and where its text lies in that file. No module
-    where the library is written otherwise, or holds statements alone."""
-    library = f"{library}/toolchain"
-    try:
-        with open(f"{library}/checked.json", encoding="utf-8") as file:
-            places = [json.loads(line) for line in file]
-        return f"{library}/checked.a", [(module, at, size) for module, at, size in places if re.fullmatch(r"[\w.+-]+", module)]
-    except (OSError, ValueError, TypeError):
-        return None, []
-
-
-def begin(crate, kept):
-    """Puts into a folder of kept work what the library of a crate holds of the checks that proved it, a file for each module as the prover itself
-    keeps them; nothing where the library is written otherwise."""
-    library = f"{crate.folder}/out/rlib/{crate.name}.rlib"
-    archive, modules = modules_of(library)
-    try:
-        build = re.search(r"^rattle-build (\S+)$", text_of(f"{library}/format"), re.M)[1].replace("/", "_")
-        with open(archive, "rb") as file:
-            checked = file.read()
-        os.makedirs(f"{kept}/{build}")
-        for module, at, size in modules:
-            with open(f"{kept}/{build}/{module}.oantt", "wb") as file:
-                file.write(checked[at : at + size])
-    except (OSError, TypeError):
-        shutil.rmtree(kept)
-        os.makedirs(kept)
-
-
-def work_on(room, name, count):
-    """In which parts this many groups of a crate's edits are tried, each part by one process: each group apart where each can begin with what
-    rt ci proved, else all in turn."""
-    _, modules = modules_of(f"{room}/crates/{name}/out/rlib/{name}.rlib")
-    return [[at] for at in range(count)] if modules else [list(range(count))]
-
-
 def try_group(rt, crate, edits, kept):
     """Tries a group of a crate's edits over kept work, and prints what each came to."""
     store = Store(rt, crate, edits)
@@ -479,18 +489,16 @@ def try_group(rt, crate, edits, kept):
 
 
 def main():
-    """python3 tests/edits.py ROOM ROOT NAME AT..: tries these groups of a crate's edits in ROOM, a copy of the repository ROOT
-    where rt ci has built the libraries."""
+    """python3 tests/edits.py ROOM ROOT NAME AT: tries this group of a crate's edits in ROOM, a copy of the repository ROOT where rt ci
+    has built the libraries."""
     rt, rtlib = kit()
-    room, root, name, *numbers = sys.argv[1:]
+    room, root, name, at = sys.argv[1:]
     os.chdir(room)
     rtlib.guarded()
     crate = next(it for it in rtlib.crates_below(room) if it.name == name)
     type(crate).allowed = rt.handles_of(room)
     with tempfile.TemporaryDirectory(prefix="edits-") as kept:
-        begin(crate, kept)
-        for at in numbers:
-            try_group(rt, crate, groups(root, name)[int(at)], kept)
+        try_group(rt, crate, groups(root, name)[int(at)], kept)
 
 
 if __name__ == "__main__":

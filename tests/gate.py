@@ -75,9 +75,9 @@ def lanes_beside(processors, memory):
     return max(1, min(processors, memory // MEMORY_OF_A_LANE))
 
 
-def tried(room, name, numbers):
-    """Whether each edit of some groups was refused, and what is said of it."""
-    words = ["nice", sys.executable, os.path.join(run.HERE, "edits.py"), room, crates.ROOT, name, *map(str, numbers)]
+def tried(room, name, number):
+    """Whether each edit of a group was refused, and what is said of it."""
+    words = ["nice", sys.executable, os.path.join(run.HERE, "edits.py"), room, crates.ROOT, name, str(number)]
     ran = subprocess.run(words, stdout=subprocess.PIPE, stderr=subprocess.STDOUT, text=True, errors="replace")
     said = [line.partition(" ") for line in ran.stdout.splitlines() if re.match("refused |kept |NOT ", line)]
     for mark, _, text in said:
@@ -86,41 +86,41 @@ def tried(room, name, numbers):
 
 
 class Trials:
-    """The edits that are left to try: of each crate so many in each group, and in which parts they are tried once it is proved."""
+    """The edits that are left to try: of each crate so many in each group. A group can be tried once its crate is proved."""
 
-    def __init__(self, room, names, uses):
-        self.room, self.names, self.uses = room, set(names), uses
+    def __init__(self, names, uses):
+        self.names, self.uses = set(names), uses
         self.sizes = {name: sizes for name in names for sizes in [edits.sizes(crates.ROOT, name)] if sizes}
         self.unproved = sorted(self.sizes, key=lambda name: -sum(self.sizes[name]))
         self.ready = []
 
     def next(self, proofs):
-        """A part that can be tried now, of the crate with the most edits; none where there is none."""
+        """A group that can be tried now, of those the one with the most edits; none where there is none."""
         for name in [it for it in self.unproved if proofs.status == 0 or {it, *crates.below(it, self.uses)} & self.names <= proofs.proved]:
             self.unproved.remove(name)
-            self.ready += [(name, numbers) for numbers in edits.work_on(self.room, name, len(self.sizes[name]))]
-        self.ready.sort(key=lambda it: -sum(self.sizes[it[0]]))
+            self.ready += [(name, at) for at in range(len(self.sizes[name]))]
+        self.ready.sort(key=lambda it: -self.count(*it))
         return self.ready.pop(0) if self.ready else None
 
-    def count(self, name, numbers):
-        return sum(self.sizes[name][at] for at in numbers)
+    def count(self, name, number):
+        return self.sizes[name][number]
 
 
 def all_tried(room, names, uses, proofs):
     """Tries the edits of these crates, each crate's once it and those below it are proved, none where the proofs failed: how
     many were refused, how many were not, how many of those refused say little, and how many an earlier run has tried."""
-    left, running, given = Trials(room, names, uses), {}, []
+    left, running, given = Trials(names, uses), {}, []
     beside = lanes_beside(crates.processors(), os.sysconf("SC_PHYS_PAGES") * os.sysconf("SC_PAGE_SIZE"))
     with ThreadPoolExecutor(crates.processors()) as pool:
         while left.unproved or left.ready or running:
             lanes = beside if proofs.status is None else crates.processors()
-            while not proofs.status and len(running) < lanes and (part := left.next(proofs)):
-                running[pool.submit(tried, room, *part)] = part
+            while not proofs.status and len(running) < lanes and (group := left.next(proofs)):
+                running[pool.submit(tried, room, *group)] = group
             for ended in [it for it in running if it.done()]:
-                name, numbers = running.pop(ended)
+                name, number = running.pop(ended)
                 said, why = ended.result()
                 given += said
-                lacking = left.count(name, numbers) - len(said)
+                lacking = left.count(name, number) - len(said)
                 if lacking:
                     print(f"edits of {name} were not tried:\n{why}", flush=True)
                     given += [("NOT", "", "")] * lacking
