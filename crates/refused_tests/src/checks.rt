@@ -1,37 +1,12 @@
 //! Checks of reports whose growths are refused.
-use crate::counts::{Came, Count};
+use crate::counts::{Came, Count, Trial, count_of};
 use crate::devices::Taking;
-use crate::given::{FROM_ONE, NO_ARCS, unreached, walks_by};
+use crate::given::{FOUR_NODES, FROM_ONE, NO_ARCS, unreached, walks_by};
 use ea_input::StdIn;
 use earliest::{AnswerFault, CheckFault, check_report};
-use std::alloc::Global;
+use std::alloc::{AllocError, Global};
 use std::test::Fail;
-use tests_given::memory::{Held, pieces};
-
-/// A check of the network without arcs, whose report takes memory at its end.
-fn verdict_with(
-    alloc: Global,
-    held: Held,
-    piece: Vec<u8>,
-    report: &[u8],
-) -> Result<Result<(), CheckFault>, AnswerFault> {
-    let mut gr = StdIn::new(NO_ARCS);
-    let mut ss = StdIn::new(FROM_ONE);
-    let mut tp: Option<StdIn<&[u8]>> = None;
-    let mut report = StdIn::new(Taking {
-        bytes: report,
-        held,
-        piece: Some(piece),
-    });
-    check_report(
-        alloc,
-        &mut gr,
-        &mut ss,
-        &mut tp,
-        &walks_by(false),
-        &mut report,
-    )
-}
+use tests_given::memory::Held;
 
 /// Memory that is wanted for the check itself is its verdict, whatever the report has.
 fn came_of(
@@ -45,62 +20,79 @@ fn came_of(
     }
 }
 
+/// A check of the network without arcs, whose report takes memory at its end.
+#[derive(Clone, Copy)]
+struct Unreached<'a> {
+    report: &'a [u8],
+    wanted: Result<(), CheckFault>,
+}
+
+impl Trial for Unreached<'_> {
+    fn came(&mut self, alloc: Global, held: &mut Held, piece: Vec<u8>) -> Came {
+        let options = walks_by(false);
+        let mut gr = StdIn::new(NO_ARCS);
+        let mut ss = StdIn::new(FROM_ONE);
+        let mut tp: Option<StdIn<&[u8]>> = None;
+        let mut report = StdIn::new(Taking {
+            bytes: self.report,
+            held,
+            piece: Some(piece),
+        });
+        let verdict = check_report(alloc, &mut gr, &mut ss, &mut tp, &options, &mut report);
+        came_of(verdict, self.wanted)
+    }
+}
+
+/// What checks of the report of the network without arcs come to, with more lines at its end.
+fn count_unreached(
+    alloc: Global,
+    more: &[u8],
+    wanted: Result<(), CheckFault>,
+) -> Result<Count, AllocError> {
+    let mut report = unreached(alloc)?;
+    report.extend_from_slice(more)?;
+    let mut trial = Unreached {
+        report: &report,
+        wanted,
+    };
+    count_of(alloc, &mut trial, 0, 110, 1_024)
+}
+
 #[test]
 fn check_of_a_report(rt: HostRuntime) -> Result<(), Fail> {
-    let alloc = rt.alloc();
-    let right = unreached(alloc)?;
-    let mut wrong = unreached(alloc)?;
-    wrong.extend_from_slice(b"s 1 0\n")?;
-    for (report, wanted) in [
-        (right.as_slice(), Ok(())),
-        (wrong.as_slice(), Err(CheckFault::BadLine(2_002))),
-    ] {
-        let sizes = pieces(alloc, 0, 110, 1_024)?;
-        let mut large = Held::of_large(alloc, 4)?;
-        let mut count = Count::new();
-        for piece in sizes {
-            let held = Held::new(alloc, 4_000)?;
-            count.add(came_of(verdict_with(alloc, held, piece, report), wanted));
-        }
-        large.release();
+    let cases: [(&[u8], Result<(), CheckFault>); 2] = [
+        (b"", Ok(())),
+        (b"s 1 0\n", Err(CheckFault::BadLine(2_002))),
+    ];
+    for (more, wanted) in cases {
+        let count = count_unreached(rt.alloc(), more, wanted)?;
         assert!(rt; count.is_refused_at_least(3), "{count}");
     }
     Ok(())
 }
 
-/// A check of four-nodes where a piece of memory is left from the start.
-fn read_with(alloc: Global, small: &mut Held, piece: Vec<u8>) -> Came {
-    let mut gr = StdIn::new(crate::given::FOUR_NODES);
-    let mut ss = StdIn::new(FROM_ONE);
-    let mut tp: Option<StdIn<&[u8]>> = None;
-    let mut report = StdIn::new(b"s 1 0\nd 1 0\nd 2 5\nd 3 2\nd 4 6\n".as_slice());
-    small.leave(piece);
-    let verdict = check_report(
-        alloc,
-        &mut gr,
-        &mut ss,
-        &mut tp,
-        &walks_by(false),
-        &mut report,
-    );
-    small.release();
-    match verdict {
-        Err(AnswerFault::OutOfMemory { written: 0 }) => Came::Refused,
-        verdict => came_of(verdict, Ok(())),
+/// A check of four-nodes whose memory is taken at its beginning.
+#[derive(Clone, Copy)]
+struct Four;
+
+impl Trial for Four {
+    fn came(&mut self, alloc: Global, held: &mut Held, piece: Vec<u8>) -> Came {
+        let options = walks_by(false);
+        let mut gr = StdIn::new(FOUR_NODES);
+        let mut ss = StdIn::new(FROM_ONE);
+        let mut tp: Option<StdIn<&[u8]>> = None;
+        let mut report = StdIn::new(b"s 1 0\nd 1 0\nd 2 5\nd 3 2\nd 4 6\n".as_slice());
+        held.leave(piece);
+        match check_report(alloc, &mut gr, &mut ss, &mut tp, &options, &mut report) {
+            Err(AnswerFault::OutOfMemory { written: 0 }) => Came::Refused,
+            verdict => came_of(verdict, Ok(())),
+        }
     }
 }
 
 #[test]
 fn files_of_a_check(rt: HostRuntime) -> Result<(), Fail> {
-    let alloc = rt.alloc();
-    let mut small = Held::new(alloc, 20_000)?;
-    let sizes = pieces(alloc, 65_500, 200, 16)?;
-    let mut large = Held::of_large(alloc, 4)?;
-    let mut count = Count::new();
-    for piece in sizes {
-        count.add(read_with(alloc, &mut small, piece));
-    }
-    large.release();
+    let count = count_of(rt.alloc(), &mut Four, 65_500, 200, 16)?;
     assert!(rt; count.is_refused_at_least(5), "{count}");
     Ok(())
 }

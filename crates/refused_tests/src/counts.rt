@@ -1,5 +1,7 @@
 //! What calls with little memory come to.
+use std::alloc::{AllocError, Global};
 use std::fmt;
+use tests_given::memory::{Held, pieces};
 
 /// What a call came to.
 #[derive(Clone, Copy, PartialEq, Eq)]
@@ -50,4 +52,40 @@ impl fmt::Display for Count {
             self.whole, self.refused, self.wrong
         )
     }
+}
+
+/// A call that is tried where little memory is left.
+pub trait Trial {
+    /// What it comes to where all memory but a piece is taken, at its beginning or in the middle of it.
+    fn came(&mut self, alloc: Global, held: &mut Held, piece: Vec<u8>) -> Came;
+}
+
+/// So many pieces of memory that grow by a step, what is to hold small blocks, and what holds all large ones.
+pub fn taken(
+    alloc: Global,
+    first: u32,
+    count: u32,
+    step: u32,
+) -> Result<(Held, Vec<Vec<u8>>, Held), AllocError> {
+    let small = Held::new(alloc, 20_000)?;
+    let sizes = pieces(alloc, first, count, step)?;
+    Ok((small, sizes, Held::of_large(alloc, 4)?))
+}
+
+/// What a call comes to with each of so many pieces of memory, which grow by a step.
+pub fn count_of<T: Trial>(
+    alloc: Global,
+    trial: &mut T,
+    first: u32,
+    count: u32,
+    step: u32,
+) -> Result<Count, AllocError> {
+    let (mut small, sizes, mut large) = taken(alloc, first, count, step)?;
+    let mut count = Count::new();
+    for piece in sizes {
+        count.add(trial.came(alloc, &mut small, piece));
+        small.release();
+    }
+    large.release();
+    Ok(count)
 }

@@ -6,7 +6,7 @@ use tests_given::memory::Held;
 #[derive(Drop)]
 pub struct Taking<'a> {
     pub bytes: &'a [u8],
-    pub held: Held,
+    pub held: &'a mut Held,
     /// What is left of the memory.
     pub piece: Option<Vec<u8>>,
 }
@@ -29,7 +29,7 @@ impl Read for Taking<'_> {
 #[derive(Drop)]
 pub struct Greedy<'a> {
     pub room: &'a mut [u8],
-    pub held: Held,
+    pub held: &'a mut Held,
     /// What is left of the memory.
     pub piece: Option<Vec<u8>>,
 }

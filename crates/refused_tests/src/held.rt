@@ -1,4 +1,7 @@
 //! Calls that need little memory, whatever the size of the network, where little is left.
+ghost use Rattle.ea_report.specs.Asked.{IsOf};
+
+use crate::counts::taken;
 use ea_finish::{Answer, Open, arrivals_alone, solve_alone};
 use ea_input::{FaultKind, InputFault, StdOut, read_gr, read_p2p, read_ss, read_tp};
 use ea_report::{ReportOptions, write_problem};
@@ -6,13 +9,12 @@ use ea_road::{Arc, Network, Query, Source, Timetables, is_problem};
 use std::alloc::{AllocError, Global};
 use std::io::{self, Write};
 use std::test::Fail;
-use tests_given::memory::{Held, pieces};
 
 /// How many nodes the networks have.
 const NODES: u32 = 60_000;
 
-/// A network of nodes without arcs, or along a path of arcs of weight 3.
-fn network_of(alloc: Global, is_path: bool) -> Result<Network, Fail> {
+/// A network of nodes without arcs, or along a path of arcs of weight 3; none where it doesn't fit.
+fn network_of(alloc: Global, is_path: bool) -> Result<Option<Network>, AllocError> {
     let mut arcs = Vec::new(alloc);
     if is_path {
         for tail in 1..NODES {
@@ -25,9 +27,9 @@ fn network_of(alloc: Global, is_path: bool) -> Result<Network, Fail> {
         }
     }
     if !Network::fits(NODES, &arcs) {
-        return Err(Fail::from("no network"));
+        return Ok(None);
     }
-    Ok(Network::new(alloc, NODES, arcs)?)
+    Ok(Some(Network::new(alloc, NODES, arcs)?))
 }
 
 /// All nodes from node 1 at 0.
@@ -60,25 +62,42 @@ impl Write for Counting {
 /// The length of the report: `s 1 0`, `d 1 0`, and `d V inf` for 8 nodes of one digit, 90 of two, 900, 9,000 and 50,001.
 const REPORT_BYTES: u128 = 12 + 8 * 8 + 90 * 9 + 900 * 10 + 9_000 * 11 + 50_001 * 12;
 
-/// How many bytes of the report of a network without arcs went out, where some 400,000 bytes are left.
-fn large_report(alloc: Global) -> Result<Option<u128>, Fail> {
-    let network = network_of(alloc, false)?;
-    let times = Timetables::new(Vec::new(alloc));
-    let query = from_first(alloc)?;
-    if !is_problem(&network, times.classes(), &query) {
-        return Err(Fail::from("no problem"));
-    }
-    let answer = arrivals_alone(alloc, &network, &times, &query)?;
-    let mut small = Held::new(alloc, 20_000)?;
-    let sizes = pieces(alloc, 100_000, 4, 0)?;
-    let mut large = Held::of_large(alloc, 4)?;
+/// How many bytes of a report went out, where some 400,000 bytes are left.
+fn written_with_little(
+    alloc: Global,
+    network: &Network,
+    query: &Query,
+    answer: &Answer,
+) -> Result<Option<u128>, AllocError>
+    requires { IsOf network.now query.now answer.now }
+{
+    let (mut small, sizes, mut large) = taken(alloc, 100_000, 4, 0)?;
     let options = ReportOptions { walks: false };
     let mut out = StdOut::new(Counting { bytes: 0 });
     small.leave_together(sizes);
-    let written = write_problem(alloc, &network, &query, &answer, options, &mut out).ok();
+    let written = write_problem(alloc, network, query, answer, options, &mut out).ok();
     small.release();
     large.release();
     Ok(written)
+}
+
+/// The same of the arrivals at all nodes of a network; none where they can't be asked.
+fn written_of(alloc: Global, network: &Network, query: &Query) -> Result<Option<u128>, AllocError> {
+    let times = Timetables::new(Vec::new(alloc));
+    if !is_problem(network, times.classes(), query) {
+        return Ok(None);
+    }
+    let answer = arrivals_alone(alloc, network, &times, query)?;
+    written_with_little(alloc, network, query, &answer)
+}
+
+/// The same of the network without arcs.
+fn large_report(alloc: Global) -> Result<Option<u128>, AllocError> {
+    let query = from_first(alloc)?;
+    match network_of(alloc, false)? {
+        Some(network) => written_of(alloc, &network, &query),
+        None => Ok(None),
+    }
 }
 
 #[test]
@@ -88,13 +107,11 @@ fn report_is_larger_than_the_memory(rt: HostRuntime) -> Result<(), Fail> {
 }
 
 /// The walk of the third node, where 2,000 bytes are left.
-fn short_walk(alloc: Global, answer: &Answer) -> Result<Option<Vec<u32>>, Fail> {
+fn short_walk(alloc: Global, answer: &Answer) -> Result<Option<Vec<u32>>, AllocError> {
     if !answer.asks(3) || !answer.has_walks() {
-        return Err(Fail::from("no walks"));
+        return Ok(None);
     }
-    let mut small = Held::new(alloc, 20_000)?;
-    let sizes = pieces(alloc, 2_000, 1, 0)?;
-    let mut large = Held::of_large(alloc, 4)?;
+    let (mut small, sizes, mut large) = taken(alloc, 2_000, 1, 0)?;
     let mut walk = Ok(None);
     for piece in sizes {
         small.leave(piece);
@@ -102,25 +119,41 @@ fn short_walk(alloc: Global, answer: &Answer) -> Result<Option<Vec<u32>>, Fail> 
         small.release();
     }
     large.release();
-    Ok(walk?)
+    walk
+}
+
+/// The answer of a network from the first node; none where it can't be asked.
+fn answer_of(alloc: Global, network: &Network) -> Result<Option<Answer>, AllocError> {
+    let times = Timetables::new(Vec::new(alloc));
+    let query = from_first(alloc)?;
+    if !is_problem(network, times.classes(), &query) {
+        return Ok(None);
+    }
+    Ok(Some(solve_alone(alloc, network, &times, &query)?))
 }
 
 /// The answer along the path.
-fn path_answer(alloc: Global) -> Result<Answer, Fail> {
-    let network = network_of(alloc, true)?;
-    let times = Timetables::new(Vec::new(alloc));
-    let query = from_first(alloc)?;
-    if !is_problem(&network, times.classes(), &query) {
-        return Err(Fail::from("no problem"));
+fn path_answer(alloc: Global) -> Result<Option<Answer>, AllocError> {
+    match network_of(alloc, true)? {
+        Some(network) => answer_of(alloc, &network),
+        None => Ok(None),
     }
-    Ok(solve_alone(alloc, &network, &times, &query)?)
+}
+
+/// Whether the walk of the third node along the path has these arcs.
+fn has_short_walk(alloc: Global, arcs: &[u32]) -> Result<bool, AllocError> {
+    let Some(answer) = path_answer(alloc)? else {
+        return Ok(false);
+    };
+    match short_walk(alloc, &answer)? {
+        Some(walk) => Ok(walk.as_slice() == arcs),
+        None => Ok(false),
+    }
 }
 
 #[test]
 fn walk_takes_room_for_its_own_arcs(rt: HostRuntime) -> Result<(), Fail> {
-    let answer = path_answer(rt.alloc())?;
-    let walk = short_walk(rt.alloc(), &answer)?.ok_or("no walk")?;
-    assert_eq!(rt; walk.as_slice(), [1, 2].as_slice());
+    assert!(rt; has_short_walk(rt.alloc(), &[1, 2])?);
     Ok(())
 }
 
@@ -130,10 +163,8 @@ const STEP: u32 = 250;
 const FEW: u32 = 2_000;
 
 /// The first of the growing pieces in which a worklist finds its room.
-fn first_piece(alloc: Global, walks: bool) -> Result<Option<u32>, Fail> {
-    let mut small = Held::new(alloc, 20_000)?;
-    let sizes = pieces(alloc, 0, 400, STEP)?;
-    let mut large = Held::of_large(alloc, 4)?;
+fn first_piece(alloc: Global, walks: bool) -> Result<Option<u32>, AllocError> {
+    let (mut small, sizes, mut large) = taken(alloc, 0, 400, STEP)?;
     let mut first = None;
     let mut place = 0u32;
     for piece in sizes {
@@ -153,17 +184,21 @@ fn first_piece(alloc: Global, walks: bool) -> Result<Option<u32>, Fail> {
     Ok(first)
 }
 
-#[test]
-fn worklist_without_walks_has_no_links(rt: HostRuntime) -> Result<(), Fail> {
-    let alloc = rt.alloc();
-    let without = first_piece(alloc, false)?.ok_or("no room")?;
-    let with = first_piece(alloc, true)?.ok_or("no room for walks")?;
+/// Whether the first piece for a worklist without walks is smaller by the links than that for one with walks.
+fn is_without_links(without: Option<u32>, with: Option<u32>) -> bool {
     // A link is a number of four bytes for each node.
     let links = (4 * FEW / STEP) - 1;
-    assert!(rt;
-        0 < without && without.saturating_add(links) <= with,
-        "{without} and {with}"
-    );
+    match (without, with) {
+        (Some(without), Some(with)) => 0 < without && without.saturating_add(links) <= with,
+        _ => false,
+    }
+}
+
+#[test]
+fn worklist_without_walks_has_no_links(rt: HostRuntime) -> Result<(), Fail> {
+    let without = first_piece(rt.alloc(), false)?;
+    let with = first_piece(rt.alloc(), true)?;
+    assert!(rt; is_without_links(without, with), "{without:?} and {with:?}");
     Ok(())
 }
 
@@ -176,10 +211,8 @@ fn kind_of<T: Drop>(read: Result<T, InputFault>) -> Option<FaultKind> {
 }
 
 /// The faults of texts that announce the most that there may be and have a line of it, where some 20,000 bytes are left.
-fn announced(alloc: Global) -> Result<[Option<FaultKind>; 4], Fail> {
-    let mut small = Held::new(alloc, 20_000)?;
-    let sizes = pieces(alloc, 20_000, 1, 0)?;
-    let mut large = Held::of_large(alloc, 4)?;
+fn announced(alloc: Global) -> Result<[Option<FaultKind>; 4], AllocError> {
+    let (mut small, sizes, mut large) = taken(alloc, 20_000, 1, 0)?;
     let mut found = [None; 4];
     for piece in sizes {
         small.leave(piece);

@@ -1,17 +1,15 @@
 //! Words whose growths are refused.
-use crate::counts::{Came, Count};
+use crate::counts::{Came, Trial, count_of};
 use earliest::{Command, CommandFault, RunOptions};
 use std::alloc::Global;
 use std::test::Fail;
-use tests_given::memory::{Held, pieces};
+use tests_given::memory::Held;
 
 /// The words of a run, where a piece of memory is left.
-fn run_with(alloc: Global, small: &mut Held, piece: Vec<u8>) -> Came {
+fn run_with(alloc: Global, held: &mut Held, piece: Vec<u8>) -> Came {
     let words = ["run", "g", "s", "--joint", "--gap", "5", "--workers", "03"];
-    small.leave(piece);
-    let asked = RunOptions::of_words(alloc, words.as_slice());
-    small.release();
-    match asked {
+    held.leave(piece);
+    match RunOptions::of_words(alloc, words.as_slice()) {
         Ok(
             Command::Run {
                 gr,
@@ -31,12 +29,10 @@ fn run_with(alloc: Global, small: &mut Held, piece: Vec<u8>) -> Came {
 }
 
 /// Words that lack a name, where a piece of memory is left.
-fn short_with(alloc: Global, small: &mut Held, piece: Vec<u8>) -> Came {
+fn short_with(alloc: Global, held: &mut Held, piece: Vec<u8>) -> Came {
     let words = ["check", "g", "s"];
-    small.leave(piece);
-    let asked = RunOptions::of_words(alloc, words.as_slice());
-    small.release();
-    match asked {
+    held.leave(piece);
+    match RunOptions::of_words(alloc, words.as_slice()) {
         Err(CommandFault::Words { help: false, text }) if text.as_str().contains("<REPORT>") => {
             Came::Whole
         }
@@ -45,22 +41,26 @@ fn short_with(alloc: Global, small: &mut Held, piece: Vec<u8>) -> Came {
     }
 }
 
+/// The words of a run, or words that lack a name.
+#[derive(Clone, Copy)]
+struct Words {
+    short: bool,
+}
+
+impl Trial for Words {
+    fn came(&mut self, alloc: Global, held: &mut Held, piece: Vec<u8>) -> Came {
+        if self.short {
+            short_with(alloc, held, piece)
+        } else {
+            run_with(alloc, held, piece)
+        }
+    }
+}
+
 #[test]
 fn words_with_little_memory(rt: HostRuntime) -> Result<(), Fail> {
-    let alloc = rt.alloc();
     for short in [false, true] {
-        let mut small = Held::new(alloc, 20_000)?;
-        let sizes = pieces(alloc, 0, 600, 64)?;
-        let mut large = Held::of_large(alloc, 4)?;
-        let mut count = Count::new();
-        for piece in sizes {
-            count.add(if short {
-                short_with(alloc, &mut small, piece)
-            } else {
-                run_with(alloc, &mut small, piece)
-            });
-        }
-        large.release();
+        let count = count_of(rt.alloc(), &mut Words { short }, 0, 600, 64)?;
         assert!(rt; count.is_refused_at_least(20), "{count}");
     }
     Ok(())

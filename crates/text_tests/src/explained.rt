@@ -1,44 +1,106 @@
 //! Texts that no clause speaks of.
+use crate::asserts::assert_none_wrong;
 use ea_explain::*;
 use ea_files::FileWord;
 use ea_input::FaultKind;
 use std::io::ErrorKind;
 
+/// Whether a word names the fault of this number and name.
+fn names(word: &str, number: &str, name: &str) -> bool {
+    match fault_named(word) {
+        Some(fault) => fault.number == number && fault.name == name,
+        None => false,
+    }
+}
+
+/// How many faults there are.
+const COUNT: usize = FAULTS.len();
+
+/// Each fault by its number and its name.
+const NAMES: [(&str, &str); 19] = [
+    ("1", "NoProblemLine"),
+    ("2", "SecondProblemLine"),
+    ("3", "UnknownLine"),
+    ("4", "FieldCount"),
+    ("5", "BadNumber"),
+    ("6", "OutOfRange"),
+    ("7", "TooManyLines"),
+    ("8", "TooFewLines"),
+    ("9", "BadKind"),
+    ("10", "TooLarge"),
+    ("11", "ReadFailed"),
+    ("12", "WriteFailed"),
+    ("13", "OutOfMemory"),
+    ("14", "BadOption"),
+    ("15", "OpenFailed"),
+    ("check 1", "BadLine"),
+    ("check 2", "NotAttained"),
+    ("check 3", "NotLeast"),
+    ("check 5", "NotCanonical"),
+];
+
+/// The place of the first fault that its number or its name doesn't name.
+fn unnamed() -> Option<usize> {
+    for (place, (number, name)) in NAMES.iter().enumerate() {
+        if !names(number, number, name) || !names(name, number, name) {
+            return Some(place);
+        }
+    }
+    None
+}
+
+/// The place of the first word that names a fault.
+fn first_naming(words: &[&str]) -> Option<usize> {
+    for (place, word) in words.iter().enumerate() {
+        if fault_named(word).is_some() {
+            return Some(place);
+        }
+    }
+    None
+}
+
 #[test]
 fn faults_by_number_and_name(rt: HostRuntime) {
-    for fault in &FAULTS {
-        let by_number = fault_named(fault.number).map(|found| found.name);
-        assert!(rt; by_number == Some(fault.name));
-        let by_name = fault_named(fault.name).map(|found| found.number);
-        assert!(rt; by_name == Some(fault.number));
+    assert!(rt; COUNT == NAMES.len());
+    assert_none_wrong(&rt, unnamed());
+    assert!(rt; names("outofrange", "6", "OutOfRange"));
+    assert_none_wrong(&rt, first_naming(&["", "0", "16", "4 ", "06", "OutOf"]));
+}
+
+/// The fronts of files, and what they look like.
+const LOOKS: [(&[u8], Option<Look>); 11] = [
+    (b"\x1f\x8b\x08\x00", Some(Look::Gzip)),
+    (b"\x28\xb5\x2f\xfd\x04", Some(Look::Zstd)),
+    (b"\xef\xbb\xbfp sp 1 0\n", Some(Look::Marked)),
+    (b"\xff\xfep\x00 \x00", Some(Look::Wide)),
+    (b"\xfe\xff\x00p", Some(Look::Wide)),
+    (b"p\x00 \x00s\x00", Some(Look::Wide)),
+    (b"p sp 1 0\rc\r", Some(Look::OldMac)),
+    (b"p sp 1 0\r\nc\r\n", None),
+    (b"p sp 1 0\n", None),
+    (b"\x1f", None),
+    (b"", None),
+];
+
+/// The place of the first front that looks otherwise.
+fn wrong_look() -> Option<usize> {
+    for (place, (front, look)) in LOOKS.iter().enumerate() {
+        if look_of(front) != *look {
+            return Some(place);
+        }
     }
-    assert!(rt; fault_named("outofrange").map(|found| found.number) == Some("6"));
-    for word in ["", "0", "16", "4 ", "06", "OutOf"] {
-        assert!(rt; fault_named(word).is_none(), "{word}");
-    }
+    None
 }
 
 #[test]
 fn looks_of_files(rt: HostRuntime) {
-    for (front, look) in [
-        (b"\x1f\x8b\x08\x00".as_slice(), Some(Look::Gzip)),
-        (b"\x28\xb5\x2f\xfd\x04".as_slice(), Some(Look::Zstd)),
-        (b"\xef\xbb\xbfp sp 1 0\n".as_slice(), Some(Look::Marked)),
-        (b"\xff\xfep\x00 \x00".as_slice(), Some(Look::Wide)),
-        (b"\xfe\xff\x00p".as_slice(), Some(Look::Wide)),
-        (b"p\x00 \x00s\x00".as_slice(), Some(Look::Wide)),
-        (b"p sp 1 0\rc\r".as_slice(), Some(Look::OldMac)),
-        (b"p sp 1 0\r\nc\r\n".as_slice(), None),
-        (b"p sp 1 0\n".as_slice(), None),
-        (b"\x1f".as_slice(), None),
-        (b"".as_slice(), None),
-    ] {
-        assert!(rt; look_of(front) == look);
-    }
+    assert_none_wrong(&rt, wrong_look());
 }
 
-/// The whole text for each line that is at fault, by the file, the fault and the line.
-const WANTED: [(FileWord, FaultKind, &[u8], &str); 32] = [
+/// A line that is at fault: the file, the fault, the line and the whole text for it.
+type Line = (FileWord, FaultKind, &'static [u8], &'static str);
+
+const WANTED: [Line; 32] = [
     (
         FileWord::Gr,
         FaultKind::FieldCount,
@@ -233,67 +295,96 @@ const WANTED: [(FileWord, FaultKind, &[u8], &str); 32] = [
     ),
 ];
 
+/// The place of the first line for which the text is another.
+fn wrong_line() -> Option<usize> {
+    for (place, (file, kind, line, text)) in WANTED.iter().enumerate() {
+        if wanted_of_line(*file, *kind, line) != *text {
+            return Some(place);
+        }
+    }
+    None
+}
+
 #[test]
 fn wanted_lines(rt: HostRuntime) {
-    for (file, kind, line, text) in &WANTED {
-        let wanted = wanted_of_line(*file, *kind, line);
-        assert!(rt; wanted == *text, "{wanted}");
+    assert_none_wrong(&rt, wrong_line());
+}
+
+/// What is advised where a file looks so.
+const ADVICE: [(Look, &str); 5] = [
+    (
+        Look::Gzip,
+        "this looks like a gzip file: zcat it into -, as in `zcat FILE | earliest run - starts.ss`",
+    ),
+    (
+        Look::Zstd,
+        "this looks like a zstd file: zstdcat it into -, as in `zstdcat FILE | earliest run - starts.ss`",
+    ),
+    (
+        Look::Marked,
+        "the file begins with a byte-order mark: save it as UTF-8 without one, or as ASCII",
+    ),
+    (
+        Look::Wide,
+        "this looks like UTF-16: save it as UTF-8 without a byte-order mark, or as ASCII",
+    ),
+    (
+        Look::OldMac,
+        "its lines end in carriage returns alone, as on old Macs: save it with line feeds",
+    ),
+];
+
+/// The place of the first look with another advice.
+fn wrong_advice() -> Option<usize> {
+    for (place, (look, text)) in ADVICE.iter().enumerate() {
+        if look.advice() != *text {
+            return Some(place);
+        }
     }
+    None
 }
 
 #[test]
 fn advice_on_looks(rt: HostRuntime) {
-    for (look, text) in [
-        (
-            Look::Gzip,
-            "this looks like a gzip file: zcat it into -, as in `zcat FILE | earliest run - starts.ss`",
-        ),
-        (
-            Look::Zstd,
-            "this looks like a zstd file: zstdcat it into -, as in `zstdcat FILE | earliest run - starts.ss`",
-        ),
-        (
-            Look::Marked,
-            "the file begins with a byte-order mark: save it as UTF-8 without one, or as ASCII",
-        ),
-        (
-            Look::Wide,
-            "this looks like UTF-16: save it as UTF-8 without a byte-order mark, or as ASCII",
-        ),
-        (
-            Look::OldMac,
-            "its lines end in carriage returns alone, as on old Macs: save it with line feeds",
-        ),
-    ] {
-        assert!(rt; look.advice() == text, "{look:?}");
+    assert_none_wrong(&rt, wrong_advice());
+}
+
+/// What is told of the system's errors.
+const REASONS: [(ErrorKind, &str); 15] = [
+    (ErrorKind::NotFound, "there is no such file"),
+    (ErrorKind::PermissionDenied, "there is no permission"),
+    (ErrorKind::IsADirectory, "it is a directory"),
+    (
+        ErrorKind::NotADirectory,
+        "a part of its path is no directory",
+    ),
+    (ErrorKind::StorageFull, "no space is left on the device"),
+    (ErrorKind::QuotaExceeded, "the quota of the disk is used up"),
+    (ErrorKind::FileTooLarge, "the file would be too large"),
+    (
+        ErrorKind::ReadOnlyFilesystem,
+        "the file system can't be written",
+    ),
+    (ErrorKind::InvalidFilename, "the name is too long"),
+    (ErrorKind::InvalidInput, "the name can't be a file's"),
+    (ErrorKind::TooManyLinks, "its links lead in a circle"),
+    (ErrorKind::FilesystemLoop, "its links lead in a circle"),
+    (ErrorKind::BrokenPipe, "nobody reads it any more"),
+    (ErrorKind::Other, "the system refuses it"),
+    (ErrorKind::TimedOut, "the system refuses it"),
+];
+
+/// The place of the first error of which another reason is told.
+fn wrong_reason() -> Option<usize> {
+    for (place, (kind, text)) in REASONS.iter().enumerate() {
+        if reason_of(*kind) != *text {
+            return Some(place);
+        }
     }
+    None
 }
 
 #[test]
 fn reasons_of_the_system(rt: HostRuntime) {
-    for (kind, text) in [
-        (ErrorKind::NotFound, "there is no such file"),
-        (ErrorKind::PermissionDenied, "there is no permission"),
-        (ErrorKind::IsADirectory, "it is a directory"),
-        (
-            ErrorKind::NotADirectory,
-            "a part of its path is no directory",
-        ),
-        (ErrorKind::StorageFull, "no space is left on the device"),
-        (ErrorKind::QuotaExceeded, "the quota of the disk is used up"),
-        (ErrorKind::FileTooLarge, "the file would be too large"),
-        (
-            ErrorKind::ReadOnlyFilesystem,
-            "the file system can't be written",
-        ),
-        (ErrorKind::InvalidFilename, "the name is too long"),
-        (ErrorKind::InvalidInput, "the name can't be a file's"),
-        (ErrorKind::TooManyLinks, "its links lead in a circle"),
-        (ErrorKind::FilesystemLoop, "its links lead in a circle"),
-        (ErrorKind::BrokenPipe, "nobody reads it any more"),
-        (ErrorKind::Other, "the system refuses it"),
-        (ErrorKind::TimedOut, "the system refuses it"),
-    ] {
-        assert!(rt; reason_of(kind) == text, "{text}");
-    }
+    assert_none_wrong(&rt, wrong_reason());
 }

@@ -1,10 +1,10 @@
 //! Texts of devices, block by block and by several threads: each gives what it gives as a text in memory.
-ghost use Rattle.std.specs.Prelude.{◌<◌};
+ghost use Rattle.std.specs.Prelude.{◌<◌, ◌≤◌};
 
+use crate::asserts::{assert_none_wrong, is_shown};
 use ea_input::*;
-use std::alloc::Global;
+use std::alloc::{AllocError, Global};
 use std::io::{self, Error, ErrorKind, Read};
-use std::test::Fail;
 use std::thread::Threads;
 
 const PLAIN: &[u8] = b"p sp 4 5\na 1 2 7\na 1 3 2\na 3 2 3\na 2 4 1\na 3 4 9\n";
@@ -55,7 +55,23 @@ fn in_blocks(alloc: Global, threads: usize, size: usize) -> Way
     }
 }
 
-/// Whether a device gives what the text gives in memory: the same graph, or the same fault.
+/// Whether what a device gives is what is in memory: the same graph, or the same fault.
+fn is_same(found: &Result<RawGraph, StreamFault>, whole: &Result<RawGraph, InputFault>) -> bool {
+    match found {
+        Ok(found) => match whole {
+            Ok(whole) => {
+                found.nodes == whole.nodes && found.arcs.as_slice() == whole.arcs.as_slice()
+            }
+            Err(_) => false,
+        },
+        Err(found) => match whole {
+            Ok(_) => false,
+            Err(whole) => *found == StreamFault::Input(*whole),
+        },
+    }
+}
+
+/// Whether a device gives what the text gives in memory.
 fn is_read_as_text<H: Threads + Sync>(
     alloc: Global,
     rt: &H,
@@ -69,277 +85,445 @@ fn is_read_as_text<H: Threads + Sync>(
         reads: 0,
         fails_after: usize::MAX,
     });
-    let whole = read_gr(alloc, text);
-    match read_gr_by(rt, in_blocks(alloc, threads, size), LIMIT, &mut device) {
-        Ok(found) => match whole {
-            Ok(graph) => {
-                found.nodes == graph.nodes && found.arcs.as_slice() == graph.arcs.as_slice()
-            }
-            Err(_) => false,
-        },
-        Err(StreamFault::Input(fault)) => match whole {
-            Ok(_) => false,
-            Err(first) => fault == first,
-        },
-        Err(StreamFault::Read(_)) => false,
-    }
+    let found = read_gr_by(rt, in_blocks(alloc, threads, size), LIMIT, &mut device);
+    is_same(&found, &read_gr(alloc, text))
 }
+
+/// The first number of threads by which blocks of this size give otherwise than the text in memory.
+fn wrong_threads<H: Threads + Sync>(
+    alloc: Global,
+    rt: &H,
+    text: &[u8],
+    threads: &[usize],
+    size: usize,
+) -> Option<usize> {
+    for count in threads {
+        if !is_read_as_text(alloc, rt, text, *count, size) {
+            return Some(*count);
+        }
+    }
+    None
+}
+
+/// The first size of blocks below 40 that gives otherwise than the text in memory.
+fn wrong_size<H: Threads + Sync>(alloc: Global, rt: &H, text: &[u8]) -> Option<usize> {
+    for size in 0..40usize {
+        if wrong_threads(alloc, rt, text, &[1, 2, 4, 5], size).is_some() {
+            return Some(size);
+        }
+    }
+    None
+}
+
+/// The place of the first text that gives otherwise in blocks, or of which it is wrong whether it has a fault.
+fn wrong_text<H: Threads + Sync>(
+    alloc: Global,
+    rt: &H,
+    texts: &[&[u8]],
+    faulty: bool,
+) -> Option<usize> {
+    for (place, text) in texts.iter().enumerate() {
+        if wrong_size(alloc, rt, text).is_some() || read_gr(alloc, text).is_err() != faulty {
+            return Some(place);
+        }
+    }
+    None
+}
+
+const SOUND: [&[u8]; 12] = [
+    PLAIN,
+    b"p sp 4 5\na 1 2 7\na 1 3 2\na 3 2 3\na 2 4 1\na 3 4 9",
+    b"c\n\nc x\np sp 4 5\nc y\n\na 1 2 7\na 1 3 2\na 3 2 3\na 2 4 1\na 3 4 9\n",
+    b"p sp 4 5\na 1 2 7\nc a 1 1 1\n\na 1 3 2\n\n\na 3 2 3\nc\na 2 4 1\na 3 4 9\nc end",
+    b"p sp 4 5\r\na 1 2 7\r\na 1 3 2\r\na 3 2 3\r\na 2 4 1\r\na 3 4 9\r\n",
+    b"p\tsp 4  05\n a 1 2 7\na\t1 3 2 \na 3 2 03\n\ta 2 4 1\na 3 4 9",
+    b"p sp 4 5\na 1 2 4294967295\na 4 4 0\na 3 2 3\na 2 4 1\na 3 4 9\n\n\n\n",
+    b"p sp 1 0",
+    b"p sp 1 0\n",
+    b"p sp 1 0\nc\nc\nc\n\n\n\n\n",
+    b"p sp 1 1\na 1 1 0",
+    b"c\nc\nc\nc\nc\nc\nc\nc\nc\nc\np sp 1 1\n\n\n\n\na 1 1 0\n\n\n\n\n\n\n",
+];
 
 #[test]
 fn blocks_of_sound_texts(rt: HostRuntime) {
-    let texts: [&[u8]; 12] = [
-        PLAIN,
-        &PLAIN[..48],
-        b"c\n\nc x\np sp 4 5\nc y\n\na 1 2 7\na 1 3 2\na 3 2 3\na 2 4 1\na 3 4 9\n",
-        b"p sp 4 5\na 1 2 7\nc a 1 1 1\n\na 1 3 2\n\n\na 3 2 3\nc\na 2 4 1\na 3 4 9\nc end",
-        b"p sp 4 5\r\na 1 2 7\r\na 1 3 2\r\na 3 2 3\r\na 2 4 1\r\na 3 4 9\r\n",
-        b"p\tsp 4  05\n a 1 2 7\na\t1 3 2 \na 3 2 03\n\ta 2 4 1\na 3 4 9",
-        b"p sp 4 5\na 1 2 4294967295\na 4 4 0\na 3 2 3\na 2 4 1\na 3 4 9\n\n\n\n",
-        b"p sp 1 0",
-        b"p sp 1 0\n",
-        b"p sp 1 0\nc\nc\nc\n\n\n\n\n",
-        b"p sp 1 1\na 1 1 0",
-        b"c\nc\nc\nc\nc\nc\nc\nc\nc\nc\np sp 1 1\n\n\n\n\na 1 1 0\n\n\n\n\n\n\n",
-    ];
-    for text in texts {
-        assert!(rt; read_gr(rt.alloc(), text).is_ok());
-        for size in 0..40usize {
-            for threads in [1usize, 2, 4, 5] {
-                assert!(rt;
-                    is_read_as_text(rt.alloc(), &rt, text, threads, size),
-                    "{size} {threads}"
-                );
-            }
-        }
-    }
+    assert_none_wrong(&rt, wrong_text(rt.alloc(), &rt, &SOUND, false));
 }
+
+const FAULTY: [&[u8]; 14] = [
+    b"",
+    b"\n\n\nc\n",
+    b"a 1 2 7\np sp 4 1\n",
+    b"p sp 4 5\nb 1 2 7\na 1 3 2\na 3 2 3\na 2 4 1\na 3 4 9\n",
+    b"p sp 4 5\na 1 2 7\na 1 3\na 3 2 3\na 2 4 1\na 3 4 9\n",
+    b"p sp 4 5\na 1 2 7\na 1 3 2\na 3 0 3\na 2 4 1\na 3 4 9\n",
+    b"p sp 4 5\na 1 2 7\na 1 3 2\na 3 2 3\na 2 5 1\na 3 4 9\n",
+    b"p sp 4 5\na 1 2 7\na 1 3 2\na 3 2 3\na 2 4 1\na 3 4 4294967296\n",
+    b"p sp 4 5\na 1 2 7\na 1 3 2\na 3 2 3\na 2 4 1\na 3 4 9 1\n",
+    b"p sp 4 5\na 1 2 7\na 1 3 2\np sp 4 5\na 3 2 3\na 2 4 1\na 3 4 9\n",
+    b"p sp 4 4\na 1 2 7\na 1 3 2\na 3 2 3\na 2 4 1\na 3 4 9\n",
+    b"p sp 4 6\na 1 2 7\na 1 3 2\na 3 2 3\na 2 4 1\na 3 4 9\n",
+    b"p sp 4 0\na 1 2 7\n",
+    b"p sp 4 5\na 1 2 7\na 1 3 2\na 3 2 3\na 2 4 1\nx 3 4 9",
+];
 
 #[test]
 fn blocks_of_texts_with_faults(rt: HostRuntime) {
-    let texts: [&[u8]; 14] = [
-        b"",
-        b"\n\n\nc\n",
-        b"a 1 2 7\np sp 4 1\n",
-        b"p sp 4 5\nb 1 2 7\na 1 3 2\na 3 2 3\na 2 4 1\na 3 4 9\n",
-        b"p sp 4 5\na 1 2 7\na 1 3\na 3 2 3\na 2 4 1\na 3 4 9\n",
-        b"p sp 4 5\na 1 2 7\na 1 3 2\na 3 0 3\na 2 4 1\na 3 4 9\n",
-        b"p sp 4 5\na 1 2 7\na 1 3 2\na 3 2 3\na 2 5 1\na 3 4 9\n",
-        b"p sp 4 5\na 1 2 7\na 1 3 2\na 3 2 3\na 2 4 1\na 3 4 4294967296\n",
-        b"p sp 4 5\na 1 2 7\na 1 3 2\na 3 2 3\na 2 4 1\na 3 4 9 1\n",
-        b"p sp 4 5\na 1 2 7\na 1 3 2\np sp 4 5\na 3 2 3\na 2 4 1\na 3 4 9\n",
-        b"p sp 4 4\na 1 2 7\na 1 3 2\na 3 2 3\na 2 4 1\na 3 4 9\n",
-        b"p sp 4 6\na 1 2 7\na 1 3 2\na 3 2 3\na 2 4 1\na 3 4 9\n",
-        b"p sp 4 0\na 1 2 7\n",
-        b"p sp 4 5\na 1 2 7\na 1 3 2\na 3 2 3\na 2 4 1\nx 3 4 9",
-    ];
-    for text in texts {
-        assert!(rt; read_gr(rt.alloc(), text).is_err());
-        for size in 0..40usize {
-            for threads in [1usize, 2, 4, 5] {
-                assert!(rt;
-                    is_read_as_text(rt.alloc(), &rt, text, threads, size),
-                    "{size} {threads}"
-                );
+    assert_none_wrong(&rt, wrong_text(rt.alloc(), &rt, &FAULTY, true));
+}
+
+/// The first of a text's lengths, from this one on, at which blocks of one of these sizes give otherwise than the text in memory.
+fn wrong_length<H: Threads + Sync>(
+    alloc: Global,
+    rt: &H,
+    text: &[u8],
+    first: usize,
+    sizes: &[usize],
+    threads: &[usize],
+) -> Option<usize> {
+    for n in first..=text.len() {
+        for size in sizes {
+            if wrong_threads(alloc, rt, &text[..n], threads, *size).is_some() {
+                return Some(n);
             }
         }
     }
+    None
 }
+
+const BELOW_TWENTY: [usize; 19] = [
+    1, 2, 3, 4, 5, 6, 7, 8, 9, 10, 11, 12, 13, 14, 15, 16, 17, 18, 19,
+];
 
 #[test]
 fn blocks_of_every_prefix(rt: HostRuntime) {
-    for n in 0..PLAIN.len() {
-        for size in 1..20usize {
-            assert!(rt;
-                is_read_as_text(rt.alloc(), &rt, &PLAIN[..n], 1, size),
-                "{n} {size}"
-            );
+    let wrong = wrong_length(rt.alloc(), &rt, PLAIN, 0, &BELOW_TWENTY, &[1]);
+    assert_none_wrong(&rt, wrong);
+}
+
+const IN_PIECES: [&[u8]; 8] = [
+    b"p sp 4 8\na 1 2 7\na 1 3 2\na 3 2 3\na 2 4 1\na 3 4 9\na 4 1 5\na 4 2 6\na 4 4 0\n",
+    b"p sp 4 6\na 1 2 7\n\nc\na 1 3 2\n a 3 2 3 \na 2 4 1\nc x\na 3 4 9\na 4 1 5",
+    b"p sp 4 5\na 1 2 7\na 1 3 2\na 3 2 3\na 2 4 1\na 3 5 9\n",
+    b"p sp 4 7\na 1 2 7\na 1 3 2\na 3 2 3\na 2 4\na 3 4 9\na 4 1 5\na 4 2 6\n",
+    b"p sp 4 5\na 1 2 7\na 1 3 2\na 3 2 3\na 2 4 1\na 3 4 9\na 1 1 1\n",
+    b"p sp 4 5\na 1 2 7\na 1 3 2\na 3 2 3\np sp 4 5\na 2 4 1\n",
+    b"p sp 4 5\na 1 2 7\na 1 3 2\na 3 2 3\na 2 4 1\na 3 4 9\nx\na 1 1 1\n",
+    b"p sp 4 9\na 1 2 7\na 1 3 2\na 3 2 3\na 2 4 1\na 3 4 9\na 4 1 5\n",
+];
+
+const SIZES_OF_PIECES: [usize; 6] = [9, 17, 25, 33, 41, 57];
+
+/// The place of the first text that is read otherwise in pieces.
+fn wrong_piece<H: Threads + Sync>(alloc: Global, rt: &H) -> Option<usize> {
+    for (place, text) in IN_PIECES.iter().enumerate() {
+        if wrong_length(alloc, rt, text, 9, &SIZES_OF_PIECES, &[2, 4, 5]).is_some() {
+            return Some(place);
         }
     }
+    None
 }
 
 /// Blocks of lines that are read in two and in four pieces, which end at each byte of the text.
 #[test]
 fn pieces_of_lines(rt: HostRuntime) {
-    let texts: [&[u8]; 8] = [
-        b"p sp 4 8\na 1 2 7\na 1 3 2\na 3 2 3\na 2 4 1\na 3 4 9\na 4 1 5\na 4 2 6\na 4 4 0\n",
-        b"p sp 4 6\na 1 2 7\n\nc\na 1 3 2\n a 3 2 3 \na 2 4 1\nc x\na 3 4 9\na 4 1 5",
-        b"p sp 4 5\na 1 2 7\na 1 3 2\na 3 2 3\na 2 4 1\na 3 5 9\n",
-        b"p sp 4 7\na 1 2 7\na 1 3 2\na 3 2 3\na 2 4\na 3 4 9\na 4 1 5\na 4 2 6\n",
-        b"p sp 4 5\na 1 2 7\na 1 3 2\na 3 2 3\na 2 4 1\na 3 4 9\na 1 1 1\n",
-        b"p sp 4 5\na 1 2 7\na 1 3 2\na 3 2 3\np sp 4 5\na 2 4 1\n",
-        b"p sp 4 5\na 1 2 7\na 1 3 2\na 3 2 3\na 2 4 1\na 3 4 9\nx\na 1 1 1\n",
-        b"p sp 4 9\na 1 2 7\na 1 3 2\na 3 2 3\na 2 4 1\na 3 4 9\na 4 1 5\n",
-    ];
-    for text in texts {
-        for n in 9..=text.len() {
-            for size in [9usize, 17, 25, 33, 41, 57] {
-                for threads in [2usize, 4, 5] {
-                    assert!(rt;
-                        is_read_as_text(rt.alloc(), &rt, &text[..n], threads, size),
-                        "{n} {size} {threads}"
-                    );
-                }
-            }
-        }
-    }
+    assert_none_wrong(&rt, wrong_piece(rt.alloc(), &rt));
 }
 
 /// How many arcs the large text has.
 const MANY: u32 = 80_000;
 
-/// A text of many arcs, among as many nodes, and then this line.
-fn large_text(alloc: Global, last: &str) -> Result<Vec<u8>, Fail> {
-    let mut text = Vec::new(alloc);
-    let head = format!(in alloc; "c\np sp {MANY} {MANY}\n")?;
-    text.extend_from_slice(head.as_bytes())?;
+/// Adds the arc that leaves this node.
+fn add_arc(text: &mut String, tail: u32) -> Result<(), AllocError>
+    requires { tail ≤ MANY }
+{
+    let head = MANY - tail + 1;
+    let weight = tail.wrapping_mul(2_654_435_761);
+    writeln!(text, "a {tail} {head} {weight}")
+}
+
+/// Adds the arcs that leave all nodes, and then this line.
+fn add_all(text: &mut String, last: &str) -> Result<(), AllocError> {
     for tail in 1..=MANY {
-        let head = MANY - tail + 1;
-        let weight = tail.wrapping_mul(2_654_435_761);
-        let line = format!(in alloc; "a {tail} {head} {weight}\n")?;
-        text.extend_from_slice(line.as_bytes())?;
+        add_arc(text, tail)?;
     }
-    text.extend_from_slice(last.as_bytes())?;
+    text.push_str(last)
+}
+
+/// A text of many arcs, among as many nodes, and then this line.
+fn large_text(alloc: Global, last: &str) -> Result<String, AllocError> {
+    let mut text = format!(in alloc; "c\np sp {MANY} {MANY}\n")?;
+    add_all(&mut text, last)?;
     Ok(text)
 }
 
-/// The fault of what was read, if it has one.
-fn fault_of<X: Drop>(read: Result<X, StreamFault>) -> Option<StreamFault> {
+/// How many nodes a graph has; none where there is a fault.
+fn nodes_of(read: &Result<RawGraph, InputFault>) -> Option<u32> {
     match read {
-        Ok(_) => None,
-        Err(fault) => Some(fault),
+        Ok(graph) => Some(graph.nodes),
+        Err(_) => None,
     }
 }
 
-#[test]
-fn large_texts(rt: HostRuntime) -> Result<(), Fail> {
-    let text = large_text(rt.alloc(), "")?;
-    let whole = read_gr(rt.alloc(), &text)?;
+/// Whether so many threads give what is in memory: in blocks of a size that is chosen for them, and of another.
+fn is_read_large<H: Threads + Sync>(
+    alloc: Global,
+    rt: &H,
+    text: &[u8],
+    threads: usize,
+    whole: &Result<RawGraph, InputFault>,
+) -> bool {
+    let chosen = read_gr_from(alloc, rt, threads, LIMIT, &mut StdIn::new(text));
+    let way = in_blocks(alloc, threads, 300_000);
+    let other = read_gr_by(rt, way, LIMIT, &mut StdIn::new(text));
+    is_same(&chosen, whole) && is_same(&other, whole)
+}
+
+/// The first number of threads that give otherwise than the text in memory.
+fn wrong_large<H: Threads + Sync>(
+    alloc: Global,
+    rt: &H,
+    text: &[u8],
+    whole: &Result<RawGraph, InputFault>,
+) -> Option<usize> {
     for threads in [1usize, 2, 4, 5] {
-        let mut device = StdIn::new(text.as_slice());
-        let graph = read_gr_from(rt.alloc(), &rt, threads, LIMIT, &mut device)?;
-        assert_eq!(rt; graph.nodes, MANY);
-        assert!(rt; graph.arcs.as_slice() == whole.arcs.as_slice());
-        let way = in_blocks(rt.alloc(), threads, 300_000);
-        let graph = read_gr_by(&rt, way, LIMIT, &mut StdIn::new(text.as_slice()))?;
-        assert!(rt; graph.arcs.as_slice() == whole.arcs.as_slice());
-    }
-    Ok(())
-}
-
-#[test]
-fn faults_of_large_texts(rt: HostRuntime) -> Result<(), Fail> {
-    for last in ["a 1 1 1\n", "a 1 0 1"] {
-        let text = large_text(rt.alloc(), last)?;
-        let whole = match read_gr(rt.alloc(), &text) {
-            Ok(_) => None,
-            Err(fault) => Some(StreamFault::Input(fault)),
-        };
-        assert!(rt; whole.is_some());
-        for threads in [1usize, 2, 4, 5] {
-            let mut device = StdIn::new(text.as_slice());
-            let read = read_gr_from(rt.alloc(), &rt, threads, LIMIT, &mut device);
-            assert_eq!(rt; fault_of(read), whole);
+        if !is_read_large(alloc, rt, text, threads, whole) {
+            return Some(threads);
         }
     }
-    Ok(())
+    None
+}
+
+/// Whether a large text with this last line has so many nodes in memory, or a fault where they are none, and each number of
+/// threads reads it so.
+fn is_large_read<H: Threads + Sync>(
+    alloc: Global,
+    rt: &H,
+    last: &str,
+    nodes: Option<u32>,
+) -> Result<bool, AllocError> {
+    let text = large_text(alloc, last)?;
+    let whole = read_gr(alloc, text.as_bytes());
+    let wrong = wrong_large(alloc, rt, text.as_bytes(), &whole);
+    Ok(nodes_of(&whole) == nodes && wrong == None)
 }
 
 #[test]
-fn devices_that_fail(rt: HostRuntime) {
-    // The first line has a fault, and the device's is told.
-    let texts = [
-        PLAIN,
-        b"x\na 1 2 7\na 1 3 2\na 3 2 3\na 2 4 1\na 3 4 9\n".as_slice(),
-    ];
-    for text in texts {
-        for fails_after in 0..text.len() {
-            for size in [1usize, 5, 20, 100] {
-                for threads in [1usize, 2, 4, 5] {
-                    let way = in_blocks(rt.alloc(), threads, size);
-                    let mut device = StdIn::new(Slow {
-                        text,
-                        piece: 3,
-                        reads: 0,
-                        fails_after,
-                    });
-                    let read = read_gr_by(&rt, way, LIMIT, &mut device);
-                    let failed = Some(StreamFault::Read(ReadFault::ReadFailed));
-                    assert_eq!(rt; fault_of(read), failed, "{fails_after}");
-                    assert_eq!(rt; device.failures(), 1);
-                }
+fn large_texts(rt: HostRuntime) {
+    assert!(rt; is_large_read(rt.alloc(), &rt, "", Some(MANY)) == Ok(true));
+}
+
+#[test]
+fn faults_of_large_texts(rt: HostRuntime) {
+    assert!(rt; is_large_read(rt.alloc(), &rt, "a 1 1 1\n", None) == Ok(true));
+    assert!(rt; is_large_read(rt.alloc(), &rt, "a 1 0 1", None) == Ok(true));
+}
+
+/// Whether what was read is this fault.
+fn is_fault<X: Drop>(read: Result<X, StreamFault>, wanted: StreamFault) -> bool {
+    match read {
+        Ok(_) => false,
+        Err(fault) => fault == wanted,
+    }
+}
+
+/// Whether a device that fails after so many bytes gives its failure, and counts it once.
+fn fails_once<H: Threads + Sync>(rt: &H, way: Way, text: &[u8], fails_after: usize) -> bool
+    requires { 0 < way.size }
+{
+    let mut device = StdIn::new(Slow {
+        text,
+        piece: 3,
+        reads: 0,
+        fails_after,
+    });
+    let read = read_gr_by(rt, way, LIMIT, &mut device);
+    is_fault(read, StreamFault::Read(ReadFault::ReadFailed)) && device.failures() == 1
+}
+
+/// The first number of bytes after which a device fails otherwise.
+fn wrong_after<H: Threads + Sync>(rt: &H, way: Way, text: &[u8]) -> Option<usize>
+    requires { 0 < way.size }
+{
+    for fails_after in 0..text.len() {
+        if !fails_once(rt, way, text, fails_after) {
+            return Some(fails_after);
+        }
+    }
+    None
+}
+
+/// The first number of bytes after which a device fails otherwise, with one of these sizes of blocks and numbers of threads.
+fn wrong_failure<H: Threads + Sync>(alloc: Global, rt: &H, text: &[u8]) -> Option<usize> {
+    for size in [1usize, 5, 20, 100] {
+        for threads in [1usize, 2, 4, 5] {
+            let wrong = wrong_after(rt, in_blocks(alloc, threads, size), text);
+            if wrong.is_some() {
+                return wrong;
             }
         }
     }
+    None
+}
+
+/// The first line has a fault, and the device's is told.
+const BAD_AT_ONCE: &[u8] = b"x\na 1 2 7\na 1 3 2\na 3 2 3\na 2 4 1\na 3 4 9\n";
+
+#[test]
+fn devices_that_fail(rt: HostRuntime) {
+    assert_none_wrong(&rt, wrong_failure(rt.alloc(), &rt, PLAIN));
+    assert_none_wrong(&rt, wrong_failure(rt.alloc(), &rt, BAD_AT_ONCE));
+}
+
+/// Whether the plain text is read in blocks of this size where as many bytes are allowed as it has.
+fn is_read_within<H: Threads + Sync>(alloc: Global, rt: &H, size: usize) -> bool {
+    let way = in_blocks(alloc, 2, size);
+    read_gr_by(rt, way, PLAIN.len() as u64, &mut StdIn::new(PLAIN)).is_ok()
+}
+
+/// Whether the plain text is too large where so many bytes are allowed.
+fn is_too_large<H: Threads + Sync>(alloc: Global, rt: &H, size: usize, limit: u64) -> bool {
+    let way = in_blocks(alloc, 2, size);
+    let read = read_gr_by(rt, way, limit, &mut StdIn::new(PLAIN));
+    is_fault(read, StreamFault::Read(ReadFault::TooLarge))
+}
+
+/// The first limit below the plain text's length within which blocks of this size are read otherwise; the length where it is not
+/// read within that.
+fn wrong_limit<H: Threads + Sync>(alloc: Global, rt: &H, size: usize) -> Option<u64> {
+    let count = PLAIN.len() as u64;
+    for limit in 0..count {
+        if !is_too_large(alloc, rt, size, limit) {
+            return Some(limit);
+        }
+    }
+    if is_read_within(alloc, rt, size) {
+        None
+    } else {
+        Some(count)
+    }
+}
+
+/// The first size of blocks at which a limit is kept otherwise.
+fn wrong_size_of_limits<H: Threads + Sync>(alloc: Global, rt: &H) -> Option<usize> {
+    for size in [1usize, 5, 20, 100] {
+        if wrong_limit(alloc, rt, size).is_some() {
+            return Some(size);
+        }
+    }
+    None
 }
 
 #[test]
 fn limits_of_bytes(rt: HostRuntime) {
-    let count = PLAIN.len() as u64;
-    for size in [1usize, 5, 20, 100] {
-        let way = in_blocks(rt.alloc(), 2, size);
-        assert!(rt; read_gr_by(&rt, way, count, &mut StdIn::new(PLAIN)).is_ok());
-        for limit in 0..count {
-            let read = read_gr_by(&rt, way, limit, &mut StdIn::new(PLAIN));
-            let large = Some(StreamFault::Read(ReadFault::TooLarge));
-            assert_eq!(rt; fault_of(read), large, "{limit}");
+    assert_none_wrong(&rt, wrong_size_of_limits(rt.alloc(), &rt));
+}
+
+const SOURCES: &[u8] = b"p aux sp ss 2\ns 3\ns 1\n";
+
+const PAIRS: &[u8] = b"p aux sp p2p 2\nq 3 1\nq 1 2\n";
+
+const TIMETABLES: &[u8] = b"p tp 1 2\nk 1 closed 5 9\nt 2 1\nt 1 1\n";
+
+/// Whether a device gives two items, and those that are in memory.
+fn are_both<T: PartialEq + Drop>(
+    found: &Result<Vec<T>, StreamFault>,
+    whole: &Result<Vec<T>, InputFault>,
+) -> bool {
+    match found {
+        Ok(found) => match whole {
+            Ok(whole) => found.len() == 2 && found.as_slice() == whole.as_slice(),
+            Err(_) => false,
+        },
+        Err(_) => false,
+    }
+}
+
+/// Whether so many threads read two sources as they are in memory.
+fn are_sources_read<H: Threads + Sync>(alloc: Global, rt: &H, threads: usize) -> bool {
+    let found = read_ss_from(alloc, rt, threads, LIMIT, &mut StdIn::new(SOURCES), 3);
+    are_both(&found, &read_ss(alloc, SOURCES, 3))
+}
+
+/// Whether so many threads read two pairs as they are in memory.
+fn are_pairs_read<H: Threads + Sync>(alloc: Global, rt: &H, threads: usize) -> bool {
+    let found = read_p2p_from(alloc, rt, threads, LIMIT, &mut StdIn::new(PAIRS), 3);
+    are_both(&found, &read_p2p(alloc, PAIRS, 3))
+}
+
+/// How many arcs have timetables; none where there is a fault.
+fn assigned<E>(read: &Result<RawTable, E>) -> Option<usize> {
+    match read {
+        Ok(table) => Some(table.assigned.len()),
+        Err(_) => None,
+    }
+}
+
+/// Whether so many threads read the timetables of two arcs, as many as in memory.
+fn are_timetables_read<H: Threads + Sync>(alloc: Global, rt: &H, threads: usize) -> bool {
+    let found = read_tp_from(alloc, rt, threads, LIMIT, &mut StdIn::new(TIMETABLES), 2);
+    let whole = read_tp(alloc, TIMETABLES, 2);
+    assigned(&found) == Some(2) && assigned(&whole) == Some(2)
+}
+
+/// Whether so many threads find a source that is no node.
+fn is_far_source_found<H: Threads + Sync>(alloc: Global, rt: &H, threads: usize) -> bool {
+    let read = read_ss_from(alloc, rt, threads, LIMIT, &mut StdIn::new(SOURCES), 2);
+    let far = StreamFault::Input(InputFault {
+        line: 2,
+        kind: FaultKind::OutOfRange,
+    });
+    is_fault(read, far)
+}
+
+/// Whether so many threads read each of the other files as it is in memory.
+fn are_others_read<H: Threads + Sync>(alloc: Global, rt: &H, threads: usize) -> bool {
+    are_sources_read(alloc, rt, threads)
+        && are_pairs_read(alloc, rt, threads)
+        && are_timetables_read(alloc, rt, threads)
+        && is_far_source_found(alloc, rt, threads)
+}
+
+#[test]
+fn other_files(rt: HostRuntime) {
+    for threads in [1usize, 2, 4, 5] {
+        assert!(rt; are_others_read(rt.alloc(), &rt, threads));
+    }
+}
+
+const TEXTS: [(StreamFault, &str); 4] = [
+    (
+        StreamFault::Read(ReadFault::TooLarge),
+        "there are more bytes than are allowed (10 TooLarge)",
+    ),
+    (
+        StreamFault::Read(ReadFault::ReadFailed),
+        "the input could not be read (11 ReadFailed)",
+    ),
+    (
+        StreamFault::Read(ReadFault::OutOfMemory),
+        "there is not enough memory (13 OutOfMemory)",
+    ),
+    (
+        StreamFault::Input(InputFault {
+            line: 4,
+            kind: FaultKind::BadKind,
+        }),
+        "line 4: a kind word is not the one expected here (9 BadKind)",
+    ),
+];
+
+/// The place of the first fault that has another text.
+fn wrong_shown(alloc: Global) -> Option<usize> {
+    for (place, (fault, text)) in TEXTS.iter().enumerate() {
+        if !is_shown(alloc, fault, text) {
+            return Some(place);
         }
     }
+    None
 }
 
 #[test]
-fn other_files(rt: HostRuntime) -> Result<(), Fail> {
-    let sources = b"p aux sp ss 2\ns 3\ns 1\n".as_slice();
-    let pairs = b"p aux sp p2p 2\nq 3 1\nq 1 2\n".as_slice();
-    let tables = b"p tp 1 2\nk 1 closed 5 9\nt 2 1\nt 1 1\n".as_slice();
-    for threads in [1usize, 2, 4, 5] {
-        let found = read_ss_from(rt.alloc(), &rt, threads, LIMIT, &mut StdIn::new(sources), 3)?;
-        assert!(rt; found.as_slice() == read_ss(rt.alloc(), sources, 3)?.as_slice());
-        assert_eq!(rt; found.len(), 2);
-        let found = read_p2p_from(rt.alloc(), &rt, threads, LIMIT, &mut StdIn::new(pairs), 3)?;
-        assert!(rt; found.as_slice() == read_p2p(rt.alloc(), pairs, 3)?.as_slice());
-        assert_eq!(rt; found.len(), 2);
-        let whole = match read_tp(rt.alloc(), tables, 2) {
-            Ok(table) => table.assigned.len(),
-            Err(_) => 0,
-        };
-        let found = read_tp_from(rt.alloc(), &rt, threads, LIMIT, &mut StdIn::new(tables), 2)?;
-        assert_eq!(rt; found.assigned.len(), whole);
-        assert_eq!(rt; found.assigned.len(), 2);
-        let read = read_ss_from(rt.alloc(), &rt, threads, LIMIT, &mut StdIn::new(sources), 2);
-        let far = StreamFault::Input(InputFault {
-            line: 2,
-            kind: FaultKind::OutOfRange,
-        });
-        assert_eq!(rt; fault_of(read), Some(far));
-    }
-    Ok(())
-}
-
-#[test]
-fn each_fault_of_a_stream_has_the_text_of_what_it_holds(rt: HostRuntime) -> Result<(), Fail> {
-    let fault = InputFault {
-        line: 4,
-        kind: FaultKind::BadKind,
-    };
-    for (fault, text) in [
-        (
-            StreamFault::Read(ReadFault::TooLarge),
-            "there are more bytes than are allowed (10 TooLarge)",
-        ),
-        (
-            StreamFault::Read(ReadFault::ReadFailed),
-            "the input could not be read (11 ReadFailed)",
-        ),
-        (
-            StreamFault::Read(ReadFault::OutOfMemory),
-            "there is not enough memory (13 OutOfMemory)",
-        ),
-        (
-            StreamFault::Input(fault),
-            "line 4: a kind word is not the one expected here (9 BadKind)",
-        ),
-    ] {
-        assert_eq!(rt; format!(in rt.alloc(); "{fault}")?.as_str(), text);
-    }
-    Ok(())
+fn each_fault_of_a_stream_has_the_text_of_what_it_holds(rt: HostRuntime) {
+    assert_none_wrong(&rt, wrong_shown(rt.alloc()));
 }
