@@ -1,5 +1,5 @@
 //! The kinds of a timetable's classes, by the fields of their lines.
-ghost use Rattle.std.specs.Prelude.{◌≡◌, map};
+ghost use Rattle.std.specs.Prelude.{◌≡◌, ◌∷◌, map};
 ghost use Rattle.ea_input.specs.Borrowed.{texts_now};
 ghost use Rattle.ea_input.specs.Table as spec;
 
@@ -248,27 +248,41 @@ fn trips_of(
     }
 }
 
+/// The kind of a class's number, a kind's name and the fields behind it, after so many steps.
+#[tactic(auto, unfolding(crate::specs::Table::kind_of))]
+fn kind_named(
+    number: u64,
+    before: usize,
+    field: &[u8],
+    name: &[u8],
+    others: &[&[u8]],
+) -> Result<RawKind, FaultKind>
+    ensures { result ≡ spec.kind_of number before (field.now ∷ name.now ∷ texts_now others.now) }
+{
+    if name == b"plain".as_slice() {
+        plain_of(number, field, others)
+    } else if name == b"every".as_slice() {
+        every_of(number, field, others)
+    } else if name == b"closed".as_slice() {
+        closed_of(number, field, others)
+    } else if name == b"rush".as_slice() {
+        rush_of(number, field, others)
+    } else if name == b"speeds".as_slice() {
+        speeds_of(number, before, field, others)
+    } else if name == b"trips".as_slice() {
+        trips_of(number, before, field, others)
+    } else {
+        Err(FaultKind::BadKind)
+    }
+}
+
 /// The kind of the fields behind `k`, after so many steps.
 #[tactic(auto, unfolding(crate::specs::Table::kind_of))]
 pub(crate) fn kind_of(number: u64, before: usize, fields: &[&[u8]]) -> Result<RawKind, FaultKind>
     ensures { result ≡ spec.kind_of number before (texts_now fields.now) }
 {
-    let [field, name, others @ ..] = fields else {
-        return Err(FaultKind::FieldCount);
-    };
-    if *name == b"plain".as_slice() {
-        plain_of(number, field, others)
-    } else if *name == b"every".as_slice() {
-        every_of(number, field, others)
-    } else if *name == b"closed".as_slice() {
-        closed_of(number, field, others)
-    } else if *name == b"rush".as_slice() {
-        rush_of(number, field, others)
-    } else if *name == b"speeds".as_slice() {
-        speeds_of(number, before, field, others)
-    } else if *name == b"trips".as_slice() {
-        trips_of(number, before, field, others)
-    } else {
-        Err(FaultKind::BadKind)
+    match fields {
+        [field, name, others @ ..] => kind_named(number, before, field, name, others),
+        _ => Err(FaultKind::FieldCount),
     }
 }

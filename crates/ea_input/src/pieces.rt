@@ -319,6 +319,21 @@ fn read_back_by_two<R: BlockReader, H: Threads + Sync, X, B: FnMut() -> X>(
     (there, (read, gave))
 }
 
+/// Readers aside for later pieces of what two readers read; none where the lines of one of them are better read by one thread.
+fn both_aside<R: BlockReader>(alloc: Global, reader: &mut R, aside: &mut R) -> Option<(R, R)>
+    ensures kept { R.state reader.new ≡ R.state reader.old }
+    ensures kept_aside { R.state aside.new ≡ R.state aside.old }
+    ensures asides { IfSome result (λ both. R.IsAside both.0 × R.IsAside both.1) }
+{
+    let Some(second) = reader.aside(alloc) else {
+        return None;
+    };
+    match aside.aside(alloc) {
+        Some(fourth) => Some((second, fourth)),
+        None => None,
+    }
+}
+
 /// Reads the front of a text after the lines before it and its back aside, each by two threads where both are better read so, while
 /// this one does something beside.
 fn read_both_by_two<R: BlockReader, H: Threads + Sync, X, B: FnMut() -> X>(
@@ -338,7 +353,7 @@ fn read_both_by_two<R: BlockReader, H: Threads + Sync, X, B: FnMut() -> X>(
         halves.entry.front.now result.1.0 }
     ensures beside { B.step beside.old result.1.1 beside.new }
 {
-    let (Some(mut second), Some(mut fourth)) = (reader.aside(alloc), aside.aside(alloc)) else {
+    let Some((mut second, mut fourth)) = both_aside(alloc, reader, aside) else {
         return read_both(alloc, rt, halves, reader, aside, beside);
     };
     let fronts = halves_of(halves.front, halves.before);
@@ -386,6 +401,52 @@ fn read_on<R: BlockReader>(
     }
 }
 
+/// Reads the front of a text after the lines before it and its back aside, by three or four threads where there are as many, this one
+/// among them, while this one does something beside.
+fn read_halves<R: BlockReader, H: Threads + Sync, X, B: FnMut() -> X>(
+    way: Way,
+    rt: &H,
+    halves: Halves<'_>,
+    reader: &mut R,
+    aside: &mut R,
+    beside: &mut B,
+) -> (Result<u64, InputFault>, (Result<u64, InputFault>, X))
+    requires few { (halves.before + length halves.front.now < 2 ^ 64)
+        × (length halves.back.now < 2 ^ 64) }
+    requires beside { B.pre beside.old }
+    ensures aside { ReadsAll R.step R.state 0 aside.old aside.new
+        halves.entry.back.now result.0 }
+    ensures read { ReadsAll R.step R.state halves.entry.before reader.old reader.new
+        halves.entry.front.now result.1.0 }
+    ensures beside { B.step beside.old result.1.1 beside.new }
+{
+    if way.threads == 4 {
+        read_back_by_two(way.alloc, rt, halves, reader, aside, beside)
+    } else if way.threads > 4 {
+        read_both_by_two(way.alloc, rt, halves, reader, aside, beside)
+    } else {
+        read_both(way.alloc, rt, halves, reader, aside, beside)
+    }
+}
+
+/// How a text of so many bytes is read in pieces: by two threads where it isn't long.
+fn way_of_pieces(way: Way, bytes: usize) -> Way {
+    if bytes < way.least.saturating_mul(OF_MORE) {
+        Way { threads: 2, ..way }
+    } else {
+        way
+    }
+}
+
+/// Where a text of so many bytes is cut into a front and a back: three threads read a third of it each.
+fn cut_of(way: Way, bytes: usize) -> usize {
+    if way.threads == 4 {
+        bytes / 3
+    } else {
+        bytes / 2
+    }
+}
+
 /// Reads the lines of a text as `read_lines` does, in two pieces of about the same size, each in a thread of its own, while this thread
 /// does something beside. A long text is read in three pieces where there are four threads, this one among them, and in four where
 /// there are more.
@@ -404,23 +465,11 @@ fn read_in_pieces<R: BlockReader, H: Threads + Sync, X, B: FnMut() -> X>(
     ensures read { ReadsAll R.step R.state before reader.old reader.new text.entry.now result.0 }
     ensures beside { B.step beside.old result.1 beside.new }
 {
-    let alloc = way.alloc;
-    let threads = if text.len() < way.least.saturating_mul(OF_MORE) {
-        2
-    } else {
-        way.threads
-    };
-    let in_three = threads == 4;
-    let halves = parts_of(text, text.len() / (if in_three { 3 } else { 2 }), before);
+    let way = way_of_pieces(way, text.len());
+    let halves = parts_of(text, cut_of(way, text.len()), before);
     let mut back = aside;
-    let (there, (read, gave)) = if in_three {
-        read_back_by_two(alloc, rt, halves, reader, &mut back, beside)
-    } else if threads > 4 {
-        read_both_by_two(alloc, rt, halves, reader, &mut back, beside)
-    } else {
-        read_both(alloc, rt, halves, reader, &mut back, beside)
-    };
-    let read = read_on(alloc, reader, read, back, there, halves, text);
+    let (there, (read, gave)) = read_halves(way, rt, halves, reader, &mut back, beside);
+    let read = read_on(way.alloc, reader, read, back, there, halves, text);
     (read, gave)
 }
 

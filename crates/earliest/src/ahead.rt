@@ -320,6 +320,49 @@ fn run_round<J: Asks, H: Threads + Sync, W: ByteOut, V: Watch>(
     for_each_chunk_mut_beside(rt, 1, &making, row, &mut sending)
 }
 
+/// Sends the reports of all problems in their order, while other threads make those of the next ones. The watch is told after each part.
+fn send_all<J: Asks, H: Threads + Sync, W: ByteOut, V: Watch>(
+    progress: &mut Progress,
+    rt: &H,
+    job: Job<'_>,
+    lanes: &mut Lanes<J>,
+    watch: &mut V,
+    out: &mut W,
+) -> Result<(), AnswerFault>
+    requires named { IsFor J.fits job }
+    requires can { CanSend job 0 progress.old lanes.old.desk.pile.items }
+    requires none { progress.old.written ≡ 0 }
+    ensures ok { OnOk result (AreSent job.entry.options.now.walks job.entry.road.now.network
+        (times_on job.entry.road.now) job.entry.queries.now
+        (W.seen out.old) (W.seen out.new) progress.new.written) }
+    ensures err { IfErr result
+        (IsCutShort job.entry.options.now job.entry.road.now.network
+        (times_on job.entry.road.now) job.entry.queries.now
+        (W.seen out.old) (W.seen out.new)) }
+    ensures bound { OnOk result (progress.new.written ≤ MOST_STARTS * 2 ^ 90) }
+    ensures totals { progress.new.totals ≡ progress.old.totals }
+{
+    // Tells that the count is one of 64 bits.
+    let _ = out.interruptions();
+    let mut sent = 0;
+    while sent < job.queries.len() {
+        let gone = run_round(progress, rt, job, lanes, sent, out, watch)?;
+        if gone > sent {
+            sent = gone;
+        } else {
+            let span = Span {
+                from: gone,
+                to: end_of_part(job, gone),
+            };
+            send_part(progress, job, span, &mut [], out)?;
+            sent = span.to;
+            lanes.round.tell_sent(sent);
+            watch.did(sent, job.queries.len());
+        }
+    }
+    Ok(())
+}
+
 /// Writes the reports of problems in their order, where so many threads search at once. The watch is told after each part.
 fn report_asked<J: Asks, H: Threads + Sync, W: ByteOut, V: Watch>(
     rt: &H,
@@ -349,25 +392,10 @@ fn report_asked<J: Asks, H: Threads + Sync, W: ByteOut, V: Watch>(
         Err(_) => return Err(AnswerFault::OutOfMemory { written: 0 }),
     };
     let mut progress = Progress::begin(Some(used));
-    // Tells that the count is one of 64 bits.
-    let _ = out.interruptions();
-    let mut sent = 0;
-    while sent < job.queries.len() {
-        let gone = run_round(&mut progress, rt, job, &mut lanes, sent, out, watch)?;
-        if gone > sent {
-            sent = gone;
-        } else {
-            let span = Span {
-                from: gone,
-                to: end_of_part(job, gone),
-            };
-            send_part(&mut progress, job, span, &mut [], out)?;
-            sent = span.to;
-            lanes.round.tell_sent(sent);
-            watch.did(sent, job.queries.len());
-        }
+    match send_all(&mut progress, rt, job, &mut lanes, watch, out) {
+        Ok(()) => Ok(progress),
+        Err(fault) => Err(fault),
     }
-    Ok(progress)
 }
 
 /// Writes the reports of problems in their order, where so many threads search at once. The watch is told as they are sent.

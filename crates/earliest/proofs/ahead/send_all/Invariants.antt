@@ -1,16 +1,15 @@
-use Rattle.std.proofs.Common.{◌≡◌, ◌<◌, ◌-◌, ◌^◌, [], length, take}
+use Rattle.std.proofs.Common.{◌≡◌, ◌<◌, ◌-◌, ◌^◌, length, take}
 use Rattle.ea_outcomes.specs.Posed.{times_on}
-use Rattle.earliest.specs.Counted.{totals_of}
 use Rattle.earliest.specs.Drafts.{CanSend}
 use Rattle.earliest.specs.Fronts.{AreSent}
-use Rattle.earliest.proofs.ahead.report_asked.Given as goal
+use Rattle.earliest.proofs.ahead.send_all.Given as goal
 
 abbrev pub invariant-loop-sent : goal.invariant-loop-sent
 invariant-loop-sent g l = record {
   fits : (g.W.Device.seen l.fn.out).interrupted < 2 ^ 64;
   sent : AreSent l.job.options.now.walks l.job.road.now.network (times_on l.job.road.now) (take l.sent l.job.queries.now) (g.W.Device.seen l.fn.out) (g.W.Device.seen l.out) l.progress.written;
   can : CanSend l.job l.sent l.progress l.lanes.desk.pile.items;
-  totals : l.progress.totals ≡ totals_of [];
+  totals : l.progress.totals ≡ l.fn.progress.totals;
 }
 
 abbrev pub decreases-loop-sent : goal.decreases-loop-sent
