@@ -252,6 +252,17 @@ impl Member<'_> {
         if number < LOOKS_FROM || number % LOOKS_EVERY > 0 {
             return Flow::Go;
         }
+        self.look()
+    }
+
+    /// Looks at the others: whether it goes on. What comes after most turns is a few steps without this.
+    #[inline(never)]
+    fn look(&mut self) -> Flow
+        ensures leaves { result ≡ Flow.Leave
+            → (255 ≤ self.old.alone) ⊎ (self.old.company.now.most_falls < NO_LIMIT) }
+        ensures idle { (self.new.idle ≡ self.old.idle) × (self.new.quiet ≡ self.old.quiet) }
+        ensures alone { self.new.alone ≤ self.old.alone + 1 }
+    {
         let alone = self.is_alone();
         if !self.gains() {
             self.rest();

@@ -1,19 +1,19 @@
 ghost use Rattle.std.specs.Prelude.{◌≡◌, ℕ, ◌<◌, ◌≤◌, [], ◌^◌, true, false};
 ghost use Rattle.arrayvec.specs.ArrayVec.{array_vec_len};
-ghost use Rattle.ea_limits.specs.declared.TheConstants.{MOST_BATCH};
+ghost use Rattle.ea_limits.specs.declared.TheConstants.{HORIZON, MOST_BATCH};
 ghost use Rattle.ea_road.specs.Roads.{IsArc};
 ghost use Rattle.ea_pool.specs.Entries.{AreKnown};
 ghost use Rattle.ea_engine.specs.Grounds.{IsGround, tables_of};
 ghost use Rattle.ea_engine.specs.Seated.{AreSeatsOf, kit_of};
 ghost use Rattle.ea_engine.specs.Closed.{IsFollowed, IsScanned};
-ghost use Rattle.ea_engine.specs.Worked.{Progress};
+ghost use Rattle.ea_engine.specs.Worked.{OnlySaw, Progress};
 ghost use Rattle.ea_engine.specs.Scans.{stops_scan, lowered_by, pushes_by, LeavesFew};
 
 use crate::ground::Ground;
 use crate::means::Means;
 use crate::problem::Posed;
 use crate::pushing::push_fresh;
-use ea_labels::Offered;
+use ea_labels::{LabelSeat, Offered};
 use ea_pool::{Batch, Entry, EntryHeap};
 use ea_road::{Arc, HORIZON, Known, Leaving, TravelTimes};
 use rand_core::Rng;
@@ -39,9 +39,34 @@ pub struct ScanEnd {
     pub refused: bool,
 }
 
-/// Follows one arc from a popped entry. Where it lowers the head and a batch is fresh then, it is pushed.
+/// Whether an arc has a timetable, and its head a label that isn't above the departure. It needs no travel time then: no arc arrives
+/// before it is left. For a plain arc a sum costs less than to look.
 #[inline(always)]
-pub fn follow<K: Known + Posed, E: EntryHeap, T: TravelTimes, R: Rng>(
+fn is_ahead<K: Known + Posed, E: EntryHeap, T: TravelTimes>(
+    ground: &Ground<'_, K, T, E>,
+    seat: &mut LabelSeat<K>,
+    departure: u64,
+    arc: Arc,
+) -> bool
+    requires ground { IsGround K.is_known K.problem T.answers T.classes ground.now }
+    requires seat { seat.old.table ≡ ground.now.labels.now.table }
+    requires departure { departure ≤ HORIZON }
+    requires arc { (number : ℕ) × IsArc K.problem.network number arc }
+    ensures seat { seat.new.table ≡ seat.old.table }
+    ensures saw { OnlySaw seat.old.history seat.new.history }
+    ensures followed { result ≡ true
+        → IsFollowed K.problem seat.new.history.bounds departure arc }
+{
+    if arc.class == 0 {
+        return false;
+    }
+    ground.labels.read(seat, arc.head) <= departure
+}
+
+/// Asks when one arc from a popped entry arrives, and offers that to its head. Where it lowers the head and a batch is fresh then,
+/// it is pushed.
+#[inline(always)]
+fn ask_and_offer<K: Known + Posed, E: EntryHeap, T: TravelTimes, R: Rng>(
     ground: &Ground<'_, K, T, E>,
     means: &mut Means<K, R, E>,
     fresh: &mut Batch,
@@ -90,6 +115,38 @@ pub fn follow<K: Known + Posed, E: EntryHeap, T: TravelTimes, R: Rng>(
             }
         }
     }
+}
+
+/// Follows one arc from a popped entry, but where its head is ahead of it. Where it lowers the head and a batch is fresh then, it is
+/// pushed.
+#[inline(always)]
+pub fn follow<K: Known + Posed, E: EntryHeap, T: TravelTimes, R: Rng>(
+    ground: &Ground<'_, K, T, E>,
+    means: &mut Means<K, R, E>,
+    fresh: &mut Batch,
+    batch: usize,
+    entry: Entry,
+    arc: Arc,
+) -> Followed
+    requires ground { IsGround K.is_known K.problem T.answers T.classes ground.now }
+    requires seats { AreSeatsOf (tables_of ground.now) means.old.label_seat means.old.pool_seat }
+    requires fresh { AreKnown K.is_known fresh.old.items }
+    requires room { (array_vec_len fresh.old < batch) × (batch ≤ MOST_BATCH) }
+    requires entry { K.is_known entry.node entry.key }
+    requires arc { (number : ℕ) × IsArc K.problem.network number arc }
+    requires tail { arc.tail ≡ entry.node }
+    ensures seats { AreSeatsOf (tables_of ground.now) means.new.label_seat means.new.pool_seat }
+    ensures fresh { AreKnown K.is_known fresh.new.items }
+    ensures progress { Progress (kit_of R.stream means.old [] fresh.old.items)
+        (kit_of R.stream means.new [] fresh.new.items) [] (pushes_by result) (lowered_by result) }
+    ensures left { LeavesFew (stops_scan result) batch (array_vec_len fresh.new) }
+    ensures one { batch ≡ 1 → pushes_by result ≡ lowered_by result }
+    ensures spent { IsFollowed K.problem means.new.label_seat.history.bounds entry.key arc }
+{
+    if is_ahead(ground, &mut means.label_seat, entry.key, arc) {
+        return Followed::Unchanged;
+    }
+    ask_and_offer(ground, means, fresh, batch, entry, arc)
 }
 
 /// Scans a popped entry: follows each arc from its node, until the pool refuses a push.
