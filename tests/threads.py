@@ -1,5 +1,5 @@
 """How many threads a run has: as many problems are searched at once as are asked for, and by default as many as there are processors; and
-as many workers as are asked for are there."""
+as many workers as are asked for are there, but for two or three on few nodes."""
 import os
 import random
 import subprocess
@@ -54,7 +54,10 @@ def results(program):
             ("", here[:2], 2 if here[1:] else 1),
             ("--workers 1", here, 1),
             ("--workers 4", here, 4),
-            ("--workers 2 --at-once 1", here[:1], 2),
+            ("--workers 4 --at-once 1", here[:1], 4),
+            # Two or three are not worth starting on so few nodes, unless they are counted.
+            ("--workers 2 --at-once 1", here, 1),
+            ("--stats --workers 2", here[:1], 2),
             ("--stats --workers 3", here, 3),
         ):
             for _ in range(TRIES):

@@ -41,8 +41,11 @@ pub(crate) struct Found {
     pub totals: Totals,
 }
 
-/// Workers are not worth starting on fewer nodes.
+/// Workers are not worth starting on fewer nodes, also where they are asked for.
 const FEW_NODES: u32 = 10_000;
+
+/// Two or three are not on fewer than so many: each does half of the work and waits for the other's labels.
+const FEW_FOR_TWO: u32 = 500_000;
 
 /// Four workers or more are quicker than the search of one thread from so many nodes on, where all nodes are asked for without walks.
 const MANY_NODES: u32 = 500_000;
@@ -62,6 +65,11 @@ fn workers_on<H: Threads>(rt: &H, nodes: u32) -> u32
     }
 }
 
+/// From how many nodes on so many workers that are asked for are as quick as the search of one thread.
+fn least_nodes(workers: u64) -> u32 {
+    if workers < 4 { FEW_FOR_TWO } else { FEW_NODES }
+}
+
 /// How many workers search a problem. With statistics it is those that are counted. Else those that are asked for, and where the
 /// program may choose, one for each processor where that is quicker; one is the search of one thread.
 pub(crate) fn workers_of<H: Threads>(
@@ -79,7 +87,7 @@ pub(crate) fn workers_of<H: Threads>(
     }
     let nodes = road.network.nodes();
     match options.workers {
-        Some(workers) if nodes >= FEW_NODES => workers as u32,
+        Some(workers) if nodes >= least_nodes(workers) => workers as u32,
         None if nodes >= MANY_NODES && !options.walks && query.target().is_none() => {
             workers_on(rt, nodes)
         }
