@@ -9,10 +9,11 @@ stands in these holes, a line says so of that function, and the one as it stands
 
 What can't be written twice (functions of traits, functions with closures) is edited in its place, edits of functions of which none calls another
 together, in one check of these functions alone. An edit is refused there where one of its own functions isn't proved and a line says so
-of that function; where rt says that a function calls another that isn't proved, its edit is tried again later. Once all edits were tried
-there, these functions as they stand have no hole of their own: else nothing that was seen counts. What isn't refused so is tried alone,
-by a check of its functions; and where that refuses nothing, or the edit changes more than functions, rt's own trial of the whole crate
-decides, with all proofs. What is read as a refusal is what rt reads as one.
+of that function; where rt says that a function calls another that isn't proved, its edit is tried again later. What is no function, as a
+constant, is tried so by the functions of its module and of the crate's laws. Once all edits were tried there, these functions as they stand
+have no hole of their own: else nothing that was seen counts. What isn't refused so is tried alone, by a check of its functions; and where
+that refuses nothing, or the edit changes more than modules, rt's own trial of the whole crate decides, with all proofs. What is read as a
+refusal is what rt reads as one.
 
 What an edit came to is kept where rt keeps what its own runs proved, under a sum of all that it rests on, and taken from there where
 nothing has changed since. Some kits keep nothing between runs; then each edit is tried in each run.
@@ -42,6 +43,9 @@ WELL = ("no holes", "depends on a hole")
 
 # Functions that call one another have one proof of them all.
 OF_A_CYCLE = re.compile(r"#\[cycle\(\w+\)\]\n(?: *(?:#|//).*\n)* *(?:pub(?:\([^)]*\))? )?fn (\w+)")
+
+# Where a crate says what its constants and ghost members are: an edit that changes no function may be refused there alone.
+LAWS = ("law", "laws")
 
 # What a proof says of a name that an edit took away: it tells nothing of the contract.
 NAMES = re.compile(r"(\./)?proofs/.*(has no field|is not in scope|has no `|was not admitted)")
@@ -179,21 +183,36 @@ def functions_of(crate):
     return [it.removeprefix(f"{crate.name}::") for it in names if it.startswith(f"{crate.name}::")]
 
 
+def is_below(path, top):
+    """Whether a path is this one or lies below it."""
+    return path == top or path.startswith(f"{top}::")
+
+
+def modules_of(place, functions):
+    """The modules whose functions may tell of a change that is in no function: its own and the crate's laws, where they have some."""
+    named = dict.fromkeys((place.module, *LAWS))
+    return [top for top in named if any(is_below(it, top) for it in functions)] or [place.module]
+
+
 def paths_of(place, functions):
-    """The whole paths of the function at a place and of its closures; that of the module where none is known."""
+    """The whole paths of the function at a place and of its closures; those of modules where none is known."""
     if place.type:
         ends = [it for it in functions if it.endswith(f"::{place.function}")]
         found = [it for it in ends if it.split("::")[-2].partition("+")[0] == place.type]
+        # The name of an impl of a trait with parameters ends with these.
+        found = found or [it for it in ends if it.split("::")[-2].startswith(place.type)]
     else:
         found = [it for it in functions if it == f"{place.module}::{place.function}"]
     closures = [it for it in functions if f"fn::{place.function}::" in it and it.startswith(f"{place.module}::")]
-    return found + closures if found else [place.module]
+    if found:
+        return found + closures
+    return [place.module] if place.function else modules_of(place, functions)
 
 
 def are_functions(places, functions):
     """Whether a check can be asked for the functions at these places alone: not where a module has none."""
     found = {path for place in places for path in paths_of(place, functions)}
-    return not functions or all(any(it == path or it.startswith(f"{path}::") for it in functions) for path in found)
+    return not functions or all(any(is_below(it, path) for it in functions) for path in found)
 
 
 def only(places, functions):
@@ -313,7 +332,7 @@ def quickly(rt, crate, edits, kept):
     places = {edit: places[edit] for edit in places if edit not in aside}
     standing = {path for edit in places for place in places[edit] for path in paths_of(place, functions)}
     with copied(crate) as bare:
-        leave_holes(bare, [path for path in functions if path not in standing])
+        leave_holes(bare, [path for path in functions if not any(is_below(path, top) for top in standing)])
         return {**aside, **in_place(rt, bare, places, functions, kept)}
 
 
