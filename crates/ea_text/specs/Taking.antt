@@ -35,6 +35,10 @@ GoesOnTaking old blocks new after block grown =
     (got : List ℕ) × (grown ≡ block ++ got)
     × ((limit : ℕ) (first : Seen) (bytes : List ℕ) → IsTakenBy blocks limit first old bytes → IsTakenBy after limit first new (bytes ++ got))
 
+-- A block is longer than before, or one more interruption was borne.
+abbrev pub IsTakenOn : Blocks → Blocks → ℕ → ℕ → Type 0
+IsTakenOn blocks after len grown = ((len < grown) × (after.interruptions ≡ blocks.interruptions)) ⊎ ((grown ≡ len) × (blocks.interruptions < MOST_INTERRUPTIONS) × (after.interruptions ≡ blocks.interruptions + 1))
+
 -- A device that isn't read on, for this reason: its counts, at most one byte beyond the limit, and for `TooLarge` more than it.
 pub record IsStopped (limit : ℕ) (first now : Seen) (fault : ReadFault) : Type 0 where
   pub counts : FaultCounts fault first now

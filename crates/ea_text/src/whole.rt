@@ -4,7 +4,7 @@ ghost use Rattle.std.specs.Io.KnownBytes.{Consumes, IsAtEnd};
 ghost use Rattle.ea_text.specs.Device.{AreAlike, HasGivenUp, Seen, TakesAtMost};
 ghost use Rattle.ea_text.specs.Outcome.{CountsAfter, fault_name, fault_number};
 ghost use Rattle.ea_text.specs.Piece.{failures_with, interruptions_with};
-ghost use Rattle.ea_text.specs.Taking.{GoesOnTaking, HasRoom, IsTakenBy, StopsTaking, Takes};
+ghost use Rattle.ea_text.specs.Taking.{GoesOnTaking, HasRoom, IsTakenBy, IsTakenOn, StopsTaking, Takes};
 ghost use Rattle.ea_text.specs.declared.whole.ReadFault.TheVariants.{OutOfMemory};
 
 use crate::device::{ByteIn, DeviceFault};
@@ -148,6 +148,46 @@ impl Blocks {
         })
     }
 
+    /// Appends the bytes of one read to a block: whether the device ended.
+    fn take<R: ByteIn>(&mut self, reader: &mut R, block: &mut Vec<u8>) -> Result<bool, ReadFault>
+        requires { HasRoom self.old }
+        ensures room { HasRoom self.new }
+        ensures more { IfOk result (λ _.
+            GoesOnTaking (R.seen reader.old) self.old (R.seen reader.new) self.new
+            block.old.items block.new.items) }
+        ensures left { OnOk result
+            (length block.new.items + self.new.left ≡ length block.old.items + self.old.left) }
+        ensures on { IfOk result (λ ended. ended ≡ false → IsTakenOn self.old self.new
+            (length block.old.items) (length block.new.items)) }
+        ensures end { IfOk result (λ ended. ended ≡ true → IsAtEnd (R.seen reader.new).bytes) }
+        ensures fault { IfErr result
+            (StopsTaking (R.seen reader.old) self.old (R.seen reader.new)) }
+    {
+        let before = block.len();
+        let wanted = self.left.min(PIECE as u64 - 1) as usize + 1;
+        let piece = &mut self.piece.as_mut_slice()[..wanted];
+        let Ok(read) = read_piece(reader, piece, block) else {
+            return Err(ReadFault::OutOfMemory);
+        };
+        let ended = match read {
+            Piece::Some => {
+                let count = (block.len() - before) as u64;
+                if count > self.left {
+                    return Err(ReadFault::TooLarge);
+                }
+                self.left -= count;
+                false
+            }
+            Piece::End => true,
+            Piece::Fault(DeviceFault::Interrupted) if self.interruptions < MOST_INTERRUPTIONS => {
+                self.interruptions += 1;
+                false
+            }
+            Piece::Fault(_) => return Err(ReadFault::ReadFailed),
+        };
+        Ok(ended)
+    }
+
     /// Appends bytes of the device to a block until it has `size` or more, or the device ends: whether it ended.
     ///
     /// `TooLarge` where the device had more bytes than the limit, of which one more is taken then; `ReadFailed` where a read failed, or
@@ -171,26 +211,10 @@ impl Blocks {
             (StopsTaking (R.seen reader.old) self.old (R.seen reader.new)) }
     {
         while block.len() < size {
-            let before = block.len();
-            let wanted = self.left.min(PIECE as u64 - 1) as usize + 1;
-            let piece = &mut self.piece.as_mut_slice()[..wanted];
-            let Ok(read) = read_piece(reader, piece, block) else {
-                return Err(ReadFault::OutOfMemory);
-            };
-            match read {
-                Piece::Some => {
-                    let count = (block.len() - before) as u64;
-                    if count > self.left {
-                        return Err(ReadFault::TooLarge);
-                    }
-                    self.left -= count;
-                }
-                Piece::End => return Ok(true),
-                Piece::Fault(DeviceFault::Interrupted) if self.interruptions < MOST_INTERRUPTIONS =>
-                    {
-                        self.interruptions += 1;
-                    }
-                Piece::Fault(_) => return Err(ReadFault::ReadFailed),
+            match self.take(reader, block) {
+                Ok(true) => return Ok(true),
+                Ok(_) => {}
+                Err(fault) => return Err(fault),
             }
         }
         Ok(false)

@@ -2,12 +2,12 @@ use Rattle.std.proofs.Common.{◌≡◌, ◌+◌, ◌-◌, length}
 use Rattle.ea_text.specs.Taking.{GoesOnTaking, HasRoom}
 use Rattle.ea_text.proofs.whole.Blocks.fill.Given as goal
 
-abbrev pub invariant-loop-block : goal.invariant-loop-block
-invariant-loop-block g l = record {
+abbrev pub invariant-loop-self : goal.invariant-loop-self
+invariant-loop-self g l = record {
   room : HasRoom l.self;
   left : length l.block.items + l.self.left ≡ length l.fn.block.items + l.fn.self.left;
   more : GoesOnTaking (g.R.Device.seen l.fn.reader) l.fn.self (g.R.Device.seen l.reader) l.self l.fn.block.items l.block.items;
 }
 
-abbrev pub decreases-loop-block : goal.decreases-loop-block
-decreases-loop-block g l = (l.size - length l.block.items) + (1000 - l.self.interruptions)
+abbrev pub decreases-loop-self : goal.decreases-loop-self
+decreases-loop-self g l = (l.size - length l.block.items) + (1000 - l.self.interruptions)
