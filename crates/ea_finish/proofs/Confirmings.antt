@@ -1,5 +1,5 @@
 -- How levels that a search noted are confirmed.
-use Rattle.std.proofs.Common.{◌≡◌, ◌≢◌, ℕ, zero, suc, ◌+◌, ◌-◌, ◌<◌, ◌≤◌, List, [], ◌∷◌, length, get_or, set, Contains, refl, sym, ◌∙◌, ap, subst, ◌⊎◌, inl, inr, arith}
+use Rattle.std.proofs.Common.{◌≡◌, ℕ, zero, suc, ◌+◌, ◌-◌, ◌<◌, ◌≤◌, List, [], ◌∷◌, length, get_or, set, Contains, refl, sym, ◌∙◌, ap, subst, ◌⊎◌, inl, inr, arith}
 use Rattle.std.specs.List.{IsAmong}
 use Rattle.std.proofs.lemmas.Bool.{cases_lt}
 use Rattle.std.proofs.lemmas.List.{get_or_default, get_or_past}
@@ -12,7 +12,7 @@ use Rattle.ea_finish.specs.declared.link.Link.{Link}
 use Rattle.ea_finish.specs.declared.link.TheConstants.{NO_ARC, NO_LEVEL}
 use Rattle.ea_finish.specs.Confirmed.{AreBegun, AreConfirmed, ArePreset, AreReady, IsReady}
 use Rattle.ea_finish.specs.Links.{link, no_link}
-use Rattle.ea_finish.specs.Offers.{AreSown, IsOne, IsSeed, IsSpent, IsSpread, Offers, Precedes, MeetsBound}
+use Rattle.ea_finish.specs.Offers.{IsOne, IsSeed, IsSpent, IsSpread, Offers, Precedes, MeetsBound}
 use Rattle.ea_finish.specs.Underway.{bound_of}
 use Rattle.ea_finish.proofs.Linked.{Settled}
 use Rattle.ea_finish.proofs.Worklists.{Contains-cons_cases}

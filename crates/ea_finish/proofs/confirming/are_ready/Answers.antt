@@ -1,4 +1,4 @@
-use Rattle.std.proofs.Common.{refl, arith}
+use Rattle.std.proofs.Common.{refl}
 use Rattle.std.proofs.lemmas.Bool.{false≢true}
 use Rattle.ea_finish.specs.declared.link.Link.{Link}
 use Rattle.ea_finish.proofs.Confirmings.{Ready-none, Ready-more, Ready-all, Ready-at}

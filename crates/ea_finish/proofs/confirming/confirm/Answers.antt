@@ -1,4 +1,4 @@
-use Rattle.std.proofs.Common.{◌≡◌, ◌∙◌, sym, ap, subst, arith}
+use Rattle.std.proofs.Common.{ap, arith}
 use Rattle.ea_finish.specs.declared.link.Link.{Link}
 use Rattle.ea_finish.proofs.Linkings.{bound_of_read, link_read}
 use Rattle.ea_finish.proofs.confirming.confirm.Goals.{else-departure-le-HORIZON-via-then-departure-le-HORIZON+else-level, else-departure-le-HORIZON-via-else-departure-le-HORIZON}

@@ -1,4 +1,4 @@
-use Rattle.std.proofs.Common.{◌≡◌, ◌≤◌, length, ◌∙◌, arith}
+use Rattle.std.proofs.Common.{◌≤◌, length, ◌∙◌, arith}
 use Rattle.ea_road.proofs.Arcs.{arc_found}
 use Rattle.ea_finish.proofs.Confirmings.{AreConfirmed-more, AreConfirmed-all}
 use Rattle.ea_finish.proofs.Linkings.{Offers-lower}

@@ -1,5 +1,4 @@
-use Rattle.std.proofs.Common.{◌≡◌, ℕ, length, ◌∙◌, arith}
-use Rattle.ea_road.specs.declared.source.Source.{Source}
+use Rattle.std.proofs.Common.{◌≡◌, length, arith}
 use Rattle.ea_finish.proofs.Confirmings.{AreConfirmed-begun, Settled-confirmed}
 use Rattle.ea_finish.proofs.Linked.{are_links}
 use Rattle.ea_finish.proofs.Linkings.{AreSown-lower}

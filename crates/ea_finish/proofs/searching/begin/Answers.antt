@@ -1,4 +1,4 @@
-use Rattle.std.proofs.Common.{◌≡◌, ◌<◌, ℕ, List, length, get_or, ◌∙◌, subst, ap, arith, rules}
+use Rattle.std.proofs.Common.{◌<◌, ℕ, List, length, get_or, ◌∙◌, subst, ap, arith, rules}
 use Rattle.std.specs.List.{IsAmong}
 use Rattle.std.proofs.lemmas.List.{take_more, take_all, get_or_default}
 use Rattle.ea_road.specs.declared.source.Source.{Source}

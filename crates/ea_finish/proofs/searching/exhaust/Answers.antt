@@ -1,6 +1,4 @@
-use Rattle.std.proofs.Common.{◌≡◌, ◌≤◌, ◌∙◌, ℕ, Some, refl, sym, ap, inl, inr, arith}
-use Rattle.std.specs.Prelude.{Contains}
-use Rattle.ea_road.specs.Labels.{limit}
+use Rattle.std.proofs.Common.{◌≡◌, ◌∙◌, ℕ, Some, refl, sym, ap, inl, inr, arith}
 use Rattle.ea_road.proofs.ByTail.{leaving_has}
 use Rattle.ea_finish.specs.Underway.{bound_of}
 use Rattle.ea_finish.specs.Worklist.{Room}

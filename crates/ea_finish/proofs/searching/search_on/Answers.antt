@@ -1,4 +1,4 @@
-use Rattle.std.proofs.Common.{◌∙◌, inl}
+use Rattle.std.proofs.Common.{inl}
 use Rattle.ea_finish.proofs.Boundary.{public_of, underway_of}
 use Rattle.ea_finish.proofs.Entries.{AwaitsScansFrom-moved}
 use Rattle.ea_finish.proofs.searching.search_on.Goals as goal

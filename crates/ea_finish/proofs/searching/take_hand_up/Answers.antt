@@ -1,7 +1,8 @@
-use Rattle.std.proofs.Common.{◌≡◌, ◌∙◌, ◌≤◌, ◌<◌, ◌+◌, ◌⊎◌, ℕ, Option, Some, None, length, option_to_list, ap, inl, inr, refl, subst, sym, arith}
+use Rattle.std.proofs.Common.{◌≡◌, ◌∙◌, ◌≤◌, ℕ, Some, length, option_to_list, ap, inl, inr, refl, subst, sym, arith}
 use Rattle.std.proofs.lemmas.Bool.{false≢true}
-use Rattle.ea_finish.specs.Candidates.{IsPending}
-use Rattle.ea_finish.specs.Frontiers.{WaitsAt}
+use Rattle.std.proofs.lemmas.Option.{none-some}
+use Rattle.std.specs.Prelude.{IfSome}
+use Rattle.ea_road.specs.Roads.{IsNode}
 use Rattle.ea_finish.specs.Underway.{bound_of}
 use Rattle.ea_finish.proofs.Gatherings.{had_none, next_node, next_rest, next_room, pending_stays}
 use Rattle.ea_finish.proofs.searching.take_hand_up.Goals as goal
@@ -68,6 +69,29 @@ returns-then-not-take_up-clause-emptied g c =
         | inr (inr late) ↦ inr (inr late)
       ];
       had = rw crowded.2 inv.had;
+      fewer = inv.fewer;
+      nodes = inv.nodes;
+      walks = inv.walks;
+    }
+
+pub take_up-requires-clause-node : goal.take_up-requires-clause-node
+take_up-requires-clause-node g c = subst (λ next. IfSome next (λ entry. IsNode c.args.network.now.nodes entry.1)) c.in-Some.is c.loop-next.invariant.is_node
+
+pub returns-then-not-take_up-clause-crowded : goal.returns-then-not-take_up-clause-crowded
+returns-then-not-take_up-clause-crowded g c =
+    let crowded = c.take_up.ensures.crowded (λ yes. absurd (false≢true (sym c.if-not-take_up.true ∙ yes))) in
+    (subst (λ next. IfSome next (λ entry. IsNode c.args.network.now.nodes entry.1)) c.in-Some.is c.loop-next.invariant.is_node, subst (λ time. time ≤ c.args.last) crowded.0 crowded.1)
+
+pub returns-clause-emptied : goal.returns-clause-emptied
+returns-clause-emptied g c =
+    let inv = c.loop-next.invariant in
+    record {
+      rest = λ node waits. elim (inv.rest node waits) [
+        | inl here ↦ inl here
+        | inr (inl is_next) ↦ absurd (none-some _ (sym c.in_default.is ∙ is_next))
+        | inr (inr late) ↦ inr (inr late)
+      ];
+      had = inv.had;
       fewer = inv.fewer;
       nodes = inv.nodes;
       walks = inv.walks;

@@ -1,4 +1,4 @@
-use Rattle.std.proofs.Common.{◌≡◌, ◌∙◌, ℕ, ◌≤◌, ap, inl, refl, subst, sym, arith}
+use Rattle.std.proofs.Common.{◌∙◌, ℕ, ap, inl, subst, sym, arith}
 use Rattle.ea_road.proofs.ByTail.{leaving_has}
 use Rattle.ea_finish.specs.Candidates.{IsPending}
 use Rattle.ea_finish.specs.Underway.{bound_of}

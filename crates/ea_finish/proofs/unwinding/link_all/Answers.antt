@@ -1,6 +1,6 @@
-use Rattle.std.proofs.Common.{◌≡◌, ℕ, ◌<◌, List, length, get_or, refl, ◌∙◌, ap, arith}
+use Rattle.std.proofs.Common.{ℕ, ◌<◌, List, length, get_or, refl, ◌∙◌, ap, arith}
 use Rattle.std.specs.List.{IsAmong}
-use Rattle.std.proofs.lemmas.List.{with_items_is, get_or_default}
+use Rattle.std.proofs.lemmas.List.{get_or_default}
 use Rattle.ea_road.specs.declared.source.Source.{Source}
 use Rattle.ea_finish.proofs.Linked.{are_links, Settled-linking}
 use Rattle.ea_finish.proofs.Linkings.{Linking-none, Linking-spread, Linking-time, Linking-unlabelled, AreSown-more, AreSown-lower, Offers-lower, sow_step}

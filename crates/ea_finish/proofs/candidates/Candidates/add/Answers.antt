@@ -1,7 +1,5 @@
-use Rattle.std.proofs.Common.{◌≡◌, ◌+◌, ◌<◌, ◌≤◌, ◌∙◌, take, length, arith, ap, sym}
+use Rattle.std.proofs.Common.{◌≡◌, ◌+◌, arith}
 use Rattle.std.proofs.lemmas.Bool.Decides.{nat_tests}
-use Rattle.std.proofs.lemmas.List.{length-take-le, length-map, length-set}
-use Rattle.ea_finish.specs.Candidates.{entries_of}
 use Rattle.ea_finish.proofs.Gatherings.{entries_kept, entries_more, entries_count}
 use Rattle.ea_finish.proofs.candidates.Candidates.add.Goals as goal
 

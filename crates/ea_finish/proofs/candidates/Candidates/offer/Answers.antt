@@ -1,5 +1,4 @@
-use Rattle.std.proofs.Common.{◌≡◌, ◌<◌, ◌≤◌, ◌∙◌, ℕ, length, get_or, ap, subst, arith}
-use Rattle.ea_road.specs.Roads.{IsNode}
+use Rattle.std.proofs.Common.{◌<◌, ◌∙◌, length, get_or, ap, arith}
 use Rattle.ea_finish.specs.declared.candidates.Candidate.{Candidate}
 use Rattle.ea_finish.specs.Worklist.{Room}
 use Rattle.ea_finish.proofs.Gatherings.{Offered-more, entries_next, entry_is_there}

@@ -1,4 +1,3 @@
-use Rattle.std.proofs.Common.{refl, ap}
 use Rattle.ea_finish.proofs.Fronts.{taken_waiting}
 use Rattle.ea_finish.proofs.frontier.Frontier.take_waiting.Goals as goal
 

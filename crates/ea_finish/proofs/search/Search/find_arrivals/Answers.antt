@@ -1,5 +1,5 @@
-use Rattle.std.proofs.Common.{◌≡◌, false, length, sym, ap, ◌∙◌, inl}
-use Rattle.std.proofs.lemmas.List.{length-map, length-replicate}
+use Rattle.std.proofs.Common.{false, sym, ap, ◌∙◌, inl}
+use Rattle.std.proofs.lemmas.List.{length-map}
 use Rattle.ea_finish.proofs.Answered.{has_arrivals}
 use Rattle.ea_finish.specs.Listings.{Searched}
 use Rattle.ea_finish.specs.Worklist.{Worklist}

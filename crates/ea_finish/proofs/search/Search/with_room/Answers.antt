@@ -1,4 +1,4 @@
-use Rattle.std.proofs.Common.{inl, rules, ◌∙◌, sym, ap, length}
+use Rattle.std.proofs.Common.{inl, rules, ◌∙◌, sym, ap}
 use Rattle.std.specs.Prelude.{if◌then◌else◌}
 use Rattle.std.proofs.lemmas.List.{length-map, length-replicate}
 use Rattle.ea_road.specs.declared.TheConstants.{NONE}
