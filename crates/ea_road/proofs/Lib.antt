@@ -27,3 +27,5 @@ pub mod TripSteps
 pub mod RunSums
 pub mod Classes
 pub mod FoundFit
+pub mod Numbering
+pub mod Turns
