@@ -57,6 +57,12 @@ pub split_first : {K R T E : Type 0} (row : List (Place K R T E)) (first end : W
     → row ≡ place.Done first ∷ others → row ≡ p ∷ rest → p ≡ place.Done end → (first ≡ end) × (others ≡ rest)
 split_first row first end p others rest e f h = (cc, cc)
 
+pub first_place_done : {K R T E : Type 0} (row : List (Place K R T E)) (first : WorkerEnd K R T E) (p : Place K R T E) (others rest : List (Place K R T E))
+    → row ≡ place.Done first ∷ others → row ≡ p ∷ rest → IsDonePlace p
+first_place_done row first p others rest e f =
+    let is : place.Done first ≡ p = cc in
+    subst (λ q. IsDonePlace q) is tt
+
 module _ {K R T E : Type 0} (problem : Problem) (tables : Tables) where
   -- the place of a worker that is done
   done_by_end : (p : Place K R T E) → IsEndPlace problem tables p → IsDonePlace p

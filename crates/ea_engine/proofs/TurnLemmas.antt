@@ -95,6 +95,15 @@ head_is x y e = cc
 nil≢cons : (e : Entry) (es : List Entry) → [] ≡ e ∷ es → ⊥
 nil≢cons e es h = absurd (omega (arith, ap length h))
 
+-- a turn pops at most once
+pub pops_once : (k : TurnKind) (pops : ℕ) → IsPoppingAs k pops → pops ≤ 1
+pops_once Empty pops is = omega (arith, is)
+pops_once Busy pops is = omega (arith, is)
+pops_once Stale pops is = is
+pops_once Scanned pops is = is
+pops_once Refused pops is = is
+pops_once Cut pops is = is
+
 -- a turn that visited an entry pops at most once
 IsPoppingAs-visited : (k : TurnKind) (key node pops : ℕ) (e : Entry) → visited_as k key node ≡ e ∷ [] → pops ≤ 1 → IsPoppingAs k pops
 IsPoppingAs-visited Empty key node pops e is few = absurd (nil≢cons e [] is)

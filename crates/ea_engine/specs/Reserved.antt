@@ -6,6 +6,7 @@ use Rattle.ea_limits.specs.declared.TheConstants.{SHARES}
 use Rattle.ea_pool.specs.Pools.{Opened}
 use Rattle.ea_pool.specs.Seats.{heaps_of}
 use Rattle.ea_engine.specs.declared.arrays.Arrays.{Arrays}
+use Rattle.ea_engine.specs.declared.arrays.Rooms.{Rooms}
 use Rattle.ea_engine.specs.declared.means.Seats.{Seats}
 use Rattle.ea_engine.specs.declared.ran.Results.{Results}
 use Rattle.ea_engine.specs.Seated.{Tables, tables, AreSeatsOf}
@@ -18,6 +19,14 @@ pub record AreUnfilled {R T : Type 0} (workers : ℕ) (results : Results R T) : 
   pub counters_room : workers ≤ vec_capacity results.counters
   pub rngs_room : workers ≤ vec_capacity results.rngs
   pub tracers_room : workers ≤ vec_capacity results.tracers
+
+-- There is room for so many workers, and nothing is there yet.
+pub record AreRooms {K R T E : Type 0} (workers : ℕ) (rooms : Rooms K R T E) : Type 0 where
+  pub others : rooms.others.items ≡ []
+  pub others_room : workers ≤ vec_capacity rooms.others
+  pub row : rooms.row.items ≡ []
+  pub row_room : workers ≤ vec_capacity rooms.row
+  pub results : AreUnfilled workers rooms.results
 
 -- The first seats of new tables, with all shares: nothing was seen, pushed or popped.
 pub record AreNew {K E : Type 0} (tables : Tables) (seats : Seats K E) : Type 0 where

@@ -1,7 +1,7 @@
 //! The arrays of a run: everything that takes memory, before any worker starts.
 ghost use Rattle.std.specs.Prelude.{◌≡◌, ◌*◌, [], IfOk};
 ghost use Rattle.ea_engine.specs.Limits.{AreSettings};
-ghost use Rattle.ea_engine.specs.Reserved.{AreArrays, AreUnfilled};
+ghost use Rattle.ea_engine.specs.Reserved.{AreArrays, AreRooms, AreUnfilled};
 
 use crate::means::Seats;
 use crate::ran::Results;
@@ -25,6 +25,14 @@ pub struct Arrays<K: Known, R, T, E: EntryHeap = LeastHeap<Global>> {
     pub others: Vec<Seats<K, E>>,
     pub row: Vec<Place<K, R, T, E>>,
     pub results: Results<R, T>,
+}
+
+/// Room for workers.
+#[derive(Drop)]
+struct Rooms<K: Known, R, T, E: EntryHeap> {
+    others: Vec<Seats<K, E>>,
+    row: Vec<Place<K, R, T, E>>,
+    results: Results<R, T>,
 }
 
 /// An empty worklist, with room for walks where these are asked for.
@@ -55,6 +63,22 @@ impl<R: Drop, T: Drop> Results<R, T> {
     }
 }
 
+impl<K: Known, E: EntryHeap, R: Drop, T: Drop> Rooms<K, R, T, E> {
+    /// Room for so many workers.
+    fn reserve(alloc: Global, workers: usize) -> Result<Rooms<K, R, T, E>, AllocError>
+        ensures { IfOk result (λ rooms. AreRooms workers rooms) }
+    {
+        let others = Vec::with_capacity(alloc, workers)?;
+        let row = Vec::with_capacity(alloc, workers)?;
+        let results = Results::reserve(alloc, workers)?;
+        Ok(Rooms {
+            others,
+            row,
+            results,
+        })
+    }
+}
+
 impl<K: Known, E: OpenHeap<Global>, R: Drop, T: Drop> Arrays<K, R, T, E> {
     /// The arrays for a network of so many nodes, with those for walks where these are asked for. Heaps that have windows of
     /// times have windows of about this width.
@@ -73,9 +97,7 @@ impl<K: Known, E: OpenHeap<Global>, R: Drop, T: Drop> Arrays<K, R, T, E> {
         let todo = open_list(alloc, nodes, walks)?;
         let (labels, label_seat) = Labels::open(alloc, nodes)?;
         let (pool, pool_seat) = Pool::open_with(alloc, workers * settings.heaps as usize, width)?;
-        let others = Vec::with_capacity(alloc, workers)?;
-        let row = Vec::with_capacity(alloc, workers)?;
-        let results = Results::reserve(alloc, workers)?;
+        let rooms = Rooms::reserve(alloc, workers)?;
         Ok(Arrays {
             labels,
             pool,
@@ -84,9 +106,9 @@ impl<K: Known, E: OpenHeap<Global>, R: Drop, T: Drop> Arrays<K, R, T, E> {
                 pool_seat,
             },
             todo,
-            others,
-            row,
-            results,
+            others: rooms.others,
+            row: rooms.row,
+            results: rooms.results,
         })
     }
 }

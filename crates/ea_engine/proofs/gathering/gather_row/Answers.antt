@@ -6,7 +6,7 @@ use Rattle.ea_engine.specs.Seated.{tables}
 use Rattle.ea_engine.specs.declared.row.Place.TheVariants as place
 use Rattle.ea_engine.specs.Ends.{IsEndPlace}
 use Rattle.ea_engine.specs.Rowed.{all_done, IsFirstEnd}
-use Rattle.ea_engine.proofs.RowedLemmas.{all_done-more, all_done-length, split_first, nothing_after, first_done, first_end, gathered_more}
+use Rattle.ea_engine.proofs.RowedLemmas.{all_done-more, all_done-length, split_first, nothing_after, first_place_done, first_done, first_end, gathered_more}
 use Rattle.ea_engine.proofs.gathering.gather_row.Goals as goal
 use Rattle.ea_engine.proofs.gathering.gather_row.Goals.{After-end_at, After-gathering-1}
 
@@ -97,3 +97,50 @@ returns-clause-gathered g c =
       row_is = inv.row_is ∙ nothing_after (all_done inv.ends) _ ended;
       all = inv.gathered;
     }
+
+pub begin_gathering-gathering-requires-clause-nodes : goal.begin_gathering-gathering-requires-clause-nodes
+begin_gathering-gathering-requires-clause-nodes g c κs within = c.requires.nodes
+
+pub begin_gathering-gathering-requires-clause-few : goal.begin_gathering-gathering-requires-clause-few
+begin_gathering-gathering-requires-clause-few g c κs within = c.requires.few
+
+pub begin_gathering-gathering-requires-clause-some : goal.begin_gathering-gathering-requires-clause-some
+begin_gathering-gathering-requires-clause-some g c κs within = c.requires.some
+
+pub begin_gathering-gathering-requires-clause-returned : goal.begin_gathering-gathering-requires-clause-returned
+begin_gathering-gathering-requires-clause-returned g c κs within = c.requires.returned
+
+pub begin_gathering-gathering-requires-clause-results : goal.begin_gathering-gathering-requires-clause-results
+begin_gathering-gathering-requires-clause-results g c κs within =
+    let room = c.requires.results in
+    let one = ap length c.requires.row.row_is in
+    record {
+      counters = room.counters;
+      rngs = room.rngs;
+      tracers = room.tracers;
+      counters_room = omega (arith, room.counters_room, one, c.args.row.ok);
+      rngs_room = omega (arith, room.rngs_room, one, c.args.row.ok);
+      tracers_room = omega (arith, room.tracers_room, one, c.args.row.ok);
+    }
+
+pub end_at-requires-clause-done : goal.end_at-requires-clause-done
+end_at-requires-clause-done g c κs within =
+    first_place_done c.args.row.items c.requires.row.first c.in-Some.place c.requires.row.others (into_iter_items c.next.new.self) c.requires.row.row_is (sym c.into_iter-places.ensures.rest ∙ c.in-Some.ensures.items)
+
+pub join_end-requires-clause-fit : goal.join_end-requires-clause-fit
+join_end-requires-clause-fit g c κs within = c.loop-place.invariant.gathered.fit
+
+pub join_end-requires-clause-gathered : goal.join_end-requires-clause-gathered
+join_end-requires-clause-gathered g c κs within = c.loop-place.invariant.gathered.gathered
+
+pub join_end-requires-clause-nodes : goal.join_end-requires-clause-nodes
+join_end-requires-clause-nodes g c κs within = c.loop-place.invariant.gathered.nodes
+
+pub returns-clause-walks : goal.returns-clause-walks
+returns-clause-walks g c = c.loop-place.invariant.walks
+
+pub returns-clause-label_shares : goal.returns-clause-label_shares
+returns-clause-label_shares g c = omega (arith, c.loop-place.invariant.label_shares, c.in-None.ensures.steps.0, c.loop-place.place-iterator.rest.ok.0)
+
+pub returns-clause-pool_shares : goal.returns-clause-pool_shares
+returns-clause-pool_shares g c = omega (arith, c.loop-place.invariant.pool_shares, c.in-None.ensures.steps.0, c.loop-place.place-iterator.rest.ok.0)

@@ -1,4 +1,4 @@
-use Rattle.std.proofs.Common.{ℕ, ◌≤◌, [], refl, ap, arith}
+use Rattle.std.proofs.Common.{ℕ, ◌≤◌, [], refl, ◌∙◌, ap, arith}
 use Rattle.ea_limits.specs.declared.TheConstants.{HORIZON}
 use Rattle.ea_road.specs.Answers.{IsQuestion}
 use Rattle.ea_road.proofs.Arcs.{is_question}
@@ -101,3 +101,48 @@ returns-else-push_fresh-clause-spent g c =
     let d = (goal.at.returns-else-push_fresh-clause-spent g c).After-arrive-arrival in
     let low = c.in-Lowered.ensures.lowered in
     λ arrival answer within. IsReachedBy-noted _ _ c.args.arc.head c.arrive-arrival.result arrival (ap (λ x. x.bounds) low.4) (least g d arrival answer)
+
+pub returns-then-arrival-gt-HORIZON-clause-seats : goal.returns-then-arrival-gt-HORIZON-clause-seats
+returns-then-arrival-gt-HORIZON-clause-seats g c = c.requires.seats
+
+pub returns-then-arrival-gt-HORIZON-clause-fresh : goal.returns-then-arrival-gt-HORIZON-clause-fresh
+returns-then-arrival-gt-HORIZON-clause-fresh g c = c.requires.fresh
+
+pub returns-then-arrival-gt-HORIZON-clause-left : goal.returns-then-arrival-gt-HORIZON-clause-left
+returns-then-arrival-gt-HORIZON-clause-left g c = c.requires.room.0
+
+pub returns-then-arrival-gt-HORIZON-clause-one : goal.returns-then-arrival-gt-HORIZON-clause-one
+returns-then-arrival-gt-HORIZON-clause-one g c = λ is. refl
+
+pub returns-in-Kept-clause-seats : goal.returns-in-Kept-clause-seats
+returns-in-Kept-clause-seats g c = record { labels = c.offer.ensures.same_table ∙ c.requires.seats.labels; pool = c.requires.seats.pool }
+
+pub returns-in-Kept-clause-fresh : goal.returns-in-Kept-clause-fresh
+returns-in-Kept-clause-fresh g c = c.requires.fresh
+
+pub returns-in-Kept-clause-left : goal.returns-in-Kept-clause-left
+returns-in-Kept-clause-left g c = c.requires.room.0
+
+pub returns-in-Kept-clause-one : goal.returns-in-Kept-clause-one
+returns-in-Kept-clause-one g c = λ is. refl
+
+pub returns-then-len-batch-clause-seats : goal.returns-then-len-batch-clause-seats
+returns-then-len-batch-clause-seats g c = record { labels = c.offer.ensures.same_table ∙ c.requires.seats.labels; pool = c.requires.seats.pool }
+
+pub returns-then-push_fresh-clause-seats : goal.returns-then-push_fresh-clause-seats
+returns-then-push_fresh-clause-seats g c = record { labels = c.offer.ensures.same_table ∙ c.requires.seats.labels; pool = c.push_fresh.ensures.pool_seat }
+
+pub returns-then-push_fresh-clause-fresh : goal.returns-then-push_fresh-clause-fresh
+returns-then-push_fresh-clause-fresh g c = c.push_fresh.ensures.known
+
+pub returns-then-push_fresh-clause-one : goal.returns-then-push_fresh-clause-one
+returns-then-push_fresh-clause-one g c = λ is. refl
+
+pub returns-else-push_fresh-clause-seats : goal.returns-else-push_fresh-clause-seats
+returns-else-push_fresh-clause-seats g c = record { labels = c.offer.ensures.same_table ∙ c.requires.seats.labels; pool = c.push_fresh.ensures.pool_seat }
+
+pub returns-else-push_fresh-clause-fresh : goal.returns-else-push_fresh-clause-fresh
+returns-else-push_fresh-clause-fresh g c = c.push_fresh.ensures.known
+
+pub returns-else-push_fresh-clause-one : goal.returns-else-push_fresh-clause-one
+returns-else-push_fresh-clause-one g c = λ is. refl

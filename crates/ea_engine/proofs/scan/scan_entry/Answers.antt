@@ -1,4 +1,5 @@
 use Rattle.std.proofs.Common.{ℕ, ◌<◌, ◌≤◌, ◌+◌, [], length, get_or, refl, sym, ap, arith, subst, below_more}
+use Rattle.std.proofs.lemmas.Bool.{false≢true}
 use Rattle.ea_road.specs.declared.arc.Arc.{Arc}
 use Rattle.ea_road.specs.declared.leaving_arc.LeavingArc.{LeavingArc}
 use Rattle.ea_road.specs.Roads.{Roads, IsNode, AreSideBySide, leaving, with_tail}
@@ -110,3 +111,57 @@ returns-clause-scanned g c =
 
 pub returns-in-Refused-clause-one : goal.returns-in-Refused-clause-one
 returns-in-Refused-clause-one g c = λ is. omega (arith, c.loop-arc.invariant.one is)
+
+pub follow-requires-clause-ground : goal.follow-requires-clause-ground
+follow-requires-clause-ground g c κs outlives = c.requires.ground
+
+pub follow-requires-clause-seats : goal.follow-requires-clause-seats
+follow-requires-clause-seats g c κs outlives = c.loop-arc.invariant.fit
+
+pub follow-requires-clause-fresh : goal.follow-requires-clause-fresh
+follow-requires-clause-fresh g c κs outlives = c.loop-arc.invariant.known
+
+pub follow-requires-clause-room : goal.follow-requires-clause-room
+follow-requires-clause-room g c κs outlives = (c.loop-arc.invariant.room, c.requires.room.1)
+
+pub follow-requires-clause-entry : goal.follow-requires-clause-entry
+follow-requires-clause-entry g c κs outlives = c.requires.entry
+
+pub returns-in-Refused-clause-seats : goal.returns-in-Refused-clause-seats
+returns-in-Refused-clause-seats g c = c.in-Refused.ensures.seats
+
+pub returns-in-Refused-clause-fresh : goal.returns-in-Refused-clause-fresh
+returns-in-Refused-clause-fresh g c = c.in-Refused.ensures.fresh
+
+pub returns-in-Refused-clause-left : goal.returns-in-Refused-clause-left
+returns-in-Refused-clause-left g c = c.in-Refused.ensures.left
+
+pub returns-in-Refused-clause-scanned : goal.returns-in-Refused-clause-scanned
+returns-in-Refused-clause-scanned g c = λ whole. absurd (false≢true (sym whole))
+
+pub returns-in-Refused-clause-refused : goal.returns-in-Refused-clause-refused
+returns-in-Refused-clause-refused g c = λ is. omega arith
+
+pub returns-in-Refused-clause-pushes : goal.returns-in-Refused-clause-pushes
+returns-in-Refused-clause-pushes g c = omega (arith, c.loop-arc.invariant.pushes)
+
+pub returns-clause-seats : goal.returns-clause-seats
+returns-clause-seats g c = c.loop-arc.invariant.fit
+
+pub returns-clause-fresh : goal.returns-clause-fresh
+returns-clause-fresh g c = c.loop-arc.invariant.known
+
+pub returns-clause-progress : goal.returns-clause-progress
+returns-clause-progress g c = c.loop-arc.invariant.progress
+
+pub returns-clause-left : goal.returns-clause-left
+returns-clause-left g c = c.loop-arc.invariant.room
+
+pub returns-clause-refused : goal.returns-clause-refused
+returns-clause-refused g c = λ is. absurd (false≢true is)
+
+pub returns-clause-pushes : goal.returns-clause-pushes
+returns-clause-pushes g c = c.loop-arc.invariant.pushes
+
+pub returns-clause-one : goal.returns-clause-one
+returns-clause-one g c = c.loop-arc.invariant.one

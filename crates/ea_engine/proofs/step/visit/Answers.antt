@@ -2,6 +2,7 @@ use Rattle.std.proofs.Common.{[], refl, sym, ◌∙◌, ap, arith, subst, zero-a
 use Rattle.std.proofs.lemmas.Bool.{false≢true}
 use Rattle.ea_engine.specs.Closed.{IsCut, IsStale}
 use Rattle.ea_engine.specs.Seated.{kit_of}
+use Rattle.ea_engine.specs.Turns.{visited_in}
 use Rattle.ea_engine.specs.Worked.{kit, Progress}
 use Rattle.ea_engine.proofs.ProgressLemmas.{Progress-noted, Progress-then, Progress-with}
 use Rattle.ea_engine.proofs.BoundLemmas.{IsCut-noted, IsReachedBefore-noted, least_is_before}
@@ -74,3 +75,153 @@ returns-clause-fresh g c =
     let d = (goal.at.returns-clause-fresh g c).After-scan_entry-end in
     let e = (goal.at.returns-clause-fresh g c).After-is_above_target in
     rw c.visited_turn-turn-2.ensures (not_stale g e, not_cut g d)
+
+pub returns-then-label-entry-clause-seats : goal.returns-then-label-entry-clause-seats
+returns-then-label-entry-clause-seats g c = record { labels = c.read-label.ensures.same_table ∙ c.requires.seats.labels; pool = c.requires.seats.pool }
+
+pub returns-then-label-entry-clause-number : goal.returns-then-label-entry-clause-number
+returns-then-label-entry-clause-number g c = ap (λ end. end.turn.number) c.visited_turn.ensures
+
+pub returns-then-label-entry-clause-visited : goal.returns-then-label-entry-clause-visited
+returns-then-label-entry-clause-visited g c = ap (λ end. visited_in end.turn) c.visited_turn.ensures
+
+pub returns-then-label-entry-clause-shaped : goal.returns-then-label-entry-clause-shaped
+returns-then-label-entry-clause-shaped g c = rw c.visited_turn.ensures refl
+
+pub returns-then-label-entry-clause-few : goal.returns-then-label-entry-clause-few
+returns-then-label-entry-clause-few g c = rw c.visited_turn.ensures (omega arith)
+
+pub returns-then-label-entry-clause-broken : goal.returns-then-label-entry-clause-broken
+returns-then-label-entry-clause-broken g c = rw c.visited_turn.ensures refl
+
+pub returns-then-label-entry-clause-inside : goal.returns-then-label-entry-clause-inside
+returns-then-label-entry-clause-inside g c = rw c.visited_turn.ensures tt
+
+pub returns-then-label-entry-clause-from : goal.returns-then-label-entry-clause-from
+returns-then-label-entry-clause-from g c = λ popped inside. absurd (omega (arith, (rw c.visited_turn.ensures at inside).1))
+
+pub returns-then-label-entry-clause-left : goal.returns-then-label-entry-clause-left
+returns-then-label-entry-clause-left g c = rw c.visited_turn.ensures c.requires.room.0
+
+pub returns-then-label-entry-clause-pops : goal.returns-then-label-entry-clause-pops
+returns-then-label-entry-clause-pops g c = ap (λ end. end.pops) c.visited_turn.ensures
+
+pub returns-then-label-entry-clause-pushes : goal.returns-then-label-entry-clause-pushes
+returns-then-label-entry-clause-pushes g c = rw c.visited_turn.ensures (omega arith)
+
+pub returns-then-label-entry-clause-one : goal.returns-then-label-entry-clause-one
+returns-then-label-entry-clause-one g c = rw c.visited_turn.ensures (λ one_each. refl)
+
+pub returns-then-is_above_target-clause-seats : goal.returns-then-is_above_target-clause-seats
+returns-then-is_above_target-clause-seats g c = record { labels = c.is_above_target.ensures.seat; pool = c.requires.seats.pool }
+
+pub returns-then-is_above_target-clause-number : goal.returns-then-is_above_target-clause-number
+returns-then-is_above_target-clause-number g c = ap (λ end. end.turn.number) c.visited_turn-then-is_above_target.ensures
+
+pub returns-then-is_above_target-clause-visited : goal.returns-then-is_above_target-clause-visited
+returns-then-is_above_target-clause-visited g c = ap (λ end. visited_in end.turn) c.visited_turn-then-is_above_target.ensures
+
+pub returns-then-is_above_target-clause-shaped : goal.returns-then-is_above_target-clause-shaped
+returns-then-is_above_target-clause-shaped g c = rw c.visited_turn-then-is_above_target.ensures refl
+
+pub returns-then-is_above_target-clause-few : goal.returns-then-is_above_target-clause-few
+returns-then-is_above_target-clause-few g c = rw c.visited_turn-then-is_above_target.ensures (omega arith)
+
+pub returns-then-is_above_target-clause-broken : goal.returns-then-is_above_target-clause-broken
+returns-then-is_above_target-clause-broken g c = rw c.visited_turn-then-is_above_target.ensures refl
+
+pub returns-then-is_above_target-clause-inside : goal.returns-then-is_above_target-clause-inside
+returns-then-is_above_target-clause-inside g c = rw c.visited_turn-then-is_above_target.ensures tt
+
+pub returns-then-is_above_target-clause-from : goal.returns-then-is_above_target-clause-from
+returns-then-is_above_target-clause-from g c = λ popped inside. absurd (omega (arith, (rw c.visited_turn-then-is_above_target.ensures at inside).1))
+
+pub returns-then-is_above_target-clause-left : goal.returns-then-is_above_target-clause-left
+returns-then-is_above_target-clause-left g c = rw c.visited_turn-then-is_above_target.ensures c.requires.room.0
+
+pub returns-then-is_above_target-clause-pops : goal.returns-then-is_above_target-clause-pops
+returns-then-is_above_target-clause-pops g c = ap (λ end. end.pops) c.visited_turn-then-is_above_target.ensures
+
+pub returns-then-is_above_target-clause-pushes : goal.returns-then-is_above_target-clause-pushes
+returns-then-is_above_target-clause-pushes g c = rw c.visited_turn-then-is_above_target.ensures (omega arith)
+
+pub returns-then-is_above_target-clause-one : goal.returns-then-is_above_target-clause-one
+returns-then-is_above_target-clause-one g c = rw c.visited_turn-then-is_above_target.ensures (λ one_each. refl)
+
+pub returns-then-end-clause-seats : goal.returns-then-end-clause-seats
+returns-then-end-clause-seats g c = c.scan_entry-end.ensures.seats
+
+pub returns-then-end-clause-known : goal.returns-then-end-clause-known
+returns-then-end-clause-known g c = c.scan_entry-end.ensures.fresh
+
+pub returns-then-end-clause-number : goal.returns-then-end-clause-number
+returns-then-end-clause-number g c = ap (λ end. end.turn.number) c.visited_turn-turn.ensures
+
+pub returns-then-end-clause-visited : goal.returns-then-end-clause-visited
+returns-then-end-clause-visited g c = rw c.visited_turn-turn.ensures refl
+
+pub returns-then-end-clause-shaped : goal.returns-then-end-clause-shaped
+returns-then-end-clause-shaped g c = rw c.visited_turn-turn.ensures (c.scan_entry-end.ensures.refused c.if-end.true)
+
+pub returns-then-end-clause-few : goal.returns-then-end-clause-few
+returns-then-end-clause-few g c = c.scan_entry-end.ensures.few
+
+pub returns-then-end-clause-broken : goal.returns-then-end-clause-broken
+returns-then-end-clause-broken g c = rw c.visited_turn-turn.ensures refl
+
+pub returns-then-end-clause-from : goal.returns-then-end-clause-from
+returns-then-end-clause-from g c = rw c.visited_turn-turn.ensures (λ popped inside. inside)
+
+pub returns-then-end-clause-left : goal.returns-then-end-clause-left
+returns-then-end-clause-left g c = rw c.visited_turn-turn.ensures (rw c.if-end.true at c.scan_entry-end.ensures.left)
+
+pub returns-then-end-clause-pops : goal.returns-then-end-clause-pops
+returns-then-end-clause-pops g c = ap (λ end. end.pops) c.visited_turn-turn.ensures
+
+pub returns-then-end-clause-pushes : goal.returns-then-end-clause-pushes
+returns-then-end-clause-pushes g c = c.scan_entry-end.ensures.pushes
+
+pub returns-then-end-clause-one : goal.returns-then-end-clause-one
+returns-then-end-clause-one g c = c.scan_entry-end.ensures.one
+
+pub returns-clause-seats : goal.returns-clause-seats
+returns-clause-seats g c = c.scan_entry-end.ensures.seats
+
+pub returns-clause-known : goal.returns-clause-known
+returns-clause-known g c = c.scan_entry-end.ensures.fresh
+
+pub returns-clause-number : goal.returns-clause-number
+returns-clause-number g c = ap (λ end. end.turn.number) c.visited_turn-turn-2.ensures
+
+pub returns-clause-visited : goal.returns-clause-visited
+returns-clause-visited g c = rw c.visited_turn-turn-2.ensures refl
+
+pub returns-clause-shaped : goal.returns-clause-shaped
+returns-clause-shaped g c = rw c.visited_turn-turn-2.ensures tt
+
+pub returns-clause-few : goal.returns-clause-few
+returns-clause-few g c = c.scan_entry-end.ensures.few
+
+pub returns-clause-broken : goal.returns-clause-broken
+returns-clause-broken g c = rw c.visited_turn-turn-2.ensures refl
+
+pub returns-clause-inside : goal.returns-clause-inside
+returns-clause-inside g c = rw c.visited_turn-turn-2.ensures tt
+
+pub returns-clause-from : goal.returns-clause-from
+returns-clause-from g c = λ popped inside. absurd (omega (arith, (rw c.visited_turn-turn-2.ensures at inside).1))
+
+pub returns-clause-left : goal.returns-clause-left
+returns-clause-left g c = rw c.visited_turn-turn-2.ensures (rw c.if-end.false at c.scan_entry-end.ensures.left)
+
+pub returns-clause-pops : goal.returns-clause-pops
+returns-clause-pops g c = ap (λ end. end.pops) c.visited_turn-turn-2.ensures
+
+pub returns-clause-pushes : goal.returns-clause-pushes
+returns-clause-pushes g c = c.scan_entry-end.ensures.pushes
+
+pub returns-clause-one : goal.returns-clause-one
+returns-clause-one g c = c.scan_entry-end.ensures.one
+
+pub returns-clause-closed : goal.returns-clause-closed
+returns-clause-closed g c = rw c.visited_turn-turn-2.ensures (c.scan_entry-end.ensures.scanned c.if-end.false)

@@ -1,6 +1,7 @@
 use Rattle.std.proofs.Common.{ap, ◌∙◌, inl, inr, refl, arith, rules, of_calls}
 use Rattle.ea_engine.proofs.HoldLemmas.{known_nothing, known_inside}
-use Rattle.ea_engine.proofs.WorkLemmas.{SoFar-start, SoFar-more, SoFar-end, fresh_of_lowered}
+use Rattle.ea_engine.proofs.TurnLemmas.{pops_once}
+use Rattle.ea_engine.proofs.WorkLemmas.{SoFar-start, SoFar-more, SoFar-end, SoFar-roomy, fresh_of_lowered}
 use Rattle.ea_engine.proofs.work_loop.work.Goals as goal
 use Rattle.ea_engine.proofs.work_loop.work.Goals.{then-turns-test+then-idle-pace+else-number-pace, then-turns-test+else-idle-pace, else-turns-test}
 
@@ -51,3 +52,27 @@ take_turn-end-requires-clause-room g c κs outlives = (omega (arith, c.turns.inv
 
 pub close-requires-clause-fresh : goal.close-requires-clause-fresh
 close-requires-clause-fresh g c = fresh_of_lowered _ _ _ _ _ _ _ _ _ _ _ _ _ c.turns.invariant.so_far refl
+
+pub count-requires-clause-room : goal.count-requires-clause-room
+count-requires-clause-room g c = SoFar-roomy _ _ _ _ _ _ _ _ _ _ _ _ _ c.turns.invariant.so_far (omega (arith, c.turns.invariant.small, c.requires.pace.turns))
+
+pub count-requires-clause-lowered : goal.count-requires-clause-lowered
+count-requires-clause-lowered g c = c.take_turn-end.ensures.turn.few
+
+pub count-requires-clause-pops : goal.count-requires-clause-pops
+count-requires-clause-pops g c = pops_once c.take_turn-end.result.turn.kind _ c.take_turn-end.ensures.turn.pops
+
+pub count-requires-clause-pushes : goal.count-requires-clause-pushes
+count-requires-clause-pushes g c = omega (arith, c.take_turn-end.ensures.pushes, c.take_turn-end.ensures.turn.few)
+
+pub idle_after-idle-requires : goal.idle_after-idle-requires
+idle_after-idle-requires g c = omega (arith, c.if-idle-pace.true, c.requires.pace.patience)
+
+pub turns-smaller : goal.turns-smaller
+turns-smaller g c = omega (arith, c.if-number-pace.true)
+
+pub close-requires-clause-room : goal.close-requires-clause-room
+close-requires-clause-room g c = SoFar-roomy _ _ _ _ _ _ _ _ _ _ _ _ _ c.turns.invariant.so_far (omega (arith, c.turns.invariant.small, c.requires.pace.turns))
+
+pub returns-clause-seats : goal.returns-clause-seats
+returns-clause-seats g c = c.turns.invariant.fit

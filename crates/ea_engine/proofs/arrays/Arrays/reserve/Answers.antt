@@ -10,9 +10,9 @@ returns g c = record {
   todo_nodes = c.in_ok-todo.ensures.0;
   todo_waiting = c.in_ok-todo.ensures.1;
   todo_walks = c.in_ok-todo.ensures.2;
-  others = c.in_ok-others.ensures.items;
-  others_room = c.in_ok-others.ensures.capacity;
-  row = c.in_ok-row.ensures.items;
-  row_room = c.in_ok-row.ensures.capacity;
-  results = c.in_ok-results.ensures;
+  others = c.in_ok-rooms.ensures.others;
+  others_room = c.in_ok-rooms.ensures.others_room;
+  row = c.in_ok-rooms.ensures.row;
+  row_room = c.in_ok-rooms.ensures.row_room;
+  results = c.in_ok-rooms.ensures.results;
 }
