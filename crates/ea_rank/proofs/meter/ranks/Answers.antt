@@ -1,10 +1,13 @@
-use Rattle.std.proofs.Common.{◌≡◌, ◌<◌, ℕ, List, [], length, get_or, replicate, sym, ap, ◌∙◌, arith, subst}
+use Rattle.std.proofs.Common.{◌≡◌, ◌<◌, ℕ, List, [], length, get_or, replicate, sym, ap, ◌∙◌, arith, subst, append-nil}
 use Rattle.ea_rank.specs.declared.event.Event.TheVariants.{Push}
 use Rattle.ea_rank.specs.Ranks.{key_of, with_key, without_key, after_ranks, errors_from, rank_errors}
 use Rattle.ea_rank.specs.Tallies.{added, raised, lowered}
 use Rattle.ea_rank.proofs.Tallying.{added-raised, added-lowered, added-replicate}
 use Rattle.ea_rank.proofs.Placing.{place_near, place_found, contains_key}
 use Rattle.ea_rank.proofs.Metering.{Tracks, tracks-none, tracks-push, tracks-pop, rank_is, rank_is_none, goes_on-push, so_far-pop, so_far-none, after_ranks-none}
+use Rattle.std.proofs.lemmas.List.{drop_all, length-map}
+use Rattle.std.specs.Prelude.{Ok}
+use Rattle.ea_rank.specs.declared.event.Event.{Event}
 use Rattle.ea_rank.proofs.meter.ranks.Goals as goal
 use Rattle.ea_rank.proofs.meter.ranks.Goals.{in-Push, in-Pop+else-at-eq0+in_ok-push-in-Pop}
 
@@ -97,3 +100,38 @@ loop-index-preserved c =
             },
           ))
     ]
+
+pub before-requires-clause-place : goal.before-requires-clause-place
+before-requires-clause-place c =
+    let st = c.loop-index.invariant.2 in
+    let inside : c.loop-index.index < length c.args.recorded.now.events.items = omega (arith, c.loop-index-test.true, c.deref-event-items.ensures.len) in
+    let near = place_near c.args.recorded.now.events.items c.loop-index.invariant.1 c.in_ok-places.places.of_events.items c.loop-index.index c.index-place.result.now st.places inside c.index-place.ensures in
+    omega (arith, near, st.tracks.places)
+
+pub lower-requires-clause-place : goal.lower-requires-clause-place
+lower-requires-clause-place c =
+    let st = c.loop-index.invariant.2 in
+    let inside : c.loop-index.index < length c.args.recorded.now.events.items = omega (arith, c.loop-index-test.true, c.deref-event-items.ensures.len) in
+    let near = place_near c.args.recorded.now.events.items c.loop-index.invariant.1 c.in_ok-places.places.of_events.items c.loop-index.index c.index-place.result.now st.places inside c.index-place.ensures in
+    omega (arith, near, st.tracks.places)
+
+pub lower-requires-clause-some : goal.lower-requires-clause-some
+lower-requires-clause-some c = omega (arith, c.at.ensures, c.if-at-eq0.false)
+
+pub before-requires-clause-room : goal.before-requires-clause-room
+before-requires-clause-room c = omega (arith, c.loop-index.invariant.2.few, c.loop-index-test.true, c.deref-event-items.type_inv.0)
+
+pub raise-requires-clause-room : goal.raise-requires-clause-room
+raise-requires-clause-room c = omega (arith, c.loop-index.invariant.2.few, c.loop-index-test.true, c.deref-event-items.type_inv.0)
+
+pub index-place-requires : goal.index-place-requires
+index-place-requires c =
+    omega (arith, c.loop-index-test.true, c.deref-event-items.ensures.value, c.deref-event-items.ensures.len, c.loop-index.invariant.2.places.lengths, length-map c.args.recorded.now.events.items key_of, c.in_ok-places.places.of_events.ok.0)
+
+pub returns-clause-ranks : goal.returns-clause-ranks
+returns-clause-ranks c =
+    let i = c.loop-index.index in
+    let queue = c.loop-index.invariant.0 in
+    let ranks = c.loop-index.ranks.items in
+    let none = drop_all i c.args.recorded.now.events.items (omega (arith, c.loop-index-test.false, c.deref-event-items.ensures.len)) in
+    c.loop-index.invariant.2.so_far ∙ ap (λ (rest : List Event). after_ranks ranks (errors_from i queue rest)) none ∙ ap Ok (append-nil ranks)

@@ -156,3 +156,11 @@ loop-run-preserved-in-Continue-branch-5 g c =
       heaps = c.in_ok-scan.ensures.heaps ∙ takes-length _ entry c.loop-run.run.heaps c.pop.new.self.heaps moved.heaps.taken ∙ inv.heaps;
       course = turn_scans c.args.network.now _ c.args.heaps _ _ _ _ _ c.args.query.now.sources (state_of c.loop-run.run) (state_of c.pop.new.self) (state_of c.scan.new.run) _ _ entry inv.course c.next_u64.ensures c.next_u64-in-loop-run.ensures moved fresh c.in_ok-scan.ensures.course;
     }
+
+pub pop-requires-clause-heaps : goal.pop-requires-clause-heaps
+pop-requires-clause-heaps g c = c.loop-run.invariant.heaps
+
+pub scan-requires-clause-heaps : goal.scan-requires-clause-heaps
+scan-requires-clause-heaps g c =
+    let moved = rw c.in-Some.is at c.in_ok-entry.ensures in
+    omega (arith, takes-length _ c.in-Some.entry c.loop-run.run.heaps c.pop.new.self.heaps moved.heaps.taken, c.loop-run.invariant.heaps, c.requires.heaps.0)

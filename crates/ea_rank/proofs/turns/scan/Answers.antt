@@ -1,5 +1,5 @@
-use Rattle.std.proofs.Common.{◌<◌, ◌≤◌, ◌+◌, ◌⊎◌, length, get_or, drop, take, refl, ◌∙◌, arith, inl, inr}
-use Rattle.std.proofs.lemmas.List.{drop_more, take_more}
+use Rattle.std.proofs.Common.{◌<◌, ◌≤◌, ◌+◌, ◌⊎◌, length, get_or, drop, take, refl, ◌∙◌, arith, inl, inr, subst}
+use Rattle.std.proofs.lemmas.List.{drop_more, take_more, drop_all, take_all}
 use Rattle.ea_limits.specs.declared.TheConstants.{HORIZON}
 use Rattle.ea_road.specs.declared.leaving_arc.LeavingArc.{LeavingArc}
 use Rattle.ea_road.specs.Labels.{label_of}
@@ -11,6 +11,8 @@ use Rattle.ea_rank.specs.States.{state_of}
 use Rattle.ea_rank.proofs.Coursing.{scan_pushes}
 use Rattle.ea_rank.proofs.Recording.{recorded-lowers}
 use Rattle.ea_rank.proofs.Underways.{pass-lowers, pass-keeps, less-lowers}
+use Rattle.ea_rank.specs.Courses.{Scans}
+use Rattle.ea_rank.specs.Runs.{IsOnCourse}
 use Rattle.ea_rank.proofs.turns.scan.Goals as goal
 use Rattle.ea_rank.proofs.turns.scan.Goals.{then-arrival-le-HORIZON+then-arrival-label+in_ok-lower, else-arrival-le-HORIZON, else-arrival-le-HORIZON-via-then-arrival-le-HORIZON+else-arrival-label, else-arrival-le-HORIZON-via-else-arrival-le-HORIZON}
 
@@ -102,3 +104,22 @@ loop-place-init g c = record {
   less = omega arith;
   course = begins;
 }
+
+pub lower-requires-clause-heaps : goal.lower-requires-clause-heaps
+lower-requires-clause-heaps g c = omega (arith, c.loop-place.invariant.heaps, c.requires.heaps)
+
+pub returns-clause-less : goal.returns-clause-less
+returns-clause-less g c = c.loop-place.invariant.less
+
+pub returns-clause-course : goal.returns-clause-course
+returns-clause-course g c =
+    let beside = rw c.leaving.ensures.numbers at c.leaving.ensures.arcs in
+    let all = take_all c.loop-place.place (leaving c.args.network.now c.args.node) (omega (arith, beside.lengths, c.loop-place-test.false)) in
+    subst (λ passed. Scans c.args.network.now (g.T.TravelTimes.answers c.args.times.now) c.args.departure passed (g.R.Rng.stream c.args.rng.now) (state_of c.args.run.now) (g.R.Rng.stream c.loop-place.rng) (state_of c.loop-place.run)) all c.loop-place.invariant.course
+
+pub returns-clause-underway : goal.returns-clause-underway
+returns-clause-underway g c =
+    let beside = rw c.leaving.ensures.numbers at c.leaving.ensures.arcs in
+    let none = drop_all c.loop-place.place (leaving c.args.network.now c.args.node) (omega (arith, beside.lengths, c.loop-place-test.false)) in
+    let sources = c.args.query.now.sources in
+    subst (λ left. IsOnCourse c.args.network.now (g.T.TravelTimes.answers c.args.times.now) sources sources left (state_of c.loop-place.run)) none c.loop-place.invariant.underway

@@ -1,5 +1,5 @@
-use Rattle.std.proofs.Common.{◌<◌, ◌≤◌, [], get_or, take, refl, ◌∙◌, arith}
-use Rattle.std.proofs.lemmas.List.{take_more}
+use Rattle.std.proofs.Common.{◌<◌, ◌≤◌, [], get_or, take, refl, ◌∙◌, arith, subst}
+use Rattle.std.proofs.lemmas.List.{take_more, take_all}
 use Rattle.std.specs.List.{IsAmong}
 use Rattle.ea_road.specs.declared.source.Source.{Source}
 use Rattle.ea_road.specs.Labels.{label_of}
@@ -8,6 +8,8 @@ use Rattle.ea_rank.specs.Courses.Sows.{begins, passes, pushes}
 use Rattle.ea_rank.specs.States.{state_of}
 use Rattle.ea_rank.proofs.Recording.{recorded-lowers}
 use Rattle.ea_rank.proofs.Underways.{among_at, underway-lowers, underway-begins, lowered_label}
+use Rattle.ea_rank.specs.Courses.{Sows}
+use Rattle.ea_rank.specs.Runs.{IsOnCourse}
 use Rattle.ea_rank.proofs.turns.sow.Goals as goal
 use Rattle.ea_rank.proofs.turns.sow.Goals.{then-source-label+in_ok-lower, else-source-label}
 
@@ -68,3 +70,17 @@ loop-source-init g c = record {
   course = begins;
   few = omega arith;
 }
+
+pub lower-requires-clause-heaps : goal.lower-requires-clause-heaps
+lower-requires-clause-heaps g c = omega (arith, c.loop-source.invariant.heaps, c.requires.heaps)
+
+pub returns-clause-course : goal.returns-clause-course
+returns-clause-course g c =
+    let all = take_all c.loop-source.source-index c.sources-source-items.result.now (omega (arith, c.loop-source-test.false)) ∙ c.sources-source-items.ensures.sources in
+    let pushed = c.loop-source.word in
+    (pushed, subst (λ sources. Sows sources (state_of c.args.run.now) pushed (state_of c.loop-source.run)) all c.loop-source.invariant.course)
+
+pub returns-clause-underway : goal.returns-clause-underway
+returns-clause-underway g c =
+    let all = take_all c.loop-source.source-index c.sources-source-items.result.now (omega (arith, c.loop-source-test.false)) ∙ c.sources-source-items.ensures.sources in
+    subst (λ sources. IsOnCourse c.args.network.now (g.T.TravelTimes.answers c.args.times.now) c.args.query.now.sources sources [] (state_of c.loop-source.run)) all c.loop-source.invariant.underway
