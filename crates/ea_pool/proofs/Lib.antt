@@ -3,6 +3,7 @@ pub mod Shown
 pub mod HeapOrder
 pub mod Lawful
 pub mod Runs
+pub mod Missing
 pub mod Moves
 pub mod Tells
 pub mod Alone
