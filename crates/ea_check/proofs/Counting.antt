@@ -1,5 +1,7 @@
 -- Fields, counted where they begin, and fields that are numbers.
-use Rattle.std.proofs.Common.{◌≡◌, ◌∙◌, refl, ℕ, ◌+◌, ◌<◌, ◌≤◌, Bool, true, false, not, cond, ◌||◌, ◌&&◌, List, [], ◌∷◌, ◌++◌, length, arith, ap, sym, subst, ◌==◌, eqb-true}
+use Rattle.std.proofs.Common.{◌≡◌, ◌∙◌, refl, ℕ, ◌+◌, ◌<◌, ◌≤◌, Bool, true, false, not, cond, ◌||◌, ◌&&◌, List, [], ◌∷◌, ◌++◌, length, drop, get_or, add-one, arith, ap, sym, subst, ◌==◌, eqb-true}
+use Rattle.std.proofs.Math.Seq.{drop-cons}
+use mir.Val.{bool_byte}
 use Rattle.std.proofs.Math.Bool.{or_assoc}
 use Rattle.std.proofs.lemmas.Bool.{false≢true, lt-ltb}
 use Rattle.std.proofs.lemmas.List.Splits.{slice_split-cons_yes, slice_split-cons_no}
@@ -41,6 +43,26 @@ module _ (rest piece after : List ℕ) (cut : rest ≡ piece ++ after) where
   pub more_other : (other found whole : Bool) → found ≡ has_other piece → (other || has_other rest) ≡ whole → (other || found || has_other after) ≡ whole
   more_other other found whole here was =
       or_assoc other found (has_other after) ∙ ap (λ t. other || (t || has_other after)) here ∙ ap (λ t. other || t) (sym (ap has_other cut ∙ other_split piece after)) ∙ was
+
+-- one byte of a piece
+begins_by : (t : Bool) → bool_byte t ≡ cond t 1 0 + 0
+begins_by true = omega arith
+begins_by false = omega arith
+
+pub or_none : (t : Bool) → t ≡ (t || false)
+or_none true = refl
+or_none false = refl
+
+pub next_byte : (piece : List ℕ) (place : ℕ) → place < length piece → drop place piece ≡ get_or piece place 0 ∷ drop (place + 1) piece
+next_byte piece place inside = rw (add-one, drop-cons piece place 0 inside) refl
+
+pub begins_here : (blank gap : Bool) (b found : ℕ) → gap ≡ is_blank b → found ≡ bool_byte (blank && not gap) → found ≡ starts blank (b ∷ [])
+begins_here blank gap b found same is =
+    is ∙ begins_by (blank && not gap) ∙ ap (λ t. cond (blank && not t) 1 0 + 0) same
+
+pub other_here : (digit gap : Bool) (b : ℕ) → digit ≡ is_ascii_digit b → gap ≡ is_blank b → not (digit || gap) ≡ has_other (b ∷ [])
+other_here digit gap b is same =
+    ap (λ t. not (t || gap)) is ∙ ap (λ t. not (is_ascii_digit b || t)) same ∙ or_none (not (is_ascii_digit b || is_blank b))
 
 -- the parts between blanks that have a byte
 some_of : List (List ℕ) → List (List ℕ)

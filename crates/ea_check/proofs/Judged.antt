@@ -1,6 +1,7 @@
 -- What the links, the walks and the arcs tell of a report's lines.
-use Rattle.std.proofs.Common.{◌≡◌, ◌∙◌, refl, ℕ, ◌+◌, ◌-◌, ◌<◌, ◌≤◌, List, get_or, ◌⊎◌, inl, inr, arith, ap, sym, subst}
+use Rattle.std.proofs.Common.{◌≡◌, ◌∙◌, refl, ℕ, ◌+◌, ◌-◌, ◌<◌, ◌≤◌, List, length, get_or, ◌⊎◌, inl, inr, arith, ap, sym, subst}
 use Rattle.std.proofs.lemmas.Bool.Decides.{eqb_tells, leb_tells}
+use Rattle.std.proofs.lemmas.List.{get_or_default}
 use Rattle.std.specs.Prelude.{◌≢◌, Option, Some, None, MatchOption, Ok, Err}
 use Rattle.std.specs.Option.{option_or}
 use Rattle.std.specs.List.{IsAmong}
@@ -47,6 +48,20 @@ module _
         let said = said_at node is_node in
         let same = time_of_said reported node said.0 said.1 in
         subst (λ t. t ≤ HORIZON) (sym same) (formed.times node said.0 said.1 (λ none. has_time (same ∙ none)))
+
+    -- a node with no time has no walk
+    pub right_unreached : (node : ℕ) → reported_time reported node ≡ NONE → IsAttained roads answers sources reported node × IsCanonicalAt roads answers sources reported node
+    right_unreached node none = (
+      record {
+        level = λ said is_said has_time. absurd (has_time (sym (time_of_said reported node said is_said) ∙ none));
+        walk = λ said walk is_said written. absurd (no_walk said walk is_said written);
+      },
+      λ said walk is_said written. absurd (no_walk said walk is_said written),
+    )
+      where
+        no_walk : (said : Said) (walk : WrittenWalk) → IsSaid reported node said → said.walk ≡ Some walk → ⊥
+        no_walk said walk is_said written =
+            (formed.walks node said walk is_said written).0 (sym (time_of_said reported node said is_said) ∙ none)
 
     module _
         (links : List Link)
@@ -272,3 +287,17 @@ module _
     lowest_improves lowest by_sources above (inl same) (inl also) differs = absurd (differs (same ∙ also))
     lowest_improves lowest by_sources above (inl same) (inr improves) differs =
         subst (λ n. Improves roads answers sources (reported_time reported) n) (sym same) improves
+
+-- what was found so far, where a step finds it or leaves it
+pub still_found : (IsFound : ℕ → Type 0) (before now above : ℕ) → (before ≡ above) ⊎ IsFound before → (now ≡ before) ⊎ IsFound now → (now ≡ above) ⊎ IsFound now
+still_found IsFound before now above was (inl same) = subst (λ n. (n ≡ above) ⊎ IsFound n) (sym same) was
+still_found IsFound before now above was (inr found) = inr found
+
+-- what was passed so far, and the next source
+pub still_passed : (items : List Source) (time : ℕ → ℕ) (place before now : ℕ) (none : Source) → place < length items → now ≤ before → ((other : ℕ) (source : Source) → other < place → (get_or items other source).departure < time (get_or items other source).node → before ≤ (get_or items other source).node) → ((get_or items place none).departure < time (get_or items place none).node → now ≤ (get_or items place none).node) → (other : ℕ) (source : Source) → other < place + 1 → (get_or items other source).departure < time (get_or items other source).node → now ≤ (get_or items other source).node
+still_passed items time place before now none inside lower was here other source below sooner = elim (eqb_tells other place) [
+  | inl same ↦
+      let one = get_or_default items place none source inside in
+      rw same.1 (subst (λ (s : Source). now ≤ s.node) one (here (subst (λ (s : Source). s.departure < time s.node) (sym one) (rw same.1 at sooner))))
+  | inr differs ↦ omega (arith, was other source (omega (arith, differs.1)) sooner)
+]

@@ -64,3 +64,8 @@ none_behind sources ordered low high middle default P are none behind place sour
 none_behind sources ordered low high middle default P are none behind place source (inr beyond) within holds =
     let same = get_or_default ordered place source default within in
     behind (get_or ordered place default) (are.in_order middle place default beyond within) (subst P same holds)
+
+-- the source at a place
+pub among_ordered : (sources ordered : List Source) (place : ℕ) (default : Source) → AreOrdered sources ordered → place < length ordered → IsAmong sources (get_or ordered place default)
+among_ordered sources ordered place default are inside =
+    are.back _ (place, (inside, get_or_default ordered place default (get_or ordered place default) inside))

@@ -1,8 +1,12 @@
 use Rattle.std.proofs.Common.{◌∙◌, sym}
 use Rattle.std.proofs.lemmas.Bool.{false≢true}
 use Rattle.ea_check.proofs.Backwards.{followable}
-use Rattle.ea_check.proofs.Judged.{attained_by, faults_astray, faults_no_level, faults_other_walk, linked_canonical, low_level, read_level, right_alone, right_linked, short_linked, time_within}
+use Rattle.ea_check.proofs.Judged.{attained_by, faults_astray, faults_no_level, faults_other_walk, linked_canonical, low_level, read_level, right_alone, right_linked, right_unreached, short_linked, time_within}
 use Rattle.ea_check.proofs.verdict.other_at.Goals as goal
+
+pub returns-then-time-clause-other : goal.returns-then-time-clause-other
+returns-then-time-clause-other g c =
+    right_unreached c.args.network.now _ (g.T.TravelTimes.classes c.args.times.now) c.args.query.now.sources c.args.reported.now c.requires.task (g.met.T.TravelTimes.fifo c.args.times.now) c.requires.formed c.args.node (sym c.time-time.ensures ∙ c.if-time.true)
 
 pub returns-then-links-node-clause-other : goal.returns-then-links-node-clause-other
 returns-then-links-node-clause-other g c =
