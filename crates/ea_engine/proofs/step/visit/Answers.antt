@@ -7,6 +7,7 @@ use Rattle.ea_engine.specs.Worked.{kit, Progress}
 use Rattle.ea_engine.proofs.ProgressLemmas.{Progress-noted, Progress-then, Progress-with}
 use Rattle.ea_engine.proofs.BoundLemmas.{IsCut-noted, IsReachedBefore-noted, least_is_before}
 use Rattle.ea_engine.proofs.GroundLemmas.{node_of}
+use Rattle.ea_engine.proofs.Multisets.{Contains-head}
 use Rattle.ea_engine.proofs.step.visit.Goals as goal
 use Rattle.ea_engine.proofs.step.visit.Goals.{After-is_above_target, After-scan_entry-end}
 
@@ -225,3 +226,40 @@ returns-clause-one g c = c.scan_entry-end.ensures.one
 
 pub returns-clause-closed : goal.returns-clause-closed
 returns-clause-closed g c = rw c.visited_turn-turn-2.ensures (c.scan_entry-end.ensures.scanned c.if-end.false)
+
+pub read-label-requires-clause-same_table : goal.read-label-requires-clause-same_table
+read-label-requires-clause-same_table g c κs outlives = c.requires.seats.labels
+
+pub is_above_target-requires-clause-seat : goal.is_above_target-requires-clause-seat
+is_above_target-requires-clause-seat g c κs outlives = c.read-label.ensures.same_table ∙ c.requires.seats.labels
+
+pub scan_entry-end-requires-clause-ground : goal.scan_entry-end-requires-clause-ground
+scan_entry-end-requires-clause-ground g c κs outlives = c.requires.ground
+
+pub scan_entry-end-requires-clause-fresh : goal.scan_entry-end-requires-clause-fresh
+scan_entry-end-requires-clause-fresh g c κs outlives = c.requires.fresh
+
+pub scan_entry-end-requires-clause-room : goal.scan_entry-end-requires-clause-room
+scan_entry-end-requires-clause-room g c κs outlives = c.requires.room
+
+pub scan_entry-end-requires-clause-entry : goal.scan_entry-end-requires-clause-entry
+scan_entry-end-requires-clause-entry g c κs outlives = c.requires.entry
+
+pub scan_entry-end-requires-clause-seats : goal.scan_entry-end-requires-clause-seats
+scan_entry-end-requires-clause-seats g c κs outlives = record { labels = c.is_above_target.ensures.seat; pool = c.requires.seats.pool }
+
+pub returns-then-label-entry-clause-known : goal.returns-then-label-entry-clause-known
+returns-then-label-entry-clause-known g c = c.requires.fresh
+
+pub returns-then-label-entry-clause-fresh : goal.returns-then-label-entry-clause-fresh
+returns-then-label-entry-clause-fresh g c = rw c.visited_turn.ensures tt
+
+pub returns-then-is_above_target-clause-known : goal.returns-then-is_above_target-clause-known
+returns-then-is_above_target-clause-known g c = c.requires.fresh
+
+pub returns-then-is_above_target-clause-closed : goal.returns-then-is_above_target-clause-closed
+returns-then-is_above_target-clause-closed g c =
+    rw c.visited_turn-then-is_above_target.ensures (subst (λ t. IsCut t c.is_above_target.new.seat.history.bounds c.args.entry) c.requires.target (c.is_above_target.ensures.cut c.if-is_above_target.true))
+
+pub returns-then-end-clause-closed : goal.returns-then-end-clause-closed
+returns-then-end-clause-closed g c = rw c.visited_turn-turn.ensures (Contains-head c.args.entry [])
