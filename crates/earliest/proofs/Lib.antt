@@ -1,6 +1,7 @@
 pub mod Copied
 pub mod Counting
 pub mod Placing
+pub mod Piling
 pub mod Going
 pub mod Held
 pub mod Sending

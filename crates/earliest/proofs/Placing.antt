@@ -1,5 +1,6 @@
 -- Rows of which one place is set.
-use Rattle.std.proofs.Common.{◌≡◌, ℕ, ◌+◌, ◌<◌, ◌≤◌, List, [], ◌∷◌, ◌++◌, length, get_or, set, inl, inr, sym, subst, arith, length-append}
+use Rattle.std.proofs.Common.{◌≡◌, ℕ, ◌+◌, ◌-◌, ◌<◌, ◌≤◌, Bool, true, false, List, [], ◌∷◌, ◌++◌, length, get_or, set, inl, inr, sym, subst, arith, length-append}
+use Rattle.std.specs.Prelude.{◌≢◌, if◌then◌else◌}
 use Rattle.std.proofs.Math.Seq.{get_or-append_seam}
 use Rattle.std.proofs.lemmas.Bool.{cases_eq}
 use Rattle.std.proofs.lemmas.List.{get_or-set_same, get_or-set_other, length-set, get_or_append_left}
@@ -30,4 +31,24 @@ put_behind {X} P start xs y held new k d inside = elim (cases_eq k (length xs)) 
   | inr differs ↦ (
       let before : k < length xs = omega (arith, inside, length-append xs (y ∷ []), differs) in
       subst (P (start + k)) (sym (get_or_append_left xs (y ∷ []) d k before)) (held k d before))
+]
+
+-- So where it is put there only if there is memory for it.
+pub put_if : {X : Type 0} (P : ℕ → X → Type 0) (start : ℕ) (xs after : List X) (y : X) (is_put : Bool) → ((k : ℕ) (d : X) → k < length xs → P (start + k) (get_or xs k d))
+    → P (start + length xs) y → after ≡ (if is_put then xs ++ y ∷ [] else xs) → (k : ℕ) (d : X) → k < length after → P (start + k) (get_or after k d)
+put_if {X} P start xs after y true held new is =
+    subst (λ (zs : List X). (k : ℕ) (d : X) → k < length zs → P (start + k) (get_or zs k d)) (sym is) (put_behind P start xs y held new)
+put_if {X} P start xs after y false held new is =
+    subst (λ (zs : List X). (k : ℕ) (d : X) → k < length zs → P (start + k) (get_or zs k d)) (sym is) held
+
+-- What held at each place of a list still does where the last element takes the place of one that is taken out.
+pub taken_out : {X : Type 0} (P : X → Type 0) (xs after : List X) (i n : ℕ) → n ≡ length xs → length after + 1 ≡ n
+    → ((d : X) → i + 1 < n → get_or after i d ≡ get_or xs (n - 1) d) × ((k : ℕ) (d : X) → k ≢ i → k + 1 < n → get_or after k d ≡ get_or xs k d)
+    → ((k : ℕ) (d : X) → k < length xs → P (get_or xs k d)) → (k : ℕ) (d : X) → k < length after → P (get_or after k d)
+taken_out {X} P xs after i n all less by held k d inside = elim (cases_eq k i) [
+  | inl same ↦ (
+      let last = by.0 d (omega (arith, inside, less, same)) in
+      let Q : ℕ → Type 0 = λ m. P (get_or after m d) in
+      subst Q (sym same) (subst P (sym last) (held (n - 1) d (omega (arith, all, less)))))
+  | inr differs ↦ subst P (sym (by.1 k d differs (omega (arith, inside, less)))) (held k d (omega (arith, inside, all, less)))
 ]

@@ -1,8 +1,12 @@
-use Rattle.std.proofs.Common.{◌≡◌, ◌+◌, ◌<◌, arith, length, ◌∙◌, subst, take}
+use Rattle.std.proofs.Common.{◌≡◌, ◌+◌, ◌<◌, arith, length, refl, sym, ◌∙◌, subst, take}
 use Rattle.std.proofs.lemmas.Result.{err_from_is_err_and}
 use Rattle.ea_outcomes.specs.Posed.{times_on}
 use Rattle.earliest.specs.Fronts.{AreSent}
 use Rattle.earliest.proofs.Sending.{sent_next, stops}
+use Rattle.std.proofs.lemmas.Option.{slice_get_read}
+use Rattle.ea_road.specs.Queries.{Asking, IsProblem}
+use Rattle.earliest.specs.Drafts.{GoesOn}
+use Rattle.earliest.proofs.Going.{goes_nowhere}
 use Rattle.earliest.proofs.ahead.send_part.Goals as goal
 
 pub returns-in_err-send_draft-clause-err : goal.returns-in_err-send_draft-clause-err
@@ -31,3 +35,39 @@ loop-k-preserved g c =
       search = c.send_draft.ensures.search;
       left = c.take_draft-draft.ensures.left;
     }
+
+pub loop-k-init : goal.loop-k-init
+loop-k-init g c =
+    let now = g.W.Device.seen c.args.out.now in
+    let from = c.args.span.from in
+    let written = c.args.progress.now.written in
+    let start : from ≡ from + 0 = omega arith in
+    record {
+      sent = subst (λ n. GoesOn c.args.job from n now written now written) start (goes_nowhere c.args.job from now written);
+      bound = omega (arith, c.requires.room);
+      totals = refl;
+      search = c.requires.search;
+      left = λ j d low inside. c.requires.drafts j d inside;
+    }
+
+pub returns-clause-ok : goal.returns-clause-ok
+returns-clause-ok g c =
+    let end : c.args.span.from + c.loop-k.k ≡ c.args.span.to = omega (arith, c.loop-k-test.false, c.loop-k.auto.k-end, c.requires.span.0) in
+    subst (λ n. GoesOn c.args.job c.args.span.from n (g.W.Device.seen c.args.out.now) c.args.progress.now.written (g.W.Device.seen c.loop-k.out) c.loop-k.progress.written) end c.loop-k.invariant.sent
+
+pub returns-clause-bound : goal.returns-clause-bound
+returns-clause-bound g c = omega (arith, c.loop-k.invariant.bound, c.loop-k-test.false, c.loop-k.auto.k-end, c.requires.span.0)
+
+pub send_draft-requires-clause-draft : goal.send_draft-requires-clause-draft
+send_draft-requires-clause-draft g c =
+    let all = c.args.job.queries.now in
+    let i = c.args.span.from + c.loop-k.k in
+    let inside : i < length all = omega (arith, c.loop-k-test.true, c.loop-k.auto.k-end, c.requires.span.0, c.requires.span.1) in
+    c.take_draft-draft.ensures.draft c.index-queries-span.result (slice_get_read all (length all) i c.index-queries-span.result refl inside c.index-queries-span.is)
+
+pub send_draft-requires-clause-problem : goal.send_draft-requires-clause-problem
+send_draft-requires-clause-problem g c =
+    let i = c.args.span.from + c.loop-k.k in
+    let road = c.args.job.road.now in
+    let inside : i < length c.args.job.queries.now = omega (arith, c.loop-k-test.true, c.loop-k.auto.k-end, c.requires.span.0, c.requires.span.1) in
+    subst (λ (query : Asking). IsProblem road.network (length road.times.list.items) query) (sym c.index-queries-span.is) (c.requires.job.problems i c.index-queries-span.result inside).0

@@ -30,6 +30,11 @@ run_queries-requires-clause-nodes g c =
     let nodes = sources_are_nodes given.0.graph.nodes _ c.in_ok-files.files.sources.items given.1.starts_denoted in
     subst (All (λ node. 0 < node)) (sym c.deref.ensures.value) (λ k d lt. (nodes.0 k d lt).from_one)
 
+pub run_queries-requires-clause-within : goal.run_queries-requires-clause-within
+run_queries-requires-clause-within g c =
+    let fits : IsTrue c.departures_fit.result = search rules in
+    λ i inside. c.departures_fit.ensures.0 fits i (omega (arith, inside, c.deref.ensures.len))
+
 pub report_all-requires-clause-problems : goal.report_all-requires-clause-problems
 report_all-requires-clause-problems g c κs lent =
     let given = c.in_ok-files.ensures.given in

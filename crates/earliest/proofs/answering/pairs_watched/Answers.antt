@@ -30,6 +30,11 @@ pair_queries-requires-clause-pairs g c =
     let nodes = pairs_are_nodes given.0.graph.nodes _ c.in_ok-files.files.pairs.items given.1.starts_denoted in
     subst (All (λ (pair : ℕ × ℕ). (0 < pair.0) × (0 < pair.1))) (sym c.deref.ensures.value) (λ k d lt. ((nodes.0 k d lt).0.from_one, (nodes.0 k d lt).1.from_one))
 
+pub pair_queries-requires-clause-within : goal.pair_queries-requires-clause-within
+pair_queries-requires-clause-within g c =
+    let fits : IsTrue c.departures_fit.result = search rules in
+    λ i inside. c.departures_fit.ensures.0 fits i (omega (arith, inside, c.deref.ensures.len))
+
 pub report_all-requires-clause-problems : goal.report_all-requires-clause-problems
 report_all-requires-clause-problems g c κs lent =
     let given = c.in_ok-files.ensures.given in

@@ -107,3 +107,8 @@ returns-then-not-departures_fit-clause-unjudged g c =
       },
       (c.in_ok-text.text.items, record { is_text = c.in_ok-text.ensures.text; end = c.in_ok-text.ensures.end }),
     )
+
+pub run_queries-requires-clause-within : goal.run_queries-requires-clause-within
+run_queries-requires-clause-within g c =
+    let fits : IsTrue c.departures_fit.result = search rules in
+    λ i inside. c.departures_fit.ensures.0 fits i (omega (arith, inside, c.deref.ensures.len, c.len.ensures))

@@ -1,9 +1,12 @@
-use Rattle.std.proofs.Common.{arith}
+use Rattle.std.proofs.Common.{[], length, refl, sym, subst, arith}
 use Rattle.std.proofs.lemmas.Result.{err_from_is_err_and}
 use Rattle.ea_outcomes.specs.Posed.{times_on}
 use Rattle.earliest.specs.Workers.{settings_by}
 use Rattle.earliest.proofs.Counting.{totals_next}
-use Rattle.earliest.proofs.Sending.{stops, sent_next}
+use Rattle.earliest.proofs.Sending.{stops, sent_next, sent_none}
+use Rattle.std.proofs.lemmas.List.{take_all}
+use Rattle.ea_road.specs.Queries.{Asking, IsProblem}
+use Rattle.earliest.specs.Fronts.{AreSent}
 use Rattle.earliest.proofs.progress.report_each.Goals as goal
 
 pub returns-in_err-report-clause-err : goal.returns-in_err-report-clause-err
@@ -28,3 +31,32 @@ loop-query-preserved g c =
       balanced = c.in_ok-report.ensures.balanced;
       search = c.report.ensures.search;
     }
+
+pub loop-query-init : goal.loop-query-init
+loop-query-init g c =
+    let begun = c.begin-progress.ensures in
+    let options = c.args.options.now in
+    let network = c.args.road.now.network in
+    let times = times_on c.args.road.now in
+    let first = g.W.Device.seen c.args.out.now in
+    record {
+      done = refl;
+      fits = omega (arith, c.interruptions.ensures, c.interruptions.type_inv);
+      sent = subst (λ n. AreSent options.walks network times [] first first n) (sym begun.written) (sent_none options network times first);
+      bound = omega (arith, begun.written);
+      counted = λ asked. record { all = []; counted = tt; sums = begun.totals };
+      small = begun.small;
+      balanced = begun.balanced;
+      search = rw begun.search tt;
+    }
+
+pub returns-clause-ok : goal.returns-clause-ok
+returns-clause-ok g c =
+    let road = c.args.road.now in
+    let all = take_all c.loop-query.query-index c.args.queries.now (omega (arith, c.loop-query-test.false)) in
+    subst (λ qs. AreSent c.args.options.now.walks road.network (times_on road) qs (g.W.Device.seen c.args.out.now) (g.W.Device.seen c.loop-query.out) c.loop-query.progress.written) all c.loop-query.invariant.sent
+
+pub report-requires-clause-problem : goal.report-requires-clause-problem
+report-requires-clause-problem g c κs lent =
+    let road = c.args.road.now in
+    subst (λ (query : Asking). IsProblem road.network (length road.times.list.items) query) (sym c.query-item.is) (c.requires.problems c.loop-query.query-index c.query-item.result c.loop-query-test.true).0
