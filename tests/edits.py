@@ -3,17 +3,18 @@
 A check loads much before it proves anything. So many edits go into one check: for each, the function that it changes is written
 once more beside itself, under a name of its own, with the edit made there and with its proofs, and once as it stands. What a function
 promises rests on what others promise, and never on their bodies or proofs, and nobody calls a function written once more: so each edit
-is tried as if it were alone. All other functions have been proved by rt ci, so in these checks their proofs are left out, a hole in each
-one's place: no check of an edit proves again what the edited function calls. An edit is refused where its function isn't proved, whatever
-stands in these holes, a line says so of that function, and the one as it stands has no hole of its own; else nothing that was seen counts.
+is tried as if it were alone. All other functions have been proved by rt ci, so in these checks they are left out: nothing stands in the
+place of their bodies, and a hole in that of their proofs, so that no check of an edit proves again what the edited function calls. An
+edit is refused where its function isn't proved, whatever stands in these holes, a line says so of that function, and the one as it stands
+has no hole of its own; else nothing that was seen counts.
 
-What can't be written twice (functions of traits, functions with closures) is edited in its place, edits of functions of which none calls another
-together, in one check of these functions alone. An edit is refused there where one of its own functions isn't proved and a line says so
-of that function; where rt says that a function calls another that isn't proved, its edit is tried again later. What is no function, as a
-constant, is tried so by the functions of its module and of the crate's laws. Once all edits were tried there, these functions as they stand
-have no hole of their own: else nothing that was seen counts. What isn't refused so is tried alone, by a check of its functions; and where
-that refuses nothing, or the edit changes more than modules, rt's own trial of the whole crate decides, with all proofs. What is read as a
-refusal is what rt reads as one.
+What can't be written twice (functions of traits, and those that call one another) is edited in its place, edits of functions of which
+none calls another together, in one check of these functions alone. An edit is refused there where one of its own functions isn't proved
+and a line says so of that function; where rt says that a function calls another that isn't proved, its edit is tried again later. What is
+no function, as a constant, is tried so by the functions of its module and of the crate's laws. These functions as they stand go into the
+check of what is written twice, or into one of their own, and have no hole of their own there: else nothing that was seen counts. What
+isn't refused so is tried alone, by a check of its functions; and where that refuses nothing, or the edit changes more than modules, rt's
+own trial of the whole crate decides, with all proofs. What is read as a refusal is what rt reads as one.
 
 What an edit came to is kept where rt keeps what its own runs proved, under a sum of all that it rests on, and taken from there where
 nothing has changed since. Some kits keep nothing between runs; then each edit is tried in each run.
@@ -21,42 +22,43 @@ nothing has changed since. Some kits keep nothing between runs; then each edit i
 import contextlib
 import copy
 import hashlib
-import json
 import os
 import re
 import shutil
 import sys
 import tempfile
-from collections import namedtuple
+from itertools import chain
 
+import sources
 from crates import kit
+from sources import (
+    FUNCTION,
+    all_paths_of,
+    are_functions,
+    but_for,
+    cycles_of,
+    functions_of,
+    is_below,
+    item_of,
+    leave_out,
+    module_of,
+    paths_of,
+    place_of,
+    sources_of,
+    text_of,
+    write,
+    written_once_more,
+)
 
 # At most so many edits go over the same kept work.
 TOGETHER = 48
-
-FUNCTION = re.compile(r"^( *)(?:pub(?:\([^)]*\))? )?(?:final |const )*fn (\w+)", re.M)
-IMPL = re.compile(r"^impl\b.*$", re.M)
 
 # What a check that passes holes says of a function: the second is well too.
 SAID = re.compile(r"^fn \w+?::(\S+): (no holes|depends on a hole|not proved|no proof|could not tell)\b(.*)$", re.M)
 WELL = ("no holes", "depends on a hole")
 
-# Functions that call one another have one proof of them all.
-OF_A_CYCLE = re.compile(r"#\[cycle\(\w+\)\]\n(?: *(?:#|//).*\n)* *(?:pub(?:\([^)]*\))? )?fn (\w+)")
-
-# Where a crate says what its constants and ghost members are: an edit that changes no function may be refused there alone.
-LAWS = ("law", "laws")
-
 # What a proof says of a name that an edit took away: it tells nothing of the contract.
 NAMES = re.compile(r"(\./)?proofs/.*(has no field|is not in scope|has no `|was not admitted)")
-
-# Where an edit changes a crate: the file, its module, the function and the impl that it is of, and the function's text after its
-# name. The function is none where the change stands outside functions, the impl where it is of none.
-Place = namedtuple("Place", "file module function type text")
-
-# A function as it stands in a file: its path in the crate, its whole text with its attributes and without what is said of it, and
-# where that ends.
-Item = namedtuple("Item", "file path text end")
 
 
 def edits_of(root, name):
@@ -72,11 +74,6 @@ def ill_named(root, name):
     return edits_of(root, name)[1]
 
 
-def text_of(path):
-    with open(path, encoding="utf-8", errors="replace") as file:
-        return file.read()
-
-
 def changes(edit):
     """The files, old texts and new texts of an edit."""
     path, old = "", ""
@@ -87,39 +84,6 @@ def changes(edit):
             old = line[len("old: "):]
         elif line.startswith("new:"):
             yield path, old, line[len("new:"):].removeprefix(" ")
-
-
-def module_of(path):
-    """The module of a source file: finishing for src/finishing.rt; none for the root file."""
-    parts = path[len("src/"):-len(".rt")].split("/")
-    return "" if parts in (["lib"], ["main"]) else "::".join(parts)
-
-
-def without_brackets(text):
-    """A text without what stands in angle brackets."""
-    while re.search(r"<[^<>]*>", text):
-        text = re.sub(r"<[^<>]*>", "", text)
-    return text
-
-
-def type_of(header):
-    """What rt calls an impl by its first line: Pool for `impl<K: Known> Pool<K>`, PoolCloses for `impl<K: Known> Closes for Pool<K>`."""
-    words = without_brackets(header.replace("->", "")).removeprefix("impl").partition(" where ")[0]
-    trait, _, name = words.rpartition(" for ")
-    return "".join((re.findall(r"\w+", it) or [""])[-1] for it in (name, trait))
-
-
-def place_of(file, text, old):
-    """Where in a file a text stands."""
-    at = text.find(old)
-    last = None
-    for found in FUNCTION.finditer(text, 0, at + len(old)):
-        last = found
-    end = text.find(f"\n{last[1]}}}\n", last.end()) if last else -1
-    if not 0 <= at < end:
-        return Place(file, module_of(file), None, None, "")
-    headers = IMPL.findall(text, 0, last.start()) if last[1] else []
-    return Place(file, module_of(file), last[2], type_of(headers[-1]) if headers else None, text[last.end():end])
 
 
 def changed(folder, edit):
@@ -146,8 +110,15 @@ def groups(root, name):
 
 
 def sizes(root, name):
-    """How many edits each group of a crate has."""
-    return [len(group) for group in groups(root, name)]
+    """How many edits each group of a crate has, and how many lines have the functions that they change, which tells how long it takes."""
+    folder = os.path.join(root, "crates", name)
+    whole = sum(text.count("\n") for text in sources_of(folder).values())
+    return [(len(group), sum(lines_of(changed(folder, edit), whole) for edit in group)) for group in groups(root, name)]
+
+
+def lines_of(places, whole):
+    """How many lines have the functions at these places, or the whole crate where there are none."""
+    return sum(place.text.count("\n") for place in places) if places else whole
 
 
 def calls(one, other):
@@ -173,58 +144,16 @@ def next_round(left, places, fit):
     return made
 
 
-def functions_of(crate):
-    """The functions of a library that is built, by their whole paths without the crate; none where it isn't known."""
-    path = f"{crate.folder}/out/rlib/{crate.name}.rlib/toolchain/mir.json"
-    if not os.path.isfile(path):
-        return []
-    with open(path, encoding="utf-8") as file:
-        names = [it[0] for it in json.load(file)]
-    return [it.removeprefix(f"{crate.name}::") for it in names if it.startswith(f"{crate.name}::")]
-
-
-def is_below(path, top):
-    """Whether a path is this one or lies below it."""
-    return path == top or path.startswith(f"{top}::")
-
-
-def modules_of(place, functions):
-    """The modules whose functions may tell of a change that is in no function: its own and the crate's laws, where they have some."""
-    named = dict.fromkeys((place.module, *LAWS))
-    return [top for top in named if any(is_below(it, top) for it in functions)] or [place.module]
-
-
-def paths_of(place, functions):
-    """The whole paths of the function at a place and of its closures; those of modules where none is known."""
-    if place.type:
-        ends = [it for it in functions if it.endswith(f"::{place.function}")]
-        found = [it for it in ends if it.split("::")[-2].partition("+")[0] == place.type]
-        # The name of an impl of a trait with parameters ends with these.
-        found = found or [it for it in ends if it.split("::")[-2].startswith(place.type)]
-    else:
-        found = [it for it in functions if it == f"{place.module}::{place.function}"]
-    closures = [it for it in functions if f"fn::{place.function}::" in it and it.startswith(f"{place.module}::")]
-    if found:
-        return found + closures
-    return [place.module] if place.function else modules_of(place, functions)
-
-
-def are_functions(places, functions):
-    """Whether a check can be asked for the functions at these places alone: not where a module has none."""
-    found = {path for place in places for path in paths_of(place, functions)}
-    return not functions or all(any(is_below(it, path) for it in functions) for path in found)
-
-
-def only(places, functions):
-    """The flags for a check of these places alone."""
-    paths = [path for place in places for path in paths_of(place, functions)]
-    return [word for path in dict.fromkeys(paths) for word in ("--only", path)]
+def only(paths):
+    """The flags for a check of these functions alone."""
+    return [word for path in paths for word in ("--only", path)]
 
 
 def is_told_of(line, place, paths, texts):
     """Whether a line of a check tells of the function at a place, in its proof or in the edited text of its file."""
     found = re.match(r"(?:note: )?(?:\./)?(\S+?):(\d+):\d+:", line)
-    if any(found[1].startswith(f"proofs/{path.replace('::', '/')}/") for path in paths):
+    proofs = [*paths, *[f"{place.module}::+{cycle}" for cycle in cycles_of(place.function, texts.get(place.file, ""))]]
+    if any(found[1].startswith(f"proofs/{path.replace('::', '/')}/") for path in proofs):
         return True
     if found[1] != place.file or place.file not in texts:
         return False
@@ -243,7 +172,9 @@ def told_by(rt, ran, texts):
         return []
     if any(rt.unread(line, texts) for line in lines):
         return []
-    told = [line for line in lines if re.match(r"(note: )?\S+:\d+:\d+:", line)]
+    # A module that has no such name is told of in two lines.
+    whole = ran.stdout.replace("\n  has no ", " has no ").split("\n")
+    told = [line for line in whole if re.match(r"(note: )?\S+:\d+:\d+:", line)]
     return [line for line in told if (": error" in line or line.startswith("note: ")) and not NAMES.match(line)]
 
 
@@ -257,28 +188,6 @@ def copied(crate):
         made = copy.copy(crate)
         made.folder = room
         yield made
-
-
-def leave_hole(crate, path):
-    """Puts a hole in the place of a function's proof."""
-    folder, name = f"{crate.folder}/proofs/{path.replace('::', '/')}", path.split("::")[-1]
-    os.makedirs(folder, exist_ok=True)
-    for file in ("Invariants.antt", "Answers.antt"):
-        if os.path.isfile(f"{folder}/{file}"):
-            os.remove(f"{folder}/{file}")
-    with open(f"{folder}/Proof.antt", "w", encoding="utf-8") as file:
-        file.write(f"use Rattle.{crate.name}.proofs.{path.replace('::', '.')}.Statement.{{statement}}\n\n")
-        file.write(f"pub {name}_spec : {{M : Type 1}} → statement M\n{name}_spec = ?\n")
-
-
-def leave_holes(crate, paths):
-    """Puts holes in the places of functions' proofs, but for what has no proof of its own: closures, what is let go of, what a trait
-    declares, and functions that call one another."""
-    files = [f"{at}/{name}" for at, _, names in os.walk(f"{crate.folder}/src") for name in names]
-    cycles = {name for file in files for name in OF_A_CYCLE.findall(text_of(file))}
-    for path in paths:
-        if path.split("::")[-1] not in cycles and not re.search(r"\+\+|\+decl$|(^|::)fn::", path):
-            leave_hole(crate, path)
 
 
 def checked(rt, crate, texts, flags, kept):
@@ -295,7 +204,7 @@ def together(rt, crate, edits, places, functions, kept):
     """Tries edits that are apart in one check: the line that refused each, and those of which it says nothing, since a function
     that they change calls one that isn't proved."""
     texts, _ = rt.edited(joined(edits), crate.folder)
-    ran = checked(rt, crate, texts, only([it for edit in edits for it in places[edit]], functions), kept)
+    ran = checked(rt, crate, texts, only(all_paths_of([it for edit in edits for it in places[edit]], functions)), kept)
     said = [it for it in SAID.findall(ran.stdout) if it[1] in ("not proved", "no proof")]
     above = {path for path, _, why in said if "which is not proved" in why}
     failed = {path for path, _, _ in said} - above
@@ -316,7 +225,7 @@ def alone(rt, crate, edit, places, functions, kept):
     texts, why = rt.read_edit(edit, crate.folder)
     if why:
         return None
-    ran = checked(rt, crate, texts, only(places, functions), kept)
+    ran = checked(rt, crate, texts, only(all_paths_of(places, functions)), kept)
     paths = tuple(f"{path}::" for place in places for path in paths_of(place, functions))
     failed = any(said in ("not proved", "no proof") and f"{path}::".startswith(paths) for path, said, _ in SAID.findall(ran.stdout))
     return next(iter(told_by(rt, ran, texts)), None) if failed else None
@@ -324,16 +233,25 @@ def alone(rt, crate, edit, places, functions, kept):
 
 def quickly(rt, crate, edits, kept):
     """Tries edits in checks of the functions that they change: the first line of what refused each, none where nothing did. Of those
-    that are made in their place nothing is said where these functions are not proved as they stand once all were tried."""
+    that are made in their place nothing is said where these functions are not proved as they stand."""
     every = {edit: changed(crate.folder, edit) for edit in edits}
     functions = functions_of(crate)
     places = {edit: every[edit] for edit in edits if every[edit] and are_functions(every[edit], functions)}
-    aside = side_by_side(rt, crate, list(places), places, functions, kept)
-    places = {edit: places[edit] for edit in places if edit not in aside}
-    standing = {path for edit in places for place in places[edit] for path in paths_of(place, functions)}
+    aside, well = side_by_side(rt, crate, places, functions, kept)
+    left = {edit: places[edit] for edit in places if edit not in aside}
+    standing = all_paths_of([it for edit in left for it in left[edit]], functions)
     with copied(crate) as bare:
-        leave_holes(bare, [path for path in functions if not any(is_below(path, top) for top in standing)])
-        return {**aside, **in_place(rt, bare, places, functions, kept)}
+        write(bare.folder, leave_out(bare, but_for(standing, functions), functions, {}))
+        found = in_place(rt, bare, left, functions, kept)
+        unseen = [path for path in standing if path not in well]
+        if unseen and not are_well(SAID.findall(checked(rt, bare, {}, only(unseen), kept).stdout)):
+            return aside
+    return {**aside, **found}
+
+
+def are_well(said):
+    """Whether a check says of some functions that all are proved."""
+    return bool(said) and all(it[1] in WELL for it in said)
 
 
 def in_place(rt, crate, places, functions, kept):
@@ -349,43 +267,7 @@ def in_place(rt, crate, places, functions, kept):
             elif edit not in refused:
                 found[edit] = alone(rt, crate, edit, places[edit], functions, kept)
         left = [edit for edit in left if edit not in found]
-    if not places:
-        return {}
-    standing = only([it for edit in places for it in places[edit]], functions)
-    said = SAID.findall(checked(rt, crate, {}, standing, kept).stdout)
-    return found if said and all(it[1] in WELL for it in said) else {}
-
-
-def home_of(folder, place):
-    """Where rt has the function at a place: its module, or its type in the module that declares it."""
-    if not place.type:
-        return place.module
-    for inside, _, files in os.walk(f"{folder}/src"):
-        for path in (os.path.relpath(f"{inside}/{file}", folder) for file in files):
-            if re.search(rf"^(pub(\([^)]*\))? )?(struct|enum) {place.type}\b", text_of(f"{folder}/{path}"), re.M):
-                return "::".join(it for it in (module_of(path), place.type) if it)
-    return f"{place.module}::{place.type}"
-
-
-def item_of(crate, place, functions):
-    """The function at a place, where it can be written once more beside itself: one of a module, or of an impl of no trait, with no
-    closures; else none."""
-    if not place.function:
-        return None
-    paths = paths_of(place, functions)
-    if not functions and not re.search(r"\|[^|\n]*\| (->|\{|\w)", place.text):
-        paths = [f"{home_of(crate.folder, place)}::{place.function}"]
-    text = text_of(f"{crate.folder}/{place.file}")
-    starts = [it for it in FUNCTION.finditer(text) if it[2] == place.function and text[it.end():].startswith(place.text)]
-    if len(paths) != 1 or paths == [place.module] or len(starts) != 1:
-        return None
-    headers = IMPL.findall(text, 0, starts[0].start()) if starts[0][1] else []
-    if bool(place.type) != bool(starts[0][1]) or (headers and " for " in without_brackets(headers[-1].replace("->", ""))):
-        return None
-    start, end = starts[0].start(), starts[0].end() + len(place.text) + len(f"\n{starts[0][1]}}}\n")
-    while (above := text.rfind("\n", 0, start - 1) + 1) < start and text[above:start].strip().startswith("#["):
-        start = above
-    return Item(place.file, paths[0], text[start:end], end)
+    return found
 
 
 def edited_item(folder, item, edit):
@@ -400,25 +282,9 @@ def edited_item(folder, item, edit):
     return texts
 
 
-def written_once_more(room, item, texts, mark):
-    """Writes a function beside itself under a name with this mark, with these texts of it and of its proofs: its path and its text."""
-    *above, name = item.path.split("::")
-    path = "::".join([*above, f"{name}_{mark}"])
-    old, new = (f"proofs/{it.replace('::', '/')}" for it in (item.path, path))
-    dots, others = (f".proofs.{it.replace('::', '.')}." for it in (item.path, path))
-    for folder, _, files in os.walk(f"{room}/{old}"):
-        inside = os.path.relpath(folder, room)
-        os.makedirs(f"{room}/{new}{inside.removeprefix(old)}")
-        for file in files:
-            proof = texts.get(f"{inside}/{file}", text_of(f"{folder}/{file}"))
-            with open(f"{room}/{new}{inside.removeprefix(old)}/{file}", "w", encoding="utf-8") as written:
-                written.write(proof.replace(dots, others))
-    return path, re.sub(rf"\bfn {name}\b", f"fn {name}_{mark}", texts[item.file], count=1)
-
-
 def beside(crate, items, texts):
-    """Writes each edited function of a crate once more beside itself, once for each of its edits and once as it stands: the path of each
-    one that stands, that of each edit's, and the texts of the files."""
+    """Writes each edited function of a crate once more beside itself, once for each of its edits and once as it stands: the paths of each
+    one that stands, those of each edit's, and the texts of the files."""
     standing, paths, added = {}, {}, {}
     for at, edit in enumerate(texts):
         item = items[edit]
@@ -434,26 +300,29 @@ def beside(crate, items, texts):
     return standing, paths, whole
 
 
-def side_by_side(rt, crate, edits, places, functions, kept):
-    """Tries edits each in a function written once more, all in one check: the line that refused each, none for those that none did."""
-    items = {edit: item_of(crate, places[edit][0], functions) for edit in edits if len(set(places[edit])) == 1}
+def side_by_side(rt, crate, places, functions, kept):
+    """Tries edits each in a function written once more, all in one check, and with them the functions of all other edits as they stand:
+    the line that refused each, none for those that none did, and which of the others are proved."""
+    items = {edit: item_of(crate, places[edit][0], functions) for edit in places if len(set(places[edit])) == 1}
     texts = {edit: edited_item(crate.folder, item, edit) for edit, item in items.items() if item}
     texts = {edit: made for edit, made in texts.items() if made}
     if not texts:
-        return {}
+        return {}, []
+    others = all_paths_of([it for edit in places if edit not in texts for it in places[edit]], functions)
     with copied(crate) as bare:
         standing, paths, whole = beside(bare, items, texts)
-        leave_holes(bare, functions)
-        flags = [word for path in [*standing.values(), *paths.values()] for word in ("--only", path)]
-        ran = checked(rt, bare, whole, flags, kept)
-    said = {path: what for path, what, _ in SAID.findall(ran.stdout)}
-    told, found = told_by(rt, ran, whole), {}
-    for edit, path in paths.items():
-        place = places[edit][0]._replace(function=path.split("::")[-1])
-        line = next((line for line in told if is_told_of(line, place, [path], whole)), None)
-        if line and said.get(path) in ("not proved", "no proof") and said.get(standing[items[edit]]) in WELL:
+        whole = leave_out(bare, but_for(others, functions), functions, whole)
+        written = list(chain(*standing.values(), *paths.values()))
+        ran = checked(rt, bare, whole, only(written + others), kept)
+    told, found, said = told_by(rt, ran, whole), {}, SAID.findall(ran.stdout)
+    what = {path: what for path, what, _ in said}
+    for edit, made in paths.items():
+        place = places[edit][0]._replace(function=made[0].split("::")[-1])
+        line = next((line for line in told if is_told_of(line, place, made, whole)), None)
+        is_refused = any(what.get(path) in ("not proved", "no proof") for path in made)
+        if line and is_refused and all(what.get(path) in WELL for path in standing[items[edit]]):
             found[edit] = line
-    return found
+    return found, [top for top in others if are_well([it for it in said if is_below(it[0], top) and it[0] not in written])]
 
 
 class Store:
@@ -464,7 +333,8 @@ class Store:
         if self.kept:
             for below in crate.below():
                 self.kept.is_built(below)
-            how = hashlib.sha256(text_of(os.path.abspath(__file__)).encode()).hexdigest()
+            texts = [text_of(it) for it in (os.path.abspath(__file__), os.path.abspath(sources.__file__))]
+            how = hashlib.sha256(repr(texts).encode()).hexdigest()
             key = f"{how} {self.kept.key(crate)}"
             self.names = {edit: self.kept.of_edit(edit, key) for edit in edits}
 

@@ -219,15 +219,22 @@ def installed(room):
     yield "the installed package", ran([python, "-c", text], env=environment), (0, b"[2, 3, 4]\n", b"")
 
 
-def results(program, room=None):
-    """Each test with what came and what has to come. The library is proved and built first, over what rt ci has proved in a room, or
-    else over what earlier builds left."""
-    yield from numbered()
+def built_library(room=None):
+    """Proves and builds the library, over what rt ci has proved in a room, or else over what earlier builds left: the status, and what
+    was said. It is nice to what else runs."""
     over = ["--over", room] if room else []
-    run = subprocess.run([sys.executable, os.path.join(ROOT, "tools", "library.py"), *over], stdout=subprocess.PIPE, text=True)
-    yield "the library, built", run.returncode or None, None
-    if run.returncode:
-        print(run.stdout)
+    words = ["nice", sys.executable, os.path.join(ROOT, "tools", "library.py"), *over]
+    ran = subprocess.run(words, stdout=subprocess.PIPE, text=True)
+    return ran.returncode, ran.stdout
+
+
+def results(program, library):
+    """Each test with what came and what has to come, where this came of building the library."""
+    yield from numbered()
+    status, said = library
+    yield "the library, built", status or None, None
+    if status:
+        print(said)
         return
     with tempfile.TemporaryDirectory() as room:
         for compiler, cases in (("cc", in_c), ("c++", in_cpp)):
@@ -240,7 +247,7 @@ def results(program, room=None):
 
 
 if __name__ == "__main__":
-    FOUND = list(results(sys.argv[1]))
+    FOUND = list(results(sys.argv[1], built_library()))
     ILL = [(name, was, want) for name, was, want in FOUND if was != want]
     for name, was, want in ILL:
         print("failed:", name, was, "and not", want)

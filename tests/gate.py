@@ -17,6 +17,7 @@ from concurrent.futures import ThreadPoolExecutor
 sys.dont_write_bytecode = True
 import crates
 import edits
+import embedding
 import run
 
 # For how much memory there is one lane of edits beside rt ci, in bytes: a lane takes one or two GB, and rt ci about half of what there is.
@@ -69,6 +70,17 @@ class Proofs:
             self.last = line
         self.status = self.process.wait()
 
+    def ended(self):
+        """Waits until rt ci has ended: how."""
+        while self.status is None:
+            time.sleep(0.2)
+        return self.status
+
+
+def library(room, proofs):
+    """Builds the library for C once all is proved, beside the edits that are left: its status, and what was said."""
+    return (1, "rt ci failed") if proofs.ended() else embedding.built_library(room)
+
 
 def lanes_beside(processors, memory):
     """How many lanes of edits go beside rt ci. They are nice, and so take what it leaves of the processors."""
@@ -86,24 +98,24 @@ def tried(room, name, number):
 
 
 class Trials:
-    """The edits that are left to try: of each crate so many in each group. A group can be tried once its crate is proved."""
+    """The edits that are left to try: of each crate so many in each group, and how long a group is. It can be tried once its crate is
+    proved."""
 
     def __init__(self, names, uses):
         self.names, self.uses = set(names), uses
         self.sizes = {name: sizes for name in names for sizes in [edits.sizes(crates.ROOT, name)] if sizes}
-        self.unproved = sorted(self.sizes, key=lambda name: -sum(self.sizes[name]))
-        self.ready = []
+        self.unproved, self.ready = list(self.sizes), []
 
     def next(self, proofs):
-        """A group that can be tried now, of those the one with the most edits; none where there is none."""
+        """A group that can be tried now, of those the longest; none where there is none."""
         for name in [it for it in self.unproved if proofs.status == 0 or {it, *crates.below(it, self.uses)} & self.names <= proofs.proved]:
             self.unproved.remove(name)
             self.ready += [(name, at) for at in range(len(self.sizes[name]))]
-        self.ready.sort(key=lambda it: -self.count(*it))
-        return self.ready.pop(0) if self.ready else None
+        self.ready.sort(key=lambda it: self.sizes[it[0]][it[1]][1])
+        return self.ready.pop() if self.ready else None
 
     def count(self, name, number):
-        return self.sizes[name][number]
+        return self.sizes[name][number][0]
 
 
 def all_tried(room, names, uses, proofs):
@@ -133,13 +145,11 @@ def all_tried(room, names, uses, proofs):
     return len(refused) - little, len(given) - len(refused), little, kept
 
 
-def proved(room, names):
-    """Runs rt ci and the edits in a copy: how many passed and failed; none where rt ci failed."""
+def proved(room, names, proofs):
+    """Runs the edits beside rt ci in a copy: how many of both passed and failed; none where rt ci failed."""
     _, uses = crates.listed()
-    proofs = Proofs(room)
     refused, unrefused, little, kept = all_tried(room, names, uses, proofs)
-    while proofs.status is None:
-        time.sleep(0.2)
+    proofs.ended()
     counts = re.fullmatch(r"(\d+) passed, (\d+) failed\n?", proofs.last)
     if proofs.status or not counts or int(counts[2]):
         print("what rt ci said of what failed:\n" + "".join(proofs.failures), flush=True)
@@ -170,8 +180,9 @@ def main():
     names = wanted(asked, is_above) if asked else list(crates.listed()[0])
     with tempfile.TemporaryDirectory(prefix="gate-") as room:
         copied(room, names)
-        begun = time.monotonic()
-        counts = proved(room, names)
+        begun, proofs, pool = time.monotonic(), Proofs(room), ThreadPoolExecutor(1)
+        beside = None if asked else pool.submit(library, room, proofs)
+        counts = proved(room, names, proofs)
         print(f"proofs and edits took {time.monotonic() - begun:.0f} s")
         if not counts:
             print("0 passed, 1 failed")
@@ -179,7 +190,7 @@ def main():
         passed, failed = counts
         if not asked:
             program = os.path.join(room, "crates", "earliest_program", "out", "earliest_program")
-            well, ill = run.run_all(program, room)
+            well, ill = run.run_all(program, beside.result())
             print(f"cases of the program: {well} passed, {ill} failed")
             passed, failed = passed + well, failed + ill
     print(f"{passed} passed, {failed} failed")

@@ -8,6 +8,7 @@ import shlex
 import subprocess
 import sys
 import tempfile
+from concurrent.futures import ThreadPoolExecutor
 
 sys.dont_write_bytecode = True
 import at_once
@@ -114,10 +115,21 @@ def alike(program):
         yield f"{command} {road}: {this} beside {that}", was, (0, 0, equal, True)
 
 
-def run_all(program, room=None):
-    """Runs all cases, tells which fail, and answers how many passed and failed. Where rt ci has proved the crates in a room, the library
-    for C is built over these."""
+def run_all(program, library):
+    """Runs all cases, tells which fail, and answers how many passed and failed; what building the library for C came to is given. What
+    waits for clocks or compilers goes beside the rest."""
     program = os.path.abspath(program)
+    with ThreadPoolExecutor(2) as pool:
+        aside = [pool.submit(list, it) for it in (progress.results(program), embedding.results(program, library))]
+        results = run_each(program) + [it for one in aside for it in one.result()]
+    failed = [(name, was) for name, was, want in results if was != want]
+    for name, was in failed:
+        print("failed:", name, *was)
+    return len(results) - len(failed), len(failed)
+
+
+def run_each(program):
+    """Runs the other cases one after another: each with what came and what has to come."""
     results = [(shlex.join(words), ran(program, words), (status, out, err)) for words, status, out, err in cases()]
     results += [(name, result, (4, None, line)) for name, result, line in into_devices(program)]
     refused = b"error: invalid UTF-8 was detected in one or more arguments\n\nFor more information, try '--help'.\n"
@@ -128,7 +140,6 @@ def run_all(program, room=None):
     results += alike(program)
     results += people.results(program)
     results += explained.results(program)
-    results += progress.results(program)
     results += road_network.results(program)
     results += travel_times.results(program)
     results += commuter_network.results(program)
@@ -136,15 +147,10 @@ def run_all(program, room=None):
     results += threads.results(program)
     results += scripts.results(program)
     results += documents.results(program)
-    results += large.results(program, EXAMPLES)
-    results += embedding.results(program, room)
-    failed = [(name, was) for name, was, want in results if was != want]
-    for name, was in failed:
-        print("failed:", name, *was)
-    return len(results) - len(failed), len(failed)
+    return results + list(large.results(program, EXAMPLES))
 
 
 if __name__ == "__main__":
-    PASSED, FAILED = run_all(sys.argv[1])
+    PASSED, FAILED = run_all(sys.argv[1], embedding.built_library())
     print(f"{PASSED} passed, {FAILED} failed")
     sys.exit(1 if FAILED else 0)
