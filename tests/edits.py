@@ -88,13 +88,16 @@ def changes(edit):
 
 def changed(folder, edit):
     """The places of a crate that an edit changes; none where it changes more than modules of src/."""
-    places = []
-    for path, old, _ in changes(edit):
+    places, made = [], []
+    for path, old, new in changes(edit):
         if path.startswith("proofs/"):
             continue
         if not path.startswith("src/") or not module_of(path):
             return None
-        places.append(place_of(path, text_of(f"{folder}/{path}"), old))
+        # What an earlier change of the edit made stands where that one is.
+        if not any(old in it for it in made):
+            places.append(place_of(path, text_of(f"{folder}/{path}"), old))
+        made.append(new)
     return places or None
 
 
