@@ -14,7 +14,8 @@ and a line says so of that function; where rt says that a function calls another
 no function, as a constant, is tried so by the functions of its module and of the crate's laws. These functions as they stand go into the
 check of what is written twice, or into one of their own, and have no hole of their own there: else nothing that was seen counts. What
 isn't refused so is tried alone, by a check of its functions; and where that refuses nothing, or the edit changes more than modules, rt's
-own trial of the whole crate decides, with all proofs. What is read as a refusal is what rt reads as one.
+own trial of the whole crate decides, with all proofs. What is read as a refusal is what rt reads as one, but for a name that an edit took
+away, where a check tells of it in two lines: it counts for none.
 
 What an edit came to is kept where rt keeps what its own runs proved, under a sum of all that it rests on, and taken from there where
 nothing has changed since. Some kits keep nothing between runs; then each edit is tried in each run.
@@ -175,7 +176,7 @@ def told_by(rt, ran, texts):
         return []
     if any(rt.unread(line, texts) for line in lines):
         return []
-    # A module that has no such name is told of in two lines.
+    # That a module or a record has no such name is told in two lines.
     whole = ran.stdout.replace("\n  has no ", " has no ").split("\n")
     told = [line for line in whole if re.match(r"(note: )?\S+:\d+:\d+:", line)]
     return [line for line in told if (": error" in line or line.startswith("note: ")) and not NAMES.match(line)]

@@ -88,7 +88,7 @@ def place_of(file, text, old):
 
 def functions_of(crate):
     """The functions of a library, by their whole paths without the crate: of one that other crates use as its build lists them, of a
-    static one as its sources have them, but for those of traits and of other languages."""
+    static one as its sources have them, but for those of traits."""
     path = f"{crate.folder}/out/rlib/{crate.name}.rlib/toolchain/mir.json"
     if not os.path.isfile(path):
         return written_functions(crate)

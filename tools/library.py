@@ -57,7 +57,8 @@ def archived():
 
 
 def archived_over(room):
-    """The same in a room where rt ci has proved what the crate stands on. (`rt lib` would prove that again: what rt ci leaves has no stamp.)"""
+    """The same in a room where rt ci has proved what the crate stands on, by one job, since the gate tries edits meanwhile. (`rt lib` would
+    prove that again: what rt ci leaves has no stamp.)"""
     _, rtlib = crates.kit()
     os.chdir(room)
     rtlib.guarded()
