@@ -2,6 +2,7 @@
 //! needs it.
 #![tactic(auto)]
 
+pub mod asserts;
 pub mod constant;
 pub mod in_turn;
 pub mod memory;
