@@ -1,5 +1,6 @@
-"""The whole gate: `rt ci` on a copy without must-fail edits, the edits beside it and after it, and then the cases of
-tests/cases.txt with the program that `rt ci` has built. The last line counts what passed and failed of all of them.
+"""The whole gate: `rt ci` on a copy without must-fail edits, the edits beside it and after it, and once it has ended, beside the edits
+that are left, the cases of tests/cases.txt with the program that `rt ci` has built. The last line counts what passed and failed of all of
+them.
 
 With names of crates: the gate of these and of those that they stand on, and no cases; with --above before them, also of
 those that stand on them.
@@ -77,9 +78,13 @@ class Proofs:
         return self.status
 
 
-def library(room, proofs):
-    """Builds the library for C once all is proved, beside the edits that are left: its status, and what was said."""
-    return (1, "rt ci failed") if proofs.ended() else embedding.built_library(room)
+def cases(room, proofs):
+    """Builds the library for C once all is proved, and then runs the cases with the program that `rt ci` has built, beside the edits that
+    are left, which are nice: what the cases came to; none where the proofs failed."""
+    if proofs.ended():
+        return []
+    program = os.path.join(room, "crates", "earliest_program", "out", "earliest_program")
+    return run.all_results(program, embedding.built_library(room))
 
 
 def lanes_beside(processors, memory):
@@ -181,7 +186,7 @@ def main():
     with tempfile.TemporaryDirectory(prefix="gate-") as room:
         copied(room, names)
         begun, proofs, pool = time.monotonic(), Proofs(room), ThreadPoolExecutor(1)
-        beside = None if asked else pool.submit(library, room, proofs)
+        beside = None if asked else pool.submit(cases, room, proofs)
         counts = proved(room, names, proofs)
         print(f"proofs and edits took {time.monotonic() - begun:.0f} s")
         if not counts:
@@ -189,8 +194,7 @@ def main():
             return 1
         passed, failed = counts
         if not asked:
-            program = os.path.join(room, "crates", "earliest_program", "out", "earliest_program")
-            well, ill = run.run_all(program, beside.result())
+            well, ill = run.counted(beside.result())
             print(f"cases of the program: {well} passed, {ill} failed")
             passed, failed = passed + well, failed + ill
     print(f"{passed} passed, {failed} failed")

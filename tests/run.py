@@ -115,13 +115,17 @@ def alike(program):
         yield f"{command} {road}: {this} beside {that}", was, (0, 0, equal, True)
 
 
-def run_all(program, library):
-    """Runs all cases, tells which fail, and answers how many passed and failed; what building the library for C came to is given. What
-    waits for clocks or compilers goes beside the rest."""
+def all_results(program, library):
+    """Runs all cases: each with what came and what has to come; what building the library for C came to is given. What waits for clocks or
+    compilers goes beside the rest."""
     program = os.path.abspath(program)
     with ThreadPoolExecutor(2) as pool:
         aside = [pool.submit(list, it) for it in (progress.results(program), embedding.results(program, library))]
-        results = run_each(program) + [it for one in aside for it in one.result()]
+        return run_each(program) + [it for one in aside for it in one.result()]
+
+
+def counted(results):
+    """Tells which cases failed, and answers how many passed and failed."""
     failed = [(name, was) for name, was, want in results if was != want]
     for name, was in failed:
         print("failed:", name, *was)
@@ -151,6 +155,6 @@ def run_each(program):
 
 
 if __name__ == "__main__":
-    PASSED, FAILED = run_all(sys.argv[1], embedding.built_library())
+    PASSED, FAILED = counted(all_results(sys.argv[1], embedding.built_library()))
     print(f"{PASSED} passed, {FAILED} failed")
     sys.exit(1 if FAILED else 0)
