@@ -241,7 +241,7 @@ def quickly(rt, crate, edits, kept):
     every = {edit: changed(crate.folder, edit) for edit in edits}
     functions = functions_of(crate)
     places = {edit: every[edit] for edit in edits if every[edit] and are_functions(every[edit], functions)}
-    aside, well = side_by_side(rt, crate, places, functions, kept)
+    aside, well = side_by_side(rt, crate, places, functions)
     left = {edit: places[edit] for edit in places if edit not in aside}
     standing = all_paths_of([it for edit in left for it in left[edit]], functions)
     with copied(crate) as bare:
@@ -304,9 +304,10 @@ def beside(crate, items, texts):
     return standing, paths, whole
 
 
-def side_by_side(rt, crate, places, functions, kept):
+def side_by_side(rt, crate, places, functions):
     """Tries edits each in a function written once more, all in one check, and with them the functions of all other edits as they stand:
-    the line that refused each, none for those that none did, and which of the others are proved."""
+    the line that refused each, none for those that none did, and which of the others are proved. Nothing is kept of it: what is kept costs
+    a second start, and serves no other check."""
     items = {edit: item_of(crate, places[edit][0], functions) for edit in places if len(set(places[edit])) == 1}
     texts = {edit: edited_item(crate.folder, item, edit) for edit, item in items.items() if item}
     texts = {edit: made for edit, made in texts.items() if made}
@@ -317,7 +318,7 @@ def side_by_side(rt, crate, places, functions, kept):
         standing, paths, whole = beside(bare, items, texts)
         whole = leave_out(bare, but_for(others, functions), functions, whole)
         written = list(chain(*standing.values(), *paths.values()))
-        ran = checked(rt, bare, whole, only(written + others), kept)
+        ran = checked(rt, bare, whole, only(written + others), None)
     told, found, said = told_by(rt, ran, whole), {}, SAID.findall(ran.stdout)
     what = {path: what for path, what, _ in said}
     for edit, made in paths.items():
