@@ -10,6 +10,7 @@ use Rattle.ea_road.specs.Roads.{Roads}
 use Rattle.ea_road.specs.Queries.{Asking}
 use Rattle.ea_road.specs.declared.source.Source.{Source}
 use Rattle.ea_files.specs.Starts.{asks_all, sources_from, run_problems}
+use Rattle.ea_report.proofs.Pieces.{flat_map-map}
 use Rattle.ea_rank.specs.declared.summary.Summary.{Summary}
 use Rattle.ea_rank.specs.Summaries.{summary_of}
 use Rattle.ea_report.specs.Report.{line, source_line}
@@ -41,6 +42,18 @@ pub two_lines : (node departure pops greatest sum : List ℕ)
 two_lines node departure pops greatest sum =
     sym (ap (λ (t : List ℕ). 115 ∷ 32 ∷ t) (two_fields node departure (line (codes "r") (pops ∷ greatest ∷ sum ∷ [])))
     ∙ ap (λ (t : List ℕ). 115 ∷ 32 ∷ (node ++ 32 ∷ (departure ++ 10 ∷ 114 ∷ 32 ∷ t))) (three_fields pops greatest sum))
+
+-- The same text, sent in pieces.
+abbrev pub two_lines_pieces : (node departure pops greatest sum : List ℕ) → List (List ℕ)
+two_lines_pieces node departure pops greatest sum =
+    let space = 32 ∷ [] in
+    (115 ∷ 32 ∷ []) ∷ node ∷ space ∷ departure ∷ (10 ∷ 114 ∷ 32 ∷ []) ∷ pops ∷ space ∷ greatest ∷ space ∷ sum ∷ (10 ∷ []) ∷ []
+
+pub two_lines_of : {X : Type 0} (bytes : X → List ℕ) (pieces : List X) (node departure pops greatest sum : List ℕ)
+    → map bytes pieces ≡ two_lines_pieces node departure pops greatest sum
+    → flat_map bytes pieces ≡ line (codes "s") (node ∷ departure ∷ []) ++ line (codes "r") (pops ∷ greatest ∷ sum ∷ [])
+two_lines_of bytes pieces node departure pops greatest sum same =
+    flat_map-map (λ piece. piece) bytes pieces ∙ ap (flat_map (λ piece. piece)) same ∙ two_lines node departure pops greatest sum
 
 -- The line of the only source.
 pub only_line : (sources : List Source) (d : Source) → length sources ≡ 1 → flat_map source_line sources ≡ source_line (get_or sources 0 d)

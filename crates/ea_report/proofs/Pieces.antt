@@ -1,5 +1,5 @@
 -- Texts on their way to a device.
-use Rattle.std.proofs.Common.{◌≡◌, ℕ, zero, suc, ◌+◌, ◌-◌, ◌^◌, ◌<◌, ◌≤◌, List, [], ◌∷◌, ◌++◌, length, take, drop, refl, ap, ap₂, sym, ◌∙◌, inl, inr, arith, subst, length-drop, length-append, append-nil, append_assoc, get_or}
+use Rattle.std.proofs.Common.{◌≡◌, ℕ, zero, suc, ◌+◌, ◌-◌, ◌^◌, ◌<◌, ◌≤◌, List, [], ◌∷◌, ◌++◌, length, take, drop, refl, ap, ap₂, sym, ◌∙◌, inl, inr, arith, subst, length-drop, length-append, append-nil, append_assoc, get_or, map}
 use Rattle.std.proofs.Math.Seq.{take-add, take-length, take-append-add}
 use Rattle.std.proofs.lemmas.List.{take-append-le}
 use Rattle.ea_report.specs.Report.{each_node}
@@ -128,6 +128,10 @@ pub flat_map-at : {X : Type 0} (f : X → List ℕ) (xs : List X) (i : ℕ) (d :
 flat_map-at f [] i d h = absurd (omega arith)
 flat_map-at f (x ∷ xs) zero d h = refl
 flat_map-at f (x ∷ xs) (suc i) d h = ap (λ t. f x ++ t) (flat_map-at f xs i d (omega arith)) ∙ simp append_assoc
+
+pub flat_map-map : {X Y : Type 0} (f : Y → List ℕ) (g : X → Y) (xs : List X) → flat_map (λ x. f (g x)) xs ≡ flat_map f (map g xs)
+flat_map-map f g [] = refl
+flat_map-map f g (x ∷ xs) = ap (λ t. f (g x) ++ t) (flat_map-map f g xs)
 
 pub flat_map-next : {X : Type 0} (f : X → List ℕ) (xs : List X) (i : ℕ) (d : X) → i < length xs → flat_map f (take (suc i) xs) ≡ flat_map f (take i xs) ++ f (get_or xs i d)
 flat_map-next f [] i d h = absurd (omega arith)

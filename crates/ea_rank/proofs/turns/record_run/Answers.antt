@@ -1,4 +1,4 @@
-use Rattle.std.proofs.Common.{◌≡◌, ◌≢◌, ◌<◌, ◌≤◌, ◌+◌, ◌∷◌, ◌++◌, [], ℕ, List, length, replicate, Option, sym, ap, ◌∙◌, arith, subst, inl, inr}
+use Rattle.std.proofs.Common.{◌≡◌, ◌≢◌, ◌<◌, ◌≤◌, ◌+◌, ◌∷◌, ◌++◌, [], ℕ, List, length, replicate, Option, sym, ap, ◌∙◌, arith, subst, inl, inr, Ok}
 use Rattle.std.proofs.lemmas.List.{length-replicate}
 use Rattle.ea_road.specs.declared.TheConstants.{NONE}
 use Rattle.ea_road.specs.Labels.{label_of}
@@ -8,6 +8,8 @@ use Rattle.ea_road.proofs.ByTail.{leaving_has}
 use Rattle.ea_pool.specs.declared.entry.Entry.{Entry}
 use Rattle.ea_lists.specs.Totals.{total}
 use Rattle.ea_pool.specs.Entries.{times}
+use Rattle.ea_rank.specs.declared.event.Event.{Event}
+use Rattle.ea_rank.specs.Ranks.{rank_errors, queue_after}
 use Rattle.ea_rank.specs.Runs.{State, entry_of, weighs}
 use Rattle.ea_rank.specs.States.{state_of}
 use Rattle.ea_rank.specs.Tallies.{added}
@@ -105,7 +107,27 @@ returns-clause-empty g c =
     let told = rw c.in_default.is at c.in_ok-entry.ensures in
     let inv = c.loop-run.invariant in
     let events = ap (λ (s : State). s.events) told.1 in
-    rw events (recorded-empty inv.underway.0 (state_of c.loop-run.run) (none_weighs (λ e. 1) c.loop-run.run.heaps told.0) inv.underway.2)
+    subst (λ (e : List Event). queue_after [] e ≡ []) (sym events) (recorded-empty inv.underway.0 (state_of c.loop-run.run) (none_weighs (λ e. 1) c.loop-run.run.heaps told.0) inv.underway.2)
+
+pub returns-clause-ranks : goal.returns-clause-ranks
+returns-clause-ranks g c =
+    let told = rw c.in_default.is at c.in_ok-entry.ensures in
+    let recorded = c.loop-run.invariant.underway.2 in
+    let events = ap (λ (s : State). s.events) told.1 in record {
+      ranks = recorded.ranks;
+      found = subst (λ (e : List Event). rank_errors e ≡ Ok recorded.ranks) (sym events) recorded.found;
+      exact = λ two. recorded.exact (c.loop-run.invariant.heaps ∙ two);
+    }
+
+pub returns-clause-course : goal.returns-clause-course
+returns-clause-course g c =
+    let told = rw c.in_default.is at c.in_ok-entry.ensures in record {
+      rest = g.R.Rng.stream c.loop-run.rng;
+      state = state_of c.loop-run.run;
+      begun = c.loop-run.invariant.course;
+      empty = told.0;
+      events_are = ap (λ (s : State). s.events) told.1;
+    }
 
 pub returns-clause-least : goal.returns-clause-least
 returns-clause-least g c =

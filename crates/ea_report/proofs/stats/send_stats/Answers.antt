@@ -1,15 +1,16 @@
-use Rattle.std.proofs.Common.{◌≡◌, refl, [], subst, ℕ, List}
+use Rattle.std.proofs.Common.{◌≡◌, refl, [], subst, ℕ, List, map, ap, ◌∙◌}
 use Rattle.std.specs.List.{flat_map}
 use Rattle.ea_report.specs.Delivery.{all_sent}
 use Rattle.ea_report.specs.Deliverers.{direct_delivery}
-use Rattle.ea_report.specs.Stats.{total_line, stats_text}
+use Rattle.ea_report.specs.Stats.{total_line, stats_rows, stats_text}
 use Rattle.ea_report.specs.Sent.{IsCutBy, IsWhole}
-use Rattle.ea_report.proofs.Pieces.{delivery_starts, delivery_ends}
+use Rattle.ea_report.proofs.Pieces.{delivery_starts, delivery_ends, flat_map-map}
 use Rattle.ea_report.proofs.stats.send_stats.Goals as goal
 
 pub returns-in-Ok-clause-ok : goal.returns-in-Ok-clause-ok
 returns-in-Ok-clause-ok g c =
-    let text : flat_map (λ row. total_line (row.0.now, row.1)) c.as_slice-9.result.now ≡ stats_text c.args.totals.now = rw (c.as_slice-9.ensures, c.as_slice.ensures, c.as_slice-2.ensures, c.as_slice-3.ensures, c.as_slice-4.ensures, c.as_slice-5.ensures, c.as_slice-6.ensures, c.as_slice-7.ensures, c.as_slice-8.ensures) refl in
+    let rows : map (λ row. (row.0.now, row.1)) c.as_slice-9.result.now ≡ stats_rows c.args.totals.now = rw (c.as_slice-9.ensures, c.as_slice.ensures, c.as_slice-2.ensures, c.as_slice-3.ensures, c.as_slice-4.ensures, c.as_slice-5.ensures, c.as_slice-6.ensures, c.as_slice-7.ensures, c.as_slice-8.ensures) refl in
+    let text : flat_map (λ row. total_line (row.0.now, row.1)) c.as_slice-9.result.now ≡ stats_text c.args.totals.now = flat_map-map total_line (λ row. (row.0.now, row.1)) c.as_slice-9.result.now ∙ ap (flat_map total_line) rows in
     let first = (g.W.Device.seen c.args.out.now) in
     let start = delivery_starts first (all_sent 0 0) refl in
     let now = (g.W.Device.seen c.put_totals.new.out) in
@@ -17,7 +18,8 @@ returns-in-Ok-clause-ok g c =
 
 pub returns-in-Err-clause-err : goal.returns-in-Err-clause-err
 returns-in-Err-clause-err g c =
-    let text : flat_map (λ row. total_line (row.0.now, row.1)) c.as_slice-9.result.now ≡ stats_text c.args.totals.now = rw (c.as_slice-9.ensures, c.as_slice.ensures, c.as_slice-2.ensures, c.as_slice-3.ensures, c.as_slice-4.ensures, c.as_slice-5.ensures, c.as_slice-6.ensures, c.as_slice-7.ensures, c.as_slice-8.ensures) refl in
+    let rows : map (λ row. (row.0.now, row.1)) c.as_slice-9.result.now ≡ stats_rows c.args.totals.now = rw (c.as_slice-9.ensures, c.as_slice.ensures, c.as_slice-2.ensures, c.as_slice-3.ensures, c.as_slice-4.ensures, c.as_slice-5.ensures, c.as_slice-6.ensures, c.as_slice-7.ensures, c.as_slice-8.ensures) refl in
+    let text : flat_map (λ row. total_line (row.0.now, row.1)) c.as_slice-9.result.now ≡ stats_text c.args.totals.now = flat_map-map total_line (λ row. (row.0.now, row.1)) c.as_slice-9.result.now ∙ ap (flat_map total_line) rows in
     let first = (g.W.Device.seen c.args.out.now) in
     let now = (g.W.Device.seen c.put_totals.new.out) in
     let start = delivery_starts first (all_sent 0 0) refl in
