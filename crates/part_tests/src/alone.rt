@@ -1,9 +1,11 @@
 ghost use Rattle.std.specs.Prelude.{◌≡◌, ◌+◌, ◌<◌, ◌^◌};
 
+use crate::refused::given::{four_nodes, from_first};
 use ea_finish::*;
 use ea_road::{HORIZON, Network, Query, RawKind, Source, Timetables, is_problem};
 use std::alloc::{AllocError, Global};
 use std::test::Fail;
+use tests_given::asserts::{assert_none_wrong, assert_that};
 use tests_given::networks::{FOUR_NODES, Row, network_of, query_of};
 
 /// Class 0 is plain, class 1 leaves every 10, class 2 every 100.
@@ -21,21 +23,51 @@ pub(crate) fn timetables(alloc: Global) -> Result<Timetables, AllocError> {
     Timetables::of(alloc, &kinds)
 }
 
+/// The answer of one thread, with walks or without; none where network and query make no problem.
+pub(crate) fn found(
+    alloc: Global,
+    network: &Network,
+    times: &Timetables,
+    query: &Query,
+    walks: bool,
+) -> Result<Option<Answer>, AllocError> {
+    if !is_problem(network, times.classes(), query) {
+        return Ok(None);
+    }
+    let answer = if walks {
+        solve_alone(alloc, network, times, query)
+    } else {
+        arrivals_alone(alloc, network, times, query)
+    };
+    match answer {
+        Ok(answer) => Ok(Some(answer)),
+        Err(refused) => Err(refused),
+    }
+}
+
+/// The answer in a network with the three classes.
+fn found_by_classes(
+    alloc: Global,
+    network: &Network,
+    query: &Query,
+    walks: bool,
+) -> Result<Option<Answer>, AllocError> {
+    let times = timetables(alloc)?;
+    found(alloc, network, &times, query, walks)
+}
+
 /// The answer for a query; none where the rows or the query do not fit.
 fn answered(
     alloc: Global,
     nodes: u32,
     rows: &[Row],
     query: &Query,
+    walks: bool,
 ) -> Result<Option<Answer>, AllocError> {
-    let Some(network) = network_of(alloc, nodes, rows)? else {
-        return Ok(None);
-    };
-    let times = timetables(alloc)?;
-    if !is_problem(&network, times.classes(), query) {
-        return Ok(None);
+    match network_of(alloc, nodes, rows)? {
+        Some(network) => found_by_classes(alloc, &network, query, walks),
+        None => Ok(None),
     }
-    Ok(Some(solve_alone(alloc, &network, &times, query)?))
 }
 
 /// The answer for all nodes.
@@ -46,7 +78,7 @@ pub(crate) fn from_sources(
     sources: &[(u32, u64)],
 ) -> Result<Option<Answer>, AllocError> {
     match query_of(alloc, sources)? {
-        Some(query) => answered(alloc, nodes, rows, &query),
+        Some(query) => answered(alloc, nodes, rows, &query, true),
         None => Ok(None),
     }
 }
@@ -66,7 +98,7 @@ fn from_to(
         node: from,
         departure: 0,
     };
-    answered(alloc, nodes, rows, &Query::pair(source, to))
+    answered(alloc, nodes, rows, &Query::pair(source, to), true)
 }
 
 /// A node, when it is reached, and by which walk if it is.
@@ -78,7 +110,12 @@ fn arrives(answer: &Answer, node: u32, arrival: Option<u64>) -> bool {
 }
 
 /// Whether an answer gives a walk for a node.
-fn walks(alloc: Global, answer: &Answer, node: u32, walk: &[u32]) -> Result<bool, AllocError> {
+pub(crate) fn walks(
+    alloc: Global,
+    answer: &Answer,
+    node: u32,
+    walk: &[u32],
+) -> Result<bool, AllocError> {
     if !answer.asks(node) || !answer.has_walks() {
         return Ok(false);
     }
@@ -88,252 +125,282 @@ fn walks(alloc: Global, answer: &Answer, node: u32, walk: &[u32]) -> Result<bool
     }
 }
 
+/// Whether an answer gives what a line says, with the walk where the node is reached.
+fn gives(alloc: Global, answer: &Answer, line: &Line) -> Result<bool, AllocError> {
+    let (node, arrival, walk) = *line;
+    if !arrives(answer, node, arrival) || arrival.is_none() {
+        return Ok(arrives(answer, node, arrival));
+    }
+    walks(alloc, answer, node, walk)
+}
+
 /// The first node for which an answer gives otherwise than its line.
 fn wrong_node(alloc: Global, answer: &Answer, lines: &[Line]) -> Result<Option<u32>, AllocError> {
-    for (node, arrival, walk) in lines {
-        if !arrives(answer, *node, *arrival) {
-            return Ok(Some(*node));
-        }
-        if arrival.is_some() && !walks(alloc, answer, *node, walk)? {
-            return Ok(Some(*node));
+    for line in lines {
+        if !gives(alloc, answer, line)? {
+            return Ok(Some(line.0));
         }
     }
     Ok(None)
 }
 
-/// The first node for which the answer for all nodes gives otherwise than its line.
-fn wrong_from(
-    alloc: Global,
-    nodes: u32,
-    rows: &[Row],
-    sources: &[(u32, u64)],
-    lines: &[Line],
-) -> Result<Option<u32>, Fail> {
-    let answer = from_sources(alloc, nodes, rows, sources)?.ok_or("rows")?;
-    Ok(wrong_node(alloc, &answer, lines)?)
-}
-
-/// The first node for which the answer for one target gives otherwise than its line.
-fn wrong_to(
-    alloc: Global,
-    nodes: u32,
-    rows: &[Row],
-    from: u32,
-    to: u32,
-    lines: &[Line],
-) -> Result<Option<u32>, Fail> {
-    let answer = from_to(alloc, nodes, rows, from, to)?.ok_or("rows")?;
-    Ok(wrong_node(alloc, &answer, lines)?)
-}
-
-#[test]
-fn four_nodes(rt: HostRuntime) -> Result<(), Fail> {
-    let lines: [Line; 4] = [
-        (1, Some(0), &[]),
-        (2, Some(5), &[2, 3]),
-        (3, Some(2), &[2]),
-        (4, Some(6), &[2, 3, 4]),
-    ];
-    assert_eq!(rt;
-        wrong_from(rt.alloc(), 4, &FOUR_NODES, &[(1, 0)], &lines)?,
-        None
-    );
-    Ok(())
-}
-
-#[test]
-fn no_sources(rt: HostRuntime) -> Result<(), Fail> {
-    let lines: [Line; 4] = [
-        (1, None, &[]),
-        (2, None, &[]),
-        (3, None, &[]),
-        (4, None, &[]),
-    ];
-    assert_eq!(rt; wrong_from(rt.alloc(), 4, &FOUR_NODES, &[], &lines)?, None);
-    Ok(())
-}
+/// Nodes, rows and sources, and the lines of the answer for all nodes.
+type Run = (u32, &'static [Row], &'static [(u32, u64)], &'static [Line]);
 
 const TWO_WAYS_TO_FIFTEEN: [Row; 4] = [(1, 2, 4, 0), (1, 3, 1, 0), (3, 2, 1, 0), (2, 4, 5, 1)];
 
 const PARALLEL: [Row; 2] = [(1, 2, 1, 2), (1, 2, 50, 0)];
 
-#[test]
-fn timetables_decide(rt: HostRuntime) -> Result<(), Fail> {
-    let alloc = rt.alloc();
-    for (departure, arrival) in [(0, 3), (1, 13), (10, 13)] {
-        let lines: [Line; 1] = [(2, Some(arrival), &[1])];
-        assert_eq!(rt;
-            wrong_from(alloc, 2, &[(1, 2, 3, 1)], &[(1, departure)], &lines)?,
-            None
-        );
-    }
-    let lines: [Line; 3] = [
-        (2, Some(3), &[2, 3]),
-        (3, Some(2), &[2]),
-        (4, Some(15), &[2, 3, 4]),
-    ];
-    assert_eq!(rt;
-        wrong_from(alloc, 4, &TWO_WAYS_TO_FIFTEEN, &[(1, 1)], &lines)?,
-        None
-    );
-    for (departure, line) in [(1, EARLY), (100, LATE)] {
-        assert_eq!(rt;
-            wrong_from(alloc, 2, &PARALLEL, &[(1, departure)], &[line])?,
-            None
-        );
-    }
-    Ok(())
-}
-
-/// The second of two parallel arcs arrives first early on, and the first one late.
-const EARLY: Line = (2, Some(51), &[2]);
-
-const LATE: Line = (2, Some(101), &[1]);
-
-#[test]
-fn cycles_and_loops(rt: HostRuntime) -> Result<(), Fail> {
-    let alloc = rt.alloc();
-    let cycle_of_zero = [(1, 2, 4, 0), (2, 3, 0, 0), (3, 2, 0, 0), (1, 3, 4, 0)];
-    let lines: [Line; 2] = [(2, Some(4), &[1]), (3, Some(4), &[4])];
-    assert_eq!(rt;
-        wrong_from(alloc, 3, &cycle_of_zero, &[(1, 0)], &lines)?,
-        None
-    );
-    let lines: [Line; 2] = [(1, Some(0), &[]), (2, None, &[])];
-    assert_eq!(rt;
-        wrong_from(alloc, 2, &[(1, 1, 0, 0)], &[(1, 0)], &lines)?,
-        None
-    );
-    Ok(())
-}
-
-#[test]
-fn edges_of_the_horizon(rt: HostRuntime) -> Result<(), Fail> {
-    let alloc = rt.alloc();
-    let at: [Line; 1] = [(2, Some(281_474_976_710_655), &[1])];
-    assert_eq!(rt;
-        wrong_from(alloc, 2, &[(1, 2, 0, 0)], &[(1, HORIZON)], &at)?,
-        None
-    );
-    let past: [Line; 2] = [(1, Some(281_474_976_710_655), &[]), (2, None, &[])];
-    assert_eq!(rt;
-        wrong_from(alloc, 2, &[(1, 2, 1, 0)], &[(1, HORIZON)], &past)?,
-        None
-    );
-    let joint_gap: [Line; 2] = [(1, Some(0), &[]), (2, Some(3), &[1])];
-    assert_eq!(rt;
-        wrong_from(alloc, 2, &[(1, 2, 3, 0)], &[(1, 0), (2, 5)], &joint_gap)?,
-        None
-    );
-    Ok(())
-}
-
-#[test]
-fn canonical_ties(rt: HostRuntime) -> Result<(), Fail> {
-    let alloc = rt.alloc();
-    let rows = [(1, 2, 1, 0), (1, 3, 1, 0), (3, 4, 1, 0), (2, 4, 1, 0)];
-    let lowest: [Line; 1] = [(4, Some(2), &[2, 3])];
-    assert_eq!(rt; wrong_from(alloc, 4, &rows, &[(1, 0)], &lowest)?, None);
-    let rows = [(1, 2, 0, 0), (2, 3, 0, 0), (1, 3, 0, 0)];
-    let fewest: [Line; 1] = [(3, Some(0), &[3])];
-    assert_eq!(rt; wrong_from(alloc, 3, &rows, &[(1, 0)], &fewest)?, None);
-    Ok(())
-}
-
-const CUT_AT_EQUAL_KEYS: [Row; 6] = [
-    (1, 4, 3, 0),
-    (4, 5, 0, 0),
-    (5, 3, 0, 0),
-    (1, 2, 1, 0),
-    (2, 6, 1, 0),
-    (6, 3, 1, 0),
+const RUNS: &[Run] = &[
+    (
+        4,
+        &FOUR_NODES,
+        &[(1, 0)],
+        &[
+            (1, Some(0), &[]),
+            (2, Some(5), &[2, 3]),
+            (3, Some(2), &[2]),
+            (4, Some(6), &[2, 3, 4]),
+        ],
+    ),
+    // Without sources nothing is reached.
+    (
+        4,
+        &FOUR_NODES,
+        &[],
+        &[
+            (1, None, &[]),
+            (2, None, &[]),
+            (3, None, &[]),
+            (4, None, &[]),
+        ],
+    ),
+    // Timetables decide.
+    (2, &[(1, 2, 3, 1)], &[(1, 0)], &[(2, Some(3), &[1])]),
+    (2, &[(1, 2, 3, 1)], &[(1, 1)], &[(2, Some(13), &[1])]),
+    (2, &[(1, 2, 3, 1)], &[(1, 10)], &[(2, Some(13), &[1])]),
+    (
+        4,
+        &TWO_WAYS_TO_FIFTEEN,
+        &[(1, 1)],
+        &[
+            (2, Some(3), &[2, 3]),
+            (3, Some(2), &[2]),
+            (4, Some(15), &[2, 3, 4]),
+        ],
+    ),
+    // The second of two parallel arcs arrives first early on, and the first one late.
+    (2, &PARALLEL, &[(1, 1)], &[(2, Some(51), &[2])]),
+    (2, &PARALLEL, &[(1, 100)], &[(2, Some(101), &[1])]),
+    // A cycle of zero, and a loop.
+    (
+        3,
+        &[(1, 2, 4, 0), (2, 3, 0, 0), (3, 2, 0, 0), (1, 3, 4, 0)],
+        &[(1, 0)],
+        &[(2, Some(4), &[1]), (3, Some(4), &[4])],
+    ),
+    (
+        2,
+        &[(1, 1, 0, 0)],
+        &[(1, 0)],
+        &[(1, Some(0), &[]), (2, None, &[])],
+    ),
+    // At the horizon and past it, and sources before which another one arrives.
+    (
+        2,
+        &[(1, 2, 0, 0)],
+        &[(1, HORIZON)],
+        &[(2, Some(281_474_976_710_655), &[1])],
+    ),
+    (
+        2,
+        &[(1, 2, 1, 0)],
+        &[(1, HORIZON)],
+        &[(1, Some(281_474_976_710_655), &[]), (2, None, &[])],
+    ),
+    (
+        2,
+        &[(1, 2, 3, 0)],
+        &[(1, 0), (2, 5)],
+        &[(1, Some(0), &[]), (2, Some(3), &[1])],
+    ),
+    // Of walks that arrive alike the one by the lowest numbers, and the one of the fewest arcs.
+    (
+        4,
+        &[(1, 2, 1, 0), (1, 3, 1, 0), (3, 4, 1, 0), (2, 4, 1, 0)],
+        &[(1, 0)],
+        &[(4, Some(2), &[2, 3])],
+    ),
+    (
+        3,
+        &[(1, 2, 0, 0), (2, 3, 0, 0), (1, 3, 0, 0)],
+        &[(1, 0)],
+        &[(3, Some(0), &[3])],
+    ),
 ];
 
+/// Whether there is an answer for all nodes that gives what the lines say.
+fn is_run(alloc: Global, run: &Run) -> Result<bool, AllocError> {
+    let (nodes, rows, sources, lines) = *run;
+    match from_sources(alloc, nodes, rows, sources)? {
+        Some(answer) => Ok(wrong_node(alloc, &answer, lines)?.is_none()),
+        None => Ok(false),
+    }
+}
+
+/// The first run that goes otherwise than its lines.
+fn wrong_run(alloc: Global) -> Result<Option<usize>, AllocError> {
+    for (place, run) in RUNS.iter().enumerate() {
+        if !is_run(alloc, run)? {
+            return Ok(Some(place));
+        }
+    }
+    Ok(None)
+}
+
 #[test]
-fn pair_queries(rt: HostRuntime) -> Result<(), Fail> {
-    let alloc = rt.alloc();
-    let there: [Line; 1] = [(4, Some(6), &[2, 3, 4])];
-    assert_eq!(rt; wrong_to(alloc, 4, &FOUR_NODES, 1, 4, &there)?, None);
-    // On the way, but not asked for.
-    let between: [Line; 1] = [(3, Some(2), &[2])];
-    assert_eq!(rt; wrong_to(alloc, 4, &FOUR_NODES, 1, 4, &between)?, Some(3));
-    let back: [Line; 1] = [(1, None, &[])];
-    assert_eq!(rt; wrong_to(alloc, 4, &FOUR_NODES, 4, 1, &back)?, None);
-    let near: [Line; 1] = [(2, Some(1), &[1])];
-    assert_eq!(rt;
-        wrong_to(alloc, 3, &[(1, 2, 1, 0), (1, 3, 5, 0)], 1, 2, &near)?,
-        None
-    );
-    let cut: [Line; 1] = [(3, Some(3), &[1, 2, 3])];
-    assert_eq!(rt; wrong_to(alloc, 6, &CUT_AT_EQUAL_KEYS, 1, 3, &cut)?, None);
+fn answers_for_all_nodes(rt: HostRuntime) -> Result<(), Fail> {
+    assert_none_wrong(&rt, wrong_run(rt.alloc())?);
     Ok(())
 }
 
-/// The arrivals of the four nodes from node 1 at 0, asked without walks; none where the rows do not fit.
-fn arrivals_of_four(alloc: Global) -> Result<Option<Answer>, AllocError> {
-    let Some(network) = network_of(alloc, 4, &FOUR_NODES)? else {
-        return Ok(None);
-    };
-    let times = timetables(alloc)?;
-    let source = Source {
-        node: 1,
-        departure: 0,
-    };
-    let query = Query::from_one(source);
-    if !is_problem(&network, times.classes(), &query) {
-        return Ok(None);
+/// Nodes and rows, from where to where, a line, and whether the answer for the pair gives it.
+type Pair = (u32, &'static [Row], u32, u32, Line, bool);
+
+const PAIRS: &[Pair] = &[
+    (4, &FOUR_NODES, 1, 4, (4, Some(6), &[2, 3, 4]), true),
+    // On the way, but not asked for.
+    (4, &FOUR_NODES, 1, 4, (3, Some(2), &[2]), false),
+    (4, &FOUR_NODES, 4, 1, (1, None, &[]), true),
+    (
+        3,
+        &[(1, 2, 1, 0), (1, 3, 5, 0)],
+        1,
+        2,
+        (2, Some(1), &[1]),
+        true,
+    ),
+    // Cut at equal keys.
+    (
+        6,
+        &[
+            (1, 4, 3, 0),
+            (4, 5, 0, 0),
+            (5, 3, 0, 0),
+            (1, 2, 1, 0),
+            (2, 6, 1, 0),
+            (6, 3, 1, 0),
+        ],
+        1,
+        3,
+        (3, Some(3), &[1, 2, 3]),
+        true,
+    ),
+];
+
+/// Whether there is an answer for the pair that gives the line, or does not, as is said.
+fn is_pair(alloc: Global, pair: &Pair) -> Result<bool, AllocError> {
+    let (nodes, rows, from, to, line, given) = *pair;
+    match from_to(alloc, nodes, rows, from, to)? {
+        Some(answer) => Ok(gives(alloc, &answer, &line)? == given),
+        None => Ok(false),
     }
-    Ok(Some(arrivals_alone(alloc, &network, &times, &query)?))
+}
+
+/// The first pair whose answer is otherwise.
+fn wrong_pair(alloc: Global) -> Result<Option<usize>, AllocError> {
+    for (place, pair) in PAIRS.iter().enumerate() {
+        if !is_pair(alloc, pair)? {
+            return Ok(Some(place));
+        }
+    }
+    Ok(None)
+}
+
+#[test]
+fn answers_for_pairs(rt: HostRuntime) -> Result<(), Fail> {
+    assert_none_wrong(&rt, wrong_pair(rt.alloc())?);
+    Ok(())
+}
+
+/// The first of the four nodes for which an answer gives another arrival.
+fn wrong_arrival(answer: &Answer) -> Option<usize> {
+    for (place, arrival) in [0, 5, 2, 6].iter().enumerate() {
+        if !arrives(answer, place as u32 + 1, Some(*arrival)) {
+            return Some(place);
+        }
+    }
+    None
+}
+
+/// Whether the answer for the four nodes from node 1 at 0, asked without walks, has the arrivals and no walks.
+fn has_arrivals_alone(alloc: Global) -> Result<bool, AllocError> {
+    match answered(alloc, 4, &FOUR_NODES, &from_first(), false)? {
+        Some(answer) => Ok(wrong_arrival(&answer).is_none() && !answer.has_walks()),
+        None => Ok(false),
+    }
 }
 
 #[test]
 fn without_walks_the_arrivals_are_the_same(rt: HostRuntime) -> Result<(), Fail> {
-    let answer = arrivals_of_four(rt.alloc())?.ok_or("rows")?;
-    for (node, arrival) in [(1, 0), (2, 5), (3, 2), (4, 6)] {
-        assert!(rt; arrives(&answer, node, Some(arrival)), "node {node}");
-    }
-    assert!(rt; !walks(rt.alloc(), &answer, 1, &[])?);
+    assert_that(&rt, "arrivals alone", has_arrivals_alone(rt.alloc())?);
     Ok(())
 }
 
-/// The answer by a closure that is made here; none where network and query make no problem.
-fn by_closure(
+/// The calls that answer a query by one thread.
+#[derive(Clone, Copy, PartialEq, Eq)]
+pub(crate) enum Alone {
+    Walks,
+    Arrivals,
+    WalksBy,
+    ArrivalsBy,
+}
+
+/// The answer of one of the calls, without classes; none where network and query make no problem.
+pub(crate) fn answer_alone(
     alloc: Global,
+    call: Alone,
     network: &Network,
     query: &Query,
 ) -> Result<Option<Answer>, AllocError> {
     if !is_problem(network, 0, query) {
         return Ok(None);
     }
-    let answer = solve_alone_by(
-        alloc,
-        network,
-        |_class: u32, weight: u64, departure: u64| -> u64
-            requires { departure + weight < 2 ^ 64 }
-            ensures { result ≡ departure + weight }
-        { departure + weight },
-        0,
-        query,
-    )?;
-    Ok(Some(answer))
+    let times = Timetables::new(Vec::new(alloc));
+    let plain = |_class: u32, weight: u64, departure: u64| -> u64
+        requires { departure + weight < 2 ^ 64 }
+        ensures { result ≡ departure + weight }
+    { departure + weight };
+    let answer = match call {
+        Alone::Walks => solve_alone(alloc, network, &times, query),
+        Alone::Arrivals => arrivals_alone(alloc, network, &times, query),
+        Alone::WalksBy => solve_alone_by(alloc, network, plain, 0, query),
+        Alone::ArrivalsBy => arrivals_alone_by(alloc, network, plain, 0, query),
+    };
+    match answer {
+        Ok(answer) => Ok(Some(answer)),
+        Err(refused) => Err(refused),
+    }
 }
 
-/// When node 4 of the four is reached from node 1 by the closure; none where it isn't asked for.
-fn closure_reaches(alloc: Global) -> Result<Option<u64>, Fail> {
-    let network = network_of(alloc, 4, &FOUR_NODES)?.ok_or("rows")?;
-    let source = Source {
-        node: 1,
-        departure: 0,
-    };
-    let answer = by_closure(alloc, &network, &Query::from_one(source))?.ok_or("a problem")?;
-    if !answer.asks(4) {
-        return Ok(None);
+/// The answer for the four nodes by one of the calls.
+pub(crate) fn four_answered(alloc: Global, call: Alone) -> Result<Option<Answer>, AllocError> {
+    match four_nodes(alloc)? {
+        Some(network) => answer_alone(alloc, call, &network, &from_first()),
+        None => Ok(None),
     }
-    Ok(answer.arrival(4))
+}
+
+/// Whether node 4 of the four is reached from node 1 at 6 by a closure that is made here.
+fn closure_arrives(alloc: Global) -> Result<bool, AllocError> {
+    match four_answered(alloc, Alone::WalksBy)? {
+        Some(answer) => Ok(arrives(&answer, 4, Some(6))),
+        None => Ok(false),
+    }
 }
 
 #[test]
 fn a_closure_brings_travel_times(rt: HostRuntime) -> Result<(), Fail> {
-    assert_eq!(rt; closure_reaches(rt.alloc())?, Some(6));
+    assert_that(&rt, "node 4 at 6", closure_arrives(rt.alloc())?);
     Ok(())
 }

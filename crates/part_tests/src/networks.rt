@@ -1,8 +1,9 @@
 //! Networks of many arcs: made by one thread and by two, the same arcs leave each node, whether tails ascend or not.
-use ea_road::{Arc, ArcList, Network};
+use ea_road::{Arc, ArcList, LeavingArc, Network};
 use std::alloc::{AllocError, Global};
 use std::test::Fail;
 use std::thread::Threads;
+use tests_given::asserts::assert_that;
 
 const NODES: u32 = 30_000;
 
@@ -25,20 +26,48 @@ fn arcs_by(alloc: Global, step: u64) -> Result<Vec<Arc>, AllocError> {
     Ok(arcs)
 }
 
-/// These arcs' networks, made by one thread and by two; none where the arcs make none.
-fn networks_by<H: Threads + Sync>(
+/// The network of these arcs, made by one thread; none where they make none.
+fn by_one(alloc: Global, step: u64) -> Result<Option<Network>, AllocError> {
+    let arcs = arcs_by(alloc, step)?;
+    if !Network::fits(NODES, &arcs) {
+        return Ok(None);
+    }
+    Ok(Some(Network::new(alloc, NODES, arcs)?))
+}
+
+/// The network of arcs, made by two threads; none where they make none.
+fn by_two<H: Threads + Sync>(
+    alloc: Global,
+    rt: &H,
+    arcs: &[Arc],
+) -> Result<Option<Network>, AllocError> {
+    if !Network::fits(NODES, arcs) {
+        return Ok(None);
+    }
+    let list = ArcList::of(alloc, arcs)?;
+    Ok(Some(Network::of_list_by(alloc, rt, NODES, list)?))
+}
+
+/// The network of these arcs, made by two threads.
+fn by_two_of<H: Threads + Sync>(
     alloc: Global,
     rt: &H,
     step: u64,
-) -> Result<Option<(Network, Network)>, AllocError> {
+) -> Result<Option<Network>, AllocError> {
     let arcs = arcs_by(alloc, step)?;
-    let again = arcs_by(alloc, step)?;
-    if !Network::fits(NODES, &arcs) || !Network::fits(NODES, &again) {
-        return Ok(None);
+    by_two(alloc, rt, &arcs)
+}
+
+/// Whether arcs that leave a node are those of these numbers.
+fn are_numbered(network: &Network, node: u32, numbers: &[u32], leaving: &[LeavingArc]) -> bool {
+    for (number, arc) in numbers.iter().zip(leaving) {
+        let place = (*number as usize).wrapping_sub(1);
+        let arcs = network.arcs();
+        if place >= arcs.len() || arcs.at(place) != arc.with_tail(node) {
+            return false;
+        }
     }
-    let one = Network::new(alloc, NODES, arcs)?;
-    let two = Network::of_list_by(alloc, rt, NODES, ArcList::of(alloc, &again)?)?;
-    Ok(Some((one, two)))
+    true
 }
 
 /// How many arcs leave a node of both, as the same numbers and beside them the arcs of these numbers; none where they differ.
@@ -47,16 +76,12 @@ fn same_leaving(one: &Network, two: &Network, node: u32) -> Option<usize> {
         return None;
     }
     let (here, there) = (one.leaving(node), two.leaving(node));
-    if here.numbers != there.numbers || here.arcs != there.arcs {
-        return None;
+    let same = here.numbers == there.numbers && here.arcs == there.arcs;
+    if same && are_numbered(one, node, here.numbers, here.arcs) {
+        Some(here.arcs.len())
+    } else {
+        None
     }
-    for (number, arc) in here.numbers.iter().zip(here.arcs) {
-        let place = (*number as usize).wrapping_sub(1);
-        if place >= one.arcs().len() || one.arcs().at(place) != arc.with_tail(node) {
-            return None;
-        }
-    }
-    Some(here.arcs.len())
 }
 
 /// How many arcs leave the nodes of both, as the same numbers and arcs; none where they differ.
@@ -76,13 +101,36 @@ fn told(network: &Network) -> (u32, u64) {
     (network.top_class(), network.mean_weight())
 }
 
+/// Whether both have the class, the mean weight and as many arcs as were made, alike in both.
+fn are_alike(one: &Network, two: &Network) -> bool {
+    told(one) == (4, 499) && told(two) == (4, 499) && arcs_alike(one, two) == Some(70_000)
+}
+
+/// Whether two threads make the network that one has made of these arcs.
+fn is_made_by_two<H: Threads + Sync>(
+    alloc: Global,
+    rt: &H,
+    one: &Network,
+    step: u64,
+) -> Result<bool, AllocError> {
+    match by_two_of(alloc, rt, step)? {
+        Some(two) => Ok(are_alike(one, &two)),
+        None => Ok(false),
+    }
+}
+
+/// Whether one thread and two make the same network of these arcs.
+fn is_same<H: Threads + Sync>(alloc: Global, rt: &H, step: u64) -> Result<bool, AllocError> {
+    match by_one(alloc, step)? {
+        Some(one) => is_made_by_two(alloc, rt, &one, step),
+        None => Ok(false),
+    }
+}
+
 #[test]
 fn two_threads_make_the_same_network(rt: HostRuntime) -> Result<(), Fail> {
-    for step in [1, 7, 69_999] {
-        let (one, two) = networks_by(rt.alloc(), &rt, step)?.ok_or("arcs")?;
-        assert_eq!(rt; told(&one), (4, 499));
-        assert_eq!(rt; told(&two), (4, 499));
-        assert_eq!(rt; arcs_alike(&one, &two), Some(70_000));
-    }
+    assert_that(&rt, "by steps of 1", is_same(rt.alloc(), &rt, 1)?);
+    assert_that(&rt, "by steps of 7", is_same(rt.alloc(), &rt, 7)?);
+    assert_that(&rt, "by steps of 69,999", is_same(rt.alloc(), &rt, 69_999)?);
     Ok(())
 }

@@ -2,12 +2,14 @@ ghost use Rattle.std.specs.Prelude.{◌≡◌, ◌+◌, ◌*◌, ◌%◌, ◌^�
 ghost use Rattle.ea_limits.specs.declared.TheConstants.{HORIZON};
 ghost use Rattle.ea_road.specs.Answers.{IsFifoFunction};
 ghost use Rattle.ea_road.specs.Arrivals.{Reaches};
+ghost use Rattle.ea_road.specs.Queries.{IsSource};
 
 use ea_input::{RawArc, RawGraph};
 use ea_road::*;
 use std::alloc::{AllocError, Global};
 use std::marker::{Brand, PhantomData};
 use std::test::Fail;
+use tests_given::asserts::{assert_none_wrong, assert_that};
 use tests_given::networks::{FOUR_NODES, Row, network_of, query_of, times_of};
 
 fn arc(tail: u32, head: u32, weight: u32, class: u32) -> Arc
@@ -42,147 +44,182 @@ fn walked(
 /// A walk from node 1, when it departs, and where and when it ends.
 type Case = (&'static [u32], u64, Option<(u32, u64)>);
 
-/// The first of the walks that ends otherwise than is said: its place, and where and when it ends. Where class 1 has a period, it
-/// leaves at each multiple.
-fn wrong_walk(
-    alloc: Global,
-    nodes: u32,
-    rows: &[Row],
-    period: u32,
-    cases: &[Case],
-) -> Result<Option<(usize, Option<(u32, u64)>)>, Fail> {
-    let network = network_of(alloc, nodes, rows)?.ok_or("rows")?;
-    let times = times_of(alloc, period)?;
-    for (place, (walk, departure, end)) in cases.iter().enumerate() {
-        let ends = walked(&network, &times, 1, walk, *departure);
-        if ends != *end {
-            return Ok(Some((place, ends)));
+/// Nodes and rows, the period of class 1 if it has one, at each multiple of which it leaves, and walks.
+type Walks = (u32, &'static [Row], u32, &'static [Case]);
+
+const LATE: u64 = 281_474_976_710_650;
+
+const WALKS: [Walks; 4] = [
+    (
+        2,
+        &[(1, 2, 3, 1)],
+        10,
+        &[
+            (&[1], 0, Some((2, 3))),
+            (&[1], 1, Some((2, 13))),
+            (&[1], 10, Some((2, 13))),
+        ],
+    ),
+    // Two ways to fifteen.
+    (
+        4,
+        &[(1, 2, 4, 0), (1, 3, 1, 0), (3, 2, 1, 0), (2, 4, 5, 1)],
+        10,
+        &[
+            (&[1, 4], 1, Some((4, 15))),
+            (&[2, 3, 4], 1, Some((4, 15))),
+            (&[2, 3], 1, Some((2, 3))),
+        ],
+    ),
+    // Parallel arcs.
+    (
+        2,
+        &[(1, 2, 1, 1), (1, 2, 50, 0)],
+        100,
+        &[
+            (&[1], 1, Some((2, 101))),
+            (&[2], 1, Some((2, 51))),
+            (&[1], 100, Some((2, 101))),
+            (&[2], 100, Some((2, 150))),
+        ],
+    ),
+    (
+        4,
+        &FOUR_NODES,
+        0,
+        &[
+            (&[2, 3, 4], 0, Some((4, 6))),
+            (&[], 0, Some((1, 0))),
+            (&[2, 4], 0, None),
+            (&[6], 0, None),
+            (&[0], 0, None),
+            (&[2, 3], LATE, Some((2, HORIZON))),
+            (&[2, 3, 4], LATE, None),
+        ],
+    ),
+];
+
+/// Whether each walk ends as is said.
+fn are_walked(network: &Network, times: &Timetables, cases: &[Case]) -> bool {
+    for (walk, departure, end) in cases {
+        if walked(network, times, 1, walk, *departure) != *end {
+            return false;
+        }
+    }
+    true
+}
+
+/// Whether each walk of a network ends as is said.
+fn are_walked_in(alloc: Global, network: &Network, walks: &Walks) -> Result<bool, AllocError> {
+    let times = times_of(alloc, walks.2)?;
+    Ok(are_walked(network, &times, walks.3))
+}
+
+/// The first network of which a walk ends otherwise than is said.
+fn wrong_walks(alloc: Global) -> Result<Option<usize>, AllocError> {
+    for (place, walks) in WALKS.iter().enumerate() {
+        let right = match network_of(alloc, walks.0, walks.1)? {
+            Some(network) => are_walked_in(alloc, &network, walks)?,
+            None => false,
+        };
+        if !right {
+            return Ok(Some(place));
         }
     }
     Ok(None)
 }
 
-/// The first departure at which an arc of weight 3 arrives otherwise than is said, and when it arrives.
-fn wrong_arrival(timetable: &Timetable, cases: &[(u64, u64)]) -> Option<(u64, u64)> {
-    for (departure, arrival) in cases {
-        let arrives = timetable.arrive(3, (*departure).min(HORIZON));
-        if arrives != *arrival {
-            return Some((*departure, arrives));
+#[test]
+fn walks_end_as_is_said(rt: HostRuntime) -> Result<(), Fail> {
+    assert_none_wrong(&rt, wrong_walks(rt.alloc())?);
+    Ok(())
+}
+
+/// The first departure at which an arc of weight 3 arrives otherwise than is said.
+fn wrong_arrival(timetable: &Timetable, cases: &[(u64, u64)]) -> Option<usize> {
+    for (place, (departure, arrival)) in cases.iter().enumerate() {
+        if timetable.arrive(3, (*departure).min(HORIZON)) != *arrival {
+            return Some(place);
         }
     }
     None
 }
 
+const CLOSED: [(u64, u64); 4] = [(9, 12), (10, 23), (19, 23), (20, 23)];
+
+const RUSH: [(u64, u64); 6] = [(9, 12), (10, 18), (19, 27), (20, 28), (25, 28), (26, 29)];
+
 #[test]
 fn timetable_values(rt: HostRuntime) {
     let closed = Timetable::of(RawKind::Closed { lo: 10, hi: 20 });
-    let cases = [(9, 12), (10, 23), (19, 23), (20, 23)];
-    assert_eq!(rt; wrong_arrival(&closed, &cases), None);
+    assert_none_wrong(&rt, wrong_arrival(&closed, &CLOSED));
     let rush = Timetable::of(RawKind::Rush {
         lo: 10,
         hi: 20,
         extra: 5,
     });
-    let cases = [(9, 12), (10, 18), (19, 27), (20, 28), (25, 28), (26, 29)];
-    assert_eq!(rt; wrong_arrival(&rush, &cases), None);
+    assert_none_wrong(&rt, wrong_arrival(&rush, &RUSH));
     let plain = Timetable::of(RawKind::Plain);
-    assert_eq!(rt; wrong_arrival(&plain, &[(9, 12)]), None);
-}
-
-#[test]
-fn every_ten(rt: HostRuntime) -> Result<(), Fail> {
-    let walks: [Case; 3] = [
-        (&[1], 0, Some((2, 3))),
-        (&[1], 1, Some((2, 13))),
-        (&[1], 10, Some((2, 13))),
-    ];
-    assert_eq!(rt;
-        wrong_walk(rt.alloc(), 2, &[(1, 2, 3, 1)], 10, &walks)?,
-        None
-    );
-    Ok(())
-}
-
-#[test]
-fn two_ways_to_fifteen(rt: HostRuntime) -> Result<(), Fail> {
-    let rows = [(1, 2, 4, 0), (1, 3, 1, 0), (3, 2, 1, 0), (2, 4, 5, 1)];
-    let walks: [Case; 3] = [
-        (&[1, 4], 1, Some((4, 15))),
-        (&[2, 3, 4], 1, Some((4, 15))),
-        (&[2, 3], 1, Some((2, 3))),
-    ];
-    assert_eq!(rt; wrong_walk(rt.alloc(), 4, &rows, 10, &walks)?, None);
-    Ok(())
-}
-
-#[test]
-fn parallel_arcs(rt: HostRuntime) -> Result<(), Fail> {
-    let rows = [(1, 2, 1, 1), (1, 2, 50, 0)];
-    let walks: [Case; 4] = [
-        (&[1], 1, Some((2, 101))),
-        (&[2], 1, Some((2, 51))),
-        (&[1], 100, Some((2, 101))),
-        (&[2], 100, Some((2, 150))),
-    ];
-    assert_eq!(rt; wrong_walk(rt.alloc(), 2, &rows, 100, &walks)?, None);
-    assert_eq!(rt; laid_out(rt.alloc(), 2, &rows)?, (2, 2, 1, 25));
-    assert_eq!(rt; wrong_out(rt.alloc(), 2, &rows, &[&[1, 2], &[]])?, None);
-    Ok(())
-}
-
-#[test]
-fn walk_values(rt: HostRuntime) -> Result<(), Fail> {
-    let late = 281_474_976_710_650;
-    let walks: [Case; 7] = [
-        (&[2, 3, 4], 0, Some((4, 6))),
-        (&[], 0, Some((1, 0))),
-        (&[2, 4], 0, None),
-        (&[6], 0, None),
-        (&[0], 0, None),
-        (&[2, 3], late, Some((2, HORIZON))),
-        (&[2, 3, 4], late, None),
-    ];
-    assert_eq!(rt; wrong_walk(rt.alloc(), 4, &FOUR_NODES, 0, &walks)?, None);
-    Ok(())
+    assert_none_wrong(&rt, wrong_arrival(&plain, &[(9, 12)]));
 }
 
 /// What a network tells of itself: how many nodes and arcs it has, its greatest class and its mean weight.
-fn laid_out(alloc: Global, nodes: u32, rows: &[Row]) -> Result<(u32, usize, u32, u64), Fail> {
-    let network = network_of(alloc, nodes, rows)?.ok_or("rows")?;
-    Ok((
+type Told = (u32, usize, u32, u64);
+
+/// Nodes and rows, what their network tells of itself, and the numbers of the arcs that leave each node.
+type LaidOut = (u32, &'static [Row], Told, &'static [&'static [u32]]);
+
+const LAID_OUT: [LaidOut; 3] = [
+    (
+        3,
+        &[(3, 1, 1, 0), (1, 1, 2, 0), (3, 2, 3, 0), (1, 3, 4, 2)],
+        (3, 4, 2, 2),
+        &[&[2, 4], &[], &[1, 3]],
+    ),
+    // Ordered arcs.
+    (
+        4,
+        &[(1, 4, 3, 0), (1, 1, 2, 1), (3, 2, 9, 0), (3, 2, 5, 2)],
+        (4, 4, 2, 4),
+        &[&[1, 2], &[], &[3, 4], &[]],
+    ),
+    // Parallel arcs.
+    (
+        2,
+        &[(1, 2, 1, 1), (1, 2, 50, 0)],
+        (2, 2, 1, 25),
+        &[&[1, 2], &[]],
+    ),
+];
+
+/// What a network tells of itself.
+fn told(network: &Network) -> Told {
+    (
         network.nodes(),
         network.arcs().len(),
         network.top_class(),
         network.mean_weight(),
-    ))
-}
-
-/// The first node that other arcs leave than those of these numbers, or whose arcs do not lie beside the numbers as in the rows,
-/// and the numbers of those that do leave it.
-fn wrong_out(
-    alloc: Global,
-    nodes: u32,
-    rows: &[Row],
-    outs: &[&[u32]],
-) -> Result<Option<(u32, Vec<u32>)>, Fail> {
-    let network = network_of(alloc, nodes, rows)?.ok_or("rows")?;
-    for node in 1..network.nodes() + 1 {
-        let out = network.out(node);
-        let leaving = network.leaving(node);
-        if Some(&out) != outs.get(node as usize - 1)
-            || leaving.numbers != out
-            || !lie_beside(leaving.arcs, rows, node, out)
-        {
-            return Ok(Some((node, out.to_vec(alloc)?)));
-        }
-    }
-    Ok(None)
+    )
 }
 
 /// The arc of a row's number; none where there is no such row.
 fn numbered(rows: &[Row], number: u32) -> Option<Arc> {
     let (tail, head, weight, class) = *rows.get((number as usize).wrapping_sub(1))?;
     Some(arc(tail, head, weight, class))
+}
+
+/// Whether a network has for each of its arcs' numbers the arc of the row of this number.
+fn has_rows(network: &Network, rows: &[Row]) -> bool {
+    let mut right = network.arcs().len() == rows.len();
+    for place in 0..network.arcs().len() {
+        let number = (place as u32).wrapping_add(1);
+        if number > 0 && number as usize <= network.arcs().len() {
+            right &= Some(network.arc(number)) == numbered(rows, number);
+        } else {
+            right = false;
+        }
+    }
+    right
 }
 
 /// Whether arcs are those of these numbers that leave a node, with their tails and without.
@@ -197,44 +234,53 @@ fn lie_beside(arcs: &[LeavingArc], rows: &[Row], node: u32, numbers: &[u32]) -> 
     beside
 }
 
-/// The arc of a number of a network of these rows.
-fn arc_of(alloc: Global, nodes: u32, rows: &[Row], number: u32) -> Result<Option<Arc>, Fail> {
-    let network = network_of(alloc, nodes, rows)?.ok_or("rows")?;
-    if number == 0 || number as usize > network.arcs().len() {
-        return Ok(None);
+/// Whether the arcs of these numbers leave each node, and lie beside the numbers as in the rows.
+fn leave(network: &Network, rows: &[Row], outs: &[&[u32]]) -> bool {
+    for node in 1..network.nodes() + 1 {
+        let out = network.out(node);
+        let leaving = network.leaving(node);
+        if Some(&out) != outs.get(node as usize - 1)
+            || leaving.numbers != out
+            || !lie_beside(leaving.arcs, rows, node, out)
+        {
+            return false;
+        }
     }
-    Ok(Some(network.arc(number)))
+    true
+}
+
+/// Whether a network is laid out as is said.
+fn is_laid_out(network: &Network, laid_out: &LaidOut) -> bool {
+    let (_, rows, says, outs) = *laid_out;
+    told(network) == says && has_rows(network, rows) && leave(network, rows, outs)
+}
+
+/// The first network that is laid out otherwise than is said.
+fn wrong_layout(alloc: Global) -> Result<Option<usize>, AllocError> {
+    for (place, laid_out) in LAID_OUT.iter().enumerate() {
+        let right = match network_of(alloc, laid_out.0, laid_out.1)? {
+            Some(network) => is_laid_out(&network, laid_out),
+            None => false,
+        };
+        if !right {
+            return Ok(Some(place));
+        }
+    }
+    Ok(None)
 }
 
 #[test]
 fn arcs_lie_by_tail(rt: HostRuntime) -> Result<(), Fail> {
-    let rows = [(3, 1, 1, 0), (1, 1, 2, 0), (3, 2, 3, 0), (1, 3, 4, 2)];
-    assert_eq!(rt; laid_out(rt.alloc(), 3, &rows)?, (3, 4, 2, 2));
-    assert_eq!(rt; arc_of(rt.alloc(), 3, &rows, 4)?, Some(arc(1, 3, 4, 2)));
-    assert_eq!(rt;
-        wrong_out(rt.alloc(), 3, &rows, &[&[2, 4], &[], &[1, 3]])?,
-        None
-    );
-    assert_eq!(rt; size_of::<LeavingArc>(), 12);
-    Ok(())
-}
-
-#[test]
-fn ordered_arcs_lie_by_tail(rt: HostRuntime) -> Result<(), Fail> {
-    let rows = [(1, 4, 3, 0), (1, 1, 2, 1), (3, 2, 9, 0), (3, 2, 5, 2)];
-    assert_eq!(rt; laid_out(rt.alloc(), 4, &rows)?, (4, 4, 2, 4));
-    assert_eq!(rt;
-        wrong_out(rt.alloc(), 4, &rows, &[&[1, 2], &[], &[3, 4], &[]])?,
-        None
-    );
+    assert_none_wrong(&rt, wrong_layout(rt.alloc())?);
+    assert_that(&rt, "12 bytes", size_of::<LeavingArc>() == 12);
     Ok(())
 }
 
 /// The first of the arcs beside which a network of two nodes fits.
-fn first_inside(arcs: &[Arc]) -> Option<Arc> {
-    for outside in arcs {
+fn first_inside(arcs: &[Arc]) -> Option<usize> {
+    for (place, outside) in arcs.iter().enumerate() {
         if Network::fits(2, &[arc(1, 1, 0, 0), *outside]) {
-            return Some(*outside);
+            return Some(place);
         }
     }
     None
@@ -243,18 +289,18 @@ fn first_inside(arcs: &[Arc]) -> Option<Arc> {
 #[test]
 fn limits_of_networks(rt: HostRuntime) {
     let last = [arc(67_108_864, 67_108_864, u32::MAX, u32::MAX)];
-    assert!(rt; Network::fits(1, &[]));
-    assert!(rt; !Network::fits(0, &[]));
-    assert!(rt; Network::fits(67_108_864, &last));
-    assert!(rt; !Network::fits(67_108_865, &[]));
-    assert!(rt; Network::fits(2, &[arc(1, 2, 0, 0)]));
+    assert_that(&rt, "1 node", Network::fits(1, &[]));
+    assert_that(&rt, "no node", !Network::fits(0, &[]));
+    assert_that(&rt, "the last node", Network::fits(67_108_864, &last));
+    assert_that(&rt, "past the last", !Network::fits(67_108_865, &[]));
+    assert_that(&rt, "an arc", Network::fits(2, &[arc(1, 2, 0, 0)]));
     let outside = [
         arc(0, 1, 0, 0),
         arc(1, 0, 0, 0),
         arc(3, 1, 0, 0),
         arc(1, 3, 0, 0),
     ];
-    assert_eq!(rt; first_inside(&outside), None);
+    assert_none_wrong(&rt, first_inside(&outside));
 }
 
 /// Three arcs of a text, all the same.
@@ -286,15 +332,27 @@ fn classes_of(alloc: Global, with_table: bool) -> Result<Vec<Arc>, AllocError> {
     arcs_of(alloc, &graph, Some(&table))
 }
 
+/// Whether arcs are all the same but for these classes.
+fn are_of(arcs: &[Arc], classes: &[u32]) -> bool {
+    let mut right = arcs.len() == classes.len();
+    for (of_class, class) in arcs.iter().zip(classes) {
+        right &= *of_class == arc(1, 2, 5, *class);
+    }
+    right
+}
+
+/// Whether the three have these classes.
+fn are_classed(alloc: Global, with_table: bool, classes: &[u32]) -> Result<bool, AllocError> {
+    let arcs = classes_of(alloc, with_table)?;
+    Ok(are_of(&arcs, classes))
+}
+
 #[test]
 fn classes_are_assigned(rt: HostRuntime) -> Result<(), Fail> {
-    let plain = [arc(1, 2, 5, 0), arc(1, 2, 5, 0), arc(1, 2, 5, 0)];
-    assert_eq!(rt; classes_of(rt.alloc(), false)?.as_slice(), plain.as_slice());
-    let classed = [arc(1, 2, 5, 2), arc(1, 2, 5, 0), arc(1, 2, 5, 9)];
-    assert_eq!(rt;
-        classes_of(rt.alloc(), true)?.as_slice(),
-        classed.as_slice()
-    );
+    let plain = are_classed(rt.alloc(), false, &[0, 0, 0])?;
+    assert_that(&rt, "without a table", plain);
+    let classed = are_classed(rt.alloc(), true, &[2, 0, 9])?;
+    assert_that(&rt, "with a table", classed);
     Ok(())
 }
 
@@ -334,8 +392,9 @@ fn classed(alloc: Global) -> Result<ArcList, AllocError> {
 #[test]
 fn classes_lie_beside_the_arcs(rt: HostRuntime) -> Result<(), Fail> {
     let wanted = [arc(1, 2, 5, 2), arc(2, 3, 7, 0), arc(3, 4, 0, 9)];
-    assert!(rt; has(&classed(rt.alloc())?, &wanted));
-    assert!(rt; has(&ArcList::of(rt.alloc(), &wanted)?, &wanted));
+    assert_that(&rt, "of a text", has(&classed(rt.alloc())?, &wanted));
+    let list = ArcList::of(rt.alloc(), &wanted)?;
+    assert_that(&rt, "of a slice", has(&list, &wanted));
     Ok(())
 }
 
@@ -353,62 +412,81 @@ fn unclassed(alloc: Global) -> Result<ArcList, AllocError> {
 #[test]
 fn arcs_without_classes_are_plain(rt: HostRuntime) -> Result<(), Fail> {
     let wanted = [arc(1, 2, 5, 0), arc(2, 3, 7, 0)];
-    assert!(rt; has(&unclassed(rt.alloc())?, &wanted));
+    assert_that(&rt, "plain", has(&unclassed(rt.alloc())?, &wanted));
     Ok(())
 }
 
-/// A query's target, and whether it asks for nodes 1 and 2.
-fn asked(query: &Query) -> (Option<u32>, bool, bool) {
-    (query.target(), query.asks(1), query.asks(2))
+/// Whether a query has these sources and this target, and asks for nodes 1 and 2 or not.
+fn is_query(query: &Query, sources: &[Source], target: Option<u32>, asked: (bool, bool)) -> bool {
+    query.sources() == sources
+        && query.target() == target
+        && (query.asks(1), query.asks(2)) == asked
 }
 
-/// Whether a query makes a problem with an arc of class 1 from node 1 to node 2, without classes and with one.
-fn is_posed(alloc: Global, query: &Query) -> Result<(bool, bool), Fail> {
-    let network = network_of(alloc, 2, &[(1, 2, 3, 1)])?.ok_or("rows")?;
-    Ok((
-        is_problem(&network, 0, query),
-        is_problem(&network, 1, query),
-    ))
-}
-
-/// Whether the pair of two nodes makes such a problem.
-fn pair_is_posed(alloc: Global, from: u32, to: u32) -> Result<(bool, bool), Fail> {
-    if from == 0 || to == 0 {
-        return Ok((false, false));
+/// Whether a query makes a problem with an arc of class 1 from node 1 to node 2 where there are classes, and none without.
+fn is_posed(alloc: Global, query: &Query, with_classes: bool) -> Result<bool, AllocError> {
+    match network_of(alloc, 2, &[(1, 2, 3, 1)])? {
+        Some(network) => Ok(
+            !is_problem(&network, 0, query) && is_problem(&network, 1, query) == with_classes,
+        ),
+        None => Ok(false),
     }
-    let source = Source {
-        node: from,
-        departure: 5,
-    };
-    is_posed(alloc, &Query::pair(source, to))
+}
+
+/// From where to where, and whether the pair makes a problem where there are classes.
+const PAIRS: [(u32, u32, bool); 3] = [(2, 1, true), (2, 3, false), (3, 1, false)];
+
+/// Where the searches for pairs start.
+fn source_at(node: u32) -> Source
+    requires { 0 < node }
+    ensures { IsSource result }
+{
+    Source { node, departure: 5 }
+}
+
+/// Whether the pair of two nodes makes such a problem, or none.
+fn pair_is_posed(alloc: Global, from: u32, to: u32, posed: bool) -> Result<bool, AllocError> {
+    if from == 0 || to == 0 {
+        return Ok(false);
+    }
+    is_posed(alloc, &Query::pair(source_at(from), to), posed)
+}
+
+/// The first pair that makes a problem where it should not, or none where it should.
+fn wrong_pair(alloc: Global) -> Result<Option<usize>, AllocError> {
+    for (place, (from, to, posed)) in PAIRS.iter().enumerate() {
+        if !pair_is_posed(alloc, *from, *to, *posed)? {
+            return Ok(Some(place));
+        }
+    }
+    Ok(None)
+}
+
+/// Whether the query for all nodes from two sources that are the same is as it should be, and makes a problem where there are classes.
+fn all_are_posed(alloc: Global) -> Result<bool, AllocError> {
+    let source = source_at(2);
+    match query_of(alloc, &[(2, 5), (2, 5)])? {
+        Some(all) => {
+            let posed = is_posed(alloc, &all, true)?;
+            Ok(posed && is_query(&all, &[source, source], None, (true, true)))
+        }
+        None => Ok(false),
+    }
 }
 
 #[test]
 fn problems(rt: HostRuntime) -> Result<(), Fail> {
-    let source = Source {
-        node: 2,
-        departure: 5,
-    };
-    let all = query_of(rt.alloc(), &[(2, 5), (2, 5)])?.ok_or("sources")?;
-    assert_eq!(rt; all.sources(), [source, source].as_slice());
-    assert_eq!(rt; asked(&all), (None, true, true));
-    assert_eq!(rt; is_posed(rt.alloc(), &all)?, (false, true));
+    assert_that(&rt, "all nodes", all_are_posed(rt.alloc())?);
+    assert_none_wrong(&rt, wrong_pair(rt.alloc())?);
     Ok(())
 }
 
 #[test]
-fn problems_of_pairs(rt: HostRuntime) -> Result<(), Fail> {
-    let source = Source {
-        node: 2,
-        departure: 5,
-    };
+fn a_pair_asks_for_its_target(rt: HostRuntime) {
+    let source = source_at(2);
     let pair = Query::pair(source, 1);
-    assert_eq!(rt; pair.sources(), [source].as_slice());
-    assert_eq!(rt; asked(&pair), (Some(1), true, false));
-    assert_eq!(rt; pair_is_posed(rt.alloc(), 2, 1)?, (false, true));
-    assert_eq!(rt; pair_is_posed(rt.alloc(), 2, 3)?, (false, false));
-    assert_eq!(rt; pair_is_posed(rt.alloc(), 3, 1)?, (false, false));
-    Ok(())
+    let right = is_query(&pair, &[source], Some(1), (true, false));
+    assert_that(&rt, "the pair", right);
 }
 
 /// The list of the example boxed-profile, asked in classes 1 and 0, and along a walk.
@@ -437,13 +515,17 @@ fn boxed_profile(
     }
 }
 
+/// Whether the list arrives as it should in a network of two nodes.
+fn is_profile_right(alloc: Global) -> Result<bool, AllocError> {
+    match network_of(alloc, 2, &[(1, 2, 3, 1), (2, 2, 3, 0)])? {
+        Some(network) => Ok(boxed_profile(alloc, &network)? == (10, 7, Some((2, 13)))),
+        None => Ok(false),
+    }
+}
+
 #[test]
 fn boxed_profile_arrives(rt: HostRuntime) -> Result<(), Fail> {
-    let network = network_of(rt.alloc(), 2, &[(1, 2, 3, 1), (2, 2, 3, 0)])?.ok_or("rows")?;
-    assert_eq!(rt;
-        boxed_profile(rt.alloc(), &network)?,
-        (10, 7, Some((2, 13)))
-    );
+    assert_that(&rt, "the list", is_profile_right(rt.alloc())?);
     Ok(())
 }
 
@@ -519,10 +601,17 @@ fn first_by_closure(network: &Network) -> u64 {
     )
 }
 
+/// The same in a network of two nodes; none where there is none.
+fn first_of_two(alloc: Global) -> Result<Option<u64>, AllocError> {
+    match network_of(alloc, 2, &[(1, 2, 3, 0)])? {
+        Some(network) => Ok(Some(first_by_closure(&network))),
+        None => Ok(None),
+    }
+}
+
 #[test]
 fn a_call_picks_its_known_pairs(rt: HostRuntime) -> Result<(), Fail> {
-    let network = network_of(rt.alloc(), 2, &[(1, 2, 3, 0)])?.ok_or("rows")?;
-    assert_eq!(rt; first_by_closure(&network), 5);
+    assert_that(&rt, "at 5", first_of_two(rt.alloc())? == Some(5));
     Ok(())
 }
 
@@ -538,12 +627,22 @@ fn held_by_any(node: u32, time: u64) -> Held<AnyPair>
     }
 }
 
+const ANY: [(u32, u64); 3] = [(0, 0), (1, HORIZON), (u32::MAX, HORIZON)];
+
+/// The first pair that is held otherwise.
+fn wrong_pair_of_any() -> Option<usize> {
+    for (place, (node, time)) in ANY.iter().enumerate() {
+        let held = held_by_any(*node, (*time).min(HORIZON));
+        if (held.node, time_held(&held)) != (*node, *time) {
+            return Some(place);
+        }
+    }
+    None
+}
+
 #[test]
 fn any_pair_is_known_up_to_the_horizon(rt: HostRuntime) {
-    for (node, time) in [(0, 0), (1, HORIZON), (u32::MAX, HORIZON)] {
-        let held = held_by_any(node, time.min(HORIZON));
-        assert_eq!(rt; (held.node, time_held(&held)), (node, time));
-    }
+    assert_none_wrong(&rt, wrong_pair_of_any());
 }
 
 /// Where one timetable for all classes leads over an arc of the greatest class that there can be.
@@ -555,26 +654,45 @@ fn over_the_last_class(network: &Network) -> Option<(u32, u64)> {
     run_walk(network, &plain, 1, &[1], 5)
 }
 
+/// Whether one timetable serves the greatest class.
+fn serves_the_last(alloc: Global) -> Result<bool, AllocError> {
+    match network_of(alloc, 2, &[(1, 2, 3, u32::MAX)])? {
+        Some(network) => Ok(
+            network.top_class() == u32::MAX && over_the_last_class(&network) == Some((2, 8)),
+        ),
+        None => Ok(false),
+    }
+}
+
 #[test]
 fn one_timetable_serves_the_last_class(rt: HostRuntime) -> Result<(), Fail> {
-    let network = network_of(rt.alloc(), 2, &[(1, 2, 3, u32::MAX)])?.ok_or("rows")?;
-    assert_eq!(rt; network.top_class(), u32::MAX);
-    assert_eq!(rt; over_the_last_class(&network), Some((2, 8)));
+    assert_that(&rt, "the last class", serves_the_last(rt.alloc())?);
     Ok(())
+}
+
+/// Widths, and the bits of their windows.
+const WIDTHS: [(u64, u64); 6] = [
+    (0, 0),
+    (1, 0),
+    (2, 1),
+    (5, 3),
+    (8, 7),
+    (u64::MAX, u64::MAX / 2),
+];
+
+/// The first width whose window has other bits.
+fn wrong_width() -> Option<usize> {
+    for (place, (width, bits)) in WIDTHS.iter().enumerate() {
+        if window_bits(*width) != *bits {
+            return Some(place);
+        }
+    }
+    None
 }
 
 #[test]
 fn a_window_has_a_half_to_the_whole_of_a_width(rt: HostRuntime) {
-    for (width, bits) in [
-        (0, 0),
-        (1, 0),
-        (2, 1),
-        (5, 3),
-        (8, 7),
-        (u64::MAX, u64::MAX / 2),
-    ] {
-        assert_eq!(rt; window_bits(width), bits);
-    }
+    assert_none_wrong(&rt, wrong_width());
 }
 
 /// How many of the classes up to this one have a profile that arrives so.
@@ -612,6 +730,7 @@ fn right_of_profiles(alloc: Global, count: u32) -> Result<u32, AllocError>
 
 #[test]
 fn a_thousand_boxed_profiles_arrive(rt: HostRuntime) -> Result<(), Fail> {
-    assert_eq!(rt; right_of_profiles(rt.alloc(), 1_000)?, 1_000);
+    let right = right_of_profiles(rt.alloc(), 1_000)?;
+    assert_that(&rt, "all of them", right == 1_000);
     Ok(())
 }

@@ -2,13 +2,15 @@
 ghost use Rattle.std.specs.Prelude.{◌≡◌, ◌<◌, true, IfOk};
 ghost use Rattle.ea_road.specs.Queries.{IsSource};
 
-use ea_finish::{Answer, Search, arrivals_alone, solve_alone};
+use crate::alone::found;
+use ea_finish::{Answer, Search};
 use ea_input::RawKind;
 use ea_road::{Arc, Network, Query, Source, Timetables, is_problem};
 use rand_core::{Rng, SeedableRng};
 use rand_xoshiro::Xoshiro256PlusPlus;
 use std::alloc::{AllocError, Global};
 use std::test::Fail;
+use tests_given::asserts::assert_none_wrong;
 
 /// The steps of a class of speeds, four of a period of 40, and of one of trips, three of a period of 60.
 const STEPS: [(u64, u64); 7] = [
@@ -138,6 +140,21 @@ fn are_same(alloc: Global, one: &Answer, other: &Answer) -> Result<bool, AllocEr
     Ok(same)
 }
 
+/// Whether an answer is that of fresh arrays.
+fn is_fresh(
+    alloc: Global,
+    answer: &Answer,
+    network: &Network,
+    times: &Timetables,
+    query: &Query,
+    walks: bool,
+) -> Result<bool, AllocError> {
+    match found(alloc, network, times, query, walks)? {
+        Some(fresh) => are_same(alloc, answer, &fresh),
+        None => Ok(false),
+    }
+}
+
 /// Answers a query with walks or without, if it makes a problem, and counts it where the answer is that of fresh arrays.
 fn search_again(
     alloc: Global,
@@ -154,14 +171,12 @@ fn search_again(
     if !is_problem(network, times.classes(), query) {
         return Ok(search);
     }
-    let (search, fresh) = if walks {
-        let fresh = solve_alone(alloc, network, times, query)?;
-        (search.find_walks(network, times, query), fresh)
+    let search = if walks {
+        search.find_walks(network, times, query)
     } else {
-        let fresh = arrivals_alone(alloc, network, times, query)?;
-        (search.find_arrivals(network, times, query), fresh)
+        search.find_arrivals(network, times, query)
     };
-    if are_same(alloc, search.answer(), &fresh)? {
+    if is_fresh(alloc, search.answer(), network, times, query, walks)? {
         *alike = alike.wrapping_add(1);
     }
     Ok(search)
@@ -189,6 +204,45 @@ fn ask_again<R: Rng>(
     Ok(search)
 }
 
+/// Asks a search so many random queries in a network with timetables of all kinds, and counts those that it answers as fresh arrays do.
+fn ask_of_all_kinds<R: Rng>(
+    alloc: Global,
+    search: Search,
+    network: &Network,
+    words: &mut R,
+    queries: u32,
+    alike: &mut u32,
+) -> Result<Search, AllocError>
+    requires room { (search.nodes ≡ network.now.nodes) × (search.walks ≡ true) }
+    ensures { IfOk result (λ found. (found.nodes ≡ network.now.nodes) × (found.walks ≡ true)) }
+{
+    match times_of_all_kinds(alloc)? {
+        Some(times) => ask_again(alloc, search, network, &times, words, queries, alike),
+        None => Ok(search),
+    }
+}
+
+/// Asks a search so many random queries in a random network of so many arcs, and counts those that it answers as fresh arrays do.
+fn ask_at_random<R: Rng>(
+    alloc: Global,
+    search: Search,
+    nodes: u32,
+    arcs: u32,
+    words: &mut R,
+    queries: u32,
+    alike: &mut u32,
+) -> Result<Search, AllocError>
+    requires room { (search.nodes ≡ nodes) × (search.walks ≡ true) }
+    ensures { IfOk result (λ found. (found.nodes ≡ nodes) × (found.walks ≡ true)) }
+{
+    match random_network(alloc, words, nodes, arcs)? {
+        Some(network) if network.nodes() == nodes => {
+            ask_of_all_kinds(alloc, search, &network, words, queries, alike)
+        }
+        _ => Ok(search),
+    }
+}
+
 /// Asks one search so many random queries in each of so many random networks, and counts those that it answers as fresh arrays do.
 fn count_alike(alloc: Global, nodes: u32, networks: u32, queries: u32) -> Result<u32, AllocError> {
     let mut words = Xoshiro256PlusPlus::seed_from_u64(u64::from(nodes));
@@ -196,30 +250,33 @@ fn count_alike(alloc: Global, nodes: u32, networks: u32, queries: u32) -> Result
     let mut alike = 0;
     for at in 0..networks {
         let arcs = nodes.min(1_000_000) * (1 + at % 4);
-        let network = random_network(alloc, &mut words, nodes, arcs)?;
-        if let (Some(network), Some(times)) = (network, times_of_all_kinds(alloc)?) {
-            if network.nodes() == nodes {
-                search = ask_again(
-                    alloc, search, &network, &times, &mut words, queries, &mut alike,
-                )?;
-            }
-        }
+        search = ask_at_random(alloc, search, nodes, arcs, &mut words, queries, &mut alike)?;
     }
     Ok(alike)
+}
+
+/// How many nodes there are, how many networks, how many queries in each, and how many of all make a problem.
+const CASES: [(u32, u32, u32, u32); 4] = [
+    (1, 4, 25, 100),
+    (12, 60, 50, 3_000),
+    (100, 20, 50, 1_000),
+    (2_000, 4, 25, 100),
+];
+
+/// The first case in which other answers are those of fresh arrays than all.
+fn wrong_case(alloc: Global) -> Result<Option<usize>, AllocError> {
+    for (place, (nodes, networks, queries, all)) in CASES.iter().enumerate() {
+        if count_alike(alloc, *nodes, *networks, *queries)? != *all {
+            return Ok(Some(place));
+        }
+    }
+    Ok(None)
 }
 
 /// Thousands of queries on the same arrays: for all nodes and for pairs, with walks and without, in networks with timetables of
 /// all kinds.
 #[test]
 fn used_arrays_answer_as_fresh_ones(rt: HostRuntime) -> Result<(), Fail> {
-    for (nodes, networks, queries, all) in [
-        (1, 4, 25, 100),
-        (12, 60, 50, 3_000),
-        (100, 20, 50, 1_000),
-        (2_000, 4, 25, 100),
-    ] {
-        let alike = count_alike(rt.alloc(), nodes, networks, queries)?;
-        assert_eq!(rt; alike, all, "{nodes} nodes");
-    }
+    assert_none_wrong(&rt, wrong_case(rt.alloc())?);
     Ok(())
 }

@@ -6,6 +6,7 @@ use ea_finish::*;
 use ea_road::NONE;
 use std::alloc::{AllocError, Global};
 use std::test::Fail;
+use tests_given::asserts::assert_that;
 use tests_given::networks::Row;
 
 /// The next of a row of random words.
@@ -133,6 +134,80 @@ fn walk_back(
     Ok(walk)
 }
 
+/// The arcs of a node's canonical walk, first arc first.
+fn slow_walk(
+    alloc: Global,
+    rows: &[Row],
+    labels: &[u64],
+    levels: &[u64],
+    node: u32,
+) -> Result<Vec<u32>, AllocError> {
+    let mut walk = walk_back(alloc, rows, labels, levels, node)?;
+    walk.reverse();
+    Ok(walk)
+}
+
+/// Whether an answer has this walk to a node, or none where the node is not reached.
+fn has_walk(
+    alloc: Global,
+    answer: &Answer,
+    node: u32,
+    slow: &[u32],
+    is_reached: bool,
+) -> Result<bool, AllocError> {
+    if !answer.asks(node) || !answer.has_walks() {
+        return Ok(false);
+    }
+    match answer.walk(alloc, node)? {
+        Some(walk) => Ok(walk.as_slice() == slow),
+        None => Ok(!is_reached),
+    }
+}
+
+/// Whether an answer has a node's arrival and walk of the slow search.
+fn is_right_at(
+    alloc: Global,
+    answer: &Answer,
+    rows: &[Row],
+    labels: &[u64],
+    levels: &[u64],
+    node: u32,
+) -> Result<bool, AllocError> {
+    if !answer.asks(node) || answer.arrival(node).unwrap_or(NONE) != at(labels, node) {
+        return Ok(false);
+    }
+    let slow = slow_walk(alloc, rows, labels, levels, node)?;
+    has_walk(alloc, answer, node, &slow, at(labels, node) != NONE)
+}
+
+/// Whether an answer has the arrivals and walks of the slow search, which has these labels and levels.
+fn are_right_at(
+    alloc: Global,
+    answer: &Answer,
+    rows: &[Row],
+    labels: &[u64],
+    levels: &[u64],
+) -> Result<bool, AllocError> {
+    for place in 0..answer.nodes() {
+        if !is_right_at(alloc, answer, rows, labels, levels, place + 1)? {
+            return Ok(false);
+        }
+    }
+    Ok(true)
+}
+
+/// Whether an answer has the arrivals and walks of the slow search, which has these labels.
+fn is_right_by(
+    alloc: Global,
+    answer: &Answer,
+    rows: &[Row],
+    sources: &[(u32, u64)],
+    labels: &[u64],
+) -> Result<bool, AllocError> {
+    let levels = levels_of(alloc, rows, sources, labels)?;
+    are_right_at(alloc, answer, rows, labels, &levels)
+}
+
 /// Whether an answer has the arrivals and walks of the slow search.
 fn is_right(
     alloc: Global,
@@ -141,26 +216,7 @@ fn is_right(
     sources: &[(u32, u64)],
 ) -> Result<bool, AllocError> {
     let labels = labels_of(alloc, answer.nodes(), rows, sources)?;
-    let levels = levels_of(alloc, rows, sources, &labels)?;
-    for place in 0..answer.nodes() {
-        let node = place + 1;
-        if !answer.asks(node) || !answer.has_walks() {
-            return Ok(false);
-        }
-        if answer.arrival(node).unwrap_or(NONE) != at(&labels, node) {
-            return Ok(false);
-        }
-        let mut slow = walk_back(alloc, rows, &labels, &levels, node)?;
-        slow.reverse();
-        let is_same = match answer.walk(alloc, node)? {
-            Some(walk) => walk.as_slice() == slow.as_slice(),
-            None => at(&labels, node) == NONE,
-        };
-        if !is_same {
-            return Ok(false);
-        }
-    }
-    Ok(true)
+    is_right_by(alloc, answer, rows, sources, &labels)
 }
 
 /// Rows between so many nodes, with weights below a bound and classes from 0 to 2; there are loops and parallel arcs.
@@ -185,6 +241,19 @@ fn rows_of(
     Ok(rows)
 }
 
+/// Whether there is an answer for these rows and sources that is right.
+fn is_answered(
+    alloc: Global,
+    nodes: u32,
+    rows: &[Row],
+    sources: &[(u32, u64)],
+) -> Result<bool, AllocError> {
+    match from_sources(alloc, nodes, rows, sources)? {
+        Some(answer) => is_right(alloc, &answer, rows, sources),
+        None => Ok(false),
+    }
+}
+
 /// Whether so many random networks have right walks.
 fn are_right(
     alloc: Global,
@@ -200,11 +269,12 @@ fn are_right(
     for _ in 0..seeds {
         let rows = rows_of(alloc, &mut state, nodes, arcs, weights)?;
         let late = word(&mut state) % 7;
-        let sources = [(1, late), (2, 0), (2, 5), (nodes, 3)];
-        let Some(answer) = from_sources(alloc, nodes, &rows, &sources)? else {
-            return Ok(false);
-        };
-        if !is_right(alloc, &answer, &rows, &sources)? {
+        if !is_answered(
+            alloc,
+            nodes,
+            &rows,
+            &[(1, late), (2, 0), (2, 5), (nodes, 3)],
+        )? {
             return Ok(false);
         }
     }
@@ -214,15 +284,14 @@ fn are_right(
 #[test]
 fn walks_over_weights_with_ties(rt: HostRuntime) -> Result<(), Fail> {
     let alloc = rt.alloc();
-    assert!(rt; are_right(alloc, 150, 9, 24, 3)?);
-    assert!(rt; are_right(alloc, 60, 12, 20, 6)?);
-    assert!(rt; are_right(alloc, 20, 20, 60, 40)?);
+    assert_that(&rt, "below 3", are_right(alloc, 150, 9, 24, 3)?);
+    assert_that(&rt, "below 6", are_right(alloc, 60, 12, 20, 6)?);
+    assert_that(&rt, "below 40", are_right(alloc, 20, 20, 60, 40)?);
     Ok(())
 }
 
 #[test]
 fn walks_over_no_weights(rt: HostRuntime) -> Result<(), Fail> {
-    let alloc = rt.alloc();
-    assert!(rt; are_right(alloc, 100, 8, 18, 1)?);
+    assert_that(&rt, "below 1", are_right(rt.alloc(), 100, 8, 18, 1)?);
     Ok(())
 }

@@ -1,33 +1,24 @@
 use ea_road::*;
 use std::alloc::{AllocError, Global};
 use std::test::Fail;
+use tests_given::asserts::assert_none_wrong;
 
 /// A time past every arrival within the horizon.
 const PAST: u64 = 281_474_976_710_656;
 
-/// Whether an arc of this weight arrives so for each departure, where class 1 is this kind with these steps.
-fn arrives(
-    alloc: Global,
-    kind: RawKind,
-    steps: &[(u64, u64)],
-    weight: u64,
-    cases: &[(u64, u64)],
-) -> Result<bool, AllocError> {
-    let kinds = vec![in alloc; kind]?;
-    let steps = steps.to_vec(alloc)?;
-    if !Timetables::fits(&kinds, &steps) {
-        return Ok(false);
+/// What a class's steps are.
+#[derive(Clone, Copy)]
+enum Steps {
+    Speeds,
+    Trips,
+}
+
+/// The kind of class that has the first steps of all.
+fn kind_of(steps: Steps, period: u64, count: usize) -> RawKind {
+    match steps {
+        Steps::Speeds => speeds(period, count),
+        Steps::Trips => trips(period, count),
     }
-    let times = Timetables::with_steps(alloc, kinds, steps)?;
-    for (departure, arrival) in cases {
-        if *departure > HORIZON || weight > 4_294_967_295 || times.classes() < 1 {
-            return Ok(false);
-        }
-        if times.arrive(1, weight, *departure) != *arrival {
-            return Ok(false);
-        }
-    }
-    Ok(true)
 }
 
 fn speeds(period: u64, count: usize) -> RawKind {
@@ -46,192 +37,258 @@ fn trips(period: u64, count: usize) -> RawKind {
     }
 }
 
-#[test]
-fn full_speed_is_plain(rt: HostRuntime) -> Result<(), Fail> {
-    let steps = [(0, 1000), (4, 1000)];
-    let cases = [
-        (0, 3),
-        (3, 6),
-        (6, 9),
-        (281_474_976_710_652, 281_474_976_710_655),
-        (281_474_976_710_653, PAST),
-        (281_474_976_710_655, PAST),
-    ];
-    assert!(rt; arrives(rt.alloc(), speeds(7, 2), &steps, 3, &cases)?);
-    Ok(())
+/// Travel times where class 1 is this kind with these steps; none where they don't fit.
+fn times_by(
+    alloc: Global,
+    kind: RawKind,
+    steps: Vec<(u64, u64)>,
+) -> Result<Option<Timetables>, AllocError> {
+    let kinds = vec![in alloc; kind]?;
+    if !Timetables::fits(&kinds, &steps) {
+        return Ok(None);
+    }
+    Ok(Some(Timetables::with_steps(alloc, kinds, steps)?))
 }
 
-#[test]
-fn closed_stretch(rt: HostRuntime) -> Result<(), Fail> {
-    let steps = [(0, 1000), (6, 0)];
-    let cases = [
-        (0, 3),
-        (3, 6),
-        (4, 11),
-        (6, 13),
-        (9, 13),
-        (10, 13),
-        (13, 16),
-    ];
-    assert!(rt; arrives(rt.alloc(), speeds(10, 2), &steps, 3, &cases)?);
-    Ok(())
-}
+/// What a class's steps are, its period and steps, a weight, and when an arc of it arrives for each departure.
+type Timed = (
+    Steps,
+    u64,
+    &'static [(u64, u64)],
+    u64,
+    &'static [(u64, u64)],
+);
 
-#[test]
-fn half_speed_then_full(rt: HostRuntime) -> Result<(), Fail> {
-    let steps = [(0, 500), (10, 1000)];
-    let cases = [
-        (0, 6),
-        (4, 10),
-        (5, 11),
-        (6, 11),
-        (7, 12),
-        (9, 13),
-        (10, 13),
-        (18, 22),
-    ];
-    assert!(rt; arrives(rt.alloc(), speeds(20, 2), &steps, 3, &cases)?);
-    Ok(())
-}
-
-#[test]
-fn over_the_period(rt: HostRuntime) -> Result<(), Fail> {
-    let steps = [(0, 250), (5, 1000)];
-    let cases = [(7, 10), (8, 14), (9, 16), (10, 17), (15, 18)];
-    assert!(rt; arrives(rt.alloc(), speeds(10, 2), &steps, 3, &cases)?);
-    let steps = [(0, 250), (5, 1000)];
-    let cases = [(0, 40), (3, 43), (9, 49)];
-    assert!(rt; arrives(rt.alloc(), speeds(10, 2), &steps, 25, &cases)?);
-    Ok(())
-}
-
-#[test]
-fn never_above_2_to_48(rt: HostRuntime) -> Result<(), Fail> {
-    let kind = speeds(4_294_967_296, 2);
-    let steps = [(0, 1), (1, 0)];
-    let cases = [
-        (0, 4_290_672_328_705),
-        (1, 4_294_967_296_001),
-        (281_474_976_710_655, PAST),
-    ];
-    assert!(rt; arrives(rt.alloc(), kind, &steps, 1, &cases)?);
-    let steps = [(0, 1), (1, 0)];
-    let cases = [(0, PAST), (281_474_976_710_655, PAST)];
-    assert!(rt; arrives(rt.alloc(), kind, &steps, 4_294_967_295, &cases)?);
-    let steps = [(0, 1), (1, 0)];
-    let cases = [(281_474_976_710_655, 281_474_976_710_655)];
-    assert!(rt; arrives(rt.alloc(), kind, &steps, 0, &cases)?);
-    Ok(())
-}
-
-#[test]
-fn weight_of_zero(rt: HostRuntime) -> Result<(), Fail> {
-    let steps = [(0, 0), (5, 1000)];
-    let cases = [(0, 0), (3, 3), (5, 5), (10, 10)];
-    assert!(rt; arrives(rt.alloc(), speeds(10, 2), &steps, 0, &cases)?);
-    let steps = [(0, 0), (5, 1000)];
-    let cases = [(0, 6), (3, 6), (5, 6), (9, 10), (10, 16)];
-    assert!(rt; arrives(rt.alloc(), speeds(10, 2), &steps, 1, &cases)?);
-    Ok(())
-}
-
-#[test]
-fn next_departure(rt: HostRuntime) -> Result<(), Fail> {
-    let steps = [(2, 0), (7, 4)];
-    let cases = [
-        (0, 5),
-        (2, 5),
-        (3, 14),
-        (7, 14),
-        (8, 15),
-        (9, 15),
-        (12, 15),
-        (13, 24),
-    ];
-    assert!(rt; arrives(rt.alloc(), trips(10, 2), &steps, 3, &cases)?);
-    let steps = [(2, 0), (7, 4)];
-    let cases = [(2, 2), (7, 11), (8, 12), (281_474_976_710_655, PAST)];
-    assert!(rt; arrives(rt.alloc(), trips(10, 2), &steps, 0, &cases)?);
-    Ok(())
-}
-
-#[test]
-fn last_departure(rt: HostRuntime) -> Result<(), Fail> {
-    let steps = [(2, 0), (7, 4)];
-    let cases = [(0, 5), (3, 14), (7, 14), (8, PAST)];
-    assert!(rt; arrives(rt.alloc(), trips(0, 2), &steps, 3, &cases)?);
-    Ok(())
-}
-
-#[test]
-fn equal_arrivals(rt: HostRuntime) -> Result<(), Fail> {
-    let steps = [(2, 9), (7, 4)];
-    let cases = [(2, 12), (3, 12), (7, 12)];
-    assert!(rt; arrives(rt.alloc(), trips(0, 2), &steps, 1, &cases)?);
-    Ok(())
-}
-
-/// A period, how many steps are counted, the steps, and whether they fit.
-type Fit = (u64, usize, &'static [(u64, u64)], bool);
-
-const OVERTAKING: [Fit; 6] = [
-    (20, 2, &[(2, 9), (7, 3)], false),
-    (20, 2, &[(2, 9), (7, 4)], true),
-    (10, 2, &[(2, 0), (7, 6)], false),
-    (10, 2, &[(2, 0), (7, 5)], true),
-    (0, 2, &[(2, 0), (7, 6)], true),
-    (10, 1, &[(9, 4_294_967_296)], true),
+const TIMED: &[Timed] = &[
+    // Full speed is plain.
+    (
+        Steps::Speeds,
+        7,
+        &[(0, 1000), (4, 1000)],
+        3,
+        &[
+            (0, 3),
+            (3, 6),
+            (6, 9),
+            (281_474_976_710_652, 281_474_976_710_655),
+            (281_474_976_710_653, PAST),
+            (281_474_976_710_655, PAST),
+        ],
+    ),
+    // A closed stretch.
+    (
+        Steps::Speeds,
+        10,
+        &[(0, 1000), (6, 0)],
+        3,
+        &[
+            (0, 3),
+            (3, 6),
+            (4, 11),
+            (6, 13),
+            (9, 13),
+            (10, 13),
+            (13, 16),
+        ],
+    ),
+    // Half speed, then full speed.
+    (
+        Steps::Speeds,
+        20,
+        &[(0, 500), (10, 1000)],
+        3,
+        &[
+            (0, 6),
+            (4, 10),
+            (5, 11),
+            (6, 11),
+            (7, 12),
+            (9, 13),
+            (10, 13),
+            (18, 22),
+        ],
+    ),
+    // Over the period.
+    (
+        Steps::Speeds,
+        10,
+        &[(0, 250), (5, 1000)],
+        3,
+        &[(7, 10), (8, 14), (9, 16), (10, 17), (15, 18)],
+    ),
+    (
+        Steps::Speeds,
+        10,
+        &[(0, 250), (5, 1000)],
+        25,
+        &[(0, 40), (3, 43), (9, 49)],
+    ),
+    // Never above 2^48.
+    (
+        Steps::Speeds,
+        4_294_967_296,
+        &[(0, 1), (1, 0)],
+        1,
+        &[
+            (0, 4_290_672_328_705),
+            (1, 4_294_967_296_001),
+            (281_474_976_710_655, PAST),
+        ],
+    ),
+    (
+        Steps::Speeds,
+        4_294_967_296,
+        &[(0, 1), (1, 0)],
+        4_294_967_295,
+        &[(0, PAST), (281_474_976_710_655, PAST)],
+    ),
+    (
+        Steps::Speeds,
+        4_294_967_296,
+        &[(0, 1), (1, 0)],
+        0,
+        &[(281_474_976_710_655, 281_474_976_710_655)],
+    ),
+    // A weight of zero, and of one.
+    (
+        Steps::Speeds,
+        10,
+        &[(0, 0), (5, 1000)],
+        0,
+        &[(0, 0), (3, 3), (5, 5), (10, 10)],
+    ),
+    (
+        Steps::Speeds,
+        10,
+        &[(0, 0), (5, 1000)],
+        1,
+        &[(0, 6), (3, 6), (5, 6), (9, 10), (10, 16)],
+    ),
+    // The next departure.
+    (
+        Steps::Trips,
+        10,
+        &[(2, 0), (7, 4)],
+        3,
+        &[
+            (0, 5),
+            (2, 5),
+            (3, 14),
+            (7, 14),
+            (8, 15),
+            (9, 15),
+            (12, 15),
+            (13, 24),
+        ],
+    ),
+    (
+        Steps::Trips,
+        10,
+        &[(2, 0), (7, 4)],
+        0,
+        &[(2, 2), (7, 11), (8, 12), (281_474_976_710_655, PAST)],
+    ),
+    // The last departure.
+    (
+        Steps::Trips,
+        0,
+        &[(2, 0), (7, 4)],
+        3,
+        &[(0, 5), (3, 14), (7, 14), (8, PAST)],
+    ),
+    // Equal arrivals.
+    (
+        Steps::Trips,
+        0,
+        &[(2, 9), (7, 4)],
+        1,
+        &[(2, 12), (3, 12), (7, 12)],
+    ),
 ];
 
-#[test]
-fn no_overtaking(rt: HostRuntime) {
-    for (period, count, steps, fits) in OVERTAKING {
-        assert_eq!(rt;
-            Timetables::fits(&[trips(period, count)], steps),
-            fits,
-            "{count} of {steps:?} in {period}"
-        );
+/// Whether an arc of class 1 and a weight arrives so for each departure.
+fn arrives(times: &Timetables, weight: u64, cases: &[(u64, u64)]) -> bool {
+    for (departure, arrival) in cases {
+        if *departure > HORIZON || weight > 4_294_967_295 || times.classes() < 1 {
+            return false;
+        }
+        if times.arrive(1, weight, *departure) != *arrival {
+            return false;
+        }
+    }
+    true
+}
+
+/// Whether there are travel times of a class that arrives so.
+fn is_timed(alloc: Global, timed: &Timed) -> Result<bool, AllocError> {
+    let (steps, period, list, weight, cases) = *timed;
+    let kind = kind_of(steps, period, list.len());
+    match times_by(alloc, kind, list.to_vec(alloc)?)? {
+        Some(times) => Ok(arrives(&times, weight, cases)),
+        None => Ok(false),
     }
 }
 
-const SPEEDS: [Fit; 11] = [
-    (10, 1, &[(1, 1)], false),
-    (10, 1, &[(0, 0)], false),
-    (10, 1, &[(0, 1_000_000)], true),
-    (10, 1, &[(0, 1_000_001)], false),
-    (10, 1, &[], false),
-    (10, 2, &[(0, 1), (0, 1)], false),
-    (10, 2, &[(0, 1), (9, 0)], true),
-    (10, 2, &[(0, 1), (10, 1)], false),
-    (10, 2, &[(0, 0), (5, 0)], false),
-    (0, 1, &[(0, 1)], false),
-    (4_294_967_297, 1, &[(0, 1)], false),
+/// The first class that arrives otherwise.
+fn wrong_timed(alloc: Global, table: &[Timed]) -> Result<Option<usize>, AllocError> {
+    for (place, timed) in table.iter().enumerate() {
+        if !is_timed(alloc, timed)? {
+            return Ok(Some(place));
+        }
+    }
+    Ok(None)
+}
+
+#[test]
+fn steps_arrive_as_is_said(rt: HostRuntime) -> Result<(), Fail> {
+    assert_none_wrong(&rt, wrong_timed(rt.alloc(), TIMED)?);
+    Ok(())
+}
+
+/// What a class's steps are, its period, how many steps are counted, the steps, and whether they fit.
+type Fit = (Steps, u64, usize, &'static [(u64, u64)], bool);
+
+const FITS: &[Fit] = &[
+    // No trip overtakes another one.
+    (Steps::Trips, 20, 2, &[(2, 9), (7, 3)], false),
+    (Steps::Trips, 20, 2, &[(2, 9), (7, 4)], true),
+    (Steps::Trips, 10, 2, &[(2, 0), (7, 6)], false),
+    (Steps::Trips, 10, 2, &[(2, 0), (7, 5)], true),
+    (Steps::Trips, 0, 2, &[(2, 0), (7, 6)], true),
+    (Steps::Trips, 10, 1, &[(9, 4_294_967_296)], true),
+    // The ranges of speeds.
+    (Steps::Speeds, 10, 1, &[(1, 1)], false),
+    (Steps::Speeds, 10, 1, &[(0, 0)], false),
+    (Steps::Speeds, 10, 1, &[(0, 1_000_000)], true),
+    (Steps::Speeds, 10, 1, &[(0, 1_000_001)], false),
+    (Steps::Speeds, 10, 1, &[], false),
+    (Steps::Speeds, 10, 2, &[(0, 1), (0, 1)], false),
+    (Steps::Speeds, 10, 2, &[(0, 1), (9, 0)], true),
+    (Steps::Speeds, 10, 2, &[(0, 1), (10, 1)], false),
+    (Steps::Speeds, 10, 2, &[(0, 0), (5, 0)], false),
+    (Steps::Speeds, 0, 1, &[(0, 1)], false),
+    (Steps::Speeds, 4_294_967_297, 1, &[(0, 1)], false),
+    // The ranges of trips.
+    (Steps::Trips, 10, 1, &[(10, 0)], false),
+    (Steps::Trips, 10, 1, &[(9, 4_294_967_297)], false),
+    (Steps::Trips, 0, 1, &[(281_474_976_710_655, 0)], true),
+    (Steps::Trips, 0, 1, &[(PAST, 0)], false),
+    (Steps::Trips, 4_294_967_297, 1, &[(0, 1)], false),
 ];
 
-const TRIPS: [Fit; 5] = [
-    (10, 1, &[(10, 0)], false),
-    (10, 1, &[(9, 4_294_967_297)], false),
-    (0, 1, &[(281_474_976_710_655, 0)], true),
-    (0, 1, &[(PAST, 0)], false),
-    (4_294_967_297, 1, &[(0, 1)], false),
-];
+/// The first steps that fit and should not, or do not and should.
+fn wrong_fit(table: &[Fit]) -> Option<usize> {
+    for (place, (of, period, count, steps, fits)) in table.iter().enumerate() {
+        if Timetables::fits(&[kind_of(*of, *period, *count)], steps) != *fits {
+            return Some(place);
+        }
+    }
+    None
+}
 
 #[test]
 fn step_ranges(rt: HostRuntime) {
-    for (period, count, steps, fits) in SPEEDS {
-        assert_eq!(rt;
-            Timetables::fits(&[speeds(period, count)], steps),
-            fits,
-            "{count} speeds of {steps:?} in {period}"
-        );
-    }
-    for (period, count, steps, fits) in TRIPS {
-        assert_eq!(rt;
-            Timetables::fits(&[trips(period, count)], steps),
-            fits,
-            "{count} trips of {steps:?} in {period}"
-        );
-    }
+    assert_none_wrong(&rt, wrong_fit(FITS));
 }
 
 /// The next number of a simple generator.
@@ -279,37 +336,58 @@ fn drawn_steps(alloc: Global, period: u64, seed: u64) -> Result<Vec<(u64, u64)>,
     Ok(steps)
 }
 
-/// Whether each departure of three periods arrives by drawn steps as by the definition.
-fn agrees(alloc: Global, period: u64, seed: u64) -> Result<bool, AllocError> {
-    let steps = drawn_steps(alloc, period, seed)?;
-    let again = drawn_steps(alloc, period, seed)?;
-    let kinds = vec![in alloc; speeds(period, steps.len())]?;
-    if !Timetables::fits(&kinds, &steps) {
-        return Ok(false);
-    }
-    let times = Timetables::with_steps(alloc, kinds, steps)?;
+/// Whether each departure of three periods arrives by such steps as by the definition.
+fn agrees(times: &Timetables, steps: &[(u64, u64)], period: u64) -> bool {
     for departure in 0..120u64 {
         for weight in 0..7u64 {
             if times.classes() < 1 {
-                return Ok(false);
+                return false;
             }
             if times.arrive(1, weight * weight, departure)
-                != slowly(&again, period, weight * weight, departure)
+                != slowly(steps, period, weight * weight, departure)
             {
-                return Ok(false);
+                return false;
             }
         }
     }
-    Ok(true)
+    true
+}
+
+/// Whether travel times by drawn steps agree with the definition by these, which are the same.
+fn agrees_drawn(
+    alloc: Global,
+    period: u64,
+    seed: u64,
+    again: &[(u64, u64)],
+) -> Result<bool, AllocError> {
+    let steps = drawn_steps(alloc, period, seed)?;
+    match times_by(alloc, speeds(period, steps.len()), steps)? {
+        Some(times) => Ok(agrees(&times, again, period)),
+        None => Ok(false),
+    }
+}
+
+/// Whether travel times by drawn steps agree with the definition.
+fn is_drawn(alloc: Global, period: u64, seed: u64) -> Result<bool, AllocError> {
+    let again = drawn_steps(alloc, period, seed)?;
+    agrees_drawn(alloc, period, seed, &again)
+}
+
+/// The first period with which they do not agree.
+fn wrong_period(alloc: Global) -> Result<Option<usize>, AllocError> {
+    let mut seed: u64 = 7;
+    for period in 1..40usize {
+        if !is_drawn(alloc, period as u64, seed)? {
+            return Ok(Some(period));
+        }
+        seed = next(seed);
+    }
+    Ok(None)
 }
 
 #[test]
 fn speeds_are_those_of_the_definition(rt: HostRuntime) -> Result<(), Fail> {
-    let mut seed: u64 = 7;
-    for period in 1..40u64 {
-        assert!(rt; agrees(rt.alloc(), period, seed)?, "period {period}");
-        seed = next(seed);
-    }
+    assert_none_wrong(&rt, wrong_period(rt.alloc())?);
     Ok(())
 }
 
@@ -343,28 +421,34 @@ fn times_of_patterns(alloc: Global) -> Result<Option<Timetables>, AllocError> {
     Ok(Some(Timetables::with_steps(alloc, kinds, steps)?))
 }
 
-/// The first of the patterns by which an arc of weight 1,234 arrives otherwise than by the definition, and when it arrives.
-fn wrong_pattern(times: &Timetables, steps: &[(u64, u64)]) -> Option<(usize, u64)> {
+/// The first of the patterns by which an arc of weight 1,234 arrives otherwise than by the definition.
+fn wrong_pattern(times: &Timetables, steps: &[(u64, u64)]) -> Option<usize> {
     for pattern in 0..200usize {
         let departure = pattern as u64 * 431;
         if times.classes() != 200 || steps.len() != 19_200 {
-            return Some((pattern, PAST));
+            return Some(pattern);
         }
         let own = &steps[pattern * 96..pattern * 96 + 96];
         let arrival = times.arrive(pattern as u32 + 1, 1234, departure);
         if arrival != slowly(own, 86_400, 1234, departure) {
-            return Some((pattern, arrival));
+            return Some(pattern);
         }
     }
     None
 }
 
+/// The same by the definition's own steps, or the first pattern where they don't fit.
+fn wrong_pattern_by(alloc: Global, steps: &[(u64, u64)]) -> Result<Option<usize>, AllocError> {
+    match times_of_patterns(alloc)? {
+        Some(times) => Ok(wrong_pattern(&times, steps)),
+        None => Ok(Some(0)),
+    }
+}
+
 #[test]
 fn patterns_of_a_day(rt: HostRuntime) -> Result<(), Fail> {
-    let times = times_of_patterns(rt.alloc())?.ok_or("fitting patterns")?;
-    assert_eq!(rt; times.classes(), 200);
     let steps = patterns(rt.alloc(), 200)?;
-    assert_eq!(rt; wrong_pattern(&times, steps.as_slice()), None);
+    assert_none_wrong(&rt, wrong_pattern_by(rt.alloc(), steps.as_slice())?);
     Ok(())
 }
 
@@ -377,42 +461,32 @@ fn most_steps(alloc: Global) -> Result<Vec<(u64, u64)>, AllocError> {
     Ok(steps)
 }
 
-/// Travel times of one class with these steps; none where they don't fit.
-fn times_of_most(alloc: Global) -> Result<Option<Timetables>, AllocError> {
-    let steps = most_steps(alloc)?;
-    let kinds = vec![in alloc; speeds(131_072, 65_536)]?;
-    if !Timetables::fits(&kinds, &steps) {
-        return Ok(None);
-    }
-    Ok(Some(Timetables::with_steps(alloc, kinds, steps)?))
-}
-
-/// The first of the departures at which an arc of weight 20 arrives otherwise than by the definition, and when it arrives.
-fn wrong_departure(
-    times: &Timetables,
-    steps: &[(u64, u64)],
-    departures: &[u64],
-) -> Option<(u64, u64)> {
-    for departure in departures {
+/// The first of the departures at which an arc of weight 20 arrives otherwise than by the definition.
+fn wrong_departure(times: &Timetables, steps: &[(u64, u64)], departures: &[u64]) -> Option<usize> {
+    for (place, departure) in departures.iter().enumerate() {
         if times.classes() != 1 || *departure > HORIZON {
-            return Some((*departure, PAST));
+            return Some(place);
         }
-        let arrival = times.arrive(1, 20, *departure);
-        if arrival != slowly(steps, 131_072, 20, *departure) {
-            return Some((*departure, arrival));
+        if times.arrive(1, 20, *departure) != slowly(steps, 131_072, 20, *departure) {
+            return Some(place);
         }
     }
     None
 }
 
+/// The same by a class of as many steps as there may be, or the first departure where they don't fit.
+fn wrong_of_most(alloc: Global, steps: &[(u64, u64)]) -> Result<Option<usize>, AllocError> {
+    match times_by(alloc, speeds(131_072, 65_536), most_steps(alloc)?)? {
+        Some(times) => Ok(wrong_departure(&times, steps, DEPARTURES)),
+        None => Ok(Some(0)),
+    }
+}
+
+const DEPARTURES: &[u64] = &[0, 1, 77_777, 131_071, 131_072, 1_000_000];
+
 #[test]
 fn class_of_the_most_steps(rt: HostRuntime) -> Result<(), Fail> {
-    let times = times_of_most(rt.alloc())?.ok_or("fitting steps")?;
     let steps = most_steps(rt.alloc())?;
-    let departures = [0, 1, 77_777, 131_071, 131_072, 1_000_000];
-    assert_eq!(rt;
-        wrong_departure(&times, steps.as_slice(), &departures),
-        None
-    );
+    assert_none_wrong(&rt, wrong_of_most(rt.alloc(), steps.as_slice())?);
     Ok(())
 }

@@ -1,13 +1,14 @@
 //! Tests: how often a search offers where one window holds the whole network, and so at most how many nodes it scans, beside the search
 //! by single times, which is Dijkstra's method.
 ghost use Rattle.std.specs.Prelude.{◌<◌};
-ghost use Rattle.ea_road.specs.Queries.{IsSource};
 
 use crate::alone::timetables;
+use crate::refused::given::from_first;
 use ea_finish::count_offers;
 use ea_road::{Network, Query, Source, TravelTimes, is_problem};
 use std::alloc::{AllocError, Global};
 use std::test::Fail;
+use tests_given::asserts::{assert_none_wrong, assert_that};
 use tests_given::networks::{Row, network_of};
 
 const HEAVY: u32 = u32::MAX;
@@ -35,13 +36,28 @@ fn offers_by(
     Ok(Some(count_offers(alloc, network, &times, query, width)?))
 }
 
-/// Where the searches start.
-fn first() -> Source
-    ensures { IsSource result }
-{
-    Source {
-        node: 1,
-        departure: 0,
+/// Whether each arc offers once at most by single times, and all together at most twice as often by windows of the mean weight.
+fn are_few(
+    alloc: Global,
+    network: &Network,
+    query: &Query,
+    arcs: usize,
+) -> Result<bool, AllocError> {
+    let wide = offers_by(alloc, network, query, network.mean_weight())?;
+    let single = offers_by(alloc, network, query, 0)?;
+    match (wide, single) {
+        (Some(wide), Some(single)) => {
+            Ok(single <= arcs as u64 && wide <= single.saturating_mul(2))
+        }
+        _ => Ok(false),
+    }
+}
+
+/// Whether searches from node 1 in the network of these rows offer so seldom.
+fn offers_few(alloc: Global, nodes: u32, rows: &[Row]) -> Result<bool, AllocError> {
+    match network_of(alloc, nodes, rows)? {
+        Some(network) => are_few(alloc, &network, &from_first(), rows.len()),
+        None => Ok(false),
     }
 }
 
@@ -53,36 +69,21 @@ fn pair_offers(
     rows: &[Row],
     target: u32,
 ) -> Result<Option<u64>, AllocError> {
-    let Some(network) = network_of(alloc, nodes, rows)? else {
-        return Ok(None);
-    };
     if target == 0 {
         return Ok(None);
     }
-    let query = Query::pair(first(), target);
-    offers_by(alloc, &network, &query, network.mean_weight())
-}
-
-/// How often a search from node 1 offers by windows of the mean weight, and by single times; none where the rows do not
-/// make a network.
-fn offers(alloc: Global, nodes: u32, rows: &[Row]) -> Result<Option<(u64, u64)>, AllocError> {
-    let Some(network) = network_of(alloc, nodes, rows)? else {
-        return Ok(None);
+    let source = Source {
+        node: 1,
+        departure: 0,
     };
-    let query = Query::from_one(first());
-    let wide = offers_by(alloc, &network, &query, network.mean_weight())?;
-    let single = offers_by(alloc, &network, &query, 0)?;
-    match (wide, single) {
-        (Some(wide), Some(single)) => Ok(Some((wide, single))),
-        _ => Ok(None),
-    }
-}
-
-/// Whether each arc offers once at most by single times, and all together at most twice as often by windows.
-fn are_few(offers: Option<(u64, u64)>, arcs: usize) -> bool {
-    match offers {
-        Some((wide, single)) => single <= arcs as u64 && wide <= single.saturating_mul(2),
-        None => false,
+    match network_of(alloc, nodes, rows)? {
+        Some(network) => offers_by(
+            alloc,
+            &network,
+            &Query::pair(source, target),
+            network.mean_weight(),
+        ),
+        None => Ok(None),
     }
 }
 
@@ -167,59 +168,124 @@ fn forks(alloc: Global, tail: u16) -> Result<Vec<Row>, AllocError> {
     Ok(rows)
 }
 
-#[test]
-fn one_heavy_arc_in_a_ring(rt: HostRuntime) -> Result<(), Fail> {
-    for bound in [1, 100, 1_000_000] {
-        for class in [0, 1, 2] {
-            let rows = ring(rt.alloc(), 2000, bound, class)?;
-            let found = offers(rt.alloc(), 2000, &rows)?;
-            assert!(rt; are_few(found, rows.len()), "{found:?}");
+/// The bound of a ring's weights, and the class of its arcs.
+const RINGS: &[(u32, u32)] = &[
+    (1, 0),
+    (1, 1),
+    (1, 2),
+    (100, 0),
+    (100, 1),
+    (100, 2),
+    (1_000_000, 0),
+    (1_000_000, 1),
+    (1_000_000, 2),
+];
+
+/// Whether few are offered in a ring.
+fn offers_few_in_ring(alloc: Global, bound: u32, class: u32) -> Result<bool, AllocError> {
+    let rows = ring(alloc, 2000, bound, class)?;
+    offers_few(alloc, 2000, &rows)
+}
+
+/// The first ring in which more are offered.
+fn wrong_ring(alloc: Global, rings: &[(u32, u32)]) -> Result<Option<usize>, AllocError> {
+    for (place, (bound, class)) in rings.iter().enumerate() {
+        if !offers_few_in_ring(alloc, *bound, *class)? {
+            return Ok(Some(place));
         }
     }
+    Ok(None)
+}
+
+#[test]
+fn one_heavy_arc_in_a_ring(rt: HostRuntime) -> Result<(), Fail> {
+    assert_none_wrong(&rt, wrong_ring(rt.alloc(), RINGS)?);
     Ok(())
+}
+
+/// The bound of a random network's weights, every so many arcs of which one is heavy, and the class of its arcs.
+const RANDOM: &[(u32, u32, u32)] = &[
+    (1, 10, 0),
+    (1, 10, 2),
+    (1, u32::MAX, 0),
+    (1, u32::MAX, 2),
+    (100, 10, 0),
+    (100, 10, 2),
+    (100, u32::MAX, 0),
+    (100, u32::MAX, 2),
+    (1_000_000, 10, 0),
+    (1_000_000, 10, 2),
+    (1_000_000, u32::MAX, 0),
+    (1_000_000, u32::MAX, 2),
+];
+
+/// Whether few are offered in a random network.
+fn offers_few_at_random(
+    alloc: Global,
+    bound: u32,
+    every: u32,
+    class: u32,
+) -> Result<bool, AllocError> {
+    let rows = random(alloc, 2000, 8000, bound, every, class)?;
+    offers_few(alloc, 2000, &rows)
+}
+
+/// The first random network in which more are offered.
+fn wrong_random(alloc: Global, networks: &[(u32, u32, u32)]) -> Result<Option<usize>, AllocError> {
+    for (place, (bound, every, class)) in networks.iter().enumerate() {
+        if !offers_few_at_random(alloc, *bound, *every, *class)? {
+            return Ok(Some(place));
+        }
+    }
+    Ok(None)
 }
 
 #[test]
 fn heavy_arcs_in_random_networks(rt: HostRuntime) -> Result<(), Fail> {
-    for bound in [1, 100, 1_000_000] {
-        for every in [10, u32::MAX] {
-            for class in [0, 2] {
-                let rows = random(rt.alloc(), 2000, 8000, bound, every, class)?;
-                let found = offers(rt.alloc(), 2000, &rows)?;
-                assert!(rt; are_few(found, rows.len()), "{found:?}");
-            }
-        }
-    }
+    assert_none_wrong(&rt, wrong_random(rt.alloc(), RANDOM)?);
     Ok(())
+}
+
+/// Whether few are offered in a grid.
+fn offers_few_in_grid(alloc: Global, bound: u32) -> Result<bool, AllocError> {
+    let rows = grid(alloc, 45, bound)?;
+    offers_few(alloc, 2025, &rows)
 }
 
 #[test]
 fn one_heavy_arc_in_a_grid(rt: HostRuntime) -> Result<(), Fail> {
-    for bound in [1, 100, 1_000_000] {
-        let rows = grid(rt.alloc(), 45, bound)?;
-        let found = offers(rt.alloc(), 2025, &rows)?;
-        assert!(rt; are_few(found, rows.len()), "{found:?}");
-    }
+    assert_that(&rt, "below 1", offers_few_in_grid(rt.alloc(), 1)?);
+    assert_that(&rt, "below 100", offers_few_in_grid(rt.alloc(), 100)?);
+    let many = offers_few_in_grid(rt.alloc(), 1_000_000)?;
+    assert_that(&rt, "below 1,000,000", many);
     Ok(())
+}
+
+/// Whether few are offered where weights double.
+fn offers_few_in_forks(alloc: Global) -> Result<bool, AllocError> {
+    let rows = forks(alloc, 2000)?;
+    offers_few(alloc, 2049, &rows)
 }
 
 #[test]
 fn weights_that_double(rt: HostRuntime) -> Result<(), Fail> {
-    let rows = forks(rt.alloc(), 2000)?;
-    let found = offers(rt.alloc(), 2049, &rows)?;
-    assert!(rt; are_few(found, rows.len()), "{found:?}");
+    assert_that(&rt, "the forks", offers_few_in_forks(rt.alloc())?);
     Ok(())
+}
+
+/// How often a search for a pair of nodes 1 and another one offers on a path of 2,000 nodes.
+fn offers_on_path(alloc: Global, target: u32) -> Result<Option<u64>, AllocError> {
+    let mut rows = Vec::new(alloc);
+    for node in 1..2000u32 {
+        rows.push((node, node + 1, 10, 0))?;
+    }
+    pair_offers(alloc, 2000, &rows, target)
 }
 
 #[test]
 fn a_pair_ends_at_its_target(rt: HostRuntime) -> Result<(), Fail> {
-    let mut rows = Vec::new(rt.alloc());
-    for node in 1..2000u32 {
-        rows.push((node, node + 1, 10, 0))?;
-    }
-    for target in [2, 50] {
-        let found = pair_offers(rt.alloc(), 2000, &rows, target)?;
-        assert!(rt; found == Some(u64::from(target)), "{found:?}");
-    }
+    assert_that(&rt, "to node 2", offers_on_path(rt.alloc(), 2)? == Some(2));
+    let far = offers_on_path(rt.alloc(), 50)?;
+    assert_that(&rt, "to node 50", far == Some(50));
     Ok(())
 }

@@ -1,11 +1,13 @@
 // Each allocation of one thread's engine, refused in turn.
-ghost use Rattle.std.specs.Prelude.{◌≡◌, ◌<◌, ◌+◌, ◌^◌};
+ghost use Rattle.std.specs.Prelude.{◌≡◌};
 
-use crate::refused::given::{ARRIVALS, four_nodes, from_first};
-use ea_finish::{Answer, Open, arrivals_alone, arrivals_alone_by, solve_alone, solve_alone_by};
-use ea_road::{Network, Query, Timetables, is_problem};
+use crate::alone::{Alone, answer_alone, four_answered, walks};
+use crate::refused::given::{ARRIVALS, fared, four_nodes, from_first};
+use ea_finish::{Answer, Open};
+use ea_road::{Network, Query};
 use std::alloc::{AllocError, Global};
 use std::test::Fail;
+use tests_given::asserts::{assert_none_wrong, assert_that};
 use tests_given::memory::{Held, pieces};
 use tests_given::tally::Tally;
 
@@ -59,50 +61,23 @@ fn fare_with_worklists(alloc: Global, walks: bool) -> Result<Tally, AllocError> 
     Ok(tally)
 }
 
+/// Whether a worklist is for walks, and how often it is refused at least.
+const WORKLISTS: [(bool, u32); 2] = [(true, 3), (false, 2)];
+
+/// The first worklist that fares otherwise.
+fn wrong_worklist(alloc: Global) -> Result<Option<usize>, AllocError> {
+    for (place, (walks, least)) in WORKLISTS.iter().enumerate() {
+        if !fared(fare_with_worklists(alloc, *walks)?, *least, 2) {
+            return Ok(Some(place));
+        }
+    }
+    Ok(None)
+}
+
 #[test]
 fn worklist_is_refused_or_whole(rt: HostRuntime) -> Result<(), Fail> {
-    for (walks, least) in [(true, 3), (false, 2)] {
-        let tally = fare_with_worklists(rt.alloc(), walks)?;
-        assert_eq!(rt; tally.wrong, 0);
-        assert!(rt; least <= tally.refused && 2 <= tally.right, "{tally:?}");
-    }
+    assert_none_wrong(&rt, wrong_worklist(rt.alloc())?);
     Ok(())
-}
-
-/// The calls that answer a query by one thread.
-#[derive(Clone, Copy, PartialEq, Eq)]
-enum Alone {
-    Walks,
-    Arrivals,
-    WalksBy,
-    ArrivalsBy,
-}
-
-/// The answer of one of the calls; none where network and query make no problem.
-fn answer_alone(
-    alloc: Global,
-    call: Alone,
-    network: &Network,
-    query: &Query,
-) -> Result<Option<Answer>, AllocError> {
-    if !is_problem(network, 0, query) {
-        return Ok(None);
-    }
-    let times = Timetables::new(Vec::new(alloc));
-    let plain = |_class: u32, weight: u64, departure: u64| -> u64
-        requires { departure + weight < 2 ^ 64 }
-        ensures { result ≡ departure + weight }
-    { departure + weight };
-    let answer = match call {
-        Alone::Walks => solve_alone(alloc, network, &times, query),
-        Alone::Arrivals => arrivals_alone(alloc, network, &times, query),
-        Alone::WalksBy => solve_alone_by(alloc, network, plain, 0, query),
-        Alone::ArrivalsBy => arrivals_alone_by(alloc, network, plain, 0, query),
-    };
-    match answer {
-        Ok(answer) => Ok(Some(answer)),
-        Err(refused) => Err(refused),
-    }
 }
 
 /// Whether a call answers rightly where such a piece is left; none where it was refused.
@@ -146,57 +121,71 @@ fn fare_with_answers(
     Ok(tally)
 }
 
+const CALLS: [Alone; 4] = [
+    Alone::Walks,
+    Alone::Arrivals,
+    Alone::WalksBy,
+    Alone::ArrivalsBy,
+];
+
+/// The first call that fares otherwise in a network.
+fn wrong_call_in(
+    alloc: Global,
+    network: &Network,
+    query: &Query,
+) -> Result<Option<usize>, AllocError> {
+    for (place, call) in CALLS.iter().enumerate() {
+        if !fared(fare_with_answers(alloc, *call, network, query)?, 4, 2) {
+            return Ok(Some(place));
+        }
+    }
+    Ok(None)
+}
+
+/// The first call that fares otherwise in the network of the four nodes, or the first one where there is none.
+fn wrong_call(alloc: Global) -> Result<Option<usize>, AllocError> {
+    match four_nodes(alloc)? {
+        Some(network) => wrong_call_in(alloc, &network, &from_first()),
+        None => Ok(Some(0)),
+    }
+}
+
 #[test]
 fn answer_is_refused_or_right(rt: HostRuntime) -> Result<(), Fail> {
-    let network = four_nodes(rt.alloc())?.ok_or("arcs")?;
-    let query = from_first();
-    for call in [
-        Alone::Walks,
-        Alone::Arrivals,
-        Alone::WalksBy,
-        Alone::ArrivalsBy,
-    ] {
-        let tally = fare_with_answers(rt.alloc(), call, &network, &query)?;
-        assert_eq!(rt; tally.wrong, 0);
-        assert!(rt; 4 <= tally.refused && 2 <= tally.right, "{tally:?}");
-    }
+    assert_none_wrong(&rt, wrong_call(rt.alloc())?);
     Ok(())
 }
 
-/// Whether a walk to node 4 is refused where there is no memory; none where the answer has no such walk.
-fn is_refused(alloc: Global, answer: &Answer) -> Result<Option<bool>, AllocError> {
+/// Whether there is a walk to node 4, which is refused where there is no memory.
+fn is_refused(alloc: Global, answer: &Answer) -> Result<bool, AllocError> {
     if !answer.asks(4) || !answer.has_walks() {
-        return Ok(None);
+        return Ok(false);
     }
     let mut held = Held::of_large(alloc, 1)?;
     held.take_all();
     let refused = answer.walk(alloc, 4).is_err();
     held.release();
-    Ok(Some(refused))
+    Ok(refused)
 }
 
-/// Whether the walk to node 4 is this one.
-fn walks(alloc: Global, answer: &Answer, walk: &[u32]) -> Result<bool, AllocError> {
-    if !answer.asks(4) || !answer.has_walks() {
+/// Whether the walk to node 4 is refused where there is no memory, and right where there is.
+fn is_refused_or_right(alloc: Global, answer: &Answer) -> Result<bool, AllocError> {
+    if !is_refused(alloc, answer)? {
         return Ok(false);
     }
-    match answer.walk(alloc, 4)? {
-        Some(arcs) => Ok(arcs.as_slice() == walk),
+    walks(alloc, answer, 4, &[2, 3, 4])
+}
+
+/// Whether the walk to the last of the four nodes is refused or right.
+fn last_walk_fares(alloc: Global) -> Result<bool, AllocError> {
+    match four_answered(alloc, Alone::Walks)? {
+        Some(answer) => is_refused_or_right(alloc, &answer),
         None => Ok(false),
     }
 }
 
-/// The answer of one thread for the four nodes with walks.
-fn answer_with_walks(alloc: Global) -> Result<Answer, Fail> {
-    let network = four_nodes(alloc)?.ok_or("arcs")?;
-    let query = from_first();
-    Ok(answer_alone(alloc, Alone::Walks, &network, &query)?.ok_or("a problem")?)
-}
-
 #[test]
 fn walk_is_refused_or_right(rt: HostRuntime) -> Result<(), Fail> {
-    let answer = answer_with_walks(rt.alloc())?;
-    assert_eq!(rt; is_refused(rt.alloc(), &answer)?, Some(true));
-    assert!(rt; walks(rt.alloc(), &answer, &[2, 3, 4])?);
+    assert_that(&rt, "the walk to node 4", last_walk_fares(rt.alloc())?);
     Ok(())
 }

@@ -1,6 +1,7 @@
 //! What the tests of networks and runs are given.
 use ea_road::{Arc, Network, Query, Source};
 use std::alloc::{AllocError, Global};
+use tests_given::tally::Tally;
 
 /// An arc of class 0.
 pub fn arc(tail: u32, head: u32, weight: u32) -> Arc {
@@ -72,4 +73,9 @@ pub fn from_first() -> Query {
         node: 1,
         departure: 0,
     })
+}
+
+/// Whether no call went wrong, and at least so many were refused and so many came to what they should.
+pub fn fared(tally: Tally, refused: u32, right: u32) -> bool {
+    tally.wrong == 0 && refused <= tally.refused && right <= tally.right
 }

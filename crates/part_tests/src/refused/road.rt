@@ -2,11 +2,12 @@
 ghost use Rattle.std.specs.Prelude.{◌≡◌, length, IfOk};
 ghost use Rattle.ea_road.specs.Assigned.{AreAssigned, assigned_of};
 
-use crate::refused::given::{ARCS, arc, four_arcs};
+use crate::refused::given::{ARCS, arc, fared, four_arcs};
 use ea_input::{RawArc, RawGraph, RawTable};
 use ea_road::{Arc, Network, arcs_of};
 use std::alloc::{AllocError, Global};
 use std::test::Fail;
+use tests_given::asserts::assert_that;
 use tests_given::memory::{Held, pieces};
 use tests_given::tally::Tally;
 
@@ -51,8 +52,7 @@ fn fare_with_network(alloc: Global) -> Result<Tally, AllocError> {
 #[test]
 fn network_is_refused_or_whole(rt: HostRuntime) -> Result<(), Fail> {
     let tally = fare_with_network(rt.alloc())?;
-    assert_eq!(rt; tally.wrong, 0);
-    assert!(rt; 2 <= tally.refused && 2 <= tally.right, "{tally:?}");
+    assert_that(&rt, "the tally", fared(tally, 2, 2));
     Ok(())
 }
 
@@ -140,12 +140,9 @@ fn fare_with_classes(alloc: Global) -> Result<Tally, AllocError> {
 
 #[test]
 fn arcs_are_refused_or_whole(rt: HostRuntime) -> Result<(), Fail> {
-    for tally in [
-        fare_without_classes(rt.alloc())?,
-        fare_with_classes(rt.alloc())?,
-    ] {
-        assert_eq!(rt; tally.wrong, 0);
-        assert!(rt; 1 <= tally.refused && 2 <= tally.right, "{tally:?}");
-    }
+    let tally = fare_without_classes(rt.alloc())?;
+    assert_that(&rt, "without classes", fared(tally, 1, 2));
+    let tally = fare_with_classes(rt.alloc())?;
+    assert_that(&rt, "with classes", fared(tally, 1, 2));
     Ok(())
 }

@@ -1,9 +1,11 @@
 // Each allocation of travel times, refused in turn.
 ghost use Rattle.std.specs.Prelude.{◌≡◌, ◌<◌, ◌≤◌, ◌+◌, ◌%◌, ◌^◌};
 
+use crate::refused::given::fared;
 use ea_road::{Profile, ProfileList, RawKind, Timetables};
 use std::alloc::{AllocError, Global};
 use std::test::Fail;
+use tests_given::asserts::assert_that;
 use tests_given::memory::{Held, pieces};
 use tests_given::tally::Tally;
 
@@ -43,8 +45,7 @@ fn fare_with_timetables(alloc: Global) -> Result<Tally, AllocError> {
 #[test]
 fn timetables_are_refused_or_whole(rt: HostRuntime) -> Result<(), Fail> {
     let tally = fare_with_timetables(rt.alloc())?;
-    assert_eq!(rt; tally.wrong, 0);
-    assert!(rt; 1 <= tally.refused && 2 <= tally.right, "{tally:?}");
+    assert_that(&rt, "the tally", fared(tally, 1, 2));
     Ok(())
 }
 
@@ -107,7 +108,7 @@ fn fare_with_profiles(alloc: Global) -> Result<(u32, bool), AllocError> {
 #[test]
 fn profile_comes_back_or_is_pushed(rt: HostRuntime) -> Result<(), Fail> {
     let (refused, right) = fare_with_profiles(rt.alloc())?;
-    assert!(rt; right);
-    assert!(rt; 2 <= refused && refused < 12, "{refused} refused");
+    assert_that(&rt, "the list", right);
+    assert_that(&rt, "how many come back", 2 <= refused && refused < 12);
     Ok(())
 }
