@@ -249,8 +249,8 @@ fn is_run(alloc: Global, run: &Run) -> Result<bool, AllocError> {
 }
 
 /// The first run that goes otherwise than its lines.
-fn wrong_run(alloc: Global) -> Result<Option<usize>, AllocError> {
-    for (place, run) in RUNS.iter().enumerate() {
+fn wrong_run(alloc: Global, runs: &[Run]) -> Result<Option<usize>, AllocError> {
+    for (place, run) in runs.iter().enumerate() {
         if !is_run(alloc, run)? {
             return Ok(Some(place));
         }
@@ -260,7 +260,7 @@ fn wrong_run(alloc: Global) -> Result<Option<usize>, AllocError> {
 
 #[test]
 fn answers_for_all_nodes(rt: HostRuntime) -> Result<(), Fail> {
-    assert_none_wrong(&rt, wrong_run(rt.alloc())?);
+    assert_none_wrong(&rt, wrong_run(rt.alloc(), RUNS)?);
     Ok(())
 }
 
@@ -308,8 +308,8 @@ fn is_pair(alloc: Global, pair: &Pair) -> Result<bool, AllocError> {
 }
 
 /// The first pair whose answer is otherwise.
-fn wrong_pair(alloc: Global) -> Result<Option<usize>, AllocError> {
-    for (place, pair) in PAIRS.iter().enumerate() {
+fn wrong_pair(alloc: Global, pairs: &[Pair]) -> Result<Option<usize>, AllocError> {
+    for (place, pair) in pairs.iter().enumerate() {
         if !is_pair(alloc, pair)? {
             return Ok(Some(place));
         }
@@ -319,7 +319,7 @@ fn wrong_pair(alloc: Global) -> Result<Option<usize>, AllocError> {
 
 #[test]
 fn answers_for_pairs(rt: HostRuntime) -> Result<(), Fail> {
-    assert_none_wrong(&rt, wrong_pair(rt.alloc())?);
+    assert_none_wrong(&rt, wrong_pair(rt.alloc(), PAIRS)?);
     Ok(())
 }
 

@@ -49,7 +49,7 @@ type Walks = (u32, &'static [Row], u32, &'static [Case]);
 
 const LATE: u64 = 281_474_976_710_650;
 
-const WALKS: [Walks; 4] = [
+const WALKS: &[Walks] = &[
     (
         2,
         &[(1, 2, 3, 1)],
@@ -115,14 +115,18 @@ fn are_walked_in(alloc: Global, network: &Network, walks: &Walks) -> Result<bool
     Ok(are_walked(network, &times, walks.3))
 }
 
+/// Whether there is a network of which each walk ends as is said.
+fn has_walks(alloc: Global, walks: &Walks) -> Result<bool, AllocError> {
+    match network_of(alloc, walks.0, walks.1)? {
+        Some(network) => are_walked_in(alloc, &network, walks),
+        None => Ok(false),
+    }
+}
+
 /// The first network of which a walk ends otherwise than is said.
-fn wrong_walks(alloc: Global) -> Result<Option<usize>, AllocError> {
-    for (place, walks) in WALKS.iter().enumerate() {
-        let right = match network_of(alloc, walks.0, walks.1)? {
-            Some(network) => are_walked_in(alloc, &network, walks)?,
-            None => false,
-        };
-        if !right {
+fn wrong_walks(alloc: Global, table: &[Walks]) -> Result<Option<usize>, AllocError> {
+    for (place, walks) in table.iter().enumerate() {
+        if !has_walks(alloc, walks)? {
             return Ok(Some(place));
         }
     }
@@ -131,7 +135,7 @@ fn wrong_walks(alloc: Global) -> Result<Option<usize>, AllocError> {
 
 #[test]
 fn walks_end_as_is_said(rt: HostRuntime) -> Result<(), Fail> {
-    assert_none_wrong(&rt, wrong_walks(rt.alloc())?);
+    assert_none_wrong(&rt, wrong_walks(rt.alloc(), WALKS)?);
     Ok(())
 }
 
@@ -169,7 +173,7 @@ type Told = (u32, usize, u32, u64);
 /// Nodes and rows, what their network tells of itself, and the numbers of the arcs that leave each node.
 type LaidOut = (u32, &'static [Row], Told, &'static [&'static [u32]]);
 
-const LAID_OUT: [LaidOut; 3] = [
+const LAID_OUT: &[LaidOut] = &[
     (
         3,
         &[(3, 1, 1, 0), (1, 1, 2, 0), (3, 2, 3, 0), (1, 3, 4, 2)],
@@ -255,14 +259,18 @@ fn is_laid_out(network: &Network, laid_out: &LaidOut) -> bool {
     told(network) == says && has_rows(network, rows) && leave(network, rows, outs)
 }
 
+/// Whether there is a network that is laid out as is said.
+fn has_layout(alloc: Global, laid_out: &LaidOut) -> Result<bool, AllocError> {
+    match network_of(alloc, laid_out.0, laid_out.1)? {
+        Some(network) => Ok(is_laid_out(&network, laid_out)),
+        None => Ok(false),
+    }
+}
+
 /// The first network that is laid out otherwise than is said.
-fn wrong_layout(alloc: Global) -> Result<Option<usize>, AllocError> {
-    for (place, laid_out) in LAID_OUT.iter().enumerate() {
-        let right = match network_of(alloc, laid_out.0, laid_out.1)? {
-            Some(network) => is_laid_out(&network, laid_out),
-            None => false,
-        };
-        if !right {
+fn wrong_layout(alloc: Global, table: &[LaidOut]) -> Result<Option<usize>, AllocError> {
+    for (place, laid_out) in table.iter().enumerate() {
+        if !has_layout(alloc, laid_out)? {
             return Ok(Some(place));
         }
     }
@@ -271,7 +279,7 @@ fn wrong_layout(alloc: Global) -> Result<Option<usize>, AllocError> {
 
 #[test]
 fn arcs_lie_by_tail(rt: HostRuntime) -> Result<(), Fail> {
-    assert_none_wrong(&rt, wrong_layout(rt.alloc())?);
+    assert_none_wrong(&rt, wrong_layout(rt.alloc(), LAID_OUT)?);
     assert_that(&rt, "12 bytes", size_of::<LeavingArc>() == 12);
     Ok(())
 }

@@ -204,18 +204,23 @@ fn ask_again<R: Rng>(
     Ok(search)
 }
 
-/// Asks a search so many random queries in a network with timetables of all kinds, and counts those that it answers as fresh arrays do.
+/// Asks a search so many random queries in a network of as many nodes, with timetables of all kinds, and counts those that it answers
+/// as fresh arrays do.
 fn ask_of_all_kinds<R: Rng>(
     alloc: Global,
     search: Search,
+    nodes: u32,
     network: &Network,
     words: &mut R,
     queries: u32,
     alike: &mut u32,
 ) -> Result<Search, AllocError>
-    requires room { (search.nodes ≡ network.now.nodes) × (search.walks ≡ true) }
-    ensures { IfOk result (λ found. (found.nodes ≡ network.now.nodes) × (found.walks ≡ true)) }
+    requires room { (search.nodes ≡ nodes) × (search.walks ≡ true) }
+    ensures { IfOk result (λ found. (found.nodes ≡ nodes) × (found.walks ≡ true)) }
 {
+    if network.nodes() != nodes {
+        return Ok(search);
+    }
     match times_of_all_kinds(alloc)? {
         Some(times) => ask_again(alloc, search, network, &times, words, queries, alike),
         None => Ok(search),
@@ -236,10 +241,8 @@ fn ask_at_random<R: Rng>(
     ensures { IfOk result (λ found. (found.nodes ≡ nodes) × (found.walks ≡ true)) }
 {
     match random_network(alloc, words, nodes, arcs)? {
-        Some(network) if network.nodes() == nodes => {
-            ask_of_all_kinds(alloc, search, &network, words, queries, alike)
-        }
-        _ => Ok(search),
+        Some(network) => { ask_of_all_kinds(alloc, search, nodes, &network, words, queries, alike) }
+        None => Ok(search),
     }
 }
 
