@@ -3,6 +3,7 @@ ghost use Rattle.std.specs.Prelude.{◌≡◌, ◌<◌, ◌≤◌, ◌+◌};
 ghost use Rattle.arrayvec.specs.ArrayVec.{array_vec_len};
 ghost use Rattle.ea_pool.specs.Entries.{AreKnown};
 ghost use Rattle.ea_pool.specs.Seats.{account_of, IsSeatOf};
+ghost use Rattle.ea_limits.specs.declared.TheConstants.{SHARES};
 
 use ea_labels::{LabelSeat, Labels, Offered};
 use ea_pool::{
@@ -11,6 +12,7 @@ use ea_pool::{
 use ea_road::{AnyPair, HORIZON, NONE};
 use std::alloc::{Allocator, Global};
 use std::test::Fail;
+use tests_given::asserts::{assert_none_wrong, assert_that};
 
 pub fn entry(key: u64, node: u32) -> Entry
     ensures { (result.key ≡ key) × (result.node ≡ node) }
@@ -42,18 +44,26 @@ pub fn shown(out: Option<Entry>) -> Option<(u64, u32)> {
     }
 }
 
-/// The first of the steps that goes otherwise, and how many entries there are then.
-pub fn told_by_solo<A: Allocator>(solo: &mut Solo<A>, steps: &[Step]) -> (Option<usize>, u128) {
+/// The first of the steps that goes otherwise. Where another number of entries than this is left behind them, the place behind them.
+pub fn wrong_in_solo<A: Allocator>(
+    solo: &mut Solo<A>,
+    steps: &[Step],
+    left: u128,
+) -> Option<usize> {
     for (place, step) in steps.iter().enumerate() {
         let right = match step {
             Step::In(word, key, node) => solo.push_at(*word, entry(*key, *node)).is_ok(),
             Step::Out(first, second, out) => shown(solo.pop_at(*first, *second)) == *out,
         };
         if !right {
-            return (Some(place), solo.len());
+            return Some(place);
         }
     }
-    (None, solo.len())
+    if solo.len() == left {
+        None
+    } else {
+        Some(steps.len())
+    }
 }
 
 /// Pushes so many entries into two heaps, and says how many went in.
@@ -78,15 +88,22 @@ fn pop_many_of_solo(solo: &mut Solo) -> u64 {
     popped
 }
 
+const NOTHING_LEFT: [Step; 1] = [Step::Out(0, 0, None)];
+
 #[test]
 fn solo_of_more_than_a_thousand_entries(rt: HostRuntime) -> Result<(), Fail> {
     let mut solo = Solo::new(rt.alloc(), 2)?;
-    assert_eq!(rt; (push_many_to_solo(&mut solo), solo.len()), (MANY, 10_007));
-    assert_eq!(rt; pop_many_of_solo(&mut solo), MANY);
-    assert_eq!(rt;
-        told_by_solo(&mut solo, &[Step::Out(0, 0, None)]),
-        (None, 0)
+    assert_that(
+        &rt,
+        "all go in",
+        push_many_to_solo(&mut solo) == MANY && solo.len() == 10_007,
     );
+    assert_that(
+        &rt,
+        "all come out in their order",
+        pop_many_of_solo(&mut solo) == MANY,
+    );
+    assert_none_wrong(&rt, wrong_in_solo(&mut solo, &NOTHING_LEFT, 0));
     Ok(())
 }
 
@@ -103,7 +120,7 @@ const TO_THE_HORIZON: [Step; 7] = [
 #[test]
 fn solo_takes_a_key_of_the_horizon(rt: HostRuntime) -> Result<(), Fail> {
     let mut solo = Solo::new(rt.alloc(), 2)?;
-    assert_eq!(rt; told_by_solo(&mut solo, &TO_THE_HORIZON), (None, 0));
+    assert_none_wrong(&rt, wrong_in_solo(&mut solo, &TO_THE_HORIZON, 0));
     Ok(())
 }
 
@@ -149,9 +166,17 @@ fn pop_each(solo: &mut Solo) -> u64 {
 #[test]
 fn solo_of_128_heaps(rt: HostRuntime) -> Result<(), Fail> {
     let mut solo = Solo::new(rt.alloc(), 128)?;
-    assert_eq!(rt; told_by_solo(&mut solo, &FAR_IN_SOLO), (None, 0));
-    assert_eq!(rt; (push_each(&mut solo), solo.len()), (128, 128));
-    assert_eq!(rt; (pop_each(&mut solo), solo.len()), (128, 0));
+    assert_none_wrong(&rt, wrong_in_solo(&mut solo, &FAR_IN_SOLO, 0));
+    assert_that(
+        &rt,
+        "each goes in",
+        push_each(&mut solo) == 128 && solo.len() == 128,
+    );
+    assert_that(
+        &rt,
+        "each comes out",
+        pop_each(&mut solo) == 128 && solo.len() == 0,
+    );
     Ok(())
 }
 
@@ -227,7 +252,7 @@ const FAR: [Step; 10] = [
 
 #[test]
 fn pool_of_128_heaps(rt: HostRuntime) -> Result<(), Fail> {
-    assert_eq!(rt; wrong_step_alone(rt.alloc(), 128, &FAR)?, None);
+    assert_none_wrong(&rt, wrong_step_alone(rt.alloc(), 128, &FAR)?);
     Ok(())
 }
 
@@ -239,6 +264,22 @@ pub fn come_out<A: Allocator>(mut left: ClosedPool<A>, outs: &[Option<(u64, u32)
     }
     right
 }
+
+/// Whether a closing pool gives the four entries of two seats in their order, by a pop and then as it is left.
+pub fn gives_four<A: Allocator>(pool: Pool<AnyPair, A>, mut seat: PoolSeat<AnyPair, A>) -> bool
+    requires { IsSeatOf pool seat × ((account_of seat).shares ≡ SHARES) }
+{
+    let least = pool.pop_as(&mut seat, 2, 0) == Popped::Entry(entry(1, 4));
+    least && come_out(pool.close(seat), &REST_OF_FOUR)
+}
+
+const REST_OF_FOUR: [Option<(u64, u32)>; 5] = [
+    Some((2, 3)),
+    Some((3, 2)),
+    Some((4, 1)),
+    None,
+    None,
+];
 
 // Pushes so many entries, and says how many went in.
 fn push_many(pool: &Pool<AnyPair>, seat: &mut PoolSeat<AnyPair>) -> u64
@@ -269,36 +310,33 @@ fn pop_many(pool: &Pool<AnyPair>, seat: &mut PoolSeat<AnyPair>) -> u64
     popped
 }
 
-// How many of them went in and came out, and what a pop answers then.
-fn through(pool: &Pool<AnyPair>, seat: &mut PoolSeat<AnyPair>) -> (u64, u64, Popped)
+// Whether all of them go in and come out, and a pop finds nothing then.
+fn go_through(pool: &Pool<AnyPair>, seat: &mut PoolSeat<AnyPair>) -> bool
     requires { IsSeatOf pool.now seat.old }
     ensures { IsSeatOf pool.now seat.new × ((account_of seat.new).shares ≡ (account_of seat.old).shares) }
 {
     let pushed = push_many(pool, seat);
     let popped = pop_many(pool, seat);
-    (pushed, popped, pool.pop_as(seat, 0, 0))
+    pool.pop_as(seat, 0, 0) == Popped::Empty && pushed == MANY && popped == MANY
 }
 
-/// What goes through by one seat.
-type Through = (u64, u64, Popped);
-
-// What goes through by a seat alone and beside another one that holds nothing, and what is left.
-fn through_by_one(alloc: Global) -> Result<(Through, Through, Option<Entry>), OutOfMemory> {
+// Whether all go through by a seat alone and beside another one that holds nothing, and whether nothing is left.
+fn go_through_by_one(alloc: Global) -> Result<(bool, bool, bool), OutOfMemory> {
     let (pool, mut seat) = Pool::<AnyPair>::open(alloc, 2)?;
-    let alone = through(&pool, &mut seat);
+    let alone = go_through(&pool, &mut seat);
     let other = pool.split(&mut seat);
-    let beside = through(&pool, &mut seat);
+    let beside = go_through(&pool, &mut seat);
     pool.join(&mut seat, other);
-    Ok((alone, beside, pool.close(seat).next()))
+    Ok((alone, beside, come_out(pool.close(seat), &[None])))
 }
 
 /// With one seat alone no push is refused: not one is told as want of memory. Another seat that holds nothing changes none of it.
 #[test]
 fn nothing_is_refused_where_nothing_stands_in_the_way(rt: HostRuntime) -> Result<(), Fail> {
-    let (alone, beside, left) = through_by_one(rt.alloc())?;
-    assert_eq!(rt; alone, (MANY, MANY, Popped::Empty));
-    assert_eq!(rt; beside, (MANY, MANY, Popped::Empty));
-    assert_eq!(rt; left, None);
+    let (alone, beside, empty) = go_through_by_one(rt.alloc())?;
+    assert_that(&rt, "all go through by a seat alone", alone);
+    assert_that(&rt, "all go through beside another seat", beside);
+    assert_that(&rt, "nothing is left", empty);
     Ok(())
 }
 
@@ -327,7 +365,9 @@ fn lowered_alone(alloc: Global) -> Result<(u64, u64, u64), OutOfMemory> {
 /// Each offer of one seat alone that is below the label lowers it.
 #[test]
 fn each_lower_offer_lowers(rt: HostRuntime) -> Result<(), Fail> {
-    assert_eq!(rt; lowered_alone(rt.alloc())?, (MANY, 1, NONE));
+    let (lowered, least, other) = lowered_alone(rt.alloc())?;
+    assert_that(&rt, "each lowers", lowered == MANY);
+    assert_that(&rt, "the labels", least == 1 && other == NONE);
     Ok(())
 }
 
@@ -353,27 +393,45 @@ fn three() -> Batch
     batch
 }
 
-// Whether a pop of at most two entries into a batch answers so, and the batch has these keys then, all of node 1.
+// Whether a pop of at most two entries into a batch answers so, and the batch has these entries then.
 fn pops_two(
     pool: &Pool<AnyPair>,
     seat: &mut PoolSeat<AnyPair>,
     batch: &mut Batch,
     answer: PoppedSome,
-    keys: &[u64],
+    entries: &[Entry],
 ) -> bool
     requires seat { IsSeatOf pool.now seat.old }
     requires room { array_vec_len batch.old + 2 ≤ MOST_IN_BATCH }
     ensures { IsSeatOf pool.now seat.new }
 {
     let right = pool.pop_some_as(seat, 0, 0, 2, batch) == answer;
-    right && has_keys(batch, keys)
+    right && batch.as_slice() == entries
 }
 
-// Whether a batch has entries of these keys in their order, all of node 1.
-fn has_keys(batch: &Batch, keys: &[u64]) -> bool {
-    let mut right = batch.len() == keys.len();
-    for (popped, key) in batch.as_slice().iter().zip(keys) {
-        right &= popped.key == *key && popped.node == 1;
+const FIRST_TWO: [Entry; 2] = [Entry { key: 3, node: 1 }, Entry { key: 4, node: 1 }];
+
+const LAST: [Entry; 1] = [Entry { key: 5, node: 1 }];
+
+// Whether three entries go in whole.
+fn push_three(pool: &Pool<AnyPair>, seat: &mut PoolSeat<AnyPair>) -> bool
+    requires { IsSeatOf pool.now seat.old }
+    ensures { IsSeatOf pool.now seat.new }
+{
+    let mut batch = three();
+    pool.push_all_as(seat, 0, &mut batch).is_ok() && batch.is_empty()
+}
+
+// Whether they come out by twos, and a batch that has the last of them takes no more then.
+fn come_out_by_twos(pool: &Pool<AnyPair>, seat: &mut PoolSeat<AnyPair>) -> bool
+    requires { IsSeatOf pool.now seat.old }
+{
+    let mut first = Batch::new();
+    let mut right = pops_two(pool, seat, &mut first, PoppedSome::Entries, &FIRST_TWO);
+    let mut second = Batch::new();
+    right &= pops_two(pool, seat, &mut second, PoppedSome::Entries, &LAST);
+    if second.len() == 1 {
+        right &= pops_two(pool, seat, &mut second, PoppedSome::Empty, &LAST);
     }
     right
 }
@@ -381,21 +439,15 @@ fn has_keys(batch: &Batch, keys: &[u64]) -> bool {
 // Whether three entries go in and come out by twos.
 fn three_come_out(alloc: Global) -> Result<(bool, bool), OutOfMemory> {
     let (pool, mut seat) = Pool::<AnyPair>::open(alloc, 2)?;
-    let mut batch = three();
-    let pushed = pool.push_all_as(&mut seat, 0, &mut batch).is_ok() && batch.is_empty();
-    let mut first = Batch::new();
-    let mut right = pops_two(&pool, &mut seat, &mut first, PoppedSome::Entries, &[3, 4]);
-    let mut second = Batch::new();
-    right &= pops_two(&pool, &mut seat, &mut second, PoppedSome::Entries, &[5]);
-    if second.len() == 1 {
-        right &= pops_two(&pool, &mut seat, &mut second, PoppedSome::Empty, &[5]);
-    }
-    Ok((pushed, right))
+    let pushed = push_three(&pool, &mut seat);
+    Ok((pushed, come_out_by_twos(&pool, &mut seat)))
 }
 
 /// A batch goes into one heap whole, and comes out by twos, the least first.
 #[test]
 fn batch_of_two(rt: HostRuntime) -> Result<(), Fail> {
-    assert_eq!(rt; three_come_out(rt.alloc())?, (true, true));
+    let (pushed, popped) = three_come_out(rt.alloc())?;
+    assert_that(&rt, "three go in", pushed);
+    assert_that(&rt, "they come out by twos", popped);
     Ok(())
 }

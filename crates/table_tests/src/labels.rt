@@ -7,6 +7,7 @@ use ea_road::{AnyPair, Known, NONE};
 use std::alloc::{Allocator, Global};
 use std::test::Fail;
 use std::thread::{Threads, join};
+use tests_given::asserts::{assert_none_wrong, assert_that};
 
 // Offers a time at node 1, and then reads its label.
 fn offer_and_read<K: Known>(
@@ -53,92 +54,93 @@ fn offer_by_two<R: Threads + Sync>(
 /// What a thread was answered, and what it read.
 type Told = (Offered, u64);
 
-// What two threads are told that offer at once, and whether their table closes with the least offer.
-fn told_by_two<R: Threads + Sync>(
+// Whether the thread that offers 10 is told so: it lowers the label or finds 8 there, and reads one of both.
+fn is_ten_told(told: Told) -> bool {
+    let (offered, read) = told;
+    (offered == Offered::Lowered || offered == Offered::Kept(8)) && (read == 10 || read == 8)
+}
+
+// Whether the thread that offers 8 is told so: it lowers the label, and reads 8.
+fn is_eight_told(told: Told) -> bool {
+    let (offered, read) = told;
+    offered == Offered::Lowered && read == 8
+}
+
+// Whether two threads are told so that offer at once, and whether their table closes with the least offer.
+fn are_two_told<R: Threads + Sync>(
     rt: &R,
     alloc: Global,
-) -> Result<(Told, Told, bool), OutOfMemory> {
+) -> Result<(bool, bool, bool), OutOfMemory> {
     let (labels, seat) = Labels::<AnyPair>::open(alloc, 2)?;
     let (seat, first, second) = offer_by_two(rt, &labels, seat);
     let words = labels.close(seat);
-    Ok((first, second, words.as_slice() == [8, NONE].as_slice()))
+    let closed = words.as_slice() == [8, NONE].as_slice();
+    Ok((is_ten_told(first), is_eight_told(second), closed))
 }
 
 #[test]
 fn two_offers(rt: HostRuntime) -> Result<(), Fail> {
     for _round in 0..300 {
-        let ((offered, read), second, closed) = told_by_two(&rt, rt.alloc())?;
-        let lowered = offered == Offered::Lowered || offered == Offered::Kept(8);
-        assert!(rt; lowered, "{offered:?}");
-        assert!(rt; read == 10 || read == 8, "{read}");
-        assert_eq!(rt; second, (Offered::Lowered, 8));
-        assert!(rt; closed);
+        let (first, second, closed) = are_two_told(&rt, rt.alloc())?;
+        assert_that(&rt, "what the first is told", first);
+        assert_that(&rt, "what the second is told", second);
+        assert_that(&rt, "what the table closes with", closed);
     }
     Ok(())
 }
 
-// What a table of three nodes tells of node 2 while 7, 5, 9 and 5 are offered by one seat: the label before, what is answered, and
-// the label after, by either seat.
-pub fn offers_told<A: Allocator>(
+// Whether a table of three nodes tells what it should of node 2 while 7, 5, 9 and 5 are offered by one seat: the label before, what is
+// answered, and the label after, by either seat.
+fn are_offers_told<A: Allocator>(
     labels: &Labels<AnyPair, A>,
     seat: &mut LabelSeat<AnyPair>,
     other: &mut LabelSeat<AnyPair>,
-) -> (u64, [Offered; 4], (u64, u64))
+) -> bool
     requires tables { (seat.old.table ≡ labels.now.table) × (other.old.table ≡ labels.now.table) }
     requires nodes { labels.now.nodes ≡ 3 }
     ensures seat { (seat.new.table ≡ seat.old.table) × (seat.new.history.shares ≡ seat.old.history.shares) }
     ensures other { (other.new.table ≡ other.old.table) × (other.new.history.shares ≡ other.old.history.shares) }
 {
-    let before = labels.read(seat, 2);
-    let answers = [
-        labels.offer(seat, 2, 7),
-        labels.offer(seat, 2, 5),
-        labels.offer(seat, 2, 9),
-        labels.offer(seat, 2, 5),
-    ];
-    let after = (labels.read(seat, 2), labels.read(other, 2));
-    (before, answers, after)
+    let mut right = labels.read(seat, 2) == NONE;
+    right &= labels.offer(seat, 2, 7) == Offered::Lowered;
+    right &= labels.offer(seat, 2, 5) == Offered::Lowered;
+    right &= labels.offer(seat, 2, 9) == Offered::Kept(5);
+    right &= labels.offer(seat, 2, 5) == Offered::Kept(5);
+    right &= labels.read(seat, 2) == 5;
+    right & (labels.read(other, 2) == 5)
 }
 
-/// What it tells.
-pub const TOLD: (u64, [Offered; 4], (u64, u64)) = (
-    NONE,
-    [
-        Offered::Lowered,
-        Offered::Lowered,
-        Offered::Kept(5),
-        Offered::Kept(5),
-    ],
-    (5, 5),
-);
+// Whether two seats of a table of three nodes are told so, have 63 shares and one, and 64 together.
+fn are_two_seats_told<A: Allocator>(
+    labels: &Labels<AnyPair, A>,
+    seat: &mut LabelSeat<AnyPair>,
+) -> (bool, bool)
+    requires table { (seat.old.table ≡ labels.now.table) × (labels.now.nodes ≡ 3) }
+    requires shares { 1 < seat.old.history.shares }
+    ensures { (seat.new.table ≡ seat.old.table) × (seat.new.history.shares ≡ seat.old.history.shares) }
+{
+    let mut other = labels.split(seat);
+    let told = are_offers_told(labels, seat, &mut other);
+    let shares = seat.shares() == 63 && other.shares() == 1;
+    labels.join(seat, other);
+    (told, shares && seat.shares() == 64)
+}
 
-/// Whether two seats are told so, their shares, the shares of both together, and whether their table closes with the label.
-type ByTwoSeats = (bool, (u32, u32), u32, bool);
-
-// What two seats of one table come to.
-fn told_by_two_seats(alloc: Global) -> Result<ByTwoSeats, OutOfMemory> {
-    let (labels, mut seat) = Labels::<AnyPair>::open(alloc, 3)?;
-    let mut other = labels.split(&mut seat);
-    let told = offers_told(&labels, &mut seat, &mut other) == TOLD;
-    let shares = (seat.shares(), other.shares());
-    labels.join(&mut seat, other);
-    let both = seat.shares();
+/// Whether two seats of a new table are told what they should be, have the shares that they should have, and whether their table
+/// closes with the label.
+pub fn told_by_two_seats<A: Allocator + Copy>(alloc: A) -> Result<(bool, bool, bool), OutOfMemory> {
+    let (labels, mut seat) = Labels::<AnyPair, A>::open(alloc, 3)?;
+    let (told, shares) = are_two_seats_told(&labels, &mut seat);
     let words = labels.close(seat);
-    Ok((
-        told,
-        shares,
-        both,
-        words.as_slice() == [NONE, 5, NONE].as_slice(),
-    ))
+    Ok((told, shares, words.as_slice() == [NONE, 5, NONE].as_slice()))
 }
 
 #[test]
 fn labels_two_seats(rt: HostRuntime) -> Result<(), Fail> {
-    let (told, shares, both, closed) = told_by_two_seats(rt.alloc())?;
-    assert!(rt; told);
-    assert_eq!(rt; shares, (63, 1));
-    assert_eq!(rt; both, 64);
-    assert!(rt; closed);
+    let (told, shares, closed) = told_by_two_seats(rt.alloc())?;
+    assert_that(&rt, "what the seats are told", told);
+    assert_that(&rt, "the shares of each and of both", shares);
+    assert_that(&rt, "what the table closes with", closed);
     Ok(())
 }
 
@@ -251,10 +253,10 @@ fn least_offer(node: u32) -> u64 {
 }
 
 // The first node whose word is not the least time that it was offered.
-fn wrong_word(words: &[u64]) -> Option<u32> {
+fn wrong_word(words: &[u64]) -> Option<usize> {
     for node in 1..NODES + 1 {
         if words.get(node as usize - 1) != Some(&least_offer(node)) {
-            return Some(node);
+            return Some(node as usize);
         }
     }
     None
@@ -264,7 +266,7 @@ fn wrong_word(words: &[u64]) -> Option<u32> {
 fn left_by_four<R: Threads + Sync>(
     rt: &R,
     alloc: Global,
-) -> Result<(usize, Option<u32>), OutOfMemory> {
+) -> Result<(usize, Option<usize>), OutOfMemory> {
     let (labels, seat) = Labels::<AnyPair>::open(alloc, NODES)?;
     let seat = hammer_four_times(rt, &labels, seat);
     let words = labels.close(seat);
@@ -273,6 +275,8 @@ fn left_by_four<R: Threads + Sync>(
 
 #[test]
 fn four_threads_leave_the_least(rt: HostRuntime) -> Result<(), Fail> {
-    assert_eq!(rt; left_by_four(&rt, rt.alloc())?, (7, None));
+    let (words, wrong) = left_by_four(&rt, rt.alloc())?;
+    assert_that(&rt, "seven words", words == 7);
+    assert_none_wrong(&rt, wrong);
     Ok(())
 }

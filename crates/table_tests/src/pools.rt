@@ -3,7 +3,7 @@ ghost use Rattle.std.specs.Prelude.{◌≡◌, ◌<◌};
 ghost use Rattle.std.specs.Thread.{IsSync};
 ghost use Rattle.ea_pool.specs.Seats.{account_of, IsSeatOf};
 
-use crate::heaps::{Step, come_out, entry, key_at, told_by_solo, wrong_step_alone};
+use crate::heaps::{Step, entry, gives_four, key_at, wrong_in_solo, wrong_step_alone};
 use ea_pool::{
     Batch, Buckets, ClosedPool, Entry, EntryHeap, LeastHeap, OpenHeap, OutOfMemory, Pool, PoolSeat,
     Popped, PushRefused, Solo,
@@ -12,19 +12,22 @@ use ea_road::{AnyPair, Known};
 use std::alloc::Global;
 use std::test::Fail;
 use std::thread::{Threads, join};
+use tests_given::asserts::{assert_none_wrong, assert_that};
+
+const THREE_IN: [Step; 3] = [Step::In(0, 5, 7), Step::In(1, 9, 7), Step::In(2, 1, 7)];
+
+const THREE_OUT: [Step; 4] = [
+    Step::Out(0, 0, Some((5, 7))),
+    Step::Out(0, 0, Some((9, 7))),
+    Step::Out(0, 0, None),
+    Step::Out(1, 0, Some((1, 7))),
+];
 
 #[test]
 fn solo_and_ranks(rt: HostRuntime) -> Result<(), Fail> {
     let mut solo = Solo::new(rt.alloc(), 3)?;
-    let steps = [Step::In(0, 5, 7), Step::In(1, 9, 7), Step::In(2, 1, 7)];
-    assert_eq!(rt; told_by_solo(&mut solo, &steps), (None, 3));
-    let steps = [
-        Step::Out(0, 0, Some((5, 7))),
-        Step::Out(0, 0, Some((9, 7))),
-        Step::Out(0, 0, None),
-        Step::Out(1, 0, Some((1, 7))),
-    ];
-    assert_eq!(rt; told_by_solo(&mut solo, &steps), (None, 0));
+    assert_none_wrong(&rt, wrong_in_solo(&mut solo, &THREE_IN, 3));
+    assert_none_wrong(&rt, wrong_in_solo(&mut solo, &THREE_OUT, 0));
     Ok(())
 }
 
@@ -79,19 +82,21 @@ type ByTwo = ((bool, bool), (u32, u32), bool);
 // What two threads on one pool come to.
 fn pushed_by_two<R: Threads + Sync>(rt: &R, alloc: Global) -> Result<ByTwo, OutOfMemory> {
     let (pool, seat) = Pool::<AnyPair>::open(alloc, 4)?;
-    let (mut seat, pushed, shares) = push_by_two(rt, &pool, seat);
-    let least = pool.pop_as(&mut seat, 2, 0) == Popped::Entry(entry(1, 4));
-    let outs = [Some((2, 3)), Some((3, 2)), Some((4, 1)), None, None];
-    Ok((pushed, shares, come_out(pool.close(seat), &outs) && least))
+    let (seat, pushed, shares) = push_by_two(rt, &pool, seat);
+    Ok((pushed, shares, gives_four(pool, seat)))
 }
 
 #[test]
 fn pool_two_threads(rt: HostRuntime) -> Result<(), Fail> {
     for _round in 0..100 {
         let (pushed, shares, right) = pushed_by_two(&rt, rt.alloc())?;
-        assert_eq!(rt; pushed, (true, true));
-        assert_eq!(rt; shares, (63, 1));
-        assert!(rt; right);
+        assert_that(&rt, "all go in", pushed.0 && pushed.1);
+        assert_that(
+            &rt,
+            "the shares of each seat",
+            shares.0 == 63 && shares.1 == 1,
+        );
+        assert_that(&rt, "they come out in their order", right);
     }
     Ok(())
 }
@@ -109,7 +114,7 @@ const NEVER_BUSY: [Step; 8] = [
 
 #[test]
 fn one_seat_is_never_busy(rt: HostRuntime) -> Result<(), Fail> {
-    assert_eq!(rt; wrong_step_alone(rt.alloc(), 2, &NEVER_BUSY)?, None);
+    assert_none_wrong(&rt, wrong_step_alone(rt.alloc(), 2, &NEVER_BUSY)?);
     Ok(())
 }
 
@@ -121,6 +126,13 @@ struct Kept {
 }
 
 impl Kept {
+    fn new(alloc: Global) -> Kept {
+        Kept {
+            entries: Vec::new(alloc),
+            whole: true,
+        }
+    }
+
     fn keep(&mut self, entry: Entry) {
         if self.entries.push(entry).is_err() {
             self.whole = false;
@@ -128,7 +140,21 @@ impl Kept {
     }
 }
 
-// Pushes entries with the keys `from` to `from + count - 1`, each with a pop behind it. The word is the key.
+// Pushes an entry of a key, with a pop behind it. The word is the key.
+fn push_and_pop_key(pool: &Pool<AnyPair>, seat: &mut PoolSeat<AnyPair>, kept: &mut Kept, key: u64)
+    requires { IsSeatOf pool.now seat.old × (key < 20000000) }
+    ensures { IsSeatOf pool.now seat.new × ((account_of seat.new).shares ≡ (account_of seat.old).shares) }
+{
+    match pool.push_as(seat, key, entry(key, 1)) {
+        Ok(()) => {}
+        Err(PushRefused::Busy(back)) | Err(PushRefused::OutOfMemory(back)) => kept.keep(back),
+    }
+    if let Popped::Entry(least) = pool.pop_as(seat, key, key + 1) {
+        kept.keep(least);
+    }
+}
+
+// Pushes entries with the keys `from` to `from + count - 1`, each with a pop behind it.
 fn push_and_pop(
     pool: &Pool<AnyPair>,
     mut seat: PoolSeat<AnyPair>,
@@ -140,15 +166,7 @@ fn push_and_pop(
     ensures { IsSeatOf pool.now result.0 × ((account_of result.0).shares ≡ (account_of seat).shares) }
 {
     for step in 0..count {
-        let key = from + step;
-        match pool.push_as(&mut seat, key, entry(key, 1)) {
-            Ok(()) => {}
-            Err(PushRefused::Busy(back)) => kept.keep(back),
-            Err(PushRefused::OutOfMemory(back)) => kept.keep(back),
-        }
-        if let Popped::Entry(least) = pool.pop_as(&mut seat, key, key + 1) {
-            kept.keep(least);
-        }
+        push_and_pop_key(pool, &mut seat, &mut kept, from + step);
     }
     (seat, kept)
 }
@@ -167,14 +185,7 @@ fn push_and_pop_by_two<R: Threads + Sync>(
     ensures { IsSeatOf pool.now result.0 × ((account_of result.0).shares ≡ (account_of seat).shares) }
 {
     let other = pool.split(&mut seat);
-    let first = Kept {
-        entries: Vec::new(alloc),
-        whole: true,
-    };
-    let second = Kept {
-        entries: Vec::new(alloc),
-        whole: true,
-    };
+    let (first, second) = (Kept::new(alloc), Kept::new(alloc));
     let ((mut seat, first), (other, second)) = join(
         rt,
         move || -> (PoolSeat<AnyPair>, Kept)
@@ -245,31 +256,32 @@ fn is_each_once(counts: &[u32]) -> bool {
     counts.iter().all(|&count| count == 1)
 }
 
-// Whether two threads keep all that they pop of a thousand entries each, and give each once.
-fn each_once_by_two<R: Threads + Sync>(rt: &R, alloc: Global) -> Result<(bool, bool), OutOfMemory> {
-    let mut counts = Vec::from_elem(alloc, 0, 2000)?;
-    let (pool, seat) = Pool::<AnyPair>::open(alloc, 8)?;
-    let (seat, first, second) = push_and_pop_by_two(rt, alloc, &pool, seat, 0, 1000);
-    count_all(counts.as_mut_slice(), first.entries.as_slice());
-    count_all(counts.as_mut_slice(), second.entries.as_slice());
-    count_left(counts.as_mut_slice(), pool.close(seat));
-    Ok((first.whole && second.whole, is_each_once(counts.as_slice())))
-}
-
-#[test]
-fn pool_two_thousand(rt: HostRuntime) -> Result<(), Fail> {
-    for _round in 0..30 {
-        assert_eq!(rt; each_once_by_two(&rt, rt.alloc())?, (true, true));
-    }
-    Ok(())
-}
-
 // Counts what two threads kept, and says whether it is whole.
 fn count_kept(counts: &mut [u32], kept: (Kept, Kept)) -> bool {
     let (first, second) = kept;
     count_all(counts, first.entries.as_slice());
     count_all(counts, second.entries.as_slice());
     first.whole && second.whole
+}
+
+// Whether two threads keep all that they pop of a thousand entries each, and give each once.
+fn each_once_by_two<R: Threads + Sync>(rt: &R, alloc: Global) -> Result<(bool, bool), OutOfMemory> {
+    let mut counts = [0u32; 2000];
+    let (pool, seat) = Pool::<AnyPair>::open(alloc, 8)?;
+    let (seat, first, second) = push_and_pop_by_two(rt, alloc, &pool, seat, 0, 1000);
+    let whole = count_kept(counts.as_mut_slice(), (first, second));
+    count_left(counts.as_mut_slice(), pool.close(seat));
+    Ok((whole, is_each_once(counts.as_slice())))
+}
+
+#[test]
+fn pool_two_thousand(rt: HostRuntime) -> Result<(), Fail> {
+    for _round in 0..30 {
+        let (whole, once) = each_once_by_two(&rt, rt.alloc())?;
+        assert_that(&rt, "all that was popped is kept", whole);
+        assert_that(&rt, "each once", once);
+    }
+    Ok(())
 }
 
 // Whether four threads keep all that they pop of 100,000 entries each, and give each once.
@@ -288,7 +300,10 @@ fn each_once_by_four<R: Threads + Sync>(
 
 #[test]
 fn four_threads_lose_nothing(rt: HostRuntime) -> Result<(), Fail> {
-    assert_eq!(rt; each_once_by_four(&rt, rt.alloc())?, (true, true, true));
+    let (whole, others_whole, once) = each_once_by_four(&rt, rt.alloc())?;
+    assert_that(&rt, "all that two popped is kept", whole);
+    assert_that(&rt, "all that the others popped is kept", others_whole);
+    assert_that(&rt, "each once", once);
     Ok(())
 }
 
@@ -353,33 +368,34 @@ fn pop_the_rest<H: EntryHeap>(
     }
 }
 
-// How many pushes are refused, whether each entry comes out once, and what is left then.
-fn all_popped<H: OpenHeap<Global>>(
-    alloc: Global,
-    width: u64,
-) -> Result<(u64, bool, Option<Entry>), OutOfMemory> {
-    let mut counts = Vec::from_elem(alloc, 0, 10007)?;
+// Whether each entry comes out once of heaps of a kind, and none is refused or left.
+fn gives_each_once<H: OpenHeap<Global>>(alloc: Global, width: u64) -> Result<bool, OutOfMemory> {
+    let mut counts = [0u32; 10007];
     let (pool, mut seat) = Pool::<AnyPair, Global, H>::open_with(alloc, 3, width)?;
     let refused = push_and_pop_few(&pool, &mut seat, counts.as_mut_slice());
     pop_the_rest(&pool, &mut seat, counts.as_mut_slice());
     let left = pool.close(seat).next_of_any();
-    Ok((refused, is_each_once(counts.as_slice()), left))
+    Ok(refused == 0 && left.is_none() && is_each_once(counts.as_slice()))
+}
+
+/// Windows of one time, of many, and of all.
+const WIDTHS: [u64; 5] = [0, 1, 64, 1_000_000, u64::MAX];
+
+// The first of the widths by which buckets don't give each entry once.
+fn wrong_width(alloc: Global) -> Result<Option<usize>, OutOfMemory> {
+    for (place, width) in WIDTHS.iter().enumerate() {
+        if !gives_each_once::<Buckets<Global>>(alloc, *width)? {
+            return Ok(Some(place));
+        }
+    }
+    Ok(None)
 }
 
 #[test]
 fn both_kinds_give_each_entry_once(rt: HostRuntime) -> Result<(), Fail> {
-    assert_eq!(rt;
-        all_popped::<LeastHeap<Global>>(rt.alloc(), 0)?,
-        (0, true, None)
-    );
-    // Windows of one time, of many, and of all.
-    for width in [0, 1, 64, 1_000_000, u64::MAX] {
-        assert_eq!(rt;
-            all_popped::<Buckets<Global>>(rt.alloc(), width)?,
-            (0, true, None),
-            "width {width}"
-        );
-    }
+    let least = gives_each_once::<LeastHeap<Global>>(rt.alloc(), 0)?;
+    assert_that(&rt, "least heaps give each entry once", least);
+    assert_none_wrong(&rt, wrong_width(rt.alloc())?);
     Ok(())
 }
 
@@ -399,18 +415,18 @@ fn count_nodes_left<H: EntryHeap>(
     left.next_of_any()
 }
 
-// How many pushes are refused, what comes out of the closed pool behind all, and whether each entry comes out once.
-fn all_left(alloc: Global) -> Result<(u64, Option<Entry>, bool), OutOfMemory> {
-    let mut counts = Vec::from_elem(alloc, 0, 10007)?;
+// Whether each entry comes out once, some of them of the closed pool, and none is refused or comes behind all.
+fn leaves_each_once(alloc: Global) -> Result<bool, OutOfMemory> {
+    let mut counts = [0u32; 10007];
     let (pool, mut seat) = Pool::<AnyPair, Global, Buckets<Global>>::open_with(alloc, 2, 64)?;
     let refused = push_and_pop_few(&pool, &mut seat, counts.as_mut_slice());
     let behind = count_nodes_left(counts.as_mut_slice(), pool.close(seat));
-    Ok((refused, behind, is_each_once(counts.as_slice())))
+    Ok(refused == 0 && behind.is_none() && is_each_once(counts.as_slice()))
 }
 
 #[test]
 fn buckets_close_with_what_is_left(rt: HostRuntime) -> Result<(), Fail> {
-    assert_eq!(rt; all_left(rt.alloc())?, (0, None, true));
+    assert_that(&rt, "each once", leaves_each_once(rt.alloc())?);
     Ok(())
 }
 
@@ -447,13 +463,23 @@ fn farthest_by<H: OpenHeap<Global>>(alloc: Global, width: u64) -> Result<u64, Ou
     Ok(farthest(&pool, &mut seat))
 }
 
+const NARROW: [u64; 4] = [0, 16, 64, 256];
+
+// The first of the widths by which a key lies farther from its place than two windows.
+fn first_too_far(alloc: Global) -> Result<Option<usize>, OutOfMemory> {
+    for (place, width) in NARROW.iter().enumerate() {
+        if farthest_by::<Buckets<Global>>(alloc, *width)? > 2 * *width {
+            return Ok(Some(place));
+        }
+    }
+    Ok(None)
+}
+
 // The order of what comes out is that of the keys, or nearly: with buckets it is wrong by no more than two windows.
 #[test]
 fn early_times_come_first(rt: HostRuntime) -> Result<(), Fail> {
-    assert_eq!(rt; farthest_by::<LeastHeap<Global>>(rt.alloc(), 0)?, 0);
-    for width in [0, 16, 64, 256] {
-        let far = farthest_by::<Buckets<Global>>(rt.alloc(), width)?;
-        assert!(rt; far <= 2 * width, "width {width}");
-    }
+    let far = farthest_by::<LeastHeap<Global>>(rt.alloc(), 0)?;
+    assert_that(&rt, "least heaps keep the order", far == 0);
+    assert_none_wrong(&rt, first_too_far(rt.alloc())?);
     Ok(())
 }

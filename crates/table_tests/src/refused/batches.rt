@@ -15,6 +15,7 @@ use ea_road::AnyPair;
 use linked_list_allocator::LocalHeap;
 use std::alloc::{AllocError, Allocator, Global};
 use std::test::Fail;
+use tests_given::asserts::{assert_none_wrong, assert_that};
 
 /// How many keys there are, each pushed once.
 const KEYS: u64 = 600;
@@ -51,12 +52,7 @@ fn count_batch(counts: &mut [u32], batch: &Batch) {
 fn is_front_of_four(batch: &Batch, step: u64) -> bool
     requires { step < 150 }
 {
-    let whole = four(step);
-    let mut same = batch.len() <= whole.len();
-    for (left, first) in batch.as_slice().iter().zip(whole.as_slice().iter()) {
-        same &= left == first;
-    }
-    same
+    four(step).as_slice().starts_with(batch.as_slice())
 }
 
 /// Pushes four entries. What is left of them is counted, and is right. Says whether memory was refused.
@@ -173,44 +169,56 @@ fn tries<'a, H: OpenHeap<&'a LocalHeap>>(
 
 /// Whether buckets in so much memory fare rightly, and give it back.
 fn try_buckets(alloc: Global, bytes: usize, tally: &mut [u32; 3]) -> Result<bool, AllocError> {
-    let mut counts = Vec::from_elem(alloc, 0, 600)?;
+    let mut counts = [0u32; 600];
     let memory = LocalHeap::new(alloc, bytes)?;
     let right = tries::<Buckets<&LocalHeap>>(&memory, counts.as_mut_slice(), tally);
     Ok(right && memory.used() == 0)
 }
 
+/// The first of sixty memories, each greater than the one before, in which buckets don't fare rightly.
+fn wrong_buckets(alloc: Global, tally: &mut [u32; 3]) -> Result<Option<usize>, AllocError> {
+    for step in 0..60 {
+        if !try_buckets(alloc, 2048 + 512 * step, tally)? {
+            return Ok(Some(step));
+        }
+    }
+    Ok(None)
+}
+
 #[test]
 fn buckets_refused_in_the_middle_of_a_batch(rt: HostRuntime) -> Result<(), Fail> {
     let mut tally = [0u32; 3];
-    for step in 0..60 {
-        assert!(rt; try_buckets(rt.alloc(), 2048 + 512 * step, &mut tally)?);
-    }
-    let [closed, opened, refused] = tally;
-    assert!(rt;
-        4 <= closed && 8 <= opened && 8 <= refused,
-        "{closed} not opened, {opened} opened, {refused} refused pushes"
-    );
+    assert_none_wrong(&rt, wrong_buckets(rt.alloc(), &mut tally)?);
+    assert_that(&rt, "some pools are not opened", 4 <= tally[0]);
+    assert_that(&rt, "some are opened", 8 <= tally[1]);
+    assert_that(&rt, "some refuse pushes", 8 <= tally[2]);
     Ok(())
 }
 
 /// Whether least heaps in so much memory fare rightly, and give it back.
 fn try_least(alloc: Global, bytes: usize, tally: &mut [u32; 3]) -> Result<bool, AllocError> {
-    let mut counts = Vec::from_elem(alloc, 0, 600)?;
+    let mut counts = [0u32; 600];
     let memory = LocalHeap::new(alloc, bytes)?;
     let right = tries::<LeastHeap<&LocalHeap>>(&memory, counts.as_mut_slice(), tally);
     Ok(right && memory.used() == 0)
 }
 
+/// The first of forty memories, each greater than the one before, in which least heaps don't fare rightly.
+fn wrong_least(alloc: Global, tally: &mut [u32; 3]) -> Result<Option<usize>, AllocError> {
+    for step in 0..40 {
+        if !try_least(alloc, 512 + 256 * step, tally)? {
+            return Ok(Some(step));
+        }
+    }
+    Ok(None)
+}
+
 #[test]
 fn least_heaps_refused_in_the_middle_of_a_batch(rt: HostRuntime) -> Result<(), Fail> {
     let mut tally = [0u32; 3];
-    for step in 0..40 {
-        assert!(rt; try_least(rt.alloc(), 512 + 256 * step, &mut tally)?);
-    }
-    let [closed, opened, refused] = tally;
-    assert!(rt;
-        1 <= closed && 8 <= opened && 8 <= refused,
-        "{closed} not opened, {opened} opened, {refused} refused pushes"
-    );
+    assert_none_wrong(&rt, wrong_least(rt.alloc(), &mut tally)?);
+    assert_that(&rt, "some pools are not opened", 1 <= tally[0]);
+    assert_that(&rt, "some are opened", 8 <= tally[1]);
+    assert_that(&rt, "some refuse pushes", 8 <= tally[2]);
     Ok(())
 }

@@ -2,12 +2,13 @@
 ghost use Rattle.std.specs.Prelude.{◌≡◌, ◌<◌};
 ghost use Rattle.ea_pool.specs.Seats.{account_of, IsSeatOf};
 
-use crate::heaps::{Step, come_out, entry, shown, told_by_solo};
+use crate::heaps::{Step, come_out, entry, gives_four, shown, wrong_in_solo};
 use ea_pool::{ClosedPool, Entry, Pool, PoolSeat, Popped, PushRefused, Solo};
 use ea_road::AnyPair;
 use linked_list_allocator::LocalHeap;
 use std::alloc::{AllocError, Allocator, Global};
 use std::test::Fail;
+use tests_given::asserts::{assert_none_wrong, assert_that};
 use tests_given::tally::Tally;
 
 // Takes all memory that is left, in small blocks.
@@ -65,28 +66,55 @@ fn push_two_again<'a>(
     one && two
 }
 
-// Whether a pool in this memory gives four entries that two seats push, as two threads do; none where it can't be opened.
-// So many bytes are left for its growths at first. The memory is one thread's alone.
-fn gives_four<'a>(
+// Pushes so four entries by two seats, as two threads do, and says whether all went in.
+fn push_four_again<'a>(
+    pool: &Pool<AnyPair, &'a LocalHeap>,
+    seat: &mut PoolSeat<AnyPair, &'a LocalHeap>,
+    held: &mut Vec<Vec<u8, &'a LocalHeap>>,
+    again: &mut u32,
+) -> bool
+    requires { IsSeatOf pool.now seat.old × (1 < (account_of seat.old).shares) }
+    ensures { IsSeatOf pool.now seat.new × ((account_of seat.new).shares ≡ (account_of seat.old).shares) }
+{
+    let mut other = pool.split(seat);
+    let one = push_two_again(pool, seat, held, again, 0);
+    let two = push_two_again(pool, &mut other, held, again, 2);
+    pool.join(seat, other);
+    one && two
+}
+
+// The same where all memory is taken first but this piece, which is given back.
+fn push_four_in<'a>(
     alloc: Global,
     memory: &'a LocalHeap,
-    left: usize,
+    piece: Vec<u8, &'a LocalHeap>,
+    pool: &Pool<AnyPair, &'a LocalHeap>,
+    seat: &mut PoolSeat<AnyPair, &'a LocalHeap>,
     again: &mut u32,
-) -> Result<Option<bool>, AllocError> {
-    let piece: Vec<u8, &'a LocalHeap> = Vec::with_capacity(memory, left)?;
-    let Ok((pool, mut seat)) = Pool::<AnyPair, &'a LocalHeap>::open(memory, 4) else {
-        return Ok(None);
-    };
+) -> bool
+    requires { IsSeatOf pool.now seat.old × (1 < (account_of seat.old).shares) }
+    ensures { IsSeatOf pool.now seat.new × ((account_of seat.new).shares ≡ (account_of seat.old).shares) }
+{
     let mut held = take_all(alloc, memory);
     drop(piece);
-    let mut other = pool.split(&mut seat);
-    let one = push_two_again(&pool, &mut seat, &mut held, again, 0);
-    let two = push_two_again(&pool, &mut other, &mut held, again, 2);
-    pool.join(&mut seat, other);
-    let least = pool.pop_as(&mut seat, 2, 0) == Popped::Entry(entry(1, 4));
-    let outs = [Some((2, 3)), Some((3, 2)), Some((4, 1)), None, None];
-    let rest = come_out(pool.close(seat), &outs);
-    Ok(Some(one && two && least && rest))
+    push_four_again(pool, seat, &mut held, again)
+}
+
+// Whether a pool in this memory gives four entries that two seats push; none where it can't be opened. A piece of memory is left
+// for its growths at first. The memory is one thread's alone.
+fn gives_pushed<'a>(
+    alloc: Global,
+    memory: &'a LocalHeap,
+    piece: Vec<u8, &'a LocalHeap>,
+    again: &mut u32,
+) -> Option<bool> {
+    match Pool::<AnyPair, &'a LocalHeap>::open(memory, 4) {
+        Ok((pool, mut seat)) => {
+            let pushed = push_four_in(alloc, memory, piece, &pool, &mut seat, again);
+            Some(pushed && gives_four(pool, seat))
+        }
+        Err(_) => None,
+    }
 }
 
 // How a pool of four entries fares in ever more memory, and how often a push was made again. Memory that isn't given back is wrong.
@@ -95,7 +123,8 @@ fn fare_with_four(alloc: Global) -> Result<(Tally, u32), AllocError> {
     let mut again: u32 = 0;
     for step in 0..200 {
         let memory = LocalHeap::new(alloc, 1024 + 32 * step)?;
-        let came = gives_four(alloc, &memory, 32 * (step % 16), &mut again)?;
+        let piece = Vec::with_capacity(&memory, 32 * (step % 16))?;
+        let came = gives_pushed(alloc, &memory, piece, &mut again);
         tally.note(came, memory.used() == 0);
     }
     Ok((tally, again))
@@ -104,23 +133,41 @@ fn fare_with_four(alloc: Global) -> Result<(Tally, u32), AllocError> {
 #[test]
 fn open_is_refused_or_whole(rt: HostRuntime) -> Result<(), Fail> {
     let (tally, again) = fare_with_four(rt.alloc())?;
-    assert_eq!(rt; tally.wrong, 0);
-    assert!(rt; tally.refused >= 4 && tally.right >= 32, "{tally:?}");
-    assert!(rt; 8 <= again, "{again} pushed again");
+    assert_that(&rt, "none wrong", tally.wrong == 0);
+    assert_that(
+        &rt,
+        "some refused and many right",
+        tally.refused >= 4 && tally.right >= 32,
+    );
+    assert_that(&rt, "some pushed again", 8 <= again);
     Ok(())
+}
+
+// Whether a push without memory is refused, and a pop finds nothing then.
+fn is_refused<'a>(
+    alloc: Global,
+    memory: &'a LocalHeap,
+    pool: &Pool<AnyPair, &'a LocalHeap>,
+    seat: &mut PoolSeat<AnyPair, &'a LocalHeap>,
+) -> bool
+    requires { IsSeatOf pool.now seat.old }
+    ensures { IsSeatOf pool.now seat.new × ((account_of seat.new).shares ≡ (account_of seat.old).shares) }
+{
+    let _blocks = take_all(alloc, memory);
+    let refused = pool.push_as(seat, 0, entry(3, 1));
+    let popped = pool.pop_as(seat, 0, 0);
+    refused == Err(PushRefused::OutOfMemory(entry(3, 1))) && popped == Popped::Empty
 }
 
 // Whether a push without memory is refused, and with memory isn't: of one entry, which comes out then.
 fn is_pushed_again(alloc: Global, memory: &LocalHeap) -> Result<(bool, bool), AllocError> {
     let (pool, mut seat) = Pool::<AnyPair, &LocalHeap>::open(memory, 2)?;
-    let blocks = take_all(alloc, memory);
-    let refused = pool.push_as(&mut seat, 0, entry(3, 1));
-    let popped = pool.pop_as(&mut seat, 0, 0);
-    drop(blocks);
-    let pushed = pool.push_as(&mut seat, 0, entry(3, 1));
-    let rest = come_out(pool.close(seat), &[Some((3, 1)), None]);
-    let back = refused == Err(PushRefused::OutOfMemory(entry(3, 1)));
-    Ok((back && popped == Popped::Empty, pushed.is_ok() && rest))
+    let refused = is_refused(alloc, memory, &pool, &mut seat);
+    let pushed = pool.push_as(&mut seat, 0, entry(3, 1)).is_ok();
+    Ok((
+        refused,
+        pushed && come_out(pool.close(seat), &[Some((3, 1)), None]),
+    ))
 }
 
 // The same in a memory of its own.
@@ -131,7 +178,9 @@ fn push_in_memory(alloc: Global) -> Result<(bool, bool), AllocError> {
 
 #[test]
 fn push_refused_then_again(rt: HostRuntime) -> Result<(), Fail> {
-    assert_eq!(rt; push_in_memory(rt.alloc())?, (true, true));
+    let (refused, pushed) = push_in_memory(rt.alloc())?;
+    assert_that(&rt, "refused without memory, and nothing to pop", refused);
+    assert_that(&rt, "pushed with it, and comes out", pushed);
     Ok(())
 }
 
@@ -210,60 +259,68 @@ fn push_six_hundred<'a>(
 }
 
 // How many growths are refused, and whether each key is there once.
-fn fare_with_many(alloc: Global, memory: &LocalHeap) -> Result<(u32, bool), AllocError> {
-    let mut counts = Vec::from_elem(alloc, 0, 600)?;
+fn fare_with_many(memory: &LocalHeap) -> Result<(u32, bool), AllocError> {
+    let mut counts = [0u32; 600];
     let (pool, mut seat) = Pool::<AnyPair, &LocalHeap>::open(memory, 3)?;
     let refused = push_six_hundred(&pool, &mut seat, counts.as_mut_slice());
     count_left(counts.as_mut_slice(), pool.close(seat));
-    Ok((refused, counts.iter().all(|&count| count == 1)))
+    Ok((refused, counts == [1u32; 600]))
 }
 
 #[test]
 fn growth_refused_in_the_middle_of_many(rt: HostRuntime) -> Result<(), Fail> {
     let memory = LocalHeap::new(rt.alloc(), 8192)?;
-    let (refused, once) = fare_with_many(rt.alloc(), &memory)?;
-    assert!(rt; 0 < refused && refused < 600, "{refused} refused");
-    assert_eq!(rt; (once, memory.used()), (true, 0));
+    let (refused, once) = fare_with_many(&memory)?;
+    assert_that(&rt, "some refused", 0 < refused && refused < 600);
+    assert_that(&rt, "each key once", once);
+    assert_that(&rt, "the memory is given back", memory.used() == 0);
     Ok(())
 }
 
-// Pushes a second entry without memory and with it: what is answered, and how many entries there are between.
-fn fare_with_second(
+// Pushes a second entry without memory and with it: whether it is handed back and one entry is left, and whether it goes in then.
+fn fares_with_second(
     alloc: Global,
     memory: &LocalHeap,
     solo: &mut Solo<&LocalHeap>,
-) -> (Result<(), Entry>, u128, Result<(), Entry>) {
+) -> (bool, bool) {
     let blocks = take_all(alloc, memory);
-    let refused = solo.push_at(1, entry(2, 2));
-    let left = solo.len();
+    let refused = solo.push_at(1, entry(2, 2)) == Err(entry(2, 2)) && solo.len() == 1;
     drop(blocks);
-    (refused, left, solo.push_at(1, entry(2, 2)))
+    (refused, solo.push_at(1, entry(2, 2)).is_ok())
 }
+
+const ONE_IN: [Step; 1] = [Step::In(0, 5, 1)];
+
+const BOTH_OUT: [Step; 2] = [Step::Out(0, 0, Some((2, 2))), Step::Out(0, 0, Some((5, 1)))];
 
 #[test]
 fn solo_hands_the_entry_back(rt: HostRuntime) -> Result<(), Fail> {
     let memory = LocalHeap::new(rt.alloc(), 4096)?;
     let mut solo = Solo::<&LocalHeap>::new(&memory, 2)?;
-    assert_eq!(rt; told_by_solo(&mut solo, &[Step::In(0, 5, 1)]), (None, 1));
-    let (refused, left, pushed) = fare_with_second(rt.alloc(), &memory, &mut solo);
-    assert_eq!(rt; (refused, left), (Err(entry(2, 2)), 1));
-    assert_eq!(rt; pushed, Ok(()));
-    let outs = [Step::Out(0, 0, Some((2, 2))), Step::Out(0, 0, Some((5, 1)))];
-    assert_eq!(rt; told_by_solo(&mut solo, &outs), (None, 0));
+    assert_none_wrong(&rt, wrong_in_solo(&mut solo, &ONE_IN, 1));
+    let (refused, pushed) = fares_with_second(rt.alloc(), &memory, &mut solo);
+    assert_that(&rt, "handed back without memory", refused);
+    assert_that(&rt, "pushed with it", pushed);
+    assert_none_wrong(&rt, wrong_in_solo(&mut solo, &BOTH_OUT, 0));
     Ok(())
 }
 
-// Whether a new Solo in this memory is empty, and gives the one entry that is pushed or hands it back; none where it was refused.
-fn gives_one(memory: &LocalHeap) -> Option<bool> {
-    let Ok(mut solo) = Solo::<&LocalHeap>::new(memory, 4) else {
-        return None;
-    };
+// Whether a Solo is empty, and gives the one entry that is pushed or hands it back.
+fn gives_one(solo: &mut Solo<&LocalHeap>) -> bool {
     let empty = solo.len() == 0;
     let one = match solo.push_at(3, entry(1, 4)) {
         Ok(()) => shown(solo.pop_at(3, 0)) == Some((1, 4)),
         Err(back) => back == entry(1, 4),
     };
-    Some(empty && one && solo.pop_at(3, 0) == None)
+    empty && one && solo.pop_at(3, 0).is_none()
+}
+
+// Whether a new Solo in this memory does so; none where it was refused.
+fn gives_one_in(memory: &LocalHeap) -> Option<bool> {
+    match Solo::<&LocalHeap>::new(memory, 4) {
+        Ok(mut solo) => Some(gives_one(&mut solo)),
+        Err(_) => None,
+    }
 }
 
 #[test]
@@ -271,9 +328,13 @@ fn solo_is_refused_or_whole(rt: HostRuntime) -> Result<(), Fail> {
     let mut tally = Tally::new();
     for step in 0..40 {
         let memory = LocalHeap::new(rt.alloc(), 24 + 16 * step)?;
-        tally.note(gives_one(&memory), memory.used() == 0);
+        tally.note(gives_one_in(&memory), memory.used() == 0);
     }
-    assert_eq!(rt; tally.wrong, 0);
-    assert!(rt; tally.refused >= 2 && tally.right >= 2, "{tally:?}");
+    assert_that(&rt, "none wrong", tally.wrong == 0);
+    assert_that(
+        &rt,
+        "some refused and some right",
+        tally.refused >= 2 && tally.right >= 2,
+    );
     Ok(())
 }
