@@ -270,7 +270,8 @@ pub fn gives_four<A: Allocator>(pool: Pool<AnyPair, A>, mut seat: PoolSeat<AnyPa
     requires { IsSeatOf pool seat × ((account_of seat).shares ≡ SHARES) }
 {
     let least = pool.pop_as(&mut seat, 2, 0) == Popped::Entry(entry(1, 4));
-    least && come_out(pool.close(seat), &REST_OF_FOUR)
+    let rest = come_out(pool.close(seat), &REST_OF_FOUR);
+    least && rest
 }
 
 const REST_OF_FOUR: [Option<(u64, u32)>; 5] = [

@@ -111,7 +111,8 @@ fn gives_pushed<'a>(
     match Pool::<AnyPair, &'a LocalHeap>::open(memory, 4) {
         Ok((pool, mut seat)) => {
             let pushed = push_four_in(alloc, memory, piece, &pool, &mut seat, again);
-            Some(pushed && gives_four(pool, seat))
+            let given = gives_four(pool, seat);
+            Some(pushed && given)
         }
         Err(_) => None,
     }
@@ -159,15 +160,26 @@ fn is_refused<'a>(
     refused == Err(PushRefused::OutOfMemory(entry(3, 1))) && popped == Popped::Empty
 }
 
+// Whether a push with memory isn't refused.
+fn is_pushed<'a>(
+    pool: &Pool<AnyPair, &'a LocalHeap>,
+    seat: &mut PoolSeat<AnyPair, &'a LocalHeap>,
+) -> bool
+    requires { IsSeatOf pool.now seat.old }
+    ensures { IsSeatOf pool.now seat.new × ((account_of seat.new).shares ≡ (account_of seat.old).shares) }
+{
+    pool.push_as(seat, 0, entry(3, 1)).is_ok()
+}
+
+const ONE_OUT: [Option<(u64, u32)>; 2] = [Some((3, 1)), None];
+
 // Whether a push without memory is refused, and with memory isn't: of one entry, which comes out then.
 fn is_pushed_again(alloc: Global, memory: &LocalHeap) -> Result<(bool, bool), AllocError> {
     let (pool, mut seat) = Pool::<AnyPair, &LocalHeap>::open(memory, 2)?;
     let refused = is_refused(alloc, memory, &pool, &mut seat);
-    let pushed = pool.push_as(&mut seat, 0, entry(3, 1)).is_ok();
-    Ok((
-        refused,
-        pushed && come_out(pool.close(seat), &[Some((3, 1)), None]),
-    ))
+    let pushed = is_pushed(&pool, &mut seat);
+    let rest = come_out(pool.close(seat), &ONE_OUT);
+    Ok((refused, pushed && rest))
 }
 
 // The same in a memory of its own.
