@@ -3,6 +3,7 @@ use ea_check::*;
 use ea_road::{Network, Query, Source, Timetables};
 use std::alloc::{AllocError, Global};
 use std::test::Fail;
+use tests_given::asserts::{assert_none_wrong, assert_that};
 use tests_given::networks::{FOUR_NODES, Row, network_of, query_of, times_of};
 
 /// The sources of a problem, by node and departure.
@@ -13,9 +14,6 @@ type Case = (&'static [u8], Result<(), CheckFault>);
 
 /// What the checker says of a report; none where what it is of can't be checked.
 type Said = Option<Result<(), CheckFault>>;
-
-/// The place of a report of which the checker says otherwise than its case, and what it says.
-type Wrong = Option<(usize, Said)>;
 
 /// The example two-ways-to-fifteen.
 const TWO_WAYS: [Row; 4] = [(1, 2, 4, 0), (1, 3, 1, 0), (3, 2, 1, 0), (2, 4, 5, 1)];
@@ -64,7 +62,31 @@ fn said_of(
     Some(check(alloc, network, times, queries, report))
 }
 
-/// What the checker says of a report of problems from these sources. Class 1 leaves every 10.
+/// The same where class 1 leaves every 10.
+fn said_by_tens(
+    alloc: Global,
+    network: &Network,
+    queries: &[Query],
+    report: &[u8],
+) -> Result<Said, AllocError> {
+    let times = times_of(alloc, 10)?;
+    Ok(said_of(alloc, network, &times, queries, report))
+}
+
+/// What it says so of a report of problems from these sources.
+fn said_on(
+    alloc: Global,
+    network: &Network,
+    problems: &[Sources],
+    report: &[u8],
+) -> Result<Said, AllocError> {
+    match queries_of(alloc, problems)? {
+        Some(queries) => said_by_tens(alloc, network, &queries, report),
+        None => Ok(None),
+    }
+}
+
+/// What it says so of a report on the network of these rows.
 fn verdict(
     alloc: Global,
     nodes: u32,
@@ -72,14 +94,10 @@ fn verdict(
     problems: &[Sources],
     report: &[u8],
 ) -> Result<Said, AllocError> {
-    let Some(network) = network_of(alloc, nodes, rows)? else {
-        return Ok(None);
-    };
-    let Some(queries) = queries_of(alloc, problems)? else {
-        return Ok(None);
-    };
-    let times = times_of(alloc, 10)?;
-    Ok(said_of(alloc, &network, &times, &queries, report))
+    match network_of(alloc, nodes, rows)? {
+        Some(network) => said_on(alloc, &network, problems, report),
+        None => Ok(None),
+    }
 }
 
 /// The first of the reports of problems from these sources of which the checker says otherwise.
@@ -89,11 +107,10 @@ fn wrong_verdict(
     rows: &[Row],
     problems: &[Sources],
     cases: &[Case],
-) -> Result<Wrong, AllocError> {
+) -> Result<Option<usize>, AllocError> {
     for (place, (report, wanted)) in cases.iter().enumerate() {
-        let said = verdict(alloc, nodes, rows, problems, report)?;
-        if said != Some(*wanted) {
-            return Ok(Some((place, said)));
+        if verdict(alloc, nodes, rows, problems, report)? != Some(*wanted) {
+            return Ok(Some(place));
         }
     }
     Ok(None)
@@ -105,7 +122,7 @@ fn of_four(alloc: Global, report: &[u8]) -> Result<Said, AllocError> {
 }
 
 /// The first of such reports of which the checker says otherwise.
-fn wrong_of_four(alloc: Global, cases: &[Case]) -> Result<Wrong, AllocError> {
+fn wrong_of_four(alloc: Global, cases: &[Case]) -> Result<Option<usize>, AllocError> {
     wrong_verdict(alloc, 4, &FOUR_NODES, &FROM_FIRST, cases)
 }
 
@@ -125,7 +142,7 @@ const CHECK_VERDICTS: [Case; 8] = [
 
 #[test]
 fn check_verdicts(rt: HostRuntime) -> Result<(), Fail> {
-    assert_eq!(rt; wrong_of_four(rt.alloc(), &CHECK_VERDICTS)?, None);
+    assert_none_wrong(&rt, wrong_of_four(rt.alloc(), &CHECK_VERDICTS)?);
     Ok(())
 }
 
@@ -168,7 +185,7 @@ const CHECK_FORM: [Case; 10] = [
 
 #[test]
 fn check_form(rt: HostRuntime) -> Result<(), Fail> {
-    assert_eq!(rt; wrong_of_four(rt.alloc(), &CHECK_FORM)?, None);
+    assert_none_wrong(&rt, wrong_of_four(rt.alloc(), &CHECK_FORM)?);
     Ok(())
 }
 
@@ -183,16 +200,9 @@ const CHECK_CANONICAL: [Case; 3] = [
 
 #[test]
 fn check_canonical(rt: HostRuntime) -> Result<(), Fail> {
-    assert_eq!(rt;
-        wrong_verdict(
-            rt.alloc(),
-            4,
-            &TWO_WAYS,
-            &FROM_FIRST_AT_ONE,
-            &CHECK_CANONICAL
-        )?,
-        None
-    );
+    let alloc = rt.alloc();
+    let wrong = wrong_verdict(alloc, 4, &TWO_WAYS, &FROM_FIRST_AT_ONE, &CHECK_CANONICAL)?;
+    assert_none_wrong(&rt, wrong);
     Ok(())
 }
 
@@ -219,7 +229,7 @@ const ODD_REPORTS: [Case; 4] = [
 
 #[test]
 fn odd_reports(rt: HostRuntime) -> Result<(), Fail> {
-    assert_eq!(rt; wrong_of_four(rt.alloc(), &ODD_REPORTS)?, None);
+    assert_none_wrong(&rt, wrong_of_four(rt.alloc(), &ODD_REPORTS)?);
     Ok(())
 }
 
@@ -232,11 +242,10 @@ fn of_walk(alloc: Global, line: &[u8]) -> Result<Said, AllocError> {
 }
 
 /// The first of the lines of which the checker says otherwise.
-fn wrong_line(alloc: Global, cases: &[Case]) -> Result<Wrong, AllocError> {
+fn wrong_line(alloc: Global, cases: &[Case]) -> Result<Option<usize>, AllocError> {
     for (place, (line, wanted)) in cases.iter().enumerate() {
-        let said = of_walk(alloc, line)?;
-        if said != Some(*wanted) {
-            return Ok(Some((place, said)));
+        if of_walk(alloc, line)? != Some(*wanted) {
+            return Ok(Some(place));
         }
     }
     Ok(None)
@@ -297,7 +306,7 @@ const ODD_WALKS: [Case; 36] = [
 
 #[test]
 fn odd_walks(rt: HostRuntime) -> Result<(), Fail> {
-    assert_eq!(rt; wrong_line(rt.alloc(), &ODD_WALKS)?, None);
+    assert_none_wrong(&rt, wrong_line(rt.alloc(), &ODD_WALKS)?);
     Ok(())
 }
 
@@ -311,10 +320,8 @@ const EMPTY_WALKS: [Case; 5] = [
 
 #[test]
 fn empty_walks(rt: HostRuntime) -> Result<(), Fail> {
-    assert_eq!(rt;
-        wrong_verdict(rt.alloc(), 2, &ONE_ARC, &FROM_FIRST, &EMPTY_WALKS)?,
-        None
-    );
+    let wrong = wrong_verdict(rt.alloc(), 2, &ONE_ARC, &FROM_FIRST, &EMPTY_WALKS)?;
+    assert_none_wrong(&rt, wrong);
     Ok(())
 }
 
@@ -346,12 +353,11 @@ const LONG: [Long; 6] = [
 ];
 
 /// The first of the long lines, with so many copies of their bytes, of which the checker says otherwise.
-fn wrong_long(alloc: Global, count: usize) -> Result<Wrong, AllocError> {
+fn wrong_long(alloc: Global, count: usize) -> Result<Option<usize>, AllocError> {
     for (place, (front, byte, end, wanted)) in LONG.iter().enumerate() {
         let line = padded(alloc, front, *byte, count, end)?;
-        let said = of_walk(alloc, &line)?;
-        if said != Some(*wanted) {
-            return Ok(Some((place, said)));
+        if of_walk(alloc, &line)? != Some(*wanted) {
+            return Ok(Some(place));
         }
     }
     Ok(None)
@@ -361,7 +367,7 @@ fn wrong_long(alloc: Global, count: usize) -> Result<Wrong, AllocError> {
 fn long_walk_lines(rt: HostRuntime) -> Result<(), Fail> {
     // Numbers and blanks that go over the ends of the pieces that are counted together.
     for count in 225..250 {
-        assert_eq!(rt; wrong_long(rt.alloc(), count)?, None, "{count}");
+        assert_none_wrong(&rt, wrong_long(rt.alloc(), count)?);
     }
     Ok(())
 }
@@ -419,8 +425,10 @@ const SEVERAL: [(&[Sources<'static>], &[Case]); 4] = [
 #[test]
 fn several_sources(rt: HostRuntime) -> Result<(), Fail> {
     for (problems, cases) in &SEVERAL {
-        let wrong = wrong_verdict(rt.alloc(), 2, &ONE_ARC, problems, cases)?;
-        assert_eq!(rt; wrong, None, "{} problems", problems.len());
+        assert_none_wrong(
+            &rt,
+            wrong_verdict(rt.alloc(), 2, &ONE_ARC, problems, cases)?,
+        );
     }
     Ok(())
 }
@@ -456,16 +464,9 @@ const FAULTS_IN_THEIR_ORDER: [Case; 7] = [
 
 #[test]
 fn faults_in_their_order(rt: HostRuntime) -> Result<(), Fail> {
-    assert_eq!(rt;
-        wrong_verdict(
-            rt.alloc(),
-            3,
-            &WITH_CYCLE,
-            &FROM_FIRST,
-            &FAULTS_IN_THEIR_ORDER
-        )?,
-        None
-    );
+    let alloc = rt.alloc();
+    let wrong = wrong_verdict(alloc, 3, &WITH_CYCLE, &FROM_FIRST, &FAULTS_IN_THEIR_ORDER)?;
+    assert_none_wrong(&rt, wrong);
     Ok(())
 }
 
@@ -532,30 +533,34 @@ fn coded(said: Said) -> (u8, u64) {
     }
 }
 
-/// The report with one byte changed.
-fn changed(alloc: Global, place: usize, byte: u8) -> Result<Vec<u8>, AllocError> {
+/// What the checker says of the report with one byte changed.
+fn of_changed(alloc: Global, place: usize, byte: u8) -> Result<Said, AllocError> {
     let mut report = CHANGED.to_vec(alloc)?;
     if place < report.len() {
         report[place] = byte;
     }
-    Ok(report)
+    of_four(alloc, &report)
 }
 
-/// The first byte that makes a report, where it stands at this place, of which the checker says otherwise than the row, and what
-/// it says.
-fn wrong_change(
-    alloc: Global,
-    place: usize,
-    row: &[u8],
-) -> Result<Option<(u8, (u8, u64))>, AllocError> {
+/// Whether the checker says what the row tells of each byte at this place.
+fn is_row_said(alloc: Global, place: usize, row: &[u8]) -> Result<bool, AllocError> {
     let mut wanted = row.iter();
     for byte in BYTES {
-        let report = changed(alloc, place, *byte)?;
-        let said = coded(of_four(alloc, &report)?);
+        let said = coded(of_changed(alloc, place, *byte)?);
         let letter = wanted.next().copied();
         let digit = wanted.next().copied().unwrap_or(0);
         if letter != Some(said.0) || said.1 != u64::from(digit.saturating_sub(b'0')) {
-            return Ok(Some((*byte, said)));
+            return Ok(false);
+        }
+    }
+    Ok(true)
+}
+
+/// The first place where the checker says otherwise than the row of the place.
+fn wrong_row(alloc: Global) -> Result<Option<usize>, AllocError> {
+    for (place, row) in VERDICTS.iter().enumerate() {
+        if !is_row_said(alloc, place, row)? {
+            return Ok(Some(place));
         }
     }
     Ok(None)
@@ -563,10 +568,12 @@ fn wrong_change(
 
 #[test]
 fn each_change_of_one_byte(rt: HostRuntime) -> Result<(), Fail> {
-    assert_eq!(rt; of_four(rt.alloc(), CHANGED)?, Some(Ok(())));
-    for (place, row) in VERDICTS.iter().enumerate() {
-        assert_eq!(rt; wrong_change(rt.alloc(), place, row)?, None, "at {place}");
-    }
+    assert_that(
+        &rt,
+        "the report is right",
+        of_four(rt.alloc(), CHANGED)? == Some(Ok(())),
+    );
+    assert_none_wrong(&rt, wrong_row(rt.alloc())?);
     Ok(())
 }
 
@@ -599,67 +606,99 @@ fn can_check_pair(alloc: Global) -> Result<Option<bool>, AllocError> {
 
 #[test]
 fn only_queries_of_all_nodes(rt: HostRuntime) -> Result<(), Fail> {
-    let alloc = rt.alloc();
-    let can = [
-        can_check_from(alloc, 1)?,
-        can_check_from(alloc, 5)?,
-        can_check_pair(alloc)?,
-    ];
-    assert_eq!(rt; can, [Some(true), Some(false), Some(false)]);
+    assert_that(
+        &rt,
+        "of a node",
+        can_check_from(rt.alloc(), 1)? == Some(true),
+    );
+    assert_that(
+        &rt,
+        "not of a fifth",
+        can_check_from(rt.alloc(), 5)? == Some(false),
+    );
+    assert_that(
+        &rt,
+        "not of a pair",
+        can_check_pair(rt.alloc())? == Some(false),
+    );
     Ok(())
 }
 
-/// What the checker says of the odd walk, and what it says then where it was refused memory.
-fn said_again(alloc: Global, network: &Network, queries: &[Query]) -> (Said, Said) {
+/// Whether the checker finds the odd walk right, or is refused memory and then finds it right.
+fn is_odd_right(alloc: Global, network: &Network, queries: &[Query]) -> bool {
     let times = Timetables::new(Vec::new(alloc));
     match said_of(alloc, network, &times, queries, ODD_WALK) {
-        Some(Ok(())) => (Some(Ok(())), None),
-        said => (said, said_of(alloc, network, &times, queries, ODD_WALK)),
+        Some(Ok(())) => true,
+        Some(Err(OutOfMemory)) => {
+            said_of(alloc, network, &times, queries, ODD_WALK) == Some(Ok(()))
+        }
+        _ => false,
     }
 }
 
-/// The same on four nodes; none where memory was refused before.
-fn said_of_odd(alloc: Global) -> Option<(Said, Said)> {
-    let Ok(Some(network)) = network_of(alloc, 4, &FOUR_NODES) else {
-        return None;
-    };
-    let Ok(Some(queries)) = queries_of(alloc, &FROM_FIRST) else {
-        return None;
-    };
-    Some(said_again(alloc, &network, &queries))
+/// The same for a problem; true where memory was refused before.
+fn is_odd_right_on(alloc: Global, network: &Network) -> bool {
+    match queries_of(alloc, &FROM_FIRST) {
+        Ok(Some(queries)) => is_odd_right(alloc, network, &queries),
+        _ => true,
+    }
+}
+
+/// The same on four nodes.
+fn is_odd_right_on_four(alloc: Global) -> bool {
+    match network_of(alloc, 4, &FOUR_NODES) {
+        Ok(Some(network)) => is_odd_right_on(alloc, &network),
+        _ => true,
+    }
 }
 
 #[test]
 fn memory_refused(rt: HostRuntime) {
-    if let Some(said) = said_of_odd(rt.alloc()) {
-        let right = [(Some(Ok(())), None), (Some(Err(OutOfMemory)), Some(Ok(())))];
-        assert!(rt; right.contains(&said), "{said:?}");
-    }
+    assert_that(
+        &rt,
+        "right, or refused memory and then right",
+        is_odd_right_on_four(rt.alloc()),
+    );
 }
 
-/// Whether a fault is told by this text, at whose end are its number and its name.
+/// Whether a fault is told by this text.
 fn is_told(alloc: Global, fault: CheckFault, text: &str) -> Result<bool, AllocError> {
+    Ok(format!(in alloc; "{fault}")?.as_str() == text)
+}
+
+/// Whether the number and the name of a fault are at the end of a text.
+fn is_named(alloc: Global, fault: CheckFault, text: &str) -> Result<bool, AllocError> {
     let (number, name) = (fault.number(), fault.name());
-    let told = format!(in alloc; "{fault}")?;
     let end = format!(in alloc; "({number} {name})")?;
-    Ok(told.as_str() == text && text.ends_with(end.as_str()))
+    Ok(text.ends_with(end.as_str()))
+}
+
+/// Faults, and the texts that tell them.
+const TOLD: [(CheckFault, &str); 5] = [
+    (BadLine(3), "line 3 is not what its place asks (1 BadLine)"),
+    (NotAttained(4), "line 4 is not attained (2 NotAttained)"),
+    (NotLeast(5), "line 5 is not the least arrival (3 NotLeast)"),
+    (OutOfMemory, "there is not enough memory (4 OutOfMemory)"),
+    (
+        NotCanonical(6),
+        "line 6 is not the canonical walk (5 NotCanonical)",
+    ),
+];
+
+/// The first of the faults that is told otherwise.
+fn wrong_told(alloc: Global) -> Result<Option<usize>, AllocError> {
+    for (place, (fault, text)) in TOLD.iter().enumerate() {
+        if !is_told(alloc, *fault, text)? || !is_named(alloc, *fault, text)? {
+            return Ok(Some(place));
+        }
+    }
+    Ok(None)
 }
 
 #[test]
 fn messages(rt: HostRuntime) -> Result<(), Fail> {
-    let cases = [
-        (BadLine(3), "line 3 is not what its place asks (1 BadLine)"),
-        (NotAttained(4), "line 4 is not attained (2 NotAttained)"),
-        (NotLeast(5), "line 5 is not the least arrival (3 NotLeast)"),
-        (OutOfMemory, "there is not enough memory (4 OutOfMemory)"),
-        (
-            NotCanonical(6),
-            "line 6 is not the canonical walk (5 NotCanonical)",
-        ),
-    ];
-    for (fault, text) in cases {
-        assert!(rt; is_told(rt.alloc(), fault, text)?, "{fault:?}");
-    }
-    assert_eq!(rt; (NotLeast(5).line(), OutOfMemory.line()), (Some(5), None));
+    assert_none_wrong(&rt, wrong_told(rt.alloc())?);
+    assert_that(&rt, "the line of a fault", NotLeast(5).line() == Some(5));
+    assert_that(&rt, "no line of another", OutOfMemory.line() == None);
     Ok(())
 }

@@ -7,6 +7,7 @@ use ea_road::{Network, Query, Source, Timetables, arcs_of, is_problem};
 use std::alloc::{AllocError, Global};
 use std::io::{self, Error, ErrorKind, Write};
 use std::test::Fail;
+use tests_given::asserts::{assert_none_wrong, assert_that};
 
 const GRAPH: &[u8] = b"p sp 4 5\na 1 2 7\na 1 3 2\na 3 2 3\na 2 4 1\na 3 4 9\n";
 
@@ -86,84 +87,69 @@ fn is_report(
     Ok(written == Ok(wanted.len() as u128) && room.starts_with(wanted))
 }
 
-/// A graph, whether walks are asked, and the report.
-type Case = (&'static [u8], bool, &'static [u8]);
+/// Sources, a graph, whether walks are asked, and the report.
+type Case = (&'static [(u32, u64)], &'static [u8], bool, &'static [u8]);
 
-/// The first of the graphs that has another report from these sources.
-fn wrong_report(
+const REPORTS: [Case; 7] = [
+    // Four nodes.
+    (&[(1, 0)], GRAPH, false, REPORT),
+    (&[(1, 0)], GRAPH, true, WITH_WALKS),
+    // No sources.
+    (&[], GRAPH, true, b"d 1 inf\nd 2 inf\nd 3 inf\nd 4 inf\n"),
+    // Two sources, of which one is passed by the other's arc.
+    (
+        &[(1, 0), (2, 5)],
+        b"p sp 2 1\na 1 2 3\n",
+        false,
+        b"s 1 0\ns 2 5\nd 1 0\nd 2 3\n",
+    ),
+    // At the horizon.
+    (
+        &[(1, 281_474_976_710_655)],
+        b"p sp 2 1\na 1 2 0\n",
+        false,
+        b"s 1 281474976710655\nd 1 281474976710655\nd 2 281474976710655\n",
+    ),
+    (
+        &[(1, 281_474_976_710_655)],
+        b"p sp 2 1\na 1 2 1\n",
+        false,
+        b"s 1 281474976710655\nd 1 281474976710655\nd 2 inf\n",
+    ),
+    // Two walks that arrive at once.
+    (
+        &[(1, 0)],
+        b"p sp 3 3\na 1 2 0\na 2 3 0\na 1 3 0\n",
+        true,
+        b"s 1 0\nd 1 0\nw 1 0\nd 2 0\nw 2 1 1\nd 3 0\nw 3 1 3\n",
+    ),
+];
+
+/// Whether the report of a graph from these sources is this text.
+fn is_report_from(
     alloc: Global,
     sources: &[(u32, u64)],
-    cases: &[Case],
-) -> Result<Option<usize>, Fail> {
+    text: &[u8],
+    walks: bool,
+    wanted: &[u8],
+) -> Result<bool, Fail> {
     let query = from(alloc, sources)?;
-    for (place, (text, walks, wanted)) in cases.iter().enumerate() {
-        if !is_report(alloc, text, &query, *walks, wanted)? {
+    is_report(alloc, text, &query, walks, wanted)
+}
+
+/// The first of the graphs that has another report.
+fn wrong_report(alloc: Global) -> Result<Option<usize>, Fail> {
+    for (place, (sources, text, walks, wanted)) in REPORTS.iter().enumerate() {
+        if !is_report_from(alloc, sources, text, *walks, wanted)? {
             return Ok(Some(place));
         }
     }
     Ok(None)
 }
 
-const FOUR_NODES: [Case; 2] = [(GRAPH, false, REPORT), (GRAPH, true, WITH_WALKS)];
-
 #[test]
-fn four_nodes(rt: HostRuntime) -> Result<(), Fail> {
-    assert_eq!(rt; wrong_report(rt.alloc(), &[(1, 0)], &FOUR_NODES)?, None);
-    Ok(())
-}
-
-const NO_SOURCES: [Case; 1] = [(GRAPH, true, b"d 1 inf\nd 2 inf\nd 3 inf\nd 4 inf\n")];
-
-#[test]
-fn no_sources(rt: HostRuntime) -> Result<(), Fail> {
-    assert_eq!(rt; wrong_report(rt.alloc(), &[], &NO_SOURCES)?, None);
-    Ok(())
-}
-
-const JOINT_GAP: [Case; 1] = [(
-    b"p sp 2 1\na 1 2 3\n",
-    false,
-    b"s 1 0\ns 2 5\nd 1 0\nd 2 3\n",
-)];
-
-#[test]
-fn joint_gap(rt: HostRuntime) -> Result<(), Fail> {
-    assert_eq!(rt;
-        wrong_report(rt.alloc(), &[(1, 0), (2, 5)], &JOINT_GAP)?,
-        None
-    );
-    Ok(())
-}
-
-const AT_THE_HORIZON: [Case; 2] = [
-    (
-        b"p sp 2 1\na 1 2 0\n",
-        false,
-        b"s 1 281474976710655\nd 1 281474976710655\nd 2 281474976710655\n",
-    ),
-    (
-        b"p sp 2 1\na 1 2 1\n",
-        false,
-        b"s 1 281474976710655\nd 1 281474976710655\nd 2 inf\n",
-    ),
-];
-
-#[test]
-fn at_the_horizon(rt: HostRuntime) -> Result<(), Fail> {
-    let sources = [(1, 281_474_976_710_655)];
-    assert_eq!(rt; wrong_report(rt.alloc(), &sources, &AT_THE_HORIZON)?, None);
-    Ok(())
-}
-
-const CANONICAL_TIES: [Case; 1] = [(
-    b"p sp 3 3\na 1 2 0\na 2 3 0\na 1 3 0\n",
-    true,
-    b"s 1 0\nd 1 0\nw 1 0\nd 2 0\nw 2 1 1\nd 3 0\nw 3 1 3\n",
-)];
-
-#[test]
-fn canonical_ties(rt: HostRuntime) -> Result<(), Fail> {
-    assert_eq!(rt; wrong_report(rt.alloc(), &[(1, 0)], &CANONICAL_TIES)?, None);
+fn reports_of_graphs(rt: HostRuntime) -> Result<(), Fail> {
+    assert_none_wrong(&rt, wrong_report(rt.alloc())?);
     Ok(())
 }
 
@@ -201,21 +187,43 @@ fn add_nodes(
     Ok(())
 }
 
-/// The lines of nodes with their walks, in this order.
-fn lines_of(alloc: Global, graph: &[u8], query: &Query, nodes: &[u32]) -> Result<Vec<u8>, Fail> {
-    let network = network_of(alloc, graph)?;
-    let times = Timetables::new(Vec::new(alloc));
-    if !is_problem(&network, times.classes(), query) {
-        return Err(Fail::from("no problem"));
-    }
-    let answer = solve_alone(alloc, &network, &times, query)?;
+/// The lines of nodes of an answer with their walks, in this order.
+fn lines_of(alloc: Global, answer: &Answer, nodes: &[u32]) -> Result<Vec<u8>, Fail> {
     let mut arcs = ArcTexts::new(alloc, answer.links());
     let mut text = Vec::new(alloc);
-    add_nodes(&mut text, &mut arcs, &answer, nodes)?;
+    add_nodes(&mut text, &mut arcs, answer, nodes)?;
     Ok(text)
 }
 
-/// Whether the lines of nodes of a graph, from these sources, are this text.
+/// Whether such lines of the answer on a network with plain arcs are this text.
+fn are_lines_on(
+    alloc: Global,
+    network: &Network,
+    query: &Query,
+    nodes: &[u32],
+    wanted: &[u8],
+) -> Result<bool, Fail> {
+    let times = Timetables::new(Vec::new(alloc));
+    if !is_problem(network, times.classes(), query) {
+        return Err(Fail::from("no problem"));
+    }
+    let answer = solve_alone(alloc, network, &times, query)?;
+    Ok(lines_of(alloc, &answer, nodes)?.as_slice() == wanted)
+}
+
+/// Whether such lines of a graph are this text.
+fn are_lines_of(
+    alloc: Global,
+    graph: &[u8],
+    query: &Query,
+    nodes: &[u32],
+    wanted: &[u8],
+) -> Result<bool, Fail> {
+    let network = network_of(alloc, graph)?;
+    are_lines_on(alloc, &network, query, nodes, wanted)
+}
+
+/// Whether such lines of a graph, from these sources, are this text.
 fn are_lines(
     alloc: Global,
     graph: &[u8],
@@ -224,25 +232,47 @@ fn are_lines(
     wanted: &[u8],
 ) -> Result<bool, Fail> {
     let query = from(alloc, sources)?;
-    Ok(lines_of(alloc, graph, &query, nodes)?.as_slice() == wanted)
+    are_lines_of(alloc, graph, &query, nodes, wanted)
+}
+
+/// A graph, sources, nodes, and the lines of these nodes.
+type Lines = (
+    &'static [u8],
+    &'static [(u32, u64)],
+    &'static [u32],
+    &'static [u8],
+);
+
+const LINES: [Lines; 2] = [
+    // Walks that go on along those of nodes before.
+    (
+        GRAPH,
+        &[(1, 0)],
+        &[2, 4, 3, 3, 4, 1, 2],
+        b"d 2 5\nw 2 2 2 3\nd 4 6\nw 4 3 2 3 4\nd 3 2\nw 3 1 2\nd 3 2\nw 3 1 2\nd 4 6\nw 4 3 2 3 4\nd 1 0\nw 1 0\nd 2 5\nw 2 2 2 3\n",
+    ),
+    // Walks of two sources.
+    (
+        b"p sp 6 3\na 1 2 1\na 3 4 1\na 4 5 1\n",
+        &[(1, 0), (3, 0)],
+        &[2, 4, 6, 2, 5, 3, 1],
+        b"d 2 1\nw 2 1 1\nd 4 1\nw 4 1 2\nd 6 inf\nd 2 1\nw 2 1 1\nd 5 2\nw 5 2 2 3\nd 3 0\nw 3 0\nd 1 0\nw 1 0\n",
+    ),
+];
+
+/// The first of the graphs whose nodes have other lines.
+fn wrong_lines(alloc: Global) -> Result<Option<usize>, Fail> {
+    for (place, (graph, sources, nodes, wanted)) in LINES.iter().enumerate() {
+        if !are_lines(alloc, graph, sources, nodes, wanted)? {
+            return Ok(Some(place));
+        }
+    }
+    Ok(None)
 }
 
 #[test]
 fn walks_go_on(rt: HostRuntime) -> Result<(), Fail> {
-    let nodes = [2, 4, 3, 3, 4, 1, 2];
-    let wanted =
-        b"d 2 5\nw 2 2 2 3\nd 4 6\nw 4 3 2 3 4\nd 3 2\nw 3 1 2\nd 3 2\nw 3 1 2\nd 4 6\nw 4 3 2 3 4\nd 1 0\nw 1 0\nd 2 5\nw 2 2 2 3\n";
-    assert!(rt; are_lines(rt.alloc(), GRAPH, &[(1, 0)], &nodes, wanted)?);
-    Ok(())
-}
-
-#[test]
-fn walks_of_two_sources(rt: HostRuntime) -> Result<(), Fail> {
-    let graph = b"p sp 6 3\na 1 2 1\na 3 4 1\na 4 5 1\n";
-    let nodes = [2, 4, 6, 2, 5, 3, 1];
-    let wanted =
-        b"d 2 1\nw 2 1 1\nd 4 1\nw 4 1 2\nd 6 inf\nd 2 1\nw 2 1 1\nd 5 2\nw 5 2 2 3\nd 3 0\nw 3 0\nd 1 0\nw 1 0\n";
-    assert!(rt; are_lines(rt.alloc(), graph, &[(1, 0), (3, 0)], &nodes, wanted)?);
+    assert_none_wrong(&rt, wrong_lines(rt.alloc())?);
     Ok(())
 }
 
@@ -260,7 +290,9 @@ fn pair_queries(rt: HostRuntime) -> Result<(), Fail> {
     let there = is_pair(rt.alloc(), 1, 4, false, b"q 1 4 0\nd 4 6\n")?;
     let back = is_pair(rt.alloc(), 4, 1, true, b"q 4 1 0\nd 1 inf\n")?;
     let stay = is_pair(rt.alloc(), 1, 1, true, b"q 1 1 0\nd 1 0\nw 1 0\n")?;
-    assert_eq!(rt; (there, back, stay), (true, true, true));
+    assert_that(&rt, "from node 1 to node 4", there);
+    assert_that(&rt, "from node 4 to node 1", back);
+    assert_that(&rt, "from node 1 to itself", stay);
     Ok(())
 }
 
@@ -278,13 +310,20 @@ fn written<W: ByteOut>(alloc: Global, out: &mut W) -> Result<Result<u128, WriteF
     report(alloc, GRAPH, &query, false, out)
 }
 
-#[test]
-fn writer_of_seven_bytes(rt: HostRuntime) -> Result<(), Fail> {
+/// Whether a writer with room for seven bytes fails behind them, once, and whether it has the front of the report.
+fn takes_seven(alloc: Global) -> Result<(bool, bool), Fail> {
     let mut room = [0u8; 7];
     let mut out = StdOut::new(room.as_mut_slice());
-    let written = written(rt.alloc(), &mut out)?;
-    assert_eq!(rt; (written, out.failures()), (failed_after(7), 1));
-    assert!(rt; room.as_slice() == b"s 1 0\nd".as_slice());
+    let written = written(alloc, &mut out)?;
+    let failed = written == failed_after(7) && out.failures() == 1;
+    Ok((failed, room.as_slice() == b"s 1 0\nd".as_slice()))
+}
+
+#[test]
+fn writer_of_seven_bytes(rt: HostRuntime) -> Result<(), Fail> {
+    let (failed, front) = takes_seven(rt.alloc())?;
+    assert_that(&rt, "fails once behind seven bytes", failed);
+    assert_that(&rt, "has the front of the report", front);
     Ok(())
 }
 
@@ -295,14 +334,22 @@ fn takes_front(alloc: Global, count: usize) -> Result<bool, Fail>
     let mut room = [0u8; 30];
     let mut out = StdOut::new(&mut room[..count]);
     let written = written(alloc, &mut out)?;
-    Ok(written == failed_after(count as u128) && room[..count] == REPORT[..count])
+    Ok(written == failed_after(count as u128) && REPORT.starts_with(&room[..count]))
+}
+
+/// The first room that doesn't take the front of the report.
+fn wrong_front(alloc: Global) -> Result<Option<usize>, Fail> {
+    for count in 0..30usize {
+        if !takes_front(alloc, count)? {
+            return Ok(Some(count));
+        }
+    }
+    Ok(None)
 }
 
 #[test]
 fn failing_devices(rt: HostRuntime) -> Result<(), Fail> {
-    for count in 0..30usize {
-        assert!(rt; takes_front(rt.alloc(), count)?, "{count}");
-    }
+    assert_none_wrong(&rt, wrong_front(rt.alloc())?);
     Ok(())
 }
 
@@ -340,10 +387,18 @@ fn interrupted(alloc: Global, interruptions: u64) -> Result<(Result<u128, WriteF
 
 #[test]
 fn interruptions(rt: HostRuntime) -> Result<(), Fail> {
-    let borne = interrupted(rt.alloc(), 1000)?;
-    assert_eq!(rt; borne, (Ok(30), 1000));
-    let too_many = interrupted(rt.alloc(), 1001)?;
-    assert_eq!(rt; too_many, (failed_after(0), 1001));
+    let (written, counted) = interrupted(rt.alloc(), 1000)?;
+    assert_that(
+        &rt,
+        "a thousand are borne",
+        written == Ok(30) && counted == 1000,
+    );
+    let (written, counted) = interrupted(rt.alloc(), 1001)?;
+    assert_that(
+        &rt,
+        "one more isn't",
+        written == failed_after(0) && counted == 1001,
+    );
     Ok(())
 }
 
@@ -362,16 +417,27 @@ fn written_totals(room: &mut [u8]) -> Result<u128, WriteFault> {
     write_stats(&totals, &mut StdOut::new(room))
 }
 
+const TOTALS: &[u8] =
+    b"c seeded 1\nc pushed 5\nc popped 6\nc stale 2\nc scanned 4\nc returned 0\nc drained 0\nc finish 340282366920938463463374607431768211455\n";
+
+/// Whether they go out whole into room for them.
+fn are_written() -> bool {
+    let mut room = [0u8; 256];
+    let written = written_totals(room.as_mut_slice());
+    written == Ok(TOTALS.len() as u128) && room.starts_with(TOTALS)
+}
+
+/// Whether their front goes out into room for nine bytes.
+fn are_cut() -> bool {
+    let mut room = [0u8; 9];
+    let written = written_totals(room.as_mut_slice());
+    written == failed_after(9) && room.as_slice() == b"c seeded ".as_slice()
+}
+
 #[test]
 fn stats(rt: HostRuntime) {
-    let wanted =
-        b"c seeded 1\nc pushed 5\nc popped 6\nc stale 2\nc scanned 4\nc returned 0\nc drained 0\nc finish 340282366920938463463374607431768211455\n";
-    let mut room = [0u8; 256];
-    let mut short = [0u8; 9];
-    let written = written_totals(room.as_mut_slice());
-    let cut = written_totals(short.as_mut_slice());
-    assert_eq!(rt; (written, cut), (Ok(wanted.len() as u128), failed_after(9)));
-    assert!(rt; room.starts_with(wanted) && short.as_slice() == b"c seeded ".as_slice());
+    assert_that(&rt, "whole", are_written());
+    assert_that(&rt, "cut", are_cut());
 }
 
 /// Whether a fault is told by this text.
@@ -385,23 +451,33 @@ fn is_told(
     Ok(format!(in alloc; "{fault}")?.as_str() == text)
 }
 
+/// Faults by what was written before and their sort, and the texts that tell them.
+const TOLD: [(u128, WriteFaultKind, &str); 2] = [
+    (
+        7,
+        WriteFaultKind::WriteFailed,
+        "after 7 bytes the output could not be written (12 WriteFailed)",
+    ),
+    (
+        0,
+        WriteFaultKind::OutOfMemory,
+        "after 0 bytes there is not enough memory (13 OutOfMemory)",
+    ),
+];
+
+/// The first of the faults that is told otherwise.
+fn wrong_told(alloc: Global) -> Result<Option<usize>, AllocError> {
+    for (place, (written, kind, text)) in TOLD.iter().enumerate() {
+        if !is_told(alloc, *written, *kind, text)? {
+            return Ok(Some(place));
+        }
+    }
+    Ok(None)
+}
+
 #[test]
 fn messages(rt: HostRuntime) -> Result<(), Fail> {
-    let cases = [
-        (
-            7,
-            WriteFaultKind::WriteFailed,
-            "after 7 bytes the output could not be written (12 WriteFailed)",
-        ),
-        (
-            0,
-            WriteFaultKind::OutOfMemory,
-            "after 0 bytes there is not enough memory (13 OutOfMemory)",
-        ),
-    ];
-    for (written, kind, text) in cases {
-        assert!(rt; is_told(rt.alloc(), written, kind, text)?, "{text}");
-    }
+    assert_none_wrong(&rt, wrong_told(rt.alloc())?);
     Ok(())
 }
 
@@ -410,19 +486,30 @@ fn is_kind_told(alloc: Global, kind: WriteFaultKind, text: &str) -> Result<bool,
     Ok(format!(in alloc; "{kind}")?.as_str() == text)
 }
 
+/// Sorts of faults, and the texts that tell them.
+const KINDS: [(WriteFaultKind, &str); 2] = [
+    (
+        WriteFaultKind::WriteFailed,
+        "the output could not be written (12 WriteFailed)",
+    ),
+    (
+        WriteFaultKind::OutOfMemory,
+        "there is not enough memory (13 OutOfMemory)",
+    ),
+];
+
+/// The first of the sorts that is told otherwise.
+fn wrong_kind(alloc: Global) -> Result<Option<usize>, AllocError> {
+    for (place, (kind, text)) in KINDS.iter().enumerate() {
+        if !is_kind_told(alloc, *kind, text)? {
+            return Ok(Some(place));
+        }
+    }
+    Ok(None)
+}
+
 #[test]
 fn each_kind_has_its_text(rt: HostRuntime) -> Result<(), Fail> {
-    for (kind, text) in [
-        (
-            WriteFaultKind::WriteFailed,
-            "the output could not be written (12 WriteFailed)",
-        ),
-        (
-            WriteFaultKind::OutOfMemory,
-            "there is not enough memory (13 OutOfMemory)",
-        ),
-    ] {
-        assert!(rt; is_kind_told(rt.alloc(), kind, text)?, "{text}");
-    }
+    assert_none_wrong(&rt, wrong_kind(rt.alloc())?);
     Ok(())
 }
