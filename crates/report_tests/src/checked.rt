@@ -352,11 +352,17 @@ const LONG: [Long; 6] = [
     (b"w 4 4 2 ", b' ', b"3 4", Err(BadLine(6))),
 ];
 
+/// What the checker says of a long line.
+fn of_long(alloc: Global, long: &Long, count: usize) -> Result<Said, AllocError> {
+    let (front, byte, end, _) = long;
+    let line = padded(alloc, front, *byte, count, end)?;
+    of_walk(alloc, &line)
+}
+
 /// The first of the long lines, with so many copies of their bytes, of which the checker says otherwise.
 fn wrong_long(alloc: Global, count: usize) -> Result<Option<usize>, AllocError> {
-    for (place, (front, byte, end, wanted)) in LONG.iter().enumerate() {
-        let line = padded(alloc, front, *byte, count, end)?;
-        if of_walk(alloc, &line)? != Some(*wanted) {
+    for (place, long) in LONG.iter().enumerate() {
+        if of_long(alloc, long, count)? != Some(long.3) {
             return Ok(Some(place));
         }
     }

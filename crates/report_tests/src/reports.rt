@@ -8,6 +8,7 @@ use std::alloc::{AllocError, Global};
 use std::io::{self, Error, ErrorKind, Write};
 use std::test::Fail;
 use tests_given::asserts::{assert_none_wrong, assert_that};
+use tests_given::networks::query_of;
 
 const GRAPH: &[u8] = b"p sp 4 5\na 1 2 7\na 1 3 2\na 3 2 3\na 2 4 1\na 3 4 9\n";
 
@@ -16,75 +17,64 @@ const REPORT: &[u8] = b"s 1 0\nd 1 0\nd 2 5\nd 3 2\nd 4 6\n";
 const WITH_WALKS: &[u8] =
     b"s 1 0\nd 1 0\nw 1 0\nd 2 5\nw 2 2 2 3\nd 3 2\nw 3 1 2\nd 4 6\nw 4 3 2 3 4\n";
 
-/// The network of what was read of a graph.
-fn network_with(alloc: Global, graph: &RawGraph) -> Result<Network, Fail> {
-    let arcs = arcs_of(alloc, graph, None)?;
+/// The network of what was read of a graph; none where it makes none.
+fn network_with(alloc: Global, graph: &RawGraph) -> Option<Network> {
+    let Ok(arcs) = arcs_of(alloc, graph, None) else {
+        return None;
+    };
     if !Network::fits(graph.nodes, &arcs) {
-        return Err(Fail::from("no network"));
+        return None;
     }
-    Ok(Network::new(alloc, graph.nodes, arcs)?)
+    Network::new(alloc, graph.nodes, arcs).ok()
 }
 
-/// The network of a graph.
-fn network_of(alloc: Global, text: &[u8]) -> Result<Network, Fail> {
-    network_with(alloc, &read_gr(alloc, text)?)
+/// The network of a graph; none where it makes none.
+fn network_of(alloc: Global, text: &[u8]) -> Option<Network> {
+    match read_gr(alloc, text) {
+        Ok(graph) => network_with(alloc, &graph),
+        Err(_) => None,
+    }
 }
 
-/// Writes the report of a network with plain arcs.
+/// What it comes to that the report of a network with plain arcs goes out; none where there is no answer.
 fn report_of<W: ByteOut>(
     alloc: Global,
     network: &Network,
     query: &Query,
     walks: bool,
     out: &mut W,
-) -> Result<Result<u128, WriteFault>, Fail> {
+) -> Option<Result<u128, WriteFault>> {
     let times = Timetables::new(Vec::new(alloc));
     if !is_problem(network, times.classes(), query) {
-        return Err(Fail::from("no problem"));
+        return None;
     }
-    let answer = solve_alone(alloc, network, &times, query)?;
     let options = ReportOptions { walks };
-    Ok(write_problem(alloc, network, query, &answer, options, out))
+    match solve_alone(alloc, network, &times, query) {
+        Ok(answer) => Some(write_problem(alloc, network, query, &answer, options, out)),
+        Err(_) => None,
+    }
 }
 
-/// Writes the report of a graph.
+/// What it comes to that the report of a graph goes out; none where there is no answer.
 fn report<W: ByteOut>(
     alloc: Global,
     text: &[u8],
     query: &Query,
     walks: bool,
     out: &mut W,
-) -> Result<Result<u128, WriteFault>, Fail> {
-    report_of(alloc, &network_of(alloc, text)?, query, walks, out)
-}
-
-/// A query for all nodes, from sources that depart at these times.
-fn from(alloc: Global, sources: &[(u32, u64)]) -> Result<Query, Fail> {
-    let mut list = Vec::new(alloc);
-    for (node, departure) in sources {
-        list.push(Source {
-            node: *node,
-            departure: *departure,
-        })?;
+) -> Option<Result<u128, WriteFault>> {
+    match network_of(alloc, text) {
+        Some(network) => report_of(alloc, &network, query, walks, out),
+        None => None,
     }
-    if !Query::fits(&list) {
-        return Err(Fail::from("no sources"));
-    }
-    Ok(Query::new(list))
 }
 
 /// Whether the report of a graph is this text.
-fn is_report(
-    alloc: Global,
-    text: &[u8],
-    query: &Query,
-    walks: bool,
-    wanted: &[u8],
-) -> Result<bool, Fail> {
+fn is_report(alloc: Global, text: &[u8], query: &Query, walks: bool, wanted: &[u8]) -> bool {
     let mut room = [0u8; 256];
     let mut out = StdOut::new(room.as_mut_slice());
-    let written = report(alloc, text, query, walks, &mut out)?;
-    Ok(written == Ok(wanted.len() as u128) && room.starts_with(wanted))
+    let written = report(alloc, text, query, walks, &mut out);
+    written == Some(Ok(wanted.len() as u128)) && room.starts_with(wanted)
 }
 
 /// Sources, a graph, whether walks are asked, and the report.
@@ -132,107 +122,100 @@ fn is_report_from(
     text: &[u8],
     walks: bool,
     wanted: &[u8],
-) -> Result<bool, Fail> {
-    let query = from(alloc, sources)?;
-    is_report(alloc, text, &query, walks, wanted)
+) -> bool {
+    match query_of(alloc, sources) {
+        Ok(Some(query)) => is_report(alloc, text, &query, walks, wanted),
+        _ => false,
+    }
 }
 
 /// The first of the graphs that has another report.
-fn wrong_report(alloc: Global) -> Result<Option<usize>, Fail> {
+fn wrong_report(alloc: Global) -> Option<usize> {
     for (place, (sources, text, walks, wanted)) in REPORTS.iter().enumerate() {
-        if !is_report_from(alloc, sources, text, *walks, wanted)? {
-            return Ok(Some(place));
+        if !is_report_from(alloc, sources, text, *walks, wanted) {
+            return Some(place);
         }
     }
-    Ok(None)
+    None
 }
 
 #[test]
-fn reports_of_graphs(rt: HostRuntime) -> Result<(), Fail> {
-    assert_none_wrong(&rt, wrong_report(rt.alloc())?);
-    Ok(())
+fn reports_of_graphs(rt: HostRuntime) {
+    assert_none_wrong(&rt, wrong_report(rt.alloc()));
 }
 
-/// Adds the lines of a node with its walk.
-fn add_node(
-    text: &mut Vec<u8>,
-    arcs: &mut ArcTexts<'_>,
-    answer: &Answer,
-    node: u32,
-) -> Result<(), Fail>
+/// Adds the lines of a node with its walk, and says whether it could.
+fn add_node(text: &mut Vec<u8>, arcs: &mut ArcTexts<'_>, answer: &Answer, node: u32) -> bool
     requires { arcs.old.links ≡ answer.now.links }
     ensures { arcs.new.links ≡ arcs.old.links }
 {
     if !answer.asks(node) {
-        return Err(Fail::from("no node"));
+        return false;
     }
     if !answer.has_walks() {
-        return Err(Fail::from("no walks"));
+        return false;
     }
-    Ok(push_node(text, arcs, answer, node, true)?)
+    push_node(text, arcs, answer, node, true).is_ok()
 }
 
-/// Adds the lines of nodes with their walks, in this order.
-fn add_nodes(
-    text: &mut Vec<u8>,
-    arcs: &mut ArcTexts<'_>,
-    answer: &Answer,
-    nodes: &[u32],
-) -> Result<(), Fail>
+/// Adds the lines of nodes with their walks, in this order, and says whether it could.
+fn add_nodes(text: &mut Vec<u8>, arcs: &mut ArcTexts<'_>, answer: &Answer, nodes: &[u32]) -> bool
     requires { arcs.old.links ≡ answer.now.links }
 {
     for node in nodes {
-        add_node(text, arcs, answer, *node)?;
+        if !add_node(text, arcs, answer, *node) {
+            return false;
+        }
     }
-    Ok(())
+    true
 }
 
-/// The lines of nodes of an answer with their walks, in this order.
-fn lines_of(alloc: Global, answer: &Answer, nodes: &[u32]) -> Result<Vec<u8>, Fail> {
+/// Whether the lines of nodes of an answer with their walks, in this order, are this text.
+fn are_lines_by(alloc: Global, answer: &Answer, nodes: &[u32], wanted: &[u8]) -> bool {
     let mut arcs = ArcTexts::new(alloc, answer.links());
     let mut text = Vec::new(alloc);
-    add_nodes(&mut text, &mut arcs, answer, nodes)?;
-    Ok(text)
+    let added = add_nodes(&mut text, &mut arcs, answer, nodes);
+    added && text.as_slice() == wanted
 }
 
-/// Whether such lines of the answer on a network with plain arcs are this text.
+/// The same of the answer on a network with plain arcs.
 fn are_lines_on(
     alloc: Global,
     network: &Network,
     query: &Query,
     nodes: &[u32],
     wanted: &[u8],
-) -> Result<bool, Fail> {
+) -> bool {
     let times = Timetables::new(Vec::new(alloc));
     if !is_problem(network, times.classes(), query) {
-        return Err(Fail::from("no problem"));
+        return false;
     }
-    let answer = solve_alone(alloc, network, &times, query)?;
-    Ok(lines_of(alloc, &answer, nodes)?.as_slice() == wanted)
+    match solve_alone(alloc, network, &times, query) {
+        Ok(answer) => are_lines_by(alloc, &answer, nodes, wanted),
+        Err(_) => false,
+    }
 }
 
-/// Whether such lines of a graph are this text.
-fn are_lines_of(
-    alloc: Global,
-    graph: &[u8],
-    query: &Query,
-    nodes: &[u32],
-    wanted: &[u8],
-) -> Result<bool, Fail> {
-    let network = network_of(alloc, graph)?;
-    are_lines_on(alloc, &network, query, nodes, wanted)
+/// The same of a graph.
+fn are_lines_of(alloc: Global, graph: &[u8], query: &Query, nodes: &[u32], wanted: &[u8]) -> bool {
+    match network_of(alloc, graph) {
+        Some(network) => are_lines_on(alloc, &network, query, nodes, wanted),
+        None => false,
+    }
 }
 
-/// Whether such lines of a graph, from these sources, are this text.
+/// The same of a graph and sources.
 fn are_lines(
     alloc: Global,
     graph: &[u8],
     sources: &[(u32, u64)],
     nodes: &[u32],
     wanted: &[u8],
-) -> Result<bool, Fail> {
-    let query = from(alloc, sources)?;
-    are_lines_of(alloc, graph, &query, nodes, wanted)
+) -> bool {
+    match query_of(alloc, sources) {
+        Ok(Some(query)) => are_lines_of(alloc, graph, &query, nodes, wanted),
+        _ => false,
+    }
 }
 
 /// A graph, sources, nodes, and the lines of these nodes.
@@ -261,23 +244,22 @@ const LINES: [Lines; 2] = [
 ];
 
 /// The first of the graphs whose nodes have other lines.
-fn wrong_lines(alloc: Global) -> Result<Option<usize>, Fail> {
+fn wrong_lines(alloc: Global) -> Option<usize> {
     for (place, (graph, sources, nodes, wanted)) in LINES.iter().enumerate() {
-        if !are_lines(alloc, graph, sources, nodes, wanted)? {
-            return Ok(Some(place));
+        if !are_lines(alloc, graph, sources, nodes, wanted) {
+            return Some(place);
         }
     }
-    Ok(None)
+    None
 }
 
 #[test]
-fn walks_go_on(rt: HostRuntime) -> Result<(), Fail> {
-    assert_none_wrong(&rt, wrong_lines(rt.alloc())?);
-    Ok(())
+fn walks_go_on(rt: HostRuntime) {
+    assert_none_wrong(&rt, wrong_lines(rt.alloc()));
 }
 
 /// Whether the report of a pair of the four nodes, from node to node at 0, is this text.
-fn is_pair(alloc: Global, node: u32, target: u32, walks: bool, wanted: &[u8]) -> Result<bool, Fail>
+fn is_pair(alloc: Global, node: u32, target: u32, walks: bool, wanted: &[u8]) -> bool
     requires { (0 < node) × (0 < target) }
 {
     let source = Source { node, departure: 0 };
@@ -286,14 +268,13 @@ fn is_pair(alloc: Global, node: u32, target: u32, walks: bool, wanted: &[u8]) ->
 }
 
 #[test]
-fn pair_queries(rt: HostRuntime) -> Result<(), Fail> {
-    let there = is_pair(rt.alloc(), 1, 4, false, b"q 1 4 0\nd 4 6\n")?;
-    let back = is_pair(rt.alloc(), 4, 1, true, b"q 4 1 0\nd 1 inf\n")?;
-    let stay = is_pair(rt.alloc(), 1, 1, true, b"q 1 1 0\nd 1 0\nw 1 0\n")?;
+fn pair_queries(rt: HostRuntime) {
+    let there = is_pair(rt.alloc(), 1, 4, false, b"q 1 4 0\nd 4 6\n");
+    let back = is_pair(rt.alloc(), 4, 1, true, b"q 4 1 0\nd 1 inf\n");
+    let stay = is_pair(rt.alloc(), 1, 1, true, b"q 1 1 0\nd 1 0\nw 1 0\n");
     assert_that(&rt, "from node 1 to node 4", there);
     assert_that(&rt, "from node 4 to node 1", back);
     assert_that(&rt, "from node 1 to itself", stay);
-    Ok(())
 }
 
 /// A fault of a device after so many bytes.
@@ -304,53 +285,53 @@ fn failed_after(written: u128) -> Result<u128, WriteFault> {
     })
 }
 
-/// What it comes to that the report of the four nodes goes out.
-fn written<W: ByteOut>(alloc: Global, out: &mut W) -> Result<Result<u128, WriteFault>, Fail> {
-    let query = from(alloc, &[(1, 0)])?;
-    report(alloc, GRAPH, &query, false, out)
+/// What it comes to that the report of the four nodes goes out; none where there is no answer.
+fn written<W: ByteOut>(alloc: Global, out: &mut W) -> Option<Result<u128, WriteFault>> {
+    match query_of(alloc, &[(1, 0)]) {
+        Ok(Some(query)) => report(alloc, GRAPH, &query, false, out),
+        _ => None,
+    }
 }
 
 /// Whether a writer with room for seven bytes fails behind them, once, and whether it has the front of the report.
-fn takes_seven(alloc: Global) -> Result<(bool, bool), Fail> {
+fn takes_seven(alloc: Global) -> (bool, bool) {
     let mut room = [0u8; 7];
     let mut out = StdOut::new(room.as_mut_slice());
-    let written = written(alloc, &mut out)?;
-    let failed = written == failed_after(7) && out.failures() == 1;
-    Ok((failed, room.as_slice() == b"s 1 0\nd".as_slice()))
+    let written = written(alloc, &mut out);
+    let failed = written == Some(failed_after(7)) && out.failures() == 1;
+    (failed, room.as_slice() == b"s 1 0\nd".as_slice())
 }
 
 #[test]
-fn writer_of_seven_bytes(rt: HostRuntime) -> Result<(), Fail> {
-    let (failed, front) = takes_seven(rt.alloc())?;
+fn writer_of_seven_bytes(rt: HostRuntime) {
+    let (failed, front) = takes_seven(rt.alloc());
     assert_that(&rt, "fails once behind seven bytes", failed);
     assert_that(&rt, "has the front of the report", front);
-    Ok(())
 }
 
 /// Whether a device with room for so many bytes takes the front of the report, and then fails.
-fn takes_front(alloc: Global, count: usize) -> Result<bool, Fail>
+fn takes_front(alloc: Global, count: usize) -> bool
     requires { count ≤ 30 }
 {
     let mut room = [0u8; 30];
     let mut out = StdOut::new(&mut room[..count]);
-    let written = written(alloc, &mut out)?;
-    Ok(written == failed_after(count as u128) && REPORT.starts_with(&room[..count]))
+    let written = written(alloc, &mut out);
+    written == Some(failed_after(count as u128)) && REPORT.starts_with(&room[..count])
 }
 
 /// The first room that doesn't take the front of the report.
-fn wrong_front(alloc: Global) -> Result<Option<usize>, Fail> {
+fn wrong_front(alloc: Global) -> Option<usize> {
     for count in 0..30usize {
-        if !takes_front(alloc, count)? {
-            return Ok(Some(count));
+        if !takes_front(alloc, count) {
+            return Some(count);
         }
     }
-    Ok(None)
+    None
 }
 
 #[test]
-fn failing_devices(rt: HostRuntime) -> Result<(), Fail> {
-    assert_none_wrong(&rt, wrong_front(rt.alloc())?);
-    Ok(())
+fn failing_devices(rt: HostRuntime) {
+    assert_none_wrong(&rt, wrong_front(rt.alloc()));
 }
 
 /// A writer of std that takes one byte at a time, after so many interruptions.
@@ -375,31 +356,25 @@ impl Write for Slow {
     }
 }
 
-/// What it comes to that the report goes out to a writer with so many interruptions, and how many of them were counted.
-fn interrupted(alloc: Global, interruptions: u64) -> Result<(Result<u128, WriteFault>, u64), Fail> {
+/// Whether it comes to this that the report goes out to a writer with so many interruptions, and they are counted.
+fn is_interrupted(alloc: Global, interruptions: u64, wanted: Result<u128, WriteFault>) -> bool {
     let mut out = StdOut::new(Slow {
         interruptions,
         taken: 0,
     });
-    let written = written(alloc, &mut out)?;
-    Ok((written, out.interruptions()))
+    let written = written(alloc, &mut out);
+    written == Some(wanted) && out.interruptions() == interruptions
 }
 
 #[test]
-fn interruptions(rt: HostRuntime) -> Result<(), Fail> {
-    let (written, counted) = interrupted(rt.alloc(), 1000)?;
+fn interruptions(rt: HostRuntime) {
     assert_that(
         &rt,
         "a thousand are borne",
-        written == Ok(30) && counted == 1000,
+        is_interrupted(rt.alloc(), 1000, Ok(30)),
     );
-    let (written, counted) = interrupted(rt.alloc(), 1001)?;
-    assert_that(
-        &rt,
-        "one more isn't",
-        written == failed_after(0) && counted == 1001,
-    );
-    Ok(())
+    let one_more = is_interrupted(rt.alloc(), 1001, failed_after(0));
+    assert_that(&rt, "one more isn't", one_more);
 }
 
 /// What it comes to that these totals go out into room for them.
