@@ -86,7 +86,7 @@ const REPORTS: [Case; 7] = [
     (&[(1, 0)], GRAPH, true, WITH_WALKS),
     // No sources.
     (&[], GRAPH, true, b"d 1 inf\nd 2 inf\nd 3 inf\nd 4 inf\n"),
-    // Two sources, of which one is passed by the other's arc.
+    // Joint sources with a gap: node 2, from which one departs at 5, is reached at 3.
     (
         &[(1, 0), (2, 5)],
         b"p sp 2 1\na 1 2 3\n",
