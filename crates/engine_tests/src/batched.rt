@@ -1,68 +1,50 @@
 //! Runs with batches of several entries.
-use crate::ran::{Came, Count, Told, Wrong, arrives, four, posed, run, run_with, seeded, told};
-use ea_engine::{Answer, Counters, Crew, Flow, NoGate, Settings, Turn, TurnKind, solve_alone};
-use ea_road::is_problem;
-use rand_core::{Rng, SeedableRng};
-use rand_xoshiro::Xoshiro256PlusPlus;
-use std::alloc::{AllocError, Global};
-use std::sync::atomic::{AtomicU64, Ordering};
+use crate::counted::{Visit, Watched, wrong_watched};
+use crate::ran::{Came, Count, Wanted, answer_alone, assert_told, run, seeded};
+use crate::random::{are_same, posed_by};
+use ea_engine::{Answer, Counters, Crew, Flow, NoGate, Settings, Turn};
+use std::alloc::Global;
 use std::test::Fail;
 use std::thread::Threads;
 use tests_given::constant::Constant;
-use tests_given::networks::{Given, Row};
+use tests_given::networks::Given;
 
-/// The key, the node and the lowered heads of each turn that visits an entry, in their order, with batches of two.
-const VISITED: [(u64, u32, u64); 6] = [
-    (0, 1, 2),
-    (2, 3, 2),
-    (7, 2, 0),
-    (5, 2, 1),
-    (11, 4, 0),
-    (6, 4, 0),
+/// The visits of one worker with batches of two.
+const VISITED: [Visit; 6] = [
+    (0, 1, 2, false),
+    (2, 3, 2, false),
+    (7, 2, 0, true),
+    (5, 2, 1, false),
+    (11, 4, 0, true),
+    (6, 4, 0, false),
 ];
 
-/// Whether a turn is what the one worker's turn of this number is: four scan, two visit a stale entry, the rest are empty.
-fn is_right(turn: &Turn) -> bool {
-    let shown = (turn.key, turn.node, turn.lowered);
-    if turn.number >= 6 {
-        return matches!(turn.kind, TurnKind::Empty) && shown == (0, 0, 0);
-    }
-    let stale = turn.number == 2 || turn.number == 4;
-    let kind = match turn.kind {
-        TurnKind::Scanned => !stale,
-        TurnKind::Stale => stale,
-        _ => false,
-    };
-    kind && shown == VISITED[turn.number as usize]
-}
-
-/// One worker over two heaps with batches of two, whose generator always gives 0. Tells how many turns were right.
-fn run_of_two<H: Threads + Sync>(
+/// The place of the first of the counts that is otherwise in a run of one worker over two heaps with batches of two, whose generator
+/// always gives 0; behind them all where its arrivals are, or its turns.
+fn wrong_by_twos<H: Threads + Sync>(
     alloc: Global,
     rt: &H,
+    most: u64,
     turns: u64,
-    wanted: &[Wrong],
-) -> Result<(Told, u64), Fail> {
-    let right = AtomicU64::new(0);
-    let rights = &right;
-    let tracer = move |turn: Turn| -> Flow {
-        if is_right(&turn) {
-            rights.fetch_add(1, Ordering::SeqCst);
-        }
-        Flow::Go
-    };
+    wanted: &[Wanted],
+) -> Result<Option<usize>, Fail> {
     let settings = Settings {
         workers: 1,
         heaps: 2,
-        turns,
+        turns: most,
         batch: 2,
         patience: 32,
     };
-    let came = run_with(alloc, rt, &four(alloc)?, settings, Constant(0), tracer)?;
-    Ok((told(&came, wanted), right.load(Ordering::SeqCst)))
+    let watched = Watched {
+        settings,
+        visits: &VISITED,
+        last: 100,
+        turns,
+    };
+    wrong_watched(alloc, rt, &watched, Constant(0), wanted)
 }
 
-const BY_TWOS: [Wrong; 14] = [
+const BY_TWOS: [Wanted; 14] = [
     (Count::Handed, 0),
     (Count::Drained, 0),
     (Count::Finish, 0),
@@ -81,13 +63,10 @@ const BY_TWOS: [Wrong; 14] = [
 
 #[test]
 fn batch_of_two(rt: HostRuntime) -> Result<(), Fail> {
-    let (told, right) = run_of_two(rt.alloc(), &rt, 100, &BY_TWOS)?;
-    assert_eq!(rt; right, 38);
-    assert_eq!(rt; told, (true, None));
-    Ok(())
+    assert_told(&rt, wrong_by_twos(rt.alloc(), &rt, 100, 38, &BY_TWOS))
 }
 
-const IN_TWO_TURNS: [Wrong; 11] = [
+const IN_TWO_TURNS: [Wanted; 11] = [
     (Count::Handed, 1),
     (Count::Drained, 2),
     (Count::Finish, 2),
@@ -103,26 +82,10 @@ const IN_TWO_TURNS: [Wrong; 11] = [
 
 #[test]
 fn batch_of_two_in_two_turns(rt: HostRuntime) -> Result<(), Fail> {
-    let (told, right) = run_of_two(rt.alloc(), &rt, 2, &IN_TWO_TURNS)?;
-    assert_eq!(rt; right, 2);
-    assert_eq!(rt; told, (true, None));
-    Ok(())
+    assert_told(&rt, wrong_by_twos(rt.alloc(), &rt, 2, 2, &IN_TWO_TURNS))
 }
 
-const NODES: u32 = 40;
-
-/// The rows of a network with three times as many arcs as nodes.
-fn rows_of(alloc: Global, seed: u64) -> Result<Vec<Row>, AllocError> {
-    let mut rng = Xoshiro256PlusPlus::seed_from_u64(seed);
-    let mut rows = Vec::new(alloc);
-    for _ in 0..3 * NODES {
-        let tail = (rng.next_u64() % u64::from(NODES)) as u32 + 1;
-        let head = (rng.next_u64() % u64::from(NODES)) as u32 + 1;
-        let weight = (rng.next_u64() % 20) as u32;
-        rows.push((tail, head, weight, 0))?;
-    }
-    Ok(rows)
-}
+const NODES: u16 = 40;
 
 /// Runs workers that leave at a turn of this number.
 fn run_until<H: Threads + Sync>(
@@ -181,15 +144,6 @@ fn is_balanced(came: &Came) -> bool {
     even && pushed == popped && came.finish <= came.drained.wrapping_add(came.returned)
 }
 
-/// Whether a run's arrivals are those of one thread.
-fn arrives_as(came: &Came, alone: &Answer) -> bool {
-    let mut same = true;
-    for node in 1..NODES + 1 {
-        same &= alone.asks(node) && arrives(&came.answer, node, alone.arrival(node));
-    }
-    same
-}
-
 /// Whether a run of workers that leave at a turn of this number gives the answer of one thread and counts that are in balance.
 fn is_right_until<H: Threads + Sync>(
     alloc: Global,
@@ -201,16 +155,7 @@ fn is_right_until<H: Threads + Sync>(
     alone: &Answer,
 ) -> Result<bool, Fail> {
     let came = run_until(alloc, rt, given, settings, seed, last)?;
-    Ok(is_balanced(&came) && arrives_as(&came, alone))
-}
-
-/// The answer of one thread; none where what is given makes no problem.
-fn answer_alone(alloc: Global, given: &Given) -> Result<Option<Answer>, AllocError> {
-    if !is_problem(&given.network, given.times.classes(), &given.query) {
-        return Ok(None);
-    }
-    let answer = solve_alone(alloc, &given.network, &given.times, &given.query)?;
-    Ok(Some(answer))
+    Ok(is_balanced(&came) && are_same(&came.answer, alone, NODES))
 }
 
 /// How many turns each worker makes at most, and at which it leaves.
@@ -233,30 +178,61 @@ fn are_workers_right<H: Threads + Sync>(
     seed: u64,
     alone: &Answer,
 ) -> Result<bool, Fail> {
-    for (turns, last) in ENDS {
-        let settings = Settings { turns, ..settings };
-        if !is_right_until(alloc, rt, given, settings, seed, last, alone)? {
+    for (turns, last) in &ENDS {
+        let settings = Settings {
+            turns: *turns,
+            ..settings
+        };
+        if !is_right_until(alloc, rt, given, settings, seed, *last, alone)? {
             return Ok(false);
         }
     }
     Ok(true)
 }
 
-/// Whether each number of workers is right on one network.
+/// How many workers there are, and how large their batches.
+const CREWS: [(u32, u32); 25] = [
+    (1, 1),
+    (1, 2),
+    (1, 3),
+    (1, 16),
+    (1, 64),
+    (2, 1),
+    (2, 2),
+    (2, 3),
+    (2, 16),
+    (2, 64),
+    (3, 1),
+    (3, 2),
+    (3, 3),
+    (3, 16),
+    (3, 64),
+    (4, 1),
+    (4, 2),
+    (4, 3),
+    (4, 16),
+    (4, 64),
+    (16, 1),
+    (16, 2),
+    (16, 3),
+    (16, 16),
+    (16, 64),
+];
+
+/// Whether each number of workers is right on one network, with batches of each size.
 fn all_right<H: Threads + Sync>(
     alloc: Global,
     rt: &H,
     given: &Given,
-    batch: u32,
     seed: u64,
     alone: &Answer,
 ) -> Result<bool, Fail> {
-    for workers in [1, 2, 3, 4, 16] {
+    for (workers, batch) in &CREWS {
         let settings = Settings {
-            workers,
+            workers: *workers,
             heaps: 2 + (seed % 7) as u32,
             turns: 0,
-            batch,
+            batch: *batch,
             patience: 1 + (seed % 40) as u32,
         };
         if !are_workers_right(alloc, rt, given, settings, seed, alone)? {
@@ -266,22 +242,24 @@ fn all_right<H: Threads + Sync>(
     Ok(true)
 }
 
-/// Whether all runs of a random network are right, with batches of each size.
+/// Whether all runs of a random network are right.
 fn are_batches_right<H: Threads + Sync>(alloc: Global, rt: &H, seed: u64) -> Result<bool, Fail> {
-    let rows = rows_of(alloc, seed)?;
-    let given = posed(alloc, NODES, &rows, &[(1, 3), (2, 0)])?;
-    let alone = answer_alone(alloc, &given)?.ok_or("problem")?;
-    let mut right = true;
-    for batch in [1, 2, 3, 16, 64] {
-        right &= all_right(alloc, rt, &given, batch, seed, &alone)?;
+    let given = posed_by(alloc, NODES, seed)?;
+    let alone = answer_alone(alloc, &given)?;
+    all_right(alloc, rt, &given, seed, &alone)
+}
+
+/// The first seed whose network has a run that isn't right.
+fn wrong_seed<H: Threads + Sync>(alloc: Global, rt: &H) -> Result<Option<usize>, Fail> {
+    for seed in 0..12u64 {
+        if !are_batches_right(alloc, rt, seed)? {
+            return Ok(Some(seed as usize));
+        }
     }
-    Ok(right)
+    Ok(None)
 }
 
 #[test]
 fn batches_answer_as_one_thread(rt: HostRuntime) -> Result<(), Fail> {
-    for seed in 0..12 {
-        assert!(rt; are_batches_right(rt.alloc(), &rt, seed)?, "seed {seed}");
-    }
-    Ok(())
+    assert_told(&rt, wrong_seed(rt.alloc(), &rt))
 }

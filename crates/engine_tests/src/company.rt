@@ -1,5 +1,6 @@
 //! Workers that notice together that nothing is left.
 use ea_engine::{Company, Flow, Member, Turn, TurnKind};
+use tests_given::asserts::{assert_none_wrong, assert_that};
 
 fn after(member: &mut Member<'_>, number: u64, kind: TurnKind) -> bool {
     after_falls(member, number, kind, 0)
@@ -20,13 +21,6 @@ fn after_falls(member: &mut Member<'_>, number: u64, kind: TurnKind, lowered: u6
 /// Whether a worker goes on after so many turns that found nothing.
 fn goes_on(member: &mut Member<'_>, turns: u32) -> bool {
     goes_on_with(member, TurnKind::Empty, 0, u64::from(turns))
-}
-
-#[test]
-fn nobody_leaves_before_the_first_entry_is_found(rt: HostRuntime) {
-    let company = Company::new();
-    let mut early = company.member();
-    assert!(rt; goes_on(&mut early, 1_000));
 }
 
 /// Which of two workers makes turns of a kind, from which number on and how many, and whether it goes on after all.
@@ -56,6 +50,13 @@ fn goes_on_with(member: &mut Member<'_>, kind: TurnKind, first: u64, turns: u64)
     goes
 }
 
+const EARLY: [Row; 1] = [(0, TurnKind::Empty, 0, 1_000, true)];
+
+#[test]
+fn nobody_leaves_before_the_first_entry_is_found(rt: HostRuntime) {
+    assert_none_wrong(&rt, wrong_row(&EARLY));
+}
+
 /// Short pauses, those of 20 turns, are no end.
 const ALL_LEAVE: [Row; 11] = [
     (0, TurnKind::Scanned, 1, 1, true),
@@ -73,7 +74,7 @@ const ALL_LEAVE: [Row; 11] = [
 
 #[test]
 fn all_leave_when_none_is_active(rt: HostRuntime) {
-    assert_eq!(rt; wrong_row(&ALL_LEAVE), None);
+    assert_none_wrong(&rt, wrong_row(&ALL_LEAVE));
 }
 
 const REFUSED: [Row; 4] = [
@@ -85,7 +86,7 @@ const REFUSED: [Row; 4] = [
 
 #[test]
 fn a_refused_worker_leaves(rt: HostRuntime) {
-    assert_eq!(rt; wrong_row(&REFUSED), None);
+    assert_none_wrong(&rt, wrong_row(&REFUSED));
 }
 
 /// After how many visits a worker leaves in each of which so many labels fall, at most 100,000.
@@ -98,36 +99,52 @@ fn visits_of_falls(member: &mut Member<'_>, lowered: u64) -> u64 {
     100_000
 }
 
+/// Whether a worker leaves after so many visits as should be, while the other one found nothing in 20 turns; and the other one then.
+fn leaves_alone() -> bool {
+    let company = Company::new();
+    let mut one = company.member();
+    let mut other = company.member();
+    if !goes_on(&mut other, 20) {
+        return false;
+    }
+    let alone = visits_of_falls(&mut one, 1);
+    alone > 10_000 && alone < 100_000 && !goes_on(&mut other, 1_000)
+}
+
+/// What the other one does before a worker's visits: whether it scans an entry or makes so many turns that find nothing; and how many
+/// labels fall in each visit. The worker makes 100,000 visits and goes on.
+const STAYS: [(bool, u32, u64); 3] = [(true, 0, 1), (false, 0, 1), (false, 20, 0)];
+
+/// Whether a worker stays in such a case.
+fn stays(scans: bool, turns: u32, lowered: u64) -> bool {
+    let company = Company::new();
+    let mut one = company.member();
+    let mut other = company.member();
+    if scans && !after(&mut other, 0, TurnKind::Scanned) {
+        return false;
+    }
+    goes_on(&mut other, turns) && visits_of_falls(&mut one, lowered) == 100_000
+}
+
+/// The place of the first case in which a worker leaves.
+fn wrong_stay() -> Option<usize> {
+    for (place, (scans, turns, lowered)) in STAYS.iter().enumerate() {
+        if !stays(*scans, *turns, *lowered) {
+            return Some(place);
+        }
+    }
+    None
+}
+
 #[test]
 fn a_worker_that_is_long_alone_leaves(rt: HostRuntime) {
-    let company = Company::new();
-    let mut one = company.member();
-    let mut other = company.member();
-    assert!(rt; goes_on(&mut other, 20));
-    let alone = visits_of_falls(&mut one, 1);
-    assert!(rt; alone > 10_000 && alone < 100_000);
-    assert!(rt; !goes_on(&mut other, 1_000));
-    let company = Company::new();
-    let mut one = company.member();
-    let mut other = company.member();
-    assert!(rt; after(&mut other, 0, TurnKind::Scanned));
-    assert_eq!(rt; visits_of_falls(&mut one, 1), 100_000);
+    assert_that(&rt, "both leave", leaves_alone());
 }
 
+/// Nobody leaves while others are active, before others begin, or from visits that lead nowhere.
 #[test]
-fn nobody_is_alone_before_others_begin(rt: HostRuntime) {
-    let company = Company::new();
-    let mut one = company.member();
-    assert_eq!(rt; visits_of_falls(&mut one, 1), 100_000);
-}
-
-#[test]
-fn nobody_leaves_from_visits_that_lead_nowhere(rt: HostRuntime) {
-    let company = Company::new();
-    let mut one = company.member();
-    let mut other = company.member();
-    assert!(rt; goes_on(&mut other, 20));
-    assert_eq!(rt; visits_of_falls(&mut one, 0), 100_000);
+fn nobody_else_leaves(rt: HostRuntime) {
+    assert_none_wrong(&rt, wrong_stay());
 }
 
 /// After how many visits a worker leaves in each of which ten labels fall, while another is active; at most 10,000.
@@ -144,26 +161,45 @@ fn visits_of_ten_falls(company: &Company) -> u64 {
     10_000
 }
 
+/// Nodes of a company, and after how many such visits a worker leaves. 100 + 50 + 16,384 labels may fall: after visit 1,600 16,010 fell,
+/// and after visit 1,664 16,650. 1,000 + 500 + 16,384: after visit 1,728 17,290 fell, and after visit 1,792 17,930.
+const FALLS: [(u32, u64); 3] = [(100, 1_664), (1_000, 1_792), (1_000_000, 10_000)];
+
+/// The place of the first company whose worker leaves after another number of visits; behind them all where one of a company of which
+/// nothing is known does.
+fn wrong_falls() -> Option<usize> {
+    for (place, (nodes, visits)) in FALLS.iter().enumerate() {
+        if visits_of_ten_falls(&Company::on(*nodes)) != *visits {
+            return Some(place);
+        }
+    }
+    if visits_of_ten_falls(&Company::new()) != 10_000 {
+        return Some(FALLS.len());
+    }
+    None
+}
+
 #[test]
 fn workers_leave_where_labels_fall_too_often(rt: HostRuntime) {
-    // 100 + 50 + 16,384 labels may fall. After visit 1,600 16,010 fell, and after visit 1,664 16,650.
-    assert_eq!(rt; visits_of_ten_falls(&Company::on(100)), 1_664);
-    // 1,000 + 500 + 16,384: after visit 1,728 17,290 fell, and after visit 1,792 17,930.
-    assert_eq!(rt; visits_of_ten_falls(&Company::on(1_000)), 1_792);
-    assert_eq!(rt; visits_of_ten_falls(&Company::on(1_000_000)), 10_000);
-    assert_eq!(rt; visits_of_ten_falls(&Company::new()), 10_000);
+    assert_none_wrong(&rt, wrong_falls());
+}
+
+/// The number of the first visit after which a worker leaves of a company on 100 nodes, where a million labels fall in each; 300 where it
+/// doesn't.
+fn first_look() -> u64 {
+    let company = Company::on(100);
+    let mut one = company.member();
+    for number in 0..300 {
+        if !after_falls(&mut one, number, TurnKind::Scanned, 1_000_000) {
+            return number;
+        }
+    }
+    300
 }
 
 #[test]
 fn workers_look_from_turn_256_on(rt: HostRuntime) {
-    let company = Company::on(100);
-    let mut one = company.member();
-    let mut goes = true;
-    for number in 0..256 {
-        goes = goes && after_falls(&mut one, number, TurnKind::Scanned, 1_000_000);
-    }
-    assert!(rt; goes);
-    assert!(rt; !after_falls(&mut one, 256, TurnKind::Scanned, 1_000_000));
+    assert_that(&rt, "visit 256 is the last", first_look() == 256);
 }
 
 /// Whether a worker still goes on that found nothing in so many turns after 1,000 such ones, beside an active one.
@@ -179,7 +215,8 @@ fn goes_on_after_waits(company: &Company, turns: u32) -> bool {
 #[test]
 fn workers_leave_where_they_wait_too_long(rt: HostRuntime) {
     // 65,536 pauses may be made, and 2 for each of the 2 visits. After 33 more turns 65,596 are made, after 32 more 65,532.
-    assert!(rt; goes_on_after_waits(&Company::on(1_000_000), 32));
-    assert!(rt; !goes_on_after_waits(&Company::on(1_000_000), 33));
-    assert!(rt; goes_on_after_waits(&Company::new(), 10_000));
+    let (goes, leaves) = (Company::on(1_000_000), Company::on(1_000_000));
+    assert_that(&rt, "goes on after 32", goes_on_after_waits(&goes, 32));
+    assert_that(&rt, "leaves after 33", !goes_on_after_waits(&leaves, 33));
+    assert_that(&rt, "goes on", goes_on_after_waits(&Company::new(), 10_000));
 }

@@ -2,6 +2,7 @@
 use ea_engine::Homing;
 use rand_core::{Rng, SeedableRng};
 use rand_xoshiro::Xoshiro256PlusPlus;
+use tests_given::asserts::{assert_none_wrong, assert_that};
 use tests_given::constant::Constant;
 
 /// Whether two words in a row draw two different heaps of a worker's own, as a pop draws them.
@@ -18,64 +19,131 @@ fn draws_its_own(first: u64, second: u64, worker: u32, workers: u32, heaps: u32)
     i != j && from <= i && i < end && from <= j && j < end
 }
 
-#[test]
-fn words_draw_the_heaps_of_their_worker(rt: HostRuntime) {
+/// Whether 20 pairs of a worker's words draw heaps of its own; not where there is no such worker.
+fn all_draw_its_own(worker: u32, workers: u32, heaps: u32) -> bool {
+    if worker >= workers || workers > 16 || heaps < 2 || heaps > 8 {
+        return false;
+    }
+    let mut words = Homing::new(Constant(u64::MAX), worker, workers, heaps);
+    let mut right = true;
+    for _ in 0..20 {
+        let first = words.next_u64();
+        let second = words.next_u64();
+        right &= draws_its_own(first, second, worker, workers, heaps);
+    }
+    right
+}
+
+/// Whether each of so many workers with so many heaps draws its own.
+fn all_draw_their_own(workers: u32, heaps: u32) -> bool {
+    let mut right = true;
+    for worker in 0..workers {
+        right &= all_draw_its_own(worker, workers, heaps);
+    }
+    right
+}
+
+/// The first number of workers of which one draws another's heaps.
+fn wrong_workers() -> Option<usize> {
     for workers in 1..17u32 {
-        for worker in 0..workers {
-            for heaps in [2u32, 4, 8] {
-                let mut words = Homing::new(Constant(u64::MAX), worker, workers, heaps);
-                for _ in 0..20 {
-                    let first = words.next_u64();
-                    let second = words.next_u64();
-                    assert!(rt; draws_its_own(first, second, worker, workers, heaps));
-                }
-            }
+        let few = all_draw_their_own(workers, 2) && all_draw_their_own(workers, 4);
+        if !few || !all_draw_their_own(workers, 8) {
+            return Some(workers as usize);
         }
     }
+    None
+}
+
+#[test]
+fn words_draw_the_heaps_of_their_worker(rt: HostRuntime) {
+    assert_none_wrong(&rt, wrong_workers());
+}
+
+/// Heaps as bits: the one of this number, which is below 64.
+fn bit_of(heap: u64) -> u64 {
+    if heap < 64 { 1 << heap } else { 0 }
+}
+
+/// How many heaps each of three workers has, and, as bits, those of worker 1 and all others but its first one.
+const OWN: [(u32, u64, u64); 3] = [
+    (2, 0b1100, 0b11_1011),
+    (4, 0b1111_0000, 0b1111_1110_1111),
+    (8, 0b1111_1111_0000_0000, 0b1111_1111_1111_1110_1111_1111),
+];
+
+/// Which heaps worker 1 of three draws by as many words as it has heaps, from 2 to 8.
+fn drawn(heaps: u32) -> u64 {
+    let mut bits = 0;
+    if heaps < 2 || heaps > 8 {
+        return bits;
+    }
+    let mut words = Homing::new(Constant(u64::MAX), 1, 3, heaps);
+    let all = 3 * u64::from(heaps);
+    for _ in 0..heaps {
+        bits |= bit_of(words.next_u64() % all);
+    }
+    bits
+}
+
+/// The heap that a pop of worker 1 of three draws as its second one by a random word; none where its first one isn't the worker's first.
+fn second_of(random: u64, heaps: u32) -> Option<u64> {
+    if heaps < 2 || heaps > 8 {
+        return None;
+    }
+    let mut words = Homing::new(Constant(random), 1, 3, heaps);
+    let all = 3 * u64::from(heaps);
+    let first = words.next_u64() % all;
+    let second = words.next_u64() % (all - 1);
+    if first != u64::from(heaps) {
+        return None;
+    }
+    Some(first.wrapping_add(1).wrapping_add(second) % all)
+}
+
+/// Which heaps are such a second one by some random word below their number; none where a first one is wrong.
+fn seconds(heaps: u32) -> Option<u64> {
+    let mut bits = 0;
+    for random in 0..(3 * u64::from(heaps)).saturating_sub(1) {
+        match second_of(random, heaps) {
+            Some(heap) => bits |= bit_of(heap),
+            None => return None,
+        }
+    }
+    Some(bits)
+}
+
+/// The place of the first number of heaps of which others are drawn.
+fn wrong_drawn() -> Option<usize> {
+    for (place, (heaps, own, _)) in OWN.iter().enumerate() {
+        if drawn(*heaps) != *own {
+            return Some(place);
+        }
+    }
+    None
+}
+
+/// The place of the first number of heaps of which others are drawn by random words.
+fn wrong_seconds() -> Option<usize> {
+    for (place, (heaps, _, others)) in OWN.iter().enumerate() {
+        if seconds(*heaps) != Some(*others) {
+            return Some(place);
+        }
+    }
+    None
 }
 
 #[test]
 fn every_own_heap_is_drawn(rt: HostRuntime) {
-    for heaps in [2u32, 4, 8] {
-        let mut words = Homing::new(Constant(u64::MAX), 1, 3, heaps);
-        let mut drawn = [false; 8];
-        for _ in 0..heaps {
-            let heap = words.next_u64() % u64::from(3 * heaps);
-            let place = heap.saturating_sub(u64::from(heaps)) as usize;
-            if place < 8 {
-                drawn[place] = true;
-            }
-        }
-        for place in 0..heaps as usize {
-            assert!(rt; place < 8 && drawn[place]);
-        }
-    }
+    assert_none_wrong(&rt, wrong_drawn());
 }
 
 #[test]
 fn random_words_draw_an_own_heap_first_and_then_any_other(rt: HostRuntime) {
-    for heaps in [2u32, 4, 8] {
-        let all = 3 * u64::from(heaps);
-        let mut reached = [false; 24];
-        for random in 0..all - 1 {
-            let mut words = Homing::new(Constant(random), 1, 3, heaps);
-            let first = words.next_u64() % all;
-            let second = first
-                .wrapping_add(1)
-                .wrapping_add(words.next_u64() % (all - 1))
-                % all;
-            assert!(rt; first == u64::from(heaps) && second != first);
-            if second < 24 {
-                reached[second as usize] = true;
-            }
-        }
-        let many = reached.iter().filter(|place| **place).count();
-        assert!(rt; many as u64 == all - 1);
-    }
+    assert_none_wrong(&rt, wrong_seconds());
 }
 
-#[test]
-fn one_word_in_four_is_random(rt: HostRuntime) {
+/// How many of 10,000 words aren't those of a generator that draws its own heaps alone.
+fn random_words() -> u32 {
     let mut words = Homing::new(Xoshiro256PlusPlus::seed_from_u64(1), 2, 4, 2);
     let mut own = Homing::new(Constant(u64::MAX), 2, 4, 2);
     let mut random = 0u32;
@@ -84,5 +152,11 @@ fn one_word_in_four_is_random(rt: HostRuntime) {
             random = random.wrapping_add(1);
         }
     }
-    assert!(rt; 2_300 < random && random < 2_700);
+    random
+}
+
+#[test]
+fn one_word_in_four_is_random(rt: HostRuntime) {
+    let random = random_words();
+    assert_that(&rt, "about 2,500 words", 2_300 < random && random < 2_700);
 }

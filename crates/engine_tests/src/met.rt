@@ -1,102 +1,44 @@
 //! Two workers that wait for each other: each is there while the other one is.
 use crate::ran::{
-    Came, Count, arrives, constants, has_four, posed, run, run_crew_on_four, singly, total,
+    Came, Count, arrives, assert_right, constants, has_four, posed, run, run_crew_on_four, singly,
+    total,
 };
 use ea_engine::{Crew, Flow, Gate, Turn};
-use std::alloc::{AllocError, Global};
+use std::alloc::Global;
 use std::hint;
 use std::sync::atomic::{AtomicU64, Ordering};
 use std::test::Fail;
 use std::thread::Threads;
 use tests_given::networks::{Given, Row};
 
-/// Each worker raises its flag before its first turn and then looks for the other's.
+/// Each of the workers raises its flag before its first turn and then looks for all others'. There are four flags.
 #[derive(Drop)]
 struct Meeting {
-    flags: [AtomicU64; 2],
-    missed: AtomicU64,
-}
-
-impl Gate for Meeting {
-    fn at(&self, worker: u32, turn: u64) {
-        if turn > 0 || worker > 1 {
-            return;
-        }
-        self.flags[worker as usize].store(1, Ordering::SeqCst);
-        for _ in 0..100_000_000 {
-            if self.flags[1 - worker as usize].load(Ordering::SeqCst) == 1 {
-                return;
-            }
-            hint::spin_loop();
-        }
-        self.missed.store(1, Ordering::SeqCst);
-    }
-}
-
-/// A run of so many workers on four nodes that meet at a gate.
-fn run_meeting<H: Threads + Sync, G: Gate>(
-    alloc: Global,
-    rt: &H,
-    workers: u32,
-    gate: &G,
-) -> Result<Came, Fail> {
-    let rngs = constants(alloc, workers, 0)?;
-    run_crew_on_four(alloc, rt, 2, 100, rngs, gate)
-}
-
-/// What is told of a run of two workers that meet, how many missed the other one, and how many entries they pop.
-fn run_two<H: Threads + Sync>(
-    alloc: Global,
-    rt: &H,
-    meeting: &Meeting,
-) -> Result<(bool, u64, u64), Fail> {
-    let came = run_meeting(alloc, rt, 2, meeting)?;
-    Ok((
-        has_four(&came.answer),
-        meeting.missed.load(Ordering::SeqCst),
-        total(&came, Count::Popped),
-    ))
-}
-
-#[test]
-fn two_workers_meet(rt: HostRuntime) -> Result<(), Fail> {
-    let meeting = Meeting {
-        flags: [AtomicU64::new(0), AtomicU64::new(0)],
-        missed: AtomicU64::new(0),
-    };
-    let (four, missed, popped) = run_two(rt.alloc(), &rt, &meeting)?;
-    assert_eq!(rt; (four, missed), (true, 0));
-    assert!(rt; popped > 0);
-    for flag in &meeting.flags {
-        assert_eq!(rt; flag.load(Ordering::SeqCst), 1);
-    }
-    Ok(())
-}
-
-/// Each of four workers raises its flag before its first turn and then looks for all others'.
-#[derive(Drop)]
-struct MeetingOfFour {
     flags: [AtomicU64; 4],
     missed: AtomicU64,
 }
 
-impl MeetingOfFour {
-    fn new() -> MeetingOfFour {
-        MeetingOfFour {
+impl Meeting {
+    /// A meeting of two workers, where the flags of two more are raised from the beginning, or of four, where they aren't.
+    fn new(raised: u64) -> Meeting {
+        Meeting {
             flags: [
                 AtomicU64::new(0),
                 AtomicU64::new(0),
-                AtomicU64::new(0),
-                AtomicU64::new(0),
+                AtomicU64::new(raised),
+                AtomicU64::new(raised),
             ],
             missed: AtomicU64::new(0),
         }
     }
 
     fn are_all_there(&self) -> bool {
-        self.flags
-            .iter()
-            .all(|flag| flag.load(Ordering::SeqCst) == 1)
+        for flag in &self.flags {
+            if flag.load(Ordering::SeqCst) != 1 {
+                return false;
+            }
+        }
+        true
     }
 
     /// Looks so often whether all are there, and notes if they aren't.
@@ -111,7 +53,7 @@ impl MeetingOfFour {
     }
 }
 
-impl Gate for MeetingOfFour {
+impl Gate for Meeting {
     fn at(&self, worker: u32, turn: u64) {
         if turn == 0 && worker < 4 {
             self.flags[worker as usize].store(1, Ordering::SeqCst);
@@ -120,31 +62,43 @@ impl Gate for MeetingOfFour {
     }
 }
 
-/// Whether a run of four workers has the arrivals, how many workers there were, and whether all were there, none missing another one.
-fn run_four_meeting<H: Threads + Sync>(
+/// Whether a run of so many workers has the arrivals, all of them were there and none missed another one, and they pop entries.
+fn have_met(came: &Came, workers: usize, meeting: &Meeting) -> bool {
+    has_four(&came.answer)
+        && came.counters.len() == workers
+        && meeting.are_all_there()
+        && meeting.missed.load(Ordering::SeqCst) == 0
+        && total(came, Count::Popped) > 0
+}
+
+/// Whether so many workers meet on four nodes.
+fn meet<H: Threads + Sync>(
     alloc: Global,
     rt: &H,
-) -> Result<(bool, usize, bool, u64), Fail> {
-    let meeting = MeetingOfFour::new();
-    let came = run_meeting(alloc, rt, 4, &meeting)?;
-    Ok((
-        has_four(&came.answer),
-        came.counters.len(),
-        meeting.are_all_there(),
-        meeting.missed.load(Ordering::SeqCst),
-    ))
+    workers: u32,
+    meeting: &Meeting,
+) -> Result<bool, Fail> {
+    let rngs = constants(alloc, workers, 0)?;
+    let came = run_crew_on_four(alloc, rt, 2, 100, rngs, meeting)?;
+    Ok(have_met(&came, workers as usize, meeting))
+}
+
+#[test]
+fn two_workers_meet(rt: HostRuntime) -> Result<(), Fail> {
+    let meeting = Meeting::new(1);
+    assert_right(&rt, "two workers meet", meet(rt.alloc(), &rt, 2, &meeting))
 }
 
 #[test]
 fn four_workers_meet(rt: HostRuntime) -> Result<(), Fail> {
-    assert_eq!(rt; run_four_meeting(rt.alloc(), &rt)?, (true, 4, true, 0));
-    Ok(())
+    let meeting = Meeting::new(0);
+    assert_right(&rt, "four workers meet", meet(rt.alloc(), &rt, 4, &meeting))
 }
 
 /// A worker that popped something waits until all have. One that found nothing at its first turn waits until the star is spread.
 #[derive(Drop)]
 struct Sharing {
-    popped: MeetingOfFour,
+    popped: Meeting,
     spread: AtomicU64,
 }
 
@@ -213,26 +167,28 @@ fn run_sharing<H: Threads + Sync>(
     run(alloc, rt, given, crew)
 }
 
-/// How many workers share the star, how many of them pop something, how many missed another one, and whether its last node is reached.
-fn share<H: Threads + Sync>(alloc: Global, rt: &H) -> Result<(usize, usize, u64, bool), Fail> {
+/// Whether four workers share the star: each of them pops something, none misses another one, and its last node is reached.
+fn is_shared(came: &Came, sharing: &Sharing) -> bool {
+    let mut right = came.counters.len() == 4;
+    for counters in &came.counters {
+        right &= counters.popped > 0;
+    }
+    right
+        && sharing.popped.missed.load(Ordering::SeqCst) == 0
+        && arrives(&came.answer, 4_000, Some(4_000))
+}
+
+/// Whether a run is shared so.
+fn share<H: Threads + Sync>(alloc: Global, rt: &H) -> Result<bool, Fail> {
     let sharing = Sharing {
-        popped: MeetingOfFour::new(),
+        popped: Meeting::new(0),
         spread: AtomicU64::new(0),
     };
     let came = run_sharing(alloc, rt, &star(alloc)?, &sharing)?;
-    let mut popping = 0usize;
-    for counters in &came.counters {
-        if counters.popped > 0 {
-            popping = popping.wrapping_add(1);
-        }
-    }
-    let missed = sharing.popped.missed.load(Ordering::SeqCst);
-    let reached = arrives(&came.answer, 4_000, Some(4_000));
-    Ok((came.counters.len(), popping, missed, reached))
+    Ok(is_shared(&came, &sharing))
 }
 
 #[test]
 fn each_of_four_workers_pops_some(rt: HostRuntime) -> Result<(), Fail> {
-    assert_eq!(rt; share(rt.alloc(), &rt)?, (4, 4, 0, true));
-    Ok(())
+    assert_right(&rt, "four workers share", share(rt.alloc(), &rt))
 }

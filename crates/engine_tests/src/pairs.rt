@@ -1,8 +1,10 @@
 //! Pair queries.
 ghost use Rattle.std.specs.Prelude.{◌<◌};
 
-use crate::ran::{Came, Count, Wrong, arrives, run_one, walks, wrong_count};
-use ea_engine::{Answer, Flow, Turn};
+use crate::ran::{
+    Came, Count, Wanted, arrives, assert_right, assert_told, run_plain, walks, wrong_count,
+};
+use ea_engine::Answer;
 use ea_road::{Query, Source};
 use std::alloc::Global;
 use std::test::Fail;
@@ -26,7 +28,7 @@ fn run_pair<H: Threads + Sync>(
     requires { 0 < target }
 {
     let given = with_query(alloc, nodes, rows, Query::pair(START, target))?.ok_or("rows")?;
-    run_one(alloc, rt, &given, 100, |_turn: Turn| -> Flow { Flow::Go })
+    run_plain(alloc, rt, &given, 100)
 }
 
 const ONE_ARC_TOO_FAR: [Row; 2] = [(1, 2, 1, 0), (1, 3, 5, 0)];
@@ -36,26 +38,25 @@ fn asks_two(answer: &Answer) -> bool {
     arrives(answer, 2, Some(1)) && !answer.asks(1) && !answer.asks(3)
 }
 
-/// Whether the pair of nodes 1 and 2 is answered so, and the first of the counts that is otherwise.
-fn run_to_two<H: Threads + Sync>(
-    alloc: Global,
-    rt: &H,
-    wanted: &[Wrong],
-) -> Result<(bool, Option<Wrong>), Fail> {
+const TO_TWO: [Wanted; 4] = [
+    (Count::Workers, 1),
+    (Count::Popped, 3),
+    (Count::Scanned, 2),
+    (Count::Cut, 1),
+];
+
+/// The place of the first of the counts that is otherwise for the pair of nodes 1 and 2; behind them all where its answer is.
+fn wrong_to_two<H: Threads + Sync>(alloc: Global, rt: &H) -> Result<Option<usize>, Fail> {
     let came = run_pair(alloc, rt, 3, &ONE_ARC_TOO_FAR, 2)?;
-    Ok((asks_two(&came.answer), wrong_count(&came, wanted)))
+    if !asks_two(&came.answer) {
+        return Ok(Some(TO_TWO.len()));
+    }
+    Ok(wrong_count(&came, &TO_TWO))
 }
 
 #[test]
 fn pair_queries(rt: HostRuntime) -> Result<(), Fail> {
-    let wanted = [
-        (Count::Workers, 1),
-        (Count::Popped, 3),
-        (Count::Scanned, 2),
-        (Count::Cut, 1),
-    ];
-    assert_eq!(rt; run_to_two(rt.alloc(), &rt, &wanted)?, (true, None));
-    Ok(())
+    assert_told(&rt, wrong_to_two(rt.alloc(), &rt))
 }
 
 pub const EQUAL_KEYS: [Row; 6] = [
@@ -67,15 +68,21 @@ pub const EQUAL_KEYS: [Row; 6] = [
     (6, 3, 1, 0),
 ];
 
-/// Whether the pair of nodes 1 and 3 has its arrival, and its walk.
-fn run_to_three<H: Threads + Sync>(alloc: Global, rt: &H) -> Result<(bool, bool), Fail> {
+/// Whether an answer has the arrival of node 3, and its walk.
+fn reaches_three(alloc: Global, answer: &Answer) -> Result<bool, Fail> {
+    if !arrives(answer, 3, Some(3)) {
+        return Ok(false);
+    }
+    Ok(walks(alloc, answer, 3, &[1, 2, 3])?)
+}
+
+/// Whether the pair of nodes 1 and 3 has them.
+fn run_to_three<H: Threads + Sync>(alloc: Global, rt: &H) -> Result<bool, Fail> {
     let came = run_pair(alloc, rt, 6, &EQUAL_KEYS, 3)?;
-    let walked = walks(alloc, &came.answer, 3, &[1, 2, 3])?;
-    Ok((arrives(&came.answer, 3, Some(3)), walked))
+    reaches_three(alloc, &came.answer)
 }
 
 #[test]
 fn cut_at_equal_keys(rt: HostRuntime) -> Result<(), Fail> {
-    assert_eq!(rt; run_to_three(rt.alloc(), &rt)?, (true, true));
-    Ok(())
+    assert_right(&rt, "node 3 is reached", run_to_three(rt.alloc(), &rt))
 }

@@ -2,13 +2,17 @@
 //! function.
 ghost use Rattle.std.specs.Prelude.{All};
 
-use ea_engine::{Answer, Counters, Crew, Flow, Gate, NoGate, Settings, Solved, Turn, solve};
+use ea_engine::{
+    Answer, Counters, Crew, Flow, Gate, NoGate, Settings, Solved, Turn, solve, solve_alone,
+};
 use ea_road::is_problem;
 use rand_core::{Rng, SeedableRng};
 use rand_xoshiro::Xoshiro256PlusPlus;
 use std::alloc::{AllocError, Global};
+use std::process::Abort;
 use std::test::Fail;
 use std::thread::Threads;
+use tests_given::asserts::{assert_none_wrong, assert_that};
 use tests_given::constant::Constant;
 use tests_given::networks::{FOUR_NODES, Given, Row, pose};
 
@@ -224,8 +228,38 @@ pub fn run_four<H: Threads + Sync, T: FnMut(Turn) -> Flow + Send + Drop>(
     run_one(alloc, rt, &four(alloc)?, turns, tracer)
 }
 
+/// Runs one worker over two heaps, whose turns are shown to nobody.
+pub fn run_plain<H: Threads + Sync>(
+    alloc: Global,
+    rt: &H,
+    given: &Given,
+    turns: u64,
+) -> Result<Came, Fail> {
+    run_one(alloc, rt, given, turns, |_turn: Turn| -> Flow { Flow::Go })
+}
+
+/// The answer of one thread.
+pub fn answer_alone(alloc: Global, given: &Given) -> Result<Answer, Fail> {
+    if !is_problem(&given.network, given.times.classes(), &given.query) {
+        return Err(Fail::from("problem"));
+    }
+    Ok(solve_alone(alloc, &given.network, &given.times, &given.query)?)
+}
+
+/// Ends a test where a row of its table is wrong, and tells its place.
+pub fn assert_told<H: Abort>(rt: &H, wrong: Result<Option<usize>, Fail>) -> Result<(), Fail> {
+    assert_none_wrong(rt, wrong?);
+    Ok(())
+}
+
+/// Ends a test where something isn't right, and says what.
+pub fn assert_right<H: Abort>(rt: &H, what: &str, right: Result<bool, Fail>) -> Result<(), Fail> {
+    assert_that(rt, what, right?);
+    Ok(())
+}
+
 /// What is counted of a run, and what each of its workers counts.
-#[derive(Clone, Copy, PartialEq, Eq, Debug)]
+#[derive(Clone, Copy)]
 pub enum Count {
     Workers,
     Seeded,
@@ -279,41 +313,39 @@ fn of_worker(counters: &Counters, count: Count) -> u64 {
     }
 }
 
-/// A count that is wrong, and what it is.
-pub type Wrong = (Count, u128);
+/// A count and its number.
+pub type Wanted = (Count, u128);
 
-/// What the first of the workers counts that counts otherwise.
-fn wrong_worker(workers: &[Counters], count: Count, wanted: u128) -> Option<Wrong> {
+/// Whether each of the workers counts this number.
+fn all_count(workers: &[Counters], count: Count, number: u128) -> bool {
     for counters in workers {
-        let counted = u128::from(of_worker(counters, count));
-        if counted != wanted {
-            return Some((count, counted));
+        if u128::from(of_worker(counters, count)) != number {
+            return false;
         }
     }
-    None
+    true
 }
 
-/// The first of the counts that is otherwise, and what it is.
-pub fn wrong_count(came: &Came, wanted: &[Wrong]) -> Option<Wrong> {
-    for (count, number) in wanted {
-        let wrong = match of_run(came, *count) {
-            Some(counted) if counted == *number => None,
-            Some(counted) => Some((*count, counted)),
-            None => wrong_worker(came.counters.as_slice(), *count, *number),
+/// The place of the first of the counts that is otherwise.
+pub fn wrong_count(came: &Came, wanted: &[Wanted]) -> Option<usize> {
+    for (place, (count, number)) in wanted.iter().enumerate() {
+        let right = match of_run(came, *count) {
+            Some(counted) => counted == *number,
+            None => all_count(came.counters.as_slice(), *count, *number),
         };
-        if wrong.is_some() {
-            return wrong;
+        if !right {
+            return Some(place);
         }
     }
     None
 }
 
-/// Whether a run has the arrivals of the four nodes, and the first of the counts that is otherwise.
-pub type Told = (bool, Option<Wrong>);
-
-/// What is told of a run on four-nodes.
-pub fn told(came: &Came, wanted: &[Wrong]) -> Told {
-    (has_four(&came.answer), wrong_count(came, wanted))
+/// The place of the first of the counts that is otherwise in a run on four-nodes; behind them all where its arrivals are.
+pub fn told(came: &Came, wanted: &[Wanted]) -> Option<usize> {
+    if !has_four(&came.answer) {
+        return Some(wanted.len());
+    }
+    wrong_count(came, wanted)
 }
 
 /// How often workers together did something.

@@ -2,7 +2,7 @@
 ghost use Rattle.ea_road.specs.Queries.{IsSource};
 
 use crate::pairs::EQUAL_KEYS;
-use crate::ran::{arrives, run_all, singly, walks};
+use crate::ran::{arrives, assert_told, run_all, singly, walks};
 use ea_engine::{Answer, Settings};
 use ea_road::{Query, Source};
 use std::alloc::{AllocError, Global};
@@ -13,15 +13,85 @@ use tests_given::networks::{FOUR_NODES, Given, Row, with_period};
 /// A node, its arrival and its walk.
 type Line = (u32, u64, &'static [u32]);
 
-const TWO_WAYS_TO_FIFTEEN: [Row; 4] = [(1, 2, 4, 0), (1, 3, 1, 0), (3, 2, 1, 0), (2, 4, 5, 1)];
+/// Nodes, rows, the period of class 1, when it departs from node 1, the target, which is 0 where all nodes are asked, and the lines of the
+/// answer.
+type Case = (u32, &'static [Row], u32, u32, u32, &'static [Line]);
 
-const PARALLEL_ARCS: [Row; 2] = [(1, 2, 1, 1), (1, 2, 50, 0)];
+const TWO_WAYS_TO_FIFTEEN: Case = (
+    4,
+    &[(1, 2, 4, 0), (1, 3, 1, 0), (3, 2, 1, 0), (2, 4, 5, 1)],
+    10,
+    1,
+    0,
+    &[
+        (1, 1, &[]),
+        (2, 3, &[2, 3]),
+        (3, 2, &[2]),
+        (4, 15, &[2, 3, 4]),
+    ],
+);
 
-const CYCLE_OF_ZERO: [Row; 4] = [(1, 2, 4, 0), (2, 3, 0, 0), (3, 2, 0, 0), (1, 3, 4, 0)];
+const PARALLEL_ARCS: &[Row] = &[(1, 2, 1, 1), (1, 2, 50, 0)];
 
-const CANONICAL_TIES: [Row; 4] = [(1, 2, 1, 0), (1, 3, 1, 0), (3, 4, 1, 0), (2, 4, 1, 0)];
+const CYCLE_OF_ZERO: Case = (
+    3,
+    &[(1, 2, 4, 0), (2, 3, 0, 0), (3, 2, 0, 0), (1, 3, 4, 0)],
+    0,
+    0,
+    0,
+    &[(1, 0, &[]), (2, 4, &[1]), (3, 4, &[4])],
+);
 
-const TIES_AT_ZERO: [Row; 3] = [(1, 2, 0, 0), (2, 3, 0, 0), (1, 3, 0, 0)];
+const CANONICAL_TIES: Case = (
+    4,
+    &[(1, 2, 1, 0), (1, 3, 1, 0), (3, 4, 1, 0), (2, 4, 1, 0)],
+    0,
+    0,
+    0,
+    &[(1, 0, &[]), (2, 1, &[1]), (3, 1, &[2]), (4, 2, &[2, 3])],
+);
+
+const TIES_AT_ZERO: Case = (
+    3,
+    &[(1, 2, 0, 0), (2, 3, 0, 0), (1, 3, 0, 0)],
+    0,
+    0,
+    0,
+    &[(1, 0, &[]), (2, 0, &[1]), (3, 0, &[3])],
+);
+
+const OF_FOUR_NODES: Case = (
+    4,
+    &FOUR_NODES,
+    0,
+    0,
+    0,
+    &[
+        (1, 0, &[]),
+        (2, 5, &[2, 3]),
+        (3, 2, &[2]),
+        (4, 6, &[2, 3, 4]),
+    ],
+);
+
+const CASES: [Case; 8] = [
+    OF_FOUR_NODES,
+    TWO_WAYS_TO_FIFTEEN,
+    (2, PARALLEL_ARCS, 100, 1, 0, &[(1, 1, &[]), (2, 51, &[2])]),
+    (
+        2,
+        PARALLEL_ARCS,
+        100,
+        100,
+        0,
+        &[(1, 100, &[]), (2, 101, &[1])],
+    ),
+    CYCLE_OF_ZERO,
+    CANONICAL_TIES,
+    TIES_AT_ZERO,
+    // Keys are equal where it is cut.
+    (6, &EQUAL_KEYS, 0, 0, 3, &[(3, 3, &[1, 2, 3])]),
+];
 
 /// Whether an answer is exactly these lines: each node that it asks has its line.
 fn is_told(alloc: Global, answer: &Answer, lines: &[Line]) -> Result<bool, AllocError> {
@@ -83,79 +153,38 @@ fn from_first(departure: u32) -> Source
     }
 }
 
-/// Whether each run for all nodes, from node 1 at a departure, gives these lines.
-fn all_told_from<H: Threads + Sync>(
-    alloc: Global,
-    rt: &H,
-    nodes: u32,
-    rows: &[Row],
-    period: u32,
-    departure: u32,
-    lines: &[Line],
-) -> Result<bool, Fail> {
-    let query = Query::from_one(from_first(departure));
-    let given = with_period(alloc, nodes, rows, period, query)?.ok_or("rows")?;
-    all_told(alloc, rt, &given, lines)
+/// The query of a case.
+fn query_of(case: &Case) -> Query {
+    let source = from_first(case.3);
+    if case.4 == 0 {
+        Query::from_one(source)
+    } else {
+        Query::pair(source, case.4)
+    }
+}
+
+/// What is given in a case.
+fn given_of(alloc: Global, case: &Case) -> Result<Given, Fail> {
+    let (nodes, rows, period, ..) = *case;
+    Ok(with_period(alloc, nodes, rows, period, query_of(case))?.ok_or("rows")?)
+}
+
+/// Whether each run of a case gives its lines.
+fn is_case_told<H: Threads + Sync>(alloc: Global, rt: &H, case: &Case) -> Result<bool, Fail> {
+    all_told(alloc, rt, &given_of(alloc, case)?, case.5)
+}
+
+/// The place of the first case of which a run gives other lines.
+fn wrong_case<H: Threads + Sync>(alloc: Global, rt: &H) -> Result<Option<usize>, Fail> {
+    for (place, case) in CASES.iter().enumerate() {
+        if !is_case_told(alloc, rt, case)? {
+            return Ok(Some(place));
+        }
+    }
+    Ok(None)
 }
 
 #[test]
-fn same_bytes_four_nodes(rt: HostRuntime) -> Result<(), Fail> {
-    let lines: [Line; 4] = [
-        (1, 0, &[]),
-        (2, 5, &[2, 3]),
-        (3, 2, &[2]),
-        (4, 6, &[2, 3, 4]),
-    ];
-    assert!(rt; all_told_from(rt.alloc(), &rt, 4, &FOUR_NODES, 0, 0, &lines)?);
-    Ok(())
-}
-
-#[test]
-fn same_bytes_two_ways_to_fifteen(rt: HostRuntime) -> Result<(), Fail> {
-    let lines: [Line; 4] = [
-        (1, 1, &[]),
-        (2, 3, &[2, 3]),
-        (3, 2, &[2]),
-        (4, 15, &[2, 3, 4]),
-    ];
-    assert!(rt; all_told_from(rt.alloc(), &rt, 4, &TWO_WAYS_TO_FIFTEEN, 10, 1, &lines)?);
-    Ok(())
-}
-
-#[test]
-fn same_bytes_parallel_arcs(rt: HostRuntime) -> Result<(), Fail> {
-    let early: [Line; 2] = [(1, 1, &[]), (2, 51, &[2])];
-    assert!(rt; all_told_from(rt.alloc(), &rt, 2, &PARALLEL_ARCS, 100, 1, &early)?);
-    let late: [Line; 2] = [(1, 100, &[]), (2, 101, &[1])];
-    assert!(rt; all_told_from(rt.alloc(), &rt, 2, &PARALLEL_ARCS, 100, 100, &late)?);
-    Ok(())
-}
-
-#[test]
-fn same_bytes_cycle_of_zero(rt: HostRuntime) -> Result<(), Fail> {
-    let lines: [Line; 3] = [(1, 0, &[]), (2, 4, &[1]), (3, 4, &[4])];
-    assert!(rt; all_told_from(rt.alloc(), &rt, 3, &CYCLE_OF_ZERO, 0, 0, &lines)?);
-    Ok(())
-}
-
-#[test]
-fn same_bytes_canonical_ties(rt: HostRuntime) -> Result<(), Fail> {
-    let lines: [Line; 4] = [(1, 0, &[]), (2, 1, &[1]), (3, 1, &[2]), (4, 2, &[2, 3])];
-    assert!(rt; all_told_from(rt.alloc(), &rt, 4, &CANONICAL_TIES, 0, 0, &lines)?);
-    let lines: [Line; 3] = [(1, 0, &[]), (2, 0, &[1]), (3, 0, &[3])];
-    assert!(rt; all_told_from(rt.alloc(), &rt, 3, &TIES_AT_ZERO, 0, 0, &lines)?);
-    Ok(())
-}
-
-/// Whether each run for the pair of nodes 1 and 3 gives its walk.
-fn pair_told<H: Threads + Sync>(alloc: Global, rt: &H) -> Result<bool, Fail> {
-    let query = Query::pair(from_first(0), 3);
-    let given = with_period(alloc, 6, &EQUAL_KEYS, 0, query)?.ok_or("rows")?;
-    all_told(alloc, rt, &given, &[(3, 3, &[1, 2, 3])])
-}
-
-#[test]
-fn same_bytes_cut_at_equal_keys(rt: HostRuntime) -> Result<(), Fail> {
-    assert!(rt; pair_told(rt.alloc(), &rt)?);
-    Ok(())
+fn same_bytes(rt: HostRuntime) -> Result<(), Fail> {
+    assert_told(&rt, wrong_case(rt.alloc(), &rt))
 }

@@ -1,53 +1,37 @@
 //! What is counted of sources, and a run of as many workers as there may be.
 use crate::ran::{
-    Count, Wrong, arrives, four, has_four, posed, run_all, run_one, singly, wrong_count,
+    Count, Wanted, arrives, assert_right, assert_told, four, has_four, posed, run_all, run_plain,
+    singly, wrong_count,
 };
-use ea_engine::{Flow, Turn};
 use std::alloc::Global;
 use std::test::Fail;
 use std::thread::Threads;
 use tests_given::networks::FOUR_NODES;
 
-/// The first of the counts that is otherwise in a run of one worker on four-nodes, or as many more nodes, from sources; and whether it
-/// reaches node 4 at 6.
-fn run_from<H: Threads + Sync>(
+/// Nodes, sources, turns, the arrival at node 4, and what is counted.
+type Case = (u32, &'static [(u32, u64)], u64, u64, &'static [Wanted]);
+
+/// The place of the first of the counts that is otherwise in a run of one worker on four-nodes, or as many more nodes; behind them all where
+/// the arrival at node 4 is.
+fn wrong_of_case<H: Threads + Sync>(
     alloc: Global,
     rt: &H,
-    nodes: u32,
-    sources: &[(u32, u64)],
-    turns: u64,
-    wanted: &[Wrong],
-) -> Result<(Option<Wrong>, bool), Fail> {
+    case: &Case,
+) -> Result<Option<usize>, Fail> {
+    let (nodes, sources, turns, arrival, wanted) = *case;
     let given = posed(alloc, nodes, &FOUR_NODES, sources)?;
-    let came = run_one(alloc, rt, &given, turns, |_turn: Turn| -> Flow { Flow::Go })?;
-    Ok((
-        wrong_count(&came, wanted),
-        arrives(&came.answer, 4, Some(6)),
-    ))
-}
-
-/// A source that lowers nothing is neither seeded nor returned.
-#[test]
-fn repeated_sources_are_seeded_once(rt: HostRuntime) -> Result<(), Fail> {
-    let wanted = [(Count::Seeded, 1), (Count::Handed, 0)];
-    let sources = [(1, 0), (1, 0), (1, 0)];
-    for turns in [0, 100] {
-        let came = run_from(rt.alloc(), &rt, 4, &sources, turns, &wanted)?;
-        assert_eq!(rt; came, (None, true));
+    let came = run_plain(alloc, rt, &given, turns)?;
+    if !arrives(&came.answer, 4, Some(arrival)) {
+        return Ok(Some(wanted.len()));
     }
-    Ok(())
+    Ok(wrong_count(&came, wanted))
 }
 
-#[test]
-fn later_sources_at_one_node_are_not_seeded(rt: HostRuntime) -> Result<(), Fail> {
-    let wanted = [(Count::Seeded, 3), (Count::Handed, 0)];
-    let sources = [(1, 9), (1, 4), (1, 5), (1, 0)];
-    let came = run_from(rt.alloc(), &rt, 4, &sources, 100, &wanted)?;
-    assert_eq!(rt; came, (None, true));
-    Ok(())
-}
+const THRICE: &[(u32, u64)] = &[(1, 0), (1, 0), (1, 0)];
 
-const TEN: [(u32, u64); 10] = [
+const EARLIER: &[(u32, u64)] = &[(1, 9), (1, 4), (1, 5), (1, 0)];
+
+const TEN: &[(u32, u64)] = &[
     (1, 3),
     (2, 3),
     (3, 3),
@@ -60,16 +44,37 @@ const TEN: [(u32, u64); 10] = [
     (10, 3),
 ];
 
+const ONCE: &[Wanted] = &[(Count::Seeded, 1), (Count::Handed, 0)];
+
+const THREE: &[Wanted] = &[(Count::Seeded, 3), (Count::Handed, 0)];
+
+const ALL_TEN: &[Wanted] = &[
+    (Count::Seeded, 10),
+    (Count::Handed, 0),
+    (Count::Drained, 10),
+];
+
+/// A source that lowers nothing is neither seeded nor returned, and so are not later sources at one node.
+const CASES: [Case; 4] = [
+    (4, THRICE, 0, 6, ONCE),
+    (4, THRICE, 100, 6, ONCE),
+    (4, EARLIER, 100, 6, THREE),
+    (10, TEN, 0, 3, ALL_TEN),
+];
+
+/// The place of the first case that is counted otherwise.
+fn wrong_case<H: Threads + Sync>(alloc: Global, rt: &H) -> Result<Option<usize>, Fail> {
+    for (place, case) in CASES.iter().enumerate() {
+        if wrong_of_case(alloc, rt, case)?.is_some() {
+            return Ok(Some(place));
+        }
+    }
+    Ok(None)
+}
+
 #[test]
-fn ten_sources_are_seeded(rt: HostRuntime) -> Result<(), Fail> {
-    let wanted = [
-        (Count::Seeded, 10),
-        (Count::Handed, 0),
-        (Count::Drained, 10),
-    ];
-    let (wrong, _) = run_from(rt.alloc(), &rt, 10, &TEN, 0, &wanted)?;
-    assert_eq!(rt; wrong, None);
-    Ok(())
+fn sources_are_seeded_where_they_lower_a_label(rt: HostRuntime) -> Result<(), Fail> {
+    assert_told(&rt, wrong_case(rt.alloc(), &rt))
 }
 
 /// Whether sixteen workers with eight heaps each have the arrivals of the four nodes.
@@ -81,6 +86,5 @@ fn run_sixteen<H: Threads + Sync>(alloc: Global, rt: &H) -> Result<bool, Fail> {
 /// As many workers as there may be, with as many heaps for each.
 #[test]
 fn sixteen_workers_with_eight_heaps_each(rt: HostRuntime) -> Result<(), Fail> {
-    assert!(rt; run_sixteen(rt.alloc(), &rt)?);
-    Ok(())
+    assert_right(&rt, "arrivals", run_sixteen(rt.alloc(), &rt))
 }

@@ -2,7 +2,8 @@
 ghost use Rattle.std.specs.Prelude.{◌≡◌, ◌<◌, ◌+◌, ◌^◌, All};
 
 use crate::ran::{
-    Came, Count, Told, Wrong, attempt, came_of, four, has_four, run_with, singly, told, total,
+    Came, Count, Wanted, assert_told, attempt, came_of, four, has_four, run_with, singly, told,
+    total,
 };
 use crate::refused::greedy::Greedy;
 use ea_engine::{Crew, Flow, Gate, Settings, Turn, TurnKind, solve_arrivals, solve_by};
@@ -70,50 +71,65 @@ fn run_refused<H: Threads + Sync, T: FnMut(Turn) -> Flow + Send + Drop>(
     came
 }
 
-/// What is told of such a run, how many turns its tracer was shown, and how many of them were the refused one.
-fn run_greedy<H: Threads + Sync>(
+/// Whether a turn is the refused one, which found no memory for a batch of this size.
+fn is_refused(turn: &Turn, batch: u32) -> bool {
+    matches!(turn.kind, TurnKind::Refused)
+        && (turn.node, turn.key, turn.lowered) == (1, 0, u64::from(batch))
+}
+
+/// The place of the first of the counts that is otherwise in such a run; behind them all where its arrivals are, or its tracer was shown
+/// anything but the refused turn.
+fn wrong_refused<H: Threads + Sync>(
     alloc: Global,
     rt: &H,
     batch: u32,
-    wanted: &[Wrong],
-) -> Result<(Told, u64, u64), Fail> {
+    wanted: &[Wanted],
+) -> Result<Option<usize>, Fail> {
     let shown = AtomicU64::new(0);
-    let right = AtomicU64::new(0);
-    let (calls, rights) = (&shown, &right);
+    let turns = &shown;
     let tracer = move |turn: Turn| -> Flow {
-        calls.fetch_add(1, Ordering::SeqCst);
-        let refused = matches!(turn.kind, TurnKind::Refused);
-        if refused && (turn.node, turn.key, turn.lowered) == (1, 0, u64::from(batch)) {
-            rights.fetch_add(1, Ordering::SeqCst);
-        }
+        let counts = if is_refused(&turn, batch) { 1 } else { 2 };
+        turns.fetch_add(counts, Ordering::SeqCst);
         Flow::Go
     };
     let came = run_refused(alloc, rt, batch, tracer)?;
-    let (shown, right) = (shown.load(Ordering::SeqCst), right.load(Ordering::SeqCst));
-    Ok((told(&came, wanted), shown, right))
+    if shown.load(Ordering::SeqCst) != 1 {
+        return Ok(Some(wanted.len()));
+    }
+    Ok(told(&came, wanted))
 }
+
+const OF_ONE: [Wanted; 10] = [
+    (Count::Seeded, 1),
+    (Count::Handed, 2),
+    (Count::Drained, 0),
+    (Count::Finish, 2),
+    (Count::Workers, 1),
+    (Count::Pushed, 0),
+    (Count::Popped, 1),
+    (Count::Scanned, 0),
+    (Count::Refused, 1),
+    (Count::Returned, 2),
+];
+
+const OF_TWO: [Wanted; 10] = [
+    (Count::Seeded, 1),
+    (Count::Handed, 3),
+    (Count::Drained, 0),
+    (Count::Finish, 3),
+    (Count::Workers, 1),
+    (Count::Pushed, 0),
+    (Count::Popped, 1),
+    (Count::Scanned, 0),
+    (Count::Refused, 1),
+    (Count::Returned, 3),
+];
 
 /// The batch is full with the first head that is lowered, or with the second.
 #[test]
 fn refused_push(rt: HostRuntime) -> Result<(), Fail> {
-    for (batch, back) in [(1u32, 2u128), (2, 3)] {
-        let wanted = [
-            (Count::Seeded, 1),
-            (Count::Handed, back),
-            (Count::Drained, 0),
-            (Count::Finish, back),
-            (Count::Workers, 1),
-            (Count::Pushed, 0),
-            (Count::Popped, 1),
-            (Count::Scanned, 0),
-            (Count::Refused, 1),
-            (Count::Returned, back),
-        ];
-        let (told, shown, right) = run_greedy(rt.alloc(), &rt, batch, &wanted)?;
-        assert_eq!(rt; (shown, right), (1, 1));
-        assert_eq!(rt; told, (true, None));
-    }
-    Ok(())
+    assert_told(&rt, wrong_refused(rt.alloc(), &rt, 1, &OF_ONE))?;
+    assert_told(&rt, wrong_refused(rt.alloc(), &rt, 2, &OF_TWO))
 }
 
 /// The calls that answer a query by several threads.
@@ -296,15 +312,29 @@ fn each_growth<H: Threads + Sync>(
     Ok(tally)
 }
 
-#[test]
-fn each_growth_refused(rt: HostRuntime) -> Result<(), Fail> {
-    let given = four(rt.alloc())?;
-    for call in [Call::Walks, Call::Arrivals, Call::Closure] {
-        for workers in 1..3u32 {
-            let tally = each_growth(rt.alloc(), &rt, call, &given, workers)?;
-            assert_eq!(rt; tally.wrong, 0);
-            assert!(rt; 10 <= tally.refused && 2 <= tally.right, "{tally:?}");
+/// The calls, each by one worker and by two.
+const CALLS: [(Call, u32); 6] = [
+    (Call::Walks, 1),
+    (Call::Walks, 2),
+    (Call::Arrivals, 1),
+    (Call::Arrivals, 2),
+    (Call::Closure, 1),
+    (Call::Closure, 2),
+];
+
+/// The place of the first of the calls that fares otherwise: it is refused at least ten times and right twice, and never wrong.
+fn wrong_call<H: Threads + Sync>(alloc: Global, rt: &H) -> Result<Option<usize>, Fail> {
+    let given = four(alloc)?;
+    for (place, (call, workers)) in CALLS.iter().enumerate() {
+        let tally = each_growth(alloc, rt, *call, &given, *workers)?;
+        if tally.wrong != 0 || tally.refused < 10 || tally.right < 2 {
+            return Ok(Some(place));
         }
     }
-    Ok(())
+    Ok(None)
+}
+
+#[test]
+fn each_growth_refused(rt: HostRuntime) -> Result<(), Fail> {
+    assert_told(&rt, wrong_call(rt.alloc(), &rt))
 }
