@@ -29,12 +29,15 @@ type Row = (usize, TurnKind, u64, u64, bool);
 /// The first of the rows that goes otherwise with two workers of a new company.
 fn wrong_row(rows: &[Row]) -> Option<usize> {
     let company = Company::new();
-    let mut members = [company.member(), company.member()];
+    let mut one = company.member();
+    let mut other = company.member();
     for (place, (worker, kind, first, turns, goes)) in rows.iter().enumerate() {
-        let Some(member) = members.get_mut(*worker) else {
-            return Some(place);
+        let went = if *worker == 0 {
+            goes_on_with(&mut one, *kind, *first, *turns)
+        } else {
+            goes_on_with(&mut other, *kind, *first, *turns)
         };
-        if goes_on_with(member, *kind, *first, *turns) != *goes {
+        if went != *goes {
             return Some(place);
         }
     }

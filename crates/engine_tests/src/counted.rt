@@ -1,6 +1,7 @@
 //! The worked examples, by their counters.
 use crate::ran::{
-    Count, Wanted, assert_told, constants, four, run_crew_on_four, run_with, seeded, singly, told,
+    Count, Wanted, assert_told, constants, four, has_four, run_crew_on_four, run_with, seeded,
+    singly, told, wrong_beside,
 };
 use ea_engine::{Flow, NoGate, Settings, Turn, TurnKind};
 use rand_core::{Rng, SeedableRng};
@@ -9,6 +10,7 @@ use std::alloc::Global;
 use std::sync::atomic::{AtomicU64, Ordering};
 use std::test::Fail;
 use std::thread::Threads;
+use tests_given::networks::Given;
 
 /// The key, the node and the lowered heads of a turn that visits an entry, and whether the entry is stale.
 pub type Visit = (u64, u32, u64, bool);
@@ -64,9 +66,10 @@ pub struct Watched {
 
 /// The place of the first of the counts that is otherwise in a run of one worker; behind them all where its arrivals are, or a turn that
 /// its tracer is shown.
-pub fn wrong_watched<H: Threads + Sync, R: Rng + Send + Drop>(
+fn wrong_on<H: Threads + Sync, R: Rng + Send + Drop>(
     alloc: Global,
     rt: &H,
+    given: &Given,
     watched: &Watched,
     rng: R,
     wanted: &[Wanted],
@@ -82,11 +85,20 @@ pub fn wrong_watched<H: Threads + Sync, R: Rng + Send + Drop>(
             Flow::Go
         }
     };
-    let came = run_with(alloc, rt, &four(alloc)?, watched.settings, rng, tracer)?;
-    if turns.load(Ordering::SeqCst) != watched.turns {
-        return Ok(Some(wanted.len()));
-    }
-    Ok(told(&came, wanted))
+    let came = run_with(alloc, rt, given, watched.settings, rng, tracer)?;
+    let right = turns.load(Ordering::SeqCst) == watched.turns && has_four(&came.answer);
+    Ok(wrong_beside(&came, right, wanted))
+}
+
+/// The same on four-nodes.
+pub fn wrong_watched<H: Threads + Sync, R: Rng + Send + Drop>(
+    alloc: Global,
+    rt: &H,
+    watched: &Watched,
+    rng: R,
+    wanted: &[Wanted],
+) -> Result<Option<usize>, Fail> {
+    wrong_on(alloc, rt, &four(alloc)?, watched, rng, wanted)
 }
 
 /// The same of a worker that pops entry by entry, makes so many turns at most and leaves at the turn of a number.

@@ -1,7 +1,7 @@
 //! Which heaps are looked at: seeds and pops with known words over eight heaps.
 use crate::ran::{
     Count, Wanted, assert_told, constants, posed, run_crew_on_four, run_with, singly, total,
-    wrong_count,
+    wrong_beside,
 };
 use ea_engine::{Flow, NoGate, Turn};
 use rand_core::Rng;
@@ -110,10 +110,8 @@ fn wrong_two<H: Threads + Sync>(
 ) -> Result<Option<usize>, Fail> {
     let rngs = constants(alloc, 2, word)?;
     let came = run_crew_on_four(alloc, rt, 8, 100, rngs, &NoGate)?;
-    if (total(&came, Count::Popped) > 0) != pops {
-        return Ok(Some(wanted.len()));
-    }
-    Ok(wrong_count(&came, wanted))
+    let right = (total(&came, Count::Popped) > 0) == pops;
+    Ok(wrong_beside(&came, right, wanted))
 }
 
 const OF_TWO: [Wanted; 7] = [

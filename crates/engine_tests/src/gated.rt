@@ -1,33 +1,52 @@
 //! The gate is called before each turn of each worker, once, with the worker's and the turn's numbers.
 use crate::ran::{Came, assert_told, four, run, seeded, singly};
-use ea_engine::{Crew, Flow, Gate, Turn};
+use ea_engine::{Counters, Crew, Flow, Gate, Turn};
 use std::alloc::Global;
 use std::sync::atomic::{AtomicU64, Ordering};
 use std::test::Fail;
 use std::thread::Threads;
 use tests_given::networks::Given;
 
-/// Counts its calls by workers, and notes a call whose number isn't the count so far.
+/// Counts its calls by three workers, of which each makes fewer than 1,000 turns, and notes a call whose number isn't the count so far.
 #[derive(Drop)]
 struct Counting {
-    calls: [AtomicU64; 3],
+    /// Those of worker 0, a thousand for each of worker 1, and a million for each of worker 2.
+    calls: AtomicU64,
     wrong: AtomicU64,
+}
+
+/// What a call of a worker counts.
+fn share(worker: u32) -> u64 {
+    match worker {
+        0 => 1,
+        1 => 1_000,
+        _ => 1_000_000,
+    }
 }
 
 impl Gate for Counting {
     fn at(&self, worker: u32, turn: u64) {
-        if worker > 2 || self.calls[worker as usize].fetch_add(1, Ordering::SeqCst) != turn {
+        let calls = self.calls.fetch_add(share(worker), Ordering::SeqCst);
+        if worker > 2 || calls_of(calls, worker) != turn {
             self.wrong.store(1, Ordering::SeqCst);
         }
+    }
+}
+
+/// How many calls are a worker's.
+fn calls_of(calls: u64, worker: u32) -> u64 {
+    match worker {
+        0 => calls % 1_000,
+        1 => calls / 1_000 % 1_000,
+        _ => calls / 1_000_000,
     }
 }
 
 impl Counting {
     /// Notes a turn that is shown where its gate wasn't the last one that was called for its worker.
     fn shown(&self, worker: u32, turn: u64) {
-        if worker > 2
-            || self.calls[worker as usize].load(Ordering::SeqCst) != turn.wrapping_add(1)
-        {
+        let calls = self.calls.load(Ordering::SeqCst);
+        if calls_of(calls, worker) != turn.wrapping_add(1) {
             self.wrong.store(1, Ordering::SeqCst);
         }
     }
@@ -60,31 +79,37 @@ fn run_gated<H: Threads + Sync>(
     run(alloc, rt, given, crew)
 }
 
-/// The first worker that made no turns, or another number than the gate was called for it; 3 where there aren't three workers, or a call
-/// was wrong.
-fn wrong_worker(came: &Came, gate: &Counting) -> Option<usize> {
-    if came.counters.len() != 3 || gate.wrong.load(Ordering::SeqCst) != 0 {
-        return Some(3);
+/// The first worker that made no turns, or another number than the gate was called for it; behind them all where there aren't three workers,
+/// or a call was wrong.
+fn wrong_worker(counters: &[Counters], gate: &Counting) -> Option<usize> {
+    if counters.len() != 3 || gate.wrong.load(Ordering::SeqCst) != 0 {
+        return Some(counters.len());
     }
-    for (place, (calls, counters)) in gate.calls.iter().zip(&came.counters).enumerate() {
-        if counters.turns == 0 || calls.load(Ordering::SeqCst) != counters.turns {
+    let calls = gate.calls.load(Ordering::SeqCst);
+    for (place, counted) in counters.iter().enumerate() {
+        if counted.turns == 0 || calls_of(calls, place as u32) != counted.turns {
             return Some(place);
         }
     }
     None
 }
 
-/// The same of a run on four-nodes.
-fn wrong_counting<H: Threads + Sync>(alloc: Global, rt: &H) -> Result<Option<usize>, Fail> {
+/// The same of a run.
+fn wrong_counting<H: Threads + Sync>(
+    alloc: Global,
+    rt: &H,
+    given: &Given,
+) -> Result<Option<usize>, Fail> {
     let gate = Counting {
-        calls: [AtomicU64::new(0), AtomicU64::new(0), AtomicU64::new(0)],
+        calls: AtomicU64::new(0),
         wrong: AtomicU64::new(0),
     };
-    let came = run_gated(alloc, rt, &four(alloc)?, &gate)?;
-    Ok(wrong_worker(&came, &gate))
+    let came = run_gated(alloc, rt, given, &gate)?;
+    Ok(wrong_worker(came.counters.as_slice(), &gate))
 }
 
 #[test]
 fn gate_counts_the_turns(rt: HostRuntime) -> Result<(), Fail> {
-    assert_told(&rt, wrong_counting(rt.alloc(), &rt))
+    let given = four(rt.alloc())?;
+    assert_told(&rt, wrong_counting(rt.alloc(), &rt, &given))
 }

@@ -1,8 +1,8 @@
 //! Inputs of the size of real use.
 use crate::late::{goes_round, late_ring};
 use crate::ran::{
-    Count, Wanted, answer_alone, arrives, assert_right, assert_told, constants, posed, run_crew,
-    total, wrong_count,
+    Came, Count, Wanted, answer_alone, arrives, assert_right, assert_told, constants, posed,
+    run_crew, total, wrong_beside,
 };
 use ea_engine::{Answer, NoGate};
 use std::alloc::{AllocError, Global};
@@ -53,14 +53,19 @@ fn is_along(alloc: Global, answer: &Answer) -> Result<bool, Fail> {
     }
 }
 
-/// Whether two workers with eight heaps each, whose generators give 16 alone, pop entries and give such an answer.
-fn run_along<H: Threads + Sync>(alloc: Global, rt: &H, given: &Given) -> Result<bool, Fail> {
-    let rngs = constants(alloc, 2, 16)?;
-    let came = run_crew(alloc, rt, given, 8, 1_000_000, rngs, &NoGate)?;
-    if total(&came, Count::Popped) == 0 {
+/// Whether workers popped entries and gave such an answer.
+fn pops_along(alloc: Global, came: &Came) -> Result<bool, Fail> {
+    if total(came, Count::Popped) == 0 {
         return Ok(false);
     }
     is_along(alloc, &came.answer)
+}
+
+/// Whether two workers with eight heaps each do, whose generators give 16 alone.
+fn run_along<H: Threads + Sync>(alloc: Global, rt: &H, given: &Given) -> Result<bool, Fail> {
+    let rngs = constants(alloc, 2, 16)?;
+    let came = run_crew(alloc, rt, given, 8, 1_000_000, rngs, &NoGate)?;
+    pops_along(alloc, &came)
 }
 
 /// Whether two workers do on the path.
@@ -74,9 +79,14 @@ fn two_workers_along_a_million_nodes(rt: HostRuntime) -> Result<(), Fail> {
 }
 
 /// Whether one thread gives such an answer.
-fn one_along(alloc: Global) -> Result<bool, Fail> {
-    let answer = answer_alone(alloc, &path(alloc)?)?;
+fn run_alone(alloc: Global, given: &Given) -> Result<bool, Fail> {
+    let answer = answer_alone(alloc, given)?;
     is_along(alloc, &answer)
+}
+
+/// Whether one thread does on the path.
+fn one_along(alloc: Global) -> Result<bool, Fail> {
+    run_alone(alloc, &path(alloc)?)
 }
 
 #[test]
@@ -93,22 +103,26 @@ const LATE: [Wanted; 2] = [(Count::Drained, 1), (Count::Finish, 1)];
 fn wrong_round<H: Threads + Sync>(
     alloc: Global,
     rt: &H,
+    given: &Given,
     turns: u32,
 ) -> Result<Option<usize>, Fail> {
-    let given = late_ring(alloc, RING)?;
     let rngs = constants(alloc, 4, 2)?;
-    let came = run_crew(alloc, rt, &given, 8, turns, rngs, &NoGate)?;
-    if !goes_round(&came.answer, RING) {
-        return Ok(Some(LATE.len()));
-    }
-    Ok(wrong_count(&came, &LATE))
+    let came = run_crew(alloc, rt, given, 8, turns, rngs, &NoGate)?;
+    Ok(wrong_beside(&came, goes_round(&came.answer, RING), &LATE))
 }
 
-/// The first number of turns with which a run on the ring goes otherwise. A pass in the order of opening takes quadratic time on it.
-fn wrong_turns<H: Threads + Sync>(alloc: Global, rt: &H) -> Result<Option<usize>, Fail> {
-    for turns in &[0u32, 1000] {
-        if wrong_round(alloc, rt, *turns)?.is_some() {
-            return Ok(Some(*turns as usize));
+/// How many turns are made at most. A pass in the order of opening takes quadratic time on the ring.
+const TURNS: [u32; 2] = [0, 1000];
+
+/// The place of the first number of turns with which a run goes otherwise.
+fn wrong_turns<H: Threads + Sync>(
+    alloc: Global,
+    rt: &H,
+    given: &Given,
+) -> Result<Option<usize>, Fail> {
+    for (place, turns) in TURNS.iter().enumerate() {
+        if wrong_round(alloc, rt, given, *turns)?.is_some() {
+            return Ok(Some(place));
         }
     }
     Ok(None)
@@ -117,5 +131,6 @@ fn wrong_turns<H: Threads + Sync>(alloc: Global, rt: &H) -> Result<Option<usize>
 /// With no turns, and with heaps that the workers' words never meet, all is left to the end of the run.
 #[test]
 fn late_work_is_done_in_the_order_of_labels(rt: HostRuntime) -> Result<(), Fail> {
-    assert_told(&rt, wrong_turns(rt.alloc(), &rt))
+    let given = late_ring(rt.alloc(), RING)?;
+    assert_told(&rt, wrong_turns(rt.alloc(), &rt, &given))
 }

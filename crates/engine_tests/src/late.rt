@@ -99,17 +99,27 @@ fn is_left(came: &Came) -> bool {
 }
 
 /// Whether such a search does.
-fn leave_by<H: Threads + Sync>(alloc: Global, rt: &H, batch: u32) -> Result<bool, Fail> {
-    let came = search(alloc, rt, &late_ring(alloc, RING)?, batch)?;
+fn leave_by<H: Threads + Sync>(
+    alloc: Global,
+    rt: &H,
+    given: &Given,
+    batch: u32,
+) -> Result<bool, Fail> {
+    let came = search(alloc, rt, given, batch)?;
     Ok(is_left(&came))
+}
+
+/// Whether it does on the ring.
+fn leave_ring<H: Threads + Sync>(alloc: Global, rt: &H, batch: u32) -> Result<bool, Fail> {
+    leave_by(alloc, rt, &late_ring(alloc, RING)?, batch)
 }
 
 #[test]
 fn two_workers_leave_a_late_ring(rt: HostRuntime) -> Result<(), Fail> {
-    assert_right(&rt, "arrivals and scans", leave_by(rt.alloc(), &rt, 32))
+    assert_right(&rt, "arrivals and scans", leave_ring(rt.alloc(), &rt, 32))
 }
 
 #[test]
 fn two_workers_leave_a_late_ring_entry_by_entry(rt: HostRuntime) -> Result<(), Fail> {
-    assert_right(&rt, "arrivals and scans", leave_by(rt.alloc(), &rt, 1))
+    assert_right(&rt, "arrivals and scans", leave_ring(rt.alloc(), &rt, 1))
 }

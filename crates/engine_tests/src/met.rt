@@ -14,31 +14,43 @@ use tests_given::networks::{Given, Row};
 /// Each of the workers raises its flag before its first turn and then looks for all others'. There are four flags.
 #[derive(Drop)]
 struct Meeting {
-    flags: [AtomicU64; 4],
+    /// Four bits, the first one that of worker 0.
+    flags: AtomicU64,
     missed: AtomicU64,
 }
 
+/// The flag of a worker.
+fn flag_of(worker: u32) -> u64 {
+    match worker {
+        0 => 1,
+        1 => 2,
+        2 => 4,
+        _ => 8,
+    }
+}
+
 impl Meeting {
-    /// A meeting of two workers, where the flags of two more are raised from the beginning, or of four, where they aren't.
+    /// A meeting of those workers whose flags aren't raised from the beginning.
     fn new(raised: u64) -> Meeting {
         Meeting {
-            flags: [
-                AtomicU64::new(0),
-                AtomicU64::new(0),
-                AtomicU64::new(raised),
-                AtomicU64::new(raised),
-            ],
+            flags: AtomicU64::new(raised),
             missed: AtomicU64::new(0),
         }
     }
 
-    fn are_all_there(&self) -> bool {
-        for flag in &self.flags {
-            if flag.load(Ordering::SeqCst) != 1 {
-                return false;
-            }
+    /// Raises a worker's flag. Only this worker does.
+    fn raise(&self, worker: u32) {
+        if !self.is_there(worker) {
+            self.flags.fetch_add(flag_of(worker), Ordering::SeqCst);
         }
-        true
+    }
+
+    fn is_there(&self, worker: u32) -> bool {
+        self.flags.load(Ordering::SeqCst) & flag_of(worker) != 0
+    }
+
+    fn are_all_there(&self) -> bool {
+        self.flags.load(Ordering::SeqCst) == 15
     }
 
     /// Looks so often whether all are there, and notes if they aren't.
@@ -56,7 +68,7 @@ impl Meeting {
 impl Gate for Meeting {
     fn at(&self, worker: u32, turn: u64) {
         if turn == 0 && worker < 4 {
-            self.flags[worker as usize].store(1, Ordering::SeqCst);
+            self.raise(worker);
             self.wait();
         }
     }
@@ -85,7 +97,7 @@ fn meet<H: Threads + Sync>(
 
 #[test]
 fn two_workers_meet(rt: HostRuntime) -> Result<(), Fail> {
-    let meeting = Meeting::new(1);
+    let meeting = Meeting::new(0b1100);
     assert_right(&rt, "two workers meet", meet(rt.alloc(), &rt, 2, &meeting))
 }
 
@@ -105,7 +117,7 @@ struct Sharing {
 impl Sharing {
     fn show(&self, worker: u32, turn: Turn) {
         if worker < 4 && turn.node > 0 {
-            self.popped.flags[worker as usize].store(1, Ordering::SeqCst);
+            self.popped.raise(worker);
         }
         if turn.lowered > 0 {
             self.spread.store(1, Ordering::SeqCst);
@@ -127,7 +139,7 @@ impl Gate for Sharing {
         if worker > 3 || turn == 0 {
             return;
         }
-        if self.popped.flags[worker as usize].load(Ordering::SeqCst) == 1 {
+        if self.popped.is_there(worker) {
             self.popped.wait();
         } else {
             self.wait_until_spread();
@@ -178,17 +190,18 @@ fn is_shared(came: &Came, sharing: &Sharing) -> bool {
         && arrives(&came.answer, 4_000, Some(4_000))
 }
 
-/// Whether a run is shared so.
-fn share<H: Threads + Sync>(alloc: Global, rt: &H) -> Result<bool, Fail> {
+/// Whether a run on the star is shared so.
+fn share<H: Threads + Sync>(alloc: Global, rt: &H, given: &Given) -> Result<bool, Fail> {
     let sharing = Sharing {
         popped: Meeting::new(0),
         spread: AtomicU64::new(0),
     };
-    let came = run_sharing(alloc, rt, &star(alloc)?, &sharing)?;
+    let came = run_sharing(alloc, rt, given, &sharing)?;
     Ok(is_shared(&came, &sharing))
 }
 
 #[test]
 fn each_of_four_workers_pops_some(rt: HostRuntime) -> Result<(), Fail> {
-    assert_right(&rt, "four workers share", share(rt.alloc(), &rt))
+    let given = star(rt.alloc())?;
+    assert_right(&rt, "four workers share", share(rt.alloc(), &rt, &given))
 }

@@ -2,7 +2,7 @@
 ghost use Rattle.std.specs.Prelude.{◌<◌};
 
 use crate::ran::{
-    Came, Count, Wanted, arrives, assert_right, assert_told, run_plain, walks, wrong_count,
+    Came, Count, Wanted, arrives, assert_right, assert_told, run_plain, walks, wrong_beside,
 };
 use ea_engine::Answer;
 use ea_road::{Query, Source};
@@ -48,10 +48,7 @@ const TO_TWO: [Wanted; 4] = [
 /// The place of the first of the counts that is otherwise for the pair of nodes 1 and 2; behind them all where its answer is.
 fn wrong_to_two<H: Threads + Sync>(alloc: Global, rt: &H) -> Result<Option<usize>, Fail> {
     let came = run_pair(alloc, rt, 3, &ONE_ARC_TOO_FAR, 2)?;
-    if !asks_two(&came.answer) {
-        return Ok(Some(TO_TWO.len()));
-    }
-    Ok(wrong_count(&came, &TO_TWO))
+    Ok(wrong_beside(&came, asks_two(&came.answer), &TO_TWO))
 }
 
 #[test]

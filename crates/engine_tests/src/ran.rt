@@ -1,6 +1,7 @@
 //! Runs, and what is read of them. All tests run their workers through here, so that what a run promises is carried by one
 //! function.
-ghost use Rattle.std.specs.Prelude.{All};
+ghost use Rattle.std.specs.Prelude.{◌≡◌, All, IsTrue};
+ghost use Rattle.ea_engine.specs.Limits.{AreSettings};
 
 use ea_engine::{
     Answer, Counters, Crew, Flow, Gate, NoGate, Settings, Solved, Turn, solve, solve_alone,
@@ -39,16 +40,12 @@ pub fn came_of<R: Drop, T: Drop>(solved: Solved<R, T>) -> Came {
     }
 }
 
-/// Runs a crew; none where it doesn't fit or what is given makes no problem.
-pub fn attempt<
-    H: Threads + Sync,
-    R: Rng + Send + Drop,
-    G: Gate,
-    T: FnMut(Turn) -> Flow + Send + Drop,
->(alloc: Global, rt: &H, given: &Given, crew: Crew<'_, R, G, T>) -> Result<Option<Came>, AllocError>
-    requires tracers { All T.IsAlwaysCallable crew.tracers.items }
+/// Whether settings are such as tests have, and so many generators and tracers are one for each worker.
+pub fn fits(settings: Settings, rngs: usize, tracers: usize) -> bool
+    ensures settings { IsTrue result → AreSettings settings }
+    ensures rngs { IsTrue result → rngs ≡ settings.workers }
+    ensures tracers { IsTrue result → tracers ≡ settings.workers }
 {
-    let settings = crew.settings;
     if settings.workers == 0
         || settings.workers > 16
         || settings.heaps < 2
@@ -58,8 +55,22 @@ pub fn attempt<
         || settings.batch > 64
         || settings.patience == 0
         || settings.patience > 1_048_576
-        || crew.rngs.len() != settings.workers as usize
-        || crew.tracers.len() != settings.workers as usize
+    {
+        return false;
+    }
+    rngs == settings.workers as usize && tracers == settings.workers as usize
+}
+
+/// Runs a crew; none where it doesn't fit or what is given makes no problem.
+pub fn attempt<
+    H: Threads + Sync,
+    R: Rng + Send + Drop,
+    G: Gate,
+    T: FnMut(Turn) -> Flow + Send + Drop,
+>(alloc: Global, rt: &H, given: &Given, crew: Crew<'_, R, G, T>) -> Result<Option<Came>, AllocError>
+    requires tracers { All T.IsAlwaysCallable crew.tracers.items }
+{
+    if !fits(crew.settings, crew.rngs.len(), crew.tracers.len())
         || !is_problem(&given.network, given.times.classes(), &given.query)
     {
         return Ok(None);
@@ -202,40 +213,16 @@ pub fn run_with<H: Threads + Sync, R: Rng + Send + Drop, T: FnMut(Turn) -> Flow 
     run(alloc, rt, given, crew)
 }
 
-/// Runs one worker over two heaps, with the words of seed 1.
-pub fn run_one<H: Threads + Sync, T: FnMut(Turn) -> Flow + Send + Drop>(
-    alloc: Global,
-    rt: &H,
-    given: &Given,
-    turns: u64,
-    tracer: T,
-) -> Result<Came, Fail>
-    requires { T.IsAlwaysCallable tracer }
-{
-    let words = Xoshiro256PlusPlus::seed_from_u64(1);
-    run_with(alloc, rt, given, singly(1, 2, turns), words, tracer)
-}
-
-/// Runs one worker over two heaps on the example four-nodes.
-pub fn run_four<H: Threads + Sync, T: FnMut(Turn) -> Flow + Send + Drop>(
-    alloc: Global,
-    rt: &H,
-    turns: u64,
-    tracer: T,
-) -> Result<Came, Fail>
-    requires { T.IsAlwaysCallable tracer }
-{
-    run_one(alloc, rt, &four(alloc)?, turns, tracer)
-}
-
-/// Runs one worker over two heaps, whose turns are shown to nobody.
+/// Runs one worker over two heaps, with the words of seed 1, whose turns are shown to nobody.
 pub fn run_plain<H: Threads + Sync>(
     alloc: Global,
     rt: &H,
     given: &Given,
     turns: u64,
 ) -> Result<Came, Fail> {
-    run_one(alloc, rt, given, turns, |_turn: Turn| -> Flow { Flow::Go })
+    let words = Xoshiro256PlusPlus::seed_from_u64(1);
+    let tracer = |_turn: Turn| -> Flow { Flow::Go };
+    run_with(alloc, rt, given, singly(1, 2, turns), words, tracer)
 }
 
 /// The answer of one thread.
@@ -342,10 +329,16 @@ pub fn wrong_count(came: &Came, wanted: &[Wanted]) -> Option<usize> {
 
 /// The place of the first of the counts that is otherwise in a run on four-nodes; behind them all where its arrivals are.
 pub fn told(came: &Came, wanted: &[Wanted]) -> Option<usize> {
-    if !has_four(&came.answer) {
-        return Some(wanted.len());
+    wrong_beside(came, has_four(&came.answer), wanted)
+}
+
+/// The place of the first of the counts that is otherwise; behind them all where the rest of what a test looks at isn't right.
+pub fn wrong_beside(came: &Came, right: bool, wanted: &[Wanted]) -> Option<usize> {
+    if right {
+        wrong_count(came, wanted)
+    } else {
+        Some(wanted.len())
     }
-    wrong_count(came, wanted)
 }
 
 /// How often workers together did something.

@@ -1,30 +1,32 @@
 //! What is counted of sources, and a run of as many workers as there may be.
 use crate::ran::{
-    Count, Wanted, arrives, assert_right, assert_told, four, has_four, posed, run_all, run_plain,
-    singly, wrong_count,
+    Came, Count, Wanted, arrives, assert_right, assert_told, four, has_four, posed, run_all,
+    run_plain, singly, wrong_beside,
 };
 use std::alloc::Global;
 use std::test::Fail;
 use std::thread::Threads;
-use tests_given::networks::FOUR_NODES;
+use tests_given::networks::{FOUR_NODES, Given};
 
 /// Nodes, sources, turns, the arrival at node 4, and what is counted.
 type Case = (u32, &'static [(u32, u64)], u64, u64, &'static [Wanted]);
 
-/// The place of the first of the counts that is otherwise in a run of one worker on four-nodes, or as many more nodes; behind them all where
-/// the arrival at node 4 is.
+/// A run of one worker on four-nodes, or as many more nodes.
+fn run_case<H: Threads + Sync>(alloc: Global, rt: &H, case: &Case) -> Result<Came, Fail> {
+    let (nodes, sources, turns, ..) = *case;
+    let given = posed(alloc, nodes, &FOUR_NODES, sources)?;
+    run_plain(alloc, rt, &given, turns)
+}
+
+/// The place of the first of the counts that is otherwise in such a run; behind them all where the arrival at node 4 is.
 fn wrong_of_case<H: Threads + Sync>(
     alloc: Global,
     rt: &H,
     case: &Case,
 ) -> Result<Option<usize>, Fail> {
-    let (nodes, sources, turns, arrival, wanted) = *case;
-    let given = posed(alloc, nodes, &FOUR_NODES, sources)?;
-    let came = run_plain(alloc, rt, &given, turns)?;
-    if !arrives(&came.answer, 4, Some(arrival)) {
-        return Ok(Some(wanted.len()));
-    }
-    Ok(wrong_count(&came, wanted))
+    let came = run_case(alloc, rt, case)?;
+    let right = arrives(&came.answer, 4, Some(case.3));
+    Ok(wrong_beside(&came, right, case.4))
 }
 
 const THRICE: &[(u32, u64)] = &[(1, 0), (1, 0), (1, 0)];
@@ -78,13 +80,14 @@ fn sources_are_seeded_where_they_lower_a_label(rt: HostRuntime) -> Result<(), Fa
 }
 
 /// Whether sixteen workers with eight heaps each have the arrivals of the four nodes.
-fn run_sixteen<H: Threads + Sync>(alloc: Global, rt: &H) -> Result<bool, Fail> {
-    let answer = run_all(alloc, rt, &four(alloc)?, singly(16, 8, 1000), 1)?;
+fn run_sixteen<H: Threads + Sync>(alloc: Global, rt: &H, given: &Given) -> Result<bool, Fail> {
+    let answer = run_all(alloc, rt, given, singly(16, 8, 1000), 1)?;
     Ok(has_four(&answer))
 }
 
 /// As many workers as there may be, with as many heaps for each.
 #[test]
 fn sixteen_workers_with_eight_heaps_each(rt: HostRuntime) -> Result<(), Fail> {
-    assert_right(&rt, "arrivals", run_sixteen(rt.alloc(), &rt))
+    let given = four(rt.alloc())?;
+    assert_right(&rt, "arrivals", run_sixteen(rt.alloc(), &rt, &given))
 }

@@ -2,8 +2,8 @@
 ghost use Rattle.std.specs.Prelude.{◌≡◌, ◌<◌, ◌+◌, ◌^◌, All};
 
 use crate::ran::{
-    Came, Count, Wanted, assert_told, attempt, came_of, four, has_four, run_with, singly, told,
-    total,
+    Came, Count, Wanted, assert_told, attempt, came_of, fits, four, has_four, run_with, singly,
+    total, wrong_beside,
 };
 use crate::refused::greedy::Greedy;
 use ea_engine::{Crew, Flow, Gate, Settings, Turn, TurnKind, solve_arrivals, solve_by};
@@ -42,16 +42,26 @@ fn greedy(alloc: Global, workers: u32, calls: u32, room: usize) -> Result<Vec<Gr
     Ok(rngs)
 }
 
+/// A generator that gives 1 and takes all memory at its third word: a turn draws two words before it pops, and the third one is that of
+/// the worker's first push.
+fn words(alloc: Global) -> Result<Greedy, AllocError> {
+    Ok(Greedy {
+        word: 1,
+        calls_left: 2,
+        held: Held::new(alloc, 20_000)?,
+    })
+}
+
 /// A run of one worker in batches of a size whose first push finds no memory.
 fn run_refused<H: Threads + Sync, T: FnMut(Turn) -> Flow + Send + Drop>(
     alloc: Global,
     rt: &H,
+    given: &Given,
     batch: u32,
     tracer: T,
 ) -> Result<Came, Fail>
     requires { T.IsAlwaysCallable tracer }
 {
-    let given = four(alloc)?;
     let settings = Settings {
         workers: 1,
         heaps: 2,
@@ -59,14 +69,9 @@ fn run_refused<H: Threads + Sync, T: FnMut(Turn) -> Flow + Send + Drop>(
         batch,
         patience: 32,
     };
-    // A turn draws two words before it pops; the third word is that of the worker's first push.
-    let words = Greedy {
-        word: 1,
-        calls_left: 2,
-        held: Held::new(alloc, 20_000)?,
-    };
+    let words = words(alloc)?;
     let mut large = Held::of_large(alloc, 1)?;
-    let came = run_with(alloc, rt, &given, settings, words, tracer);
+    let came = run_with(alloc, rt, given, settings, words, tracer);
     large.release();
     came
 }
@@ -82,6 +87,7 @@ fn is_refused(turn: &Turn, batch: u32) -> bool {
 fn wrong_refused<H: Threads + Sync>(
     alloc: Global,
     rt: &H,
+    given: &Given,
     batch: u32,
     wanted: &[Wanted],
 ) -> Result<Option<usize>, Fail> {
@@ -92,11 +98,9 @@ fn wrong_refused<H: Threads + Sync>(
         turns.fetch_add(counts, Ordering::SeqCst);
         Flow::Go
     };
-    let came = run_refused(alloc, rt, batch, tracer)?;
-    if shown.load(Ordering::SeqCst) != 1 {
-        return Ok(Some(wanted.len()));
-    }
-    Ok(told(&came, wanted))
+    let came = run_refused(alloc, rt, given, batch, tracer)?;
+    let right = shown.load(Ordering::SeqCst) == 1 && has_four(&came.answer);
+    Ok(wrong_beside(&came, right, wanted))
 }
 
 const OF_ONE: [Wanted; 10] = [
@@ -128,8 +132,9 @@ const OF_TWO: [Wanted; 10] = [
 /// The batch is full with the first head that is lowered, or with the second.
 #[test]
 fn refused_push(rt: HostRuntime) -> Result<(), Fail> {
-    assert_told(&rt, wrong_refused(rt.alloc(), &rt, 1, &OF_ONE))?;
-    assert_told(&rt, wrong_refused(rt.alloc(), &rt, 2, &OF_TWO))
+    let given = four(rt.alloc())?;
+    assert_told(&rt, wrong_refused(rt.alloc(), &rt, &given, 1, &OF_ONE))?;
+    assert_told(&rt, wrong_refused(rt.alloc(), &rt, &given, 2, &OF_TWO))
 }
 
 /// The calls that answer a query by several threads.
@@ -157,20 +162,12 @@ fn attempt_arrivals<
 >(alloc: Global, rt: &H, given: &Given, crew: Crew<'_, R, G, T>) -> Result<Option<Came>, AllocError>
     requires tracers { All T.IsAlwaysCallable crew.tracers.items }
 {
-    let (settings, times) = (crew.settings, &given.times);
-    if settings.workers == 0
-        || settings.workers > 16
-        || settings.heaps != 2
-        || settings.turns != 100
-        || settings.batch != 1
-        || settings.patience != 32
-        || crew.rngs.len() != settings.workers as usize
-        || crew.tracers.len() != settings.workers as usize
-        || !is_problem(&given.network, times.classes(), &given.query)
+    if !fits(crew.settings, crew.rngs.len(), crew.tracers.len())
+        || !is_problem(&given.network, given.times.classes(), &given.query)
     {
         return Ok(None);
     }
-    let solved = solve_arrivals(alloc, rt, &given.network, times, &given.query, crew)?;
+    let solved = solve_arrivals(alloc, rt, &given.network, &given.times, &given.query, crew)?;
     Ok(Some(came_of(solved)))
 }
 
@@ -183,15 +180,7 @@ fn attempt_by_closure<
 >(alloc: Global, rt: &H, given: &Given, crew: Crew<'_, R, G, T>) -> Result<Option<Came>, AllocError>
     requires tracers { All T.IsAlwaysCallable crew.tracers.items }
 {
-    let settings = crew.settings;
-    if settings.workers == 0
-        || settings.workers > 16
-        || settings.heaps != 2
-        || settings.turns != 100
-        || settings.batch != 1
-        || settings.patience != 32
-        || crew.rngs.len() != settings.workers as usize
-        || crew.tracers.len() != settings.workers as usize
+    if !fits(crew.settings, crew.rngs.len(), crew.tracers.len())
         || !is_problem(&given.network, 0, &given.query)
     {
         return Ok(None);
@@ -323,10 +312,13 @@ const CALLS: [(Call, u32); 6] = [
 ];
 
 /// The place of the first of the calls that fares otherwise: it is refused at least ten times and right twice, and never wrong.
-fn wrong_call<H: Threads + Sync>(alloc: Global, rt: &H) -> Result<Option<usize>, Fail> {
-    let given = four(alloc)?;
+fn wrong_call<H: Threads + Sync>(
+    alloc: Global,
+    rt: &H,
+    given: &Given,
+) -> Result<Option<usize>, Fail> {
     for (place, (call, workers)) in CALLS.iter().enumerate() {
-        let tally = each_growth(alloc, rt, *call, &given, *workers)?;
+        let tally = each_growth(alloc, rt, *call, given, *workers)?;
         if tally.wrong != 0 || tally.refused < 10 || tally.right < 2 {
             return Ok(Some(place));
         }
@@ -336,5 +328,6 @@ fn wrong_call<H: Threads + Sync>(alloc: Global, rt: &H) -> Result<Option<usize>,
 
 #[test]
 fn each_growth_refused(rt: HostRuntime) -> Result<(), Fail> {
-    assert_told(&rt, wrong_call(rt.alloc(), &rt))
+    let given = four(rt.alloc())?;
+    assert_told(&rt, wrong_call(rt.alloc(), &rt, &given))
 }
