@@ -1,6 +1,6 @@
 //! Workers that notice together that nothing is left.
+use crate::asserts::{assert_none_wrong, assert_that};
 use ea_engine::{Company, Flow, Member, Turn, TurnKind};
-use tests_given::asserts::{assert_none_wrong, assert_that};
 
 fn after(member: &mut Member<'_>, number: u64, kind: TurnKind) -> bool {
     after_falls(member, number, kind, 0)

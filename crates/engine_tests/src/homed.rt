@@ -1,8 +1,8 @@
 //! Words that keep a worker at its own heaps.
+use crate::asserts::{assert_none_wrong, assert_that};
 use ea_engine::Homing;
 use rand_core::{Rng, SeedableRng};
 use rand_xoshiro::Xoshiro256PlusPlus;
-use tests_given::asserts::{assert_none_wrong, assert_that};
 use tests_given::constant::Constant;
 
 /// Whether two words in a row draw two different heaps of a worker's own, as a pop draws them.

@@ -3,6 +3,7 @@
 ghost use Rattle.std.specs.Prelude.{◌≡◌, All, IsTrue};
 ghost use Rattle.ea_engine.specs.Limits.{AreSettings};
 
+use crate::asserts::{assert_none_wrong, assert_that};
 use ea_engine::{
     Answer, Counters, Crew, Flow, Gate, NoGate, Settings, Solved, Turn, solve, solve_alone,
 };
@@ -13,7 +14,6 @@ use std::alloc::{AllocError, Global};
 use std::process::Abort;
 use std::test::Fail;
 use std::thread::Threads;
-use tests_given::asserts::{assert_none_wrong, assert_that};
 use tests_given::constant::Constant;
 use tests_given::networks::{FOUR_NODES, Given, Row, pose};
 

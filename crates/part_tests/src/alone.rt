@@ -1,11 +1,11 @@
 ghost use Rattle.std.specs.Prelude.{◌≡◌, ◌+◌, ◌<◌, ◌^◌};
 
+use crate::asserts::{assert_none_wrong, assert_that};
 use crate::refused::given::{four_nodes, from_first};
 use ea_finish::*;
 use ea_road::{HORIZON, Network, Query, RawKind, Source, Timetables, is_problem};
 use std::alloc::{AllocError, Global};
 use std::test::Fail;
-use tests_given::asserts::{assert_none_wrong, assert_that};
 use tests_given::networks::{FOUR_NODES, Row, network_of, query_of};
 
 /// Class 0 is plain, class 1 leaves every 10, class 2 every 100.

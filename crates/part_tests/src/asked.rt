@@ -2,12 +2,12 @@
 ghost use Rattle.std.specs.Prelude.{◌≡◌, ◌<◌, ◌+◌, ◌^◌};
 ghost use Rattle.ea_road.specs.Queries.{IsSource};
 
+use crate::asserts::assert_none_wrong;
 use ea_finish::{Answer, arrivals_alone_by, solve_alone_by};
 use ea_road::{Network, Query, Source, is_problem};
 use std::alloc::{AllocError, Global};
 use std::sync::atomic::{AtomicU64, Ordering};
 use std::test::Fail;
-use tests_given::asserts::assert_none_wrong;
 use tests_given::networks::{FOUR_NODES, Row, network_of};
 
 /// The answer of one thread by a closure that counts its calls, with walks or without; none where there is no problem.

@@ -7,6 +7,8 @@ mod alone;
 #[cfg(test)]
 mod asked;
 #[cfg(test)]
+mod asserts;
+#[cfg(test)]
 mod constants;
 #[cfg(test)]
 mod networks;

@@ -1,9 +1,9 @@
 //! Networks of many arcs: made by one thread and by two, the same arcs leave each node, whether tails ascend or not.
+use crate::asserts::assert_that;
 use ea_road::{Arc, ArcList, LeavingArc, Network};
 use std::alloc::{AllocError, Global};
 use std::test::Fail;
 use std::thread::Threads;
-use tests_given::asserts::assert_that;
 
 const NODES: u32 = 30_000;
 

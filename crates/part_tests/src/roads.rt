@@ -4,12 +4,12 @@ ghost use Rattle.ea_road.specs.Answers.{IsFifoFunction};
 ghost use Rattle.ea_road.specs.Arrivals.{Reaches};
 ghost use Rattle.ea_road.specs.Queries.{IsSource};
 
+use crate::asserts::{assert_none_wrong, assert_that};
 use ea_input::{RawArc, RawGraph};
 use ea_road::*;
 use std::alloc::{AllocError, Global};
 use std::marker::{Brand, PhantomData};
 use std::test::Fail;
-use tests_given::asserts::{assert_none_wrong, assert_that};
 use tests_given::networks::{FOUR_NODES, Row, network_of, query_of, times_of};
 
 fn arc(tail: u32, head: u32, weight: u32, class: u32) -> Arc

@@ -3,6 +3,7 @@ ghost use Rattle.std.specs.Prelude.{◌≡◌, ◌<◌, true, IfOk};
 ghost use Rattle.ea_road.specs.Queries.{IsSource};
 
 use crate::alone::found;
+use crate::asserts::assert_none_wrong;
 use ea_finish::{Answer, Search};
 use ea_input::RawKind;
 use ea_road::{Arc, Network, Query, Source, Timetables, is_problem};
@@ -10,7 +11,6 @@ use rand_core::{Rng, SeedableRng};
 use rand_xoshiro::Xoshiro256PlusPlus;
 use std::alloc::{AllocError, Global};
 use std::test::Fail;
-use tests_given::asserts::assert_none_wrong;
 
 /// The steps of a class of speeds, four of a period of 40, and of one of trips, three of a period of 60.
 const STEPS: [(u64, u64); 7] = [

@@ -2,11 +2,11 @@
 ghost use Rattle.std.specs.Prelude.{◌<◌};
 
 use crate::alone::from_sources;
+use crate::asserts::assert_that;
 use ea_finish::*;
 use ea_road::NONE;
 use std::alloc::{AllocError, Global};
 use std::test::Fail;
-use tests_given::asserts::assert_that;
 use tests_given::networks::Row;
 
 /// The next of a row of random words.

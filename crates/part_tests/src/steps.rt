@@ -1,7 +1,7 @@
+use crate::asserts::assert_none_wrong;
 use ea_road::*;
 use std::alloc::{AllocError, Global};
 use std::test::Fail;
-use tests_given::asserts::assert_none_wrong;
 
 /// A time past every arrival within the horizon.
 const PAST: u64 = 281_474_976_710_656;

@@ -3,12 +3,12 @@
 ghost use Rattle.std.specs.Prelude.{◌<◌};
 
 use crate::alone::timetables;
+use crate::asserts::{assert_none_wrong, assert_that};
 use crate::refused::given::from_first;
 use ea_finish::count_offers;
 use ea_road::{Network, Query, Source, TravelTimes, is_problem};
 use std::alloc::{AllocError, Global};
 use std::test::Fail;
-use tests_given::asserts::{assert_none_wrong, assert_that};
 use tests_given::networks::{Row, network_of};
 
 const HEAVY: u32 = u32::MAX;

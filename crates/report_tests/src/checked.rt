@@ -1,9 +1,9 @@
+use crate::asserts::{assert_none_wrong, assert_that};
 use CheckFault::{BadLine, NotAttained, NotCanonical, NotLeast, OutOfMemory};
 use ea_check::*;
 use ea_road::{Network, Query, Source, Timetables};
 use std::alloc::{AllocError, Global};
 use std::test::Fail;
-use tests_given::asserts::{assert_none_wrong, assert_that};
 use tests_given::networks::{FOUR_NODES, Row, network_of, query_of, times_of};
 
 /// The sources of a problem, by node and departure.

@@ -2,6 +2,7 @@ ghost use Rattle.std.specs.Prelude.{◌≡◌, ◌+◌, ◌<◌, ◌≤◌, ◌^
 ghost use Rattle.ea_limits.specs.declared.TheConstants.{LEAST_HEAPS};
 ghost use Rattle.ea_pool.specs.declared.words.TheConstants.{MOST_IN_POOL};
 
+use crate::asserts::{assert_none_wrong, assert_that};
 use crate::turning::Turning;
 use ea_pool::{Entry, Solo};
 use ea_rank::{Event, RankFault, Record, Summary, ranks, record_run, record_run_by};
@@ -10,7 +11,6 @@ use rand_core::{Rng, SeedableRng};
 use rand_xoshiro::Xoshiro256PlusPlus;
 use std::alloc::{AllocError, Global};
 use std::test::Fail;
-use tests_given::asserts::{assert_none_wrong, assert_that};
 use tests_given::networks::{FOUR_NODES, Given, Row, network_of, pose};
 
 /// Where the words of a run come from.

@@ -1,5 +1,6 @@
 ghost use Rattle.std.specs.Prelude.{◌≡◌, ◌<◌, ◌≤◌};
 
+use crate::asserts::{assert_none_wrong, assert_that};
 use ea_finish::{Answer, solve_alone};
 use ea_input::{ByteOut, Device, RawGraph, StdOut, read_gr};
 use ea_report::*;
@@ -7,7 +8,6 @@ use ea_road::{Network, Query, Source, Timetables, arcs_of, is_problem};
 use std::alloc::{AllocError, Global};
 use std::io::{self, Error, ErrorKind, Write};
 use std::test::Fail;
-use tests_given::asserts::{assert_none_wrong, assert_that};
 use tests_given::networks::query_of;
 
 const GRAPH: &[u8] = b"p sp 4 5\na 1 2 7\na 1 3 2\na 3 2 3\na 2 4 1\na 3 4 9\n";

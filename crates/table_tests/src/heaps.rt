@@ -5,6 +5,7 @@ ghost use Rattle.ea_pool.specs.Entries.{AreKnown};
 ghost use Rattle.ea_pool.specs.Seats.{account_of, IsSeatOf};
 ghost use Rattle.ea_limits.specs.declared.TheConstants.{SHARES};
 
+use crate::asserts::{assert_none_wrong, assert_that};
 use ea_labels::{LabelSeat, Labels, Offered};
 use ea_pool::{
     Batch, ClosedPool, Entry, MOST_IN_BATCH, OutOfMemory, Pool, PoolSeat, Popped, PoppedSome, Solo,
@@ -12,7 +13,6 @@ use ea_pool::{
 use ea_road::{AnyPair, HORIZON, NONE};
 use std::alloc::{Allocator, Global};
 use std::test::Fail;
-use tests_given::asserts::{assert_none_wrong, assert_that};
 
 pub fn entry(key: u64, node: u32) -> Entry
     ensures { (result.key ≡ key) × (result.node ≡ node) }

@@ -2,12 +2,12 @@
 ghost use Rattle.std.specs.Prelude.{◌≡◌, ◌≤◌, ◌<◌};
 ghost use Rattle.std.specs.Thread.{IsSync};
 
+use crate::asserts::{assert_none_wrong, assert_that};
 use ea_labels::{LabelSeat, Labels, Offered, OutOfMemory};
 use ea_road::{AnyPair, Known, NONE};
 use std::alloc::{Allocator, Global};
 use std::test::Fail;
 use std::thread::{Threads, join};
-use tests_given::asserts::{assert_none_wrong, assert_that};
 
 // Offers a time at node 1, and then reads its label.
 fn offer_and_read<K: Known>(

@@ -3,6 +3,7 @@ ghost use Rattle.std.specs.Prelude.{◌≡◌, ◌<◌};
 ghost use Rattle.std.specs.Thread.{IsSync};
 ghost use Rattle.ea_pool.specs.Seats.{account_of, IsSeatOf};
 
+use crate::asserts::{assert_none_wrong, assert_that};
 use crate::heaps::{Step, entry, gives_four, key_at, wrong_in_solo, wrong_step_alone};
 use ea_pool::{
     Batch, Buckets, ClosedPool, Entry, EntryHeap, LeastHeap, OpenHeap, OutOfMemory, Pool, PoolSeat,
@@ -12,7 +13,6 @@ use ea_road::{AnyPair, Known};
 use std::alloc::Global;
 use std::test::Fail;
 use std::thread::{Threads, join};
-use tests_given::asserts::{assert_none_wrong, assert_that};
 
 const THREE_IN: [Step; 3] = [Step::In(0, 5, 7), Step::In(1, 9, 7), Step::In(2, 1, 7)];
 

@@ -2,7 +2,6 @@
 //! needs it.
 #![tactic(auto)]
 
-pub mod asserts;
 pub mod constant;
 pub mod in_turn;
 pub mod memory;

@@ -1,9 +1,9 @@
 //! Texts that no clause speaks of.
+use crate::asserts::assert_none_wrong;
 use ea_explain::*;
 use ea_files::FileWord;
 use ea_input::FaultKind;
 use std::io::ErrorKind;
-use tests_given::asserts::assert_none_wrong;
 
 /// Whether a word names the fault of this number and name.
 fn names(word: &str, number: &str, name: &str) -> bool {

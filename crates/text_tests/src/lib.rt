@@ -2,11 +2,11 @@
 #![tactic(auto)]
 
 #[cfg(test)]
+mod asserts;
+#[cfg(test)]
 mod explained;
 #[cfg(test)]
 mod readers;
-#[cfg(test)]
-mod shown;
 #[cfg(test)]
 mod streams;
 #[cfg(test)]

@@ -1,8 +1,7 @@
-use crate::shown::{ends_in, is_shown};
+use crate::asserts::{assert_none_wrong, ends_in, is_shown};
 use ea_input::FaultKind::*;
 use ea_input::*;
 use std::alloc::Global;
-use tests_given::asserts::assert_none_wrong;
 
 const GRAPH: &[u8] = b"p sp 4 5\na 1 2 7\na 1 3 2\na 3 2 3\na 2 4 1\na 3 4 9\n";
 

@@ -1,12 +1,11 @@
 //! Texts of devices, block by block and by several threads: each gives what it gives as a text in memory.
 ghost use Rattle.std.specs.Prelude.{◌<◌, ◌≤◌};
 
-use crate::shown::is_shown;
+use crate::asserts::{assert_none_wrong, is_shown};
 use ea_input::*;
 use std::alloc::{AllocError, Global};
 use std::io::{self, Error, ErrorKind, Read};
 use std::thread::Threads;
-use tests_given::asserts::assert_none_wrong;
 
 const PLAIN: &[u8] = b"p sp 4 5\na 1 2 7\na 1 3 2\na 3 2 3\na 2 4 1\na 3 4 9\n";
 

@@ -1,8 +1,7 @@
-use crate::shown::{ends_in, is_shown};
+use crate::asserts::{assert_none_wrong, ends_in, is_shown};
 use ea_text::*;
 use std::alloc::Global;
 use std::io::{self, Error, ErrorKind, Read, Write};
-use tests_given::asserts::assert_none_wrong;
 
 /// A reader of std that gives a text by pieces, is interrupted before it gives anything, and
 /// fails at a read.

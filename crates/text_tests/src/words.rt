@@ -1,8 +1,7 @@
 //! The example `words`, and texts that no clause speaks of.
-use crate::shown::is_shown;
+use crate::asserts::{assert_none_wrong, is_shown};
 use ea_words::*;
 use std::alloc::Global;
-use tests_given::asserts::assert_none_wrong;
 
 /// The words of a command line.
 type Words = &'static [&'static str];

@@ -2,12 +2,12 @@
 ghost use Rattle.std.specs.Prelude.{◌≡◌};
 
 use crate::alone::{Alone, answer_alone, four_answered, walks};
+use crate::asserts::{assert_none_wrong, assert_that};
 use crate::refused::given::{ARRIVALS, fared, four_nodes, from_first};
 use ea_finish::{Answer, Open};
 use ea_road::{Network, Query};
 use std::alloc::{AllocError, Global};
 use std::test::Fail;
-use tests_given::asserts::{assert_none_wrong, assert_that};
 use tests_given::memory::{Held, pieces};
 use tests_given::tally::Tally;
 

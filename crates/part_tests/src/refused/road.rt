@@ -2,12 +2,12 @@
 ghost use Rattle.std.specs.Prelude.{◌≡◌, length, IfOk};
 ghost use Rattle.ea_road.specs.Assigned.{AreAssigned, assigned_of};
 
+use crate::asserts::assert_that;
 use crate::refused::given::{ARCS, arc, fared, four_arcs};
 use ea_input::{RawArc, RawGraph, RawTable};
 use ea_road::{Arc, Network, arcs_of};
 use std::alloc::{AllocError, Global};
 use std::test::Fail;
-use tests_given::asserts::assert_that;
 use tests_given::memory::{Held, pieces};
 use tests_given::tally::Tally;
 

@@ -1,11 +1,11 @@
 // Each allocation of travel times, refused in turn.
 ghost use Rattle.std.specs.Prelude.{◌≡◌, ◌<◌, ◌≤◌, ◌+◌, ◌%◌, ◌^◌};
 
+use crate::asserts::assert_that;
 use crate::refused::given::fared;
 use ea_road::{Profile, ProfileList, RawKind, Timetables};
 use std::alloc::{AllocError, Global};
 use std::test::Fail;
-use tests_given::asserts::assert_that;
 use tests_given::memory::{Held, pieces};
 use tests_given::tally::Tally;
 

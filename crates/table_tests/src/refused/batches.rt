@@ -5,6 +5,7 @@ ghost use Rattle.ea_limits.specs.declared.TheConstants.{HORIZON};
 ghost use Rattle.ea_pool.specs.Entries.{AreKnown};
 ghost use Rattle.ea_pool.specs.Seats.{account_of, IsSeatOf};
 
+use crate::asserts::{assert_none_wrong, assert_that};
 use crate::heaps::{add, entry};
 use crate::refused::pool::count;
 use ea_pool::{
@@ -15,7 +16,6 @@ use ea_road::AnyPair;
 use linked_list_allocator::LocalHeap;
 use std::alloc::{AllocError, Allocator, Global};
 use std::test::Fail;
-use tests_given::asserts::{assert_none_wrong, assert_that};
 
 /// How many keys there are, each pushed once.
 const KEYS: u64 = 600;

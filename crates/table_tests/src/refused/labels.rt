@@ -1,8 +1,8 @@
 // Each allocation of a label table, refused in turn.
+use crate::asserts::assert_that;
 use crate::labels::told_by_two_seats;
 use linked_list_allocator::LocalHeap;
 use std::test::Fail;
-use tests_given::asserts::assert_that;
 use tests_given::tally::Tally;
 
 /// Whether a table in this memory tells what it should, and closes with the labels; none where it was refused.

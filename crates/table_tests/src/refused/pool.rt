@@ -2,13 +2,13 @@
 ghost use Rattle.std.specs.Prelude.{◌≡◌, ◌<◌};
 ghost use Rattle.ea_pool.specs.Seats.{account_of, IsSeatOf};
 
+use crate::asserts::{assert_none_wrong, assert_that};
 use crate::heaps::{Step, come_out, entry, gives_four, shown, wrong_in_solo};
 use ea_pool::{ClosedPool, Entry, Pool, PoolSeat, Popped, PushRefused, Solo};
 use ea_road::AnyPair;
 use linked_list_allocator::LocalHeap;
 use std::alloc::{AllocError, Allocator, Global};
 use std::test::Fail;
-use tests_given::asserts::{assert_none_wrong, assert_that};
 use tests_given::tally::Tally;
 
 // Takes all memory that is left, in small blocks.

@@ -1,6 +1,12 @@
-//! Texts that values have.
+//! What tests assert of tables and of texts that values have.
 use std::alloc::Global;
 use std::fmt::Display;
+use std::process::Abort;
+
+/// Ends the test where a row of a table is wrong, and tells its place.
+pub fn assert_none_wrong<H: Abort>(rt: &H, wrong: Option<usize>) {
+    assert_eq!(*rt; wrong, None);
+}
 
 /// Whether a value is shown by this text.
 pub fn is_shown<D: Display>(alloc: Global, value: &D, text: &str) -> bool {

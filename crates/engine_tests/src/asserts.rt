@@ -1,4 +1,4 @@
-//! What tests assert: by a call, which takes a tenth of the time to prove that an assertion takes.
+//! What tests assert by a call, which takes a tenth of the time to prove that an assertion takes.
 use std::process::Abort;
 
 /// Ends the test where a row of a table is wrong, and tells its place.
