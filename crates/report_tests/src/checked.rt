@@ -646,7 +646,8 @@ fn is_odd_right(alloc: Global, network: &Network, queries: &[Query]) -> bool {
 fn is_odd_right_on(alloc: Global, network: &Network) -> bool {
     match queries_of(alloc, &FROM_FIRST) {
         Ok(Some(queries)) => is_odd_right(alloc, network, &queries),
-        _ => true,
+        Ok(None) => false,
+        Err(_) => true,
     }
 }
 
@@ -654,7 +655,8 @@ fn is_odd_right_on(alloc: Global, network: &Network) -> bool {
 fn is_odd_right_on_four(alloc: Global) -> bool {
     match network_of(alloc, 4, &FOUR_NODES) {
         Ok(Some(network)) => is_odd_right_on(alloc, &network),
-        _ => true,
+        Ok(None) => false,
+        Err(_) => true,
     }
 }
 
