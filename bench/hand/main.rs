@@ -36,7 +36,7 @@ fn solve(method: &str, network: &Network, source: u32, departure: u64, workers: 
         "radix" => dijkstra::<RadixHeap>(network, source, departure),
         "buckets" => buckets(network, source, departure, bits),
         "multiqueue" => search::<Heap>(network, source, departure, Settings { workers, heaps: 2, batch: 1, steal: 0, bits }),
-        "multiqueue_of_buckets" => search::<Buckets>(network, source, departure, Settings { workers, heaps: 2, batch: 32, steal: 4, bits }),
+        "multiqueue_of_buckets" => search::<Buckets>(network, source, departure, Settings { workers, heaps: 2, batch: 32, steal: 8, bits }),
         _ => panic!("no such method"),
     }
 }

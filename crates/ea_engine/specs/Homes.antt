@@ -2,12 +2,12 @@
 use Rattle.std.specs.Prelude.{◌≡◌, ℕ, ◌+◌, ◌-◌, ◌*◌, ◌%◌, ◌^◌, ◌<◌, ◌==◌, nat_lt, List, slice_index, if◌then◌else◌}
 use Rattle.ea_engine.specs.declared.homing.Homing.{Homing}
 
--- the next of the worker's own words; where the word of the generator below is below 2^62, with so many times all heaps more as its last 28 bits say
+-- the next of the worker's own words; where the word of the generator below is below 2^61, with so many times all heaps more as its last 28 bits say
 unfoldable pub homing_step : {R : Type 0} → (R → ℕ × R) → Homing R → ℕ × Homing R
 homing_step step h =
     let drawn = step h.below in
     let own = slice_index h.words (h.place % 8) in
-    (if nat_lt drawn.0 (2 ^ 62) then own + h.heaps * (drawn.0 % 2 ^ 28) else own, record { below = drawn.1; words = h.words; heaps = h.heaps; place = if nat_lt h.place 7 then h.place + 1 else 0 })
+    (if nat_lt drawn.0 (2 ^ 61) then own + h.heaps * (drawn.0 % 2 ^ 28) else own, record { below = drawn.1; words = h.words; heaps = h.heaps; place = if nat_lt h.place 7 then h.place + 1 else 0 })
 
 -- Words that draw a worker's own heaps in turn: as the first word of a pop or as a push's each draws the next of its heaps, and as
 -- the second word of a pop it leads there from the one before.

@@ -7,8 +7,8 @@ ghost use Rattle.ea_limits.specs.declared.TheConstants.{LEAST_HEAPS, MOST_HEAPS,
 use rand_core::utils::NextWord;
 use rand_core::{Rng, utils};
 
-/// Words of the generator below this, every fourth one, make a random word.
-const RANDOM: u64 = 1 << 62;
+/// Words of the generator below this, every eighth one, make a random word.
+const RANDOM: u64 = 1 << 61;
 
 /// So many numbers of them are told apart.
 const SPAN: u64 = 1 << 28;
@@ -17,7 +17,7 @@ const SPAN: u64 = 1 << 28;
 const WORDS: usize = 8;
 
 /// A generator whose words draw the heaps of one worker, each in turn: as a push's word or the first of a pop each draws one of
-/// them. As the second word of a pop three of four lead to the next of them, and about every fourth, by the generator below, to
+/// them. As the second word of a pop seven of eight lead to the next of them, and about every eighth, by the generator below, to
 /// any other heap. So what a processor wrote mostly stays with it. What is promised of workers holds for any words.
 #[derive(Drop)]
 pub struct Homing<R> {

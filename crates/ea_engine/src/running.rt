@@ -58,7 +58,7 @@ fn run_with<
         IsRunOf R.stream F.step network.now (T.answers times.now) query.now crew.entry ended.ran) }
 {
     times_are_fifo(times);
-    let width = network.mean_weight() / 2;
+    let width = network.mean_weight();
     let arrays = Arrays::<K, R, F, E>::reserve(
         alloc,
         network.nodes(),
@@ -80,7 +80,7 @@ fn takes_least(settings: Settings) -> bool
 }
 
 /// Runs the workers and the finishing pass. Where entries are taken one at a time, or by one worker alone, heaps give the least
-/// entry first; several workers take batches from buckets of times, whose windows are as wide as half an arc's weight.
+/// entry first; several workers take batches from buckets of times, whose windows are about as wide as an arc's mean weight.
 pub fn run_named<
     K: Known + Posed,
     H: Threads + Sync,

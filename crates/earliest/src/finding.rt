@@ -45,10 +45,10 @@ pub(crate) struct Found {
 const FEW_NODES: u32 = 10_000;
 
 /// Two or three are not on fewer than so many: each does half of the work and waits for the other's labels.
-const FEW_FOR_TWO: u32 = 500_000;
+const FEW_FOR_TWO: u32 = 1_000_000;
 
 /// Four workers or more are quicker than the search of one thread from so many nodes on, where all nodes are asked for without walks.
-const MANY_NODES: u32 = 500_000;
+const MANY_NODES: u32 = 200_000;
 
 /// Two or three workers are from so many on.
 const MANY_FOR_TWO: u32 = 2_000_000;

@@ -156,7 +156,7 @@ fn random_words() -> u32 {
 }
 
 #[test]
-fn one_word_in_four_is_random(rt: HostRuntime) {
+fn one_word_in_eight_is_random(rt: HostRuntime) {
     let random = random_words();
-    assert_that(&rt, "about 2,500 words", 2_300 < random && random < 2_700);
+    assert_that(&rt, "about 1,250 words", 1_100 < random && random < 1_400);
 }
