@@ -53,6 +53,22 @@ const MANY_NODES: u32 = 200_000;
 /// Two or three workers are from so many on.
 const MANY_FOR_TWO: u32 = 2_000_000;
 
+/// Where a source has arcs to one of so many nodes or to more, its scan alone is a large part of the work, and one worker's.
+const PART_AT_ONCE: usize = 8;
+
+/// Whether a source leads to a large part of all nodes at once, as the middle of a star does.
+fn is_wide(road: &Road, query: &Query) -> bool
+    requires { IsProblem road.now.network (length road.now.times.list.items) query.now }
+{
+    let few = road.network.nodes() as usize / PART_AT_ONCE;
+    for source in query.sources() {
+        if road.network.leaving(source.node).arcs.len() > few {
+            return true;
+        }
+    }
+    false
+}
+
 /// One worker for each processor, where so many are quicker on so many nodes than one thread.
 fn workers_on<H: Threads>(rt: &H, nodes: u32) -> u32
     ensures { (1 ≤ result) × (result ≤ MOST_WORKERS) }
@@ -71,14 +87,16 @@ fn least_nodes(workers: u64) -> u32 {
 }
 
 /// How many workers search a problem. With statistics it is those that are counted. Else those that are asked for, and where the
-/// program may choose, one for each processor where that is quicker; one is the search of one thread.
+/// program may choose, one for each processor where that is quicker; one is the search of one thread. One it is too where no more
+/// than one would have much to do.
 pub(crate) fn workers_of<H: Threads>(
     rt: &H,
     road: &Road,
     query: &Query,
     options: &RunOptions,
 ) -> u32
-    requires { AreOptions options.now }
+    requires problem { IsProblem road.now.network (length road.now.times.list.items) query.now }
+    requires options { AreOptions options.now }
     ensures some { (1 ≤ result) × (result ≤ MOST_WORKERS) }
     ensures counted { options.now.stats ≡ true → result ≡ counted_workers options.now }
 {
@@ -86,6 +104,9 @@ pub(crate) fn workers_of<H: Threads>(
         return options.counted_workers() as u32;
     }
     let nodes = road.network.nodes();
+    if nodes < FEW_NODES || is_wide(road, query) {
+        return 1;
+    }
     match options.workers {
         Some(workers) if nodes >= least_nodes(workers) => workers as u32,
         None if nodes >= MANY_NODES && !options.walks && query.target().is_none() => {
