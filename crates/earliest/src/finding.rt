@@ -69,20 +69,41 @@ fn is_wide(road: &Road, query: &Query) -> bool
     false
 }
 
-/// One worker for each processor, where so many are quicker on so many nodes than one thread.
-fn workers_on<H: Threads>(rt: &H, nodes: u32) -> u32
-    ensures { (1 ≤ result) × (result ≤ MOST_WORKERS) }
+/// How many processors there are, at most as many as there may be workers; none where the system doesn't tell.
+fn processors<H: Threads>(rt: &H) -> Option<u32>
+    ensures { IfSome result (λ count. (1 ≤ count) × (count ≤ MOST_WORKERS)) }
 {
     match available_parallelism(rt) {
-        Ok(processors) if processors.get() >= 4 || nodes >= MANY_FOR_TWO => {
-            processors.get().min(MOST_WORKERS as usize) as u32
-        }
+        Ok(processors) => Some(processors.get().min(MOST_WORKERS as usize) as u32),
+        Err(_) => None,
+    }
+}
+
+/// One worker for each processor, where so many are quicker on so many nodes than one thread.
+fn workers_on(processors: Option<u32>, nodes: u32) -> u32
+    requires { IfSome processors (λ count. (1 ≤ count) × (count ≤ MOST_WORKERS)) }
+    ensures { (1 ≤ result) × (result ≤ MOST_WORKERS) }
+{
+    match processors {
+        Some(count) if count >= 4 || nodes >= MANY_FOR_TWO => count,
         _ => 1,
     }
 }
 
+/// So many workers as are asked for, but no more than there are processors: more wait for one another.
+fn workers_asked(processors: Option<u32>, workers: u32) -> u32
+    requires processors { IfSome processors (λ count. (1 ≤ count) × (count ≤ MOST_WORKERS)) }
+    requires workers { (1 ≤ workers) × (workers ≤ MOST_WORKERS) }
+    ensures { (1 ≤ result) × (result ≤ MOST_WORKERS) }
+{
+    match processors {
+        Some(count) => workers.min(count),
+        None => workers,
+    }
+}
+
 /// From how many nodes on so many workers that are asked for are as quick as the search of one thread.
-fn least_nodes(workers: u64) -> u32 {
+fn least_nodes(workers: u32) -> u32 {
     if workers < 4 { FEW_FOR_TWO } else { FEW_NODES }
 }
 
@@ -107,12 +128,18 @@ pub(crate) fn workers_of<H: Threads>(
     if nodes < FEW_NODES || is_wide(road, query) {
         return 1;
     }
-    match options.workers {
-        Some(workers) if nodes >= least_nodes(workers) => workers as u32,
-        None if nodes >= MANY_NODES && !options.walks && query.target().is_none() => {
-            workers_on(rt, nodes)
+    let processors = processors(rt);
+    let Some(workers) = options.workers else {
+        if nodes >= MANY_NODES && !options.walks && query.target().is_none() {
+            return workers_on(processors, nodes);
         }
-        _ => 1,
+        return 1;
+    };
+    let workers = workers_asked(processors, workers as u32);
+    if nodes >= least_nodes(workers) {
+        workers
+    } else {
+        1
     }
 }
 
