@@ -1,5 +1,5 @@
 """How many threads a run has: as many problems are searched at once as are asked for, and by default as many as there are processors; and
-as many workers as are asked for are there, but for two or three on few nodes."""
+as many workers as are asked for are there, but no more than processors, and no two or three on few nodes. With statistics all are there."""
 import os
 import random
 import subprocess
@@ -43,19 +43,22 @@ def seen(program, words, folder, processors):
 def results(program):
     """Each run with its status and number of threads, and what these have to be."""
     here = sorted(os.sched_getaffinity(0))
+    four = 4 if here[3:] else 1
     with tempfile.TemporaryDirectory(prefix="threads-") as folder:
         write(folder, 12)
         for words, processors, wanted in (
-            ("--at-once 1", here, 1),
+            # One problem after the other, each by a worker for each processor where there are four.
+            ("--at-once 1", here, min(len(here), 16) if here[3:] else 1),
             # The one that sends the reports makes some too.
             ("--at-once 3", here, 3),
             ("--at-once 5", here[:1], 5),
             ("", here[:1], 1),
             ("", here[:2], 2 if here[1:] else 1),
             ("--workers 1", here, 1),
-            ("--workers 4", here, 4),
-            ("--workers 4 --at-once 1", here[:1], 4),
-            # Two or three are not worth starting on so few nodes, unless they are counted.
+            ("--workers 4", here, four),
+            ("--workers 16 --at-once 1", here[:4], four),
+            ("--workers 4 --at-once 1", here[:1], 1),
+            # More than there are processors are not worth starting, nor two or three on so few nodes, unless they are counted.
             ("--workers 2 --at-once 1", here, 1),
             ("--stats --workers 2", here[:1], 2),
             ("--stats --workers 3", here, 3),
