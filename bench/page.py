@@ -70,7 +70,7 @@ without reading. Middle of the rounds.
 
 TRAPS = """## Hard shapes
 
-Networks on which workers have little to do at once, leave their work to one thread, or aren't started at all, as on the star and on 1,000
+Networks on which workers have little to do at once, leave their work to one thread, or aren't started at all, as on 1,000
 nodes (`bench/traps.py`), with many settings: the worst of
 them beside one worker, by the middle of the rounds, of whole runs.
 """

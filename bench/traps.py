@@ -1,7 +1,7 @@
 """Networks on which several workers have little to gain: python3 bench/traps.py [--settings N] [--rounds N] [--scratch FOLDER]
 
-Late rings (late_ring.py) are run with many settings of workers, heaps, seeds, turns and batches; a path and a star of 10^6 nodes and a
-road-like network of 1,000 nodes with four workers. Each is a whole run beside one worker's, in turns; the reports are compared. It
+Late rings (late_ring.py) are run with many settings of workers, heaps, seeds, turns and batches; a path of 10^6 nodes, stars of as many
+and a road-like network of 1,000 nodes with four workers. Each is a whole run beside one worker's, in turns; the reports are compared. It
 writes bench/results/traps.csv, which the page shows, and traps_rounds.csv with each round.
 """
 import argparse
@@ -35,11 +35,24 @@ def settings(count):
     return found[:count]
 
 
-def star(base, leaves):
-    """A node with arcs of many weights to all others."""
+def star(base, leaves, before=0):
+    """A path of so many arcs to a node that has arcs of many weights to all others."""
+    middle = before + 1
     with open(f"{base}.gr", "w", encoding="ascii") as file:
-        file.write(f"p sp {leaves + 1} {leaves}\n")
-        file.writelines(f"a 1 {leaf} {leaf * 7919 % 1000 + 1}\n" for leaf in range(2, leaves + 2))
+        file.write(f"p sp {middle + leaves} {before + leaves}\n")
+        file.writelines(f"a {node} {node + 1} {node % 100 + 1}\n" for node in range(1, middle))
+        file.writelines(f"a {middle} {middle + leaf} {leaf * 7919 % 1000 + 1}\n" for leaf in range(1, leaves + 1))
+
+
+def stars(base, middles, leaves):
+    """Arcs to so many nodes, each of which has arcs of many weights to so many others."""
+    with open(f"{base}.gr", "w", encoding="ascii") as file:
+        file.write(f"p sp {1 + middles + middles * leaves} {middles + middles * leaves}\n")
+        file.writelines(f"a 1 {1 + middle} {middle % 97 + 1}\n" for middle in range(1, middles + 1))
+        leaf = 1 + middles
+        for middle in range(1, middles + 1):
+            file.writelines(f"a {1 + middle} {leaf + at} {at * 7919 % 1000 + 1}\n" for at in range(1, leaves + 1))
+            leaf += leaves
 
 
 def path(base, nodes):
@@ -79,8 +92,11 @@ def measured(scratch, count, rounds):
         found.append(compared(f"a path of {before:,} nodes, then a ring of 80,000", base, settings(count), rounds, by))
     path(base, 1_000_000)
     found.append(compared("a path of 1,000,000 nodes", base, four, rounds, by))
-    star(base, 1_000_000)
-    found.append(compared("a star of 1,000,000 arcs", base, four, rounds, by))
+    for before, name in ((0, "a star of 1,000,000 arcs"), (1, "a star that one arc leads to"), (1_000, "a star that a path of 1,000 arcs leads to")):
+        star(base, 1_000_000, before)
+        found.append(compared(name, base, four, rounds, by))
+    stars(base, 1_000, 1_000)
+    found.append(compared("1,000 stars of 1,000 arcs", base, four, rounds, by))
     subprocess.run([generate, "2500", base], check=True)
     found.append(compared("a road-like network of 1,000 nodes", base, four, 20 * rounds, by))
     measure.written("traps", [row for row, _ in found], FIELDS)

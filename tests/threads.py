@@ -21,14 +21,6 @@ def write(folder, problems):
         file.writelines([f"p aux sp ss {problems}\n", *[f"s {1 + at}\n" for at in range(problems)]])
 
 
-def write_wide(folder, name, arcs):
-    """A network of as many nodes whose only arcs are so many from its first node, which is the source of each problem."""
-    with open(os.path.join(folder, name), "w", encoding="ascii") as file:
-        file.writelines([f"p sp {NODES} {arcs}\n", *[f"a 1 {2 + at} {1 + at}\n" for at in range(arcs)]])
-    with open(os.path.join(folder, "first.ss"), "w", encoding="ascii") as file:
-        file.writelines(["p aux sp ss 12\n", *["s 1\n"] * 12])
-
-
 def seen(program, words, folder, processors):
     """The status of a run on so many processors, and the most threads that it was seen to have while it wrote its report: the
     network, which is read before, is read by as many threads as there are processors."""
@@ -54,12 +46,7 @@ def results(program):
     four = 4 if here[3:] else 1
     with tempfile.TemporaryDirectory(prefix="threads-") as folder:
         write(folder, 12)
-        write_wide(folder, "eighth.gr", NODES // 8)
-        write_wide(folder, "wide.gr", NODES // 8 + 1)
         for words, processors, wanted in (
-            # Where the source has arcs to more than an eighth of all nodes, one thread searches.
-            ("eighth.gr first.ss --workers 4", here, four),
-            ("wide.gr first.ss --workers 4", here, 1),
             # One problem after the other, each by a worker for each processor where there are four.
             ("--at-once 1", here, min(len(here), 16) if here[3:] else 1),
             # The one that sends the reports makes some too.
@@ -77,8 +64,7 @@ def results(program):
             ("--stats --workers 3", here, 3),
         ):
             for _ in range(TRIES):
-                files = "" if ".gr" in words else "net.gr net.ss "
-                was = seen(program, f"run {files}{words}", folder, processors)
+                was = seen(program, f"run net.gr net.ss {words}", folder, processors)
                 if was == (0, wanted):
                     break
             yield f"threads of run {words} on {len(processors)} processors", was, (0, wanted)

@@ -11,6 +11,9 @@ use std::sync::atomic::{AtomicU64, Ordering::Acquire, Ordering::Relaxed, Orderin
 const EMPTY: u64 = 1 << 48;
 const OUT: u64 = EMPTY + 1;
 
+/// So many entries are given also while a node with many arcs is scanned.
+const MOST_FRESH: usize = 64;
+
 /// How workers go about it.
 #[derive(Clone, Copy)]
 pub struct Settings {
@@ -173,6 +176,9 @@ impl<H: Heap> Worker<'_, H> {
             let label = &self.labels[arc.head as usize];
             if arrival <= HORIZON && arrival < label.load(Relaxed) && arrival < label.fetch_min(arrival, Relaxed) {
                 fresh.push((arrival, arc.head));
+                if fresh.len() >= MOST_FRESH {
+                    self.send(fresh);
+                }
             }
         }
         if fresh.len() >= self.settings.batch {

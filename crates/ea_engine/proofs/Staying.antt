@@ -12,7 +12,7 @@ use Rattle.ea_engine.specs.declared.turn.TurnKind.TheVariants.{Empty, Busy, Stal
 use Rattle.ea_engine.specs.Companies.{idle_with, IsIdleFor, LeavesAs, StaysAs, StaysOn}
 use Rattle.ea_engine.specs.Turns.{Told}
 
-late : (member : Member) (idle : ℕ) → IsIdleFor member idle → 32 ≤ member.quiet → 48 ≤ idle + 1
+late : (member : Member) (idle : ℕ) → IsIdleFor member idle → 384 ≤ member.quiet → 512 ≤ idle + 1
 late member idle is quiet = elim is.quiet [
   | inl none ↦ omega (arith, none, quiet)
   | inr few ↦ omega (arith, few, quiet)

@@ -16,10 +16,10 @@ IsLook number = (256 ≤ number) × (number % 64 ≡ 0)
 abbrev pub MayLeaveAt : ℕ → Member → Type 0
 MayLeaveAt number member = IsLook number × ((255 ≤ member.alone) ⊎ (member.company.now.most_falls < NO_LIMIT))
 
--- After a turn of each kind: where 32 idle turns in a row found no worker active; at such a look; or where a push was refused.
+-- After a turn of each kind: where 384 idle turns in a row found no worker active; at such a look; or where a push was refused.
 abbrev pub MayLeaveAs : TurnKind → ℕ → Member → Type 0
-MayLeaveAs Empty number member = 32 ≤ member.quiet
-MayLeaveAs Busy number member = 32 ≤ member.quiet
+MayLeaveAs Empty number member = 384 ≤ member.quiet
+MayLeaveAs Busy number member = 384 ≤ member.quiet
 MayLeaveAs Stale number member = MayLeaveAt number member
 MayLeaveAs Scanned number member = MayLeaveAt number member
 MayLeaveAs Refused number member = Unit {0}
@@ -35,20 +35,20 @@ LeavesAs Refused number member Go = ⊥
 LeavesAs Cut number member Go = Unit {0}
 LeavesAs kind number member Leave = MayLeaveAs kind number member
 
--- What a member counts is no more than the turns in a row that found nothing: none was quiet before the 16th of them.
+-- What a member counts is no more than the turns in a row that found nothing: none was quiet before the 128th of them.
 pub record IsIdleFor (member : Member) (turns : ℕ) : Type 0 where
   pub idle : member.idle ≤ turns
-  pub quiet : (member.quiet ≡ 0) ⊎ (member.quiet + 15 ≤ turns)
+  pub quiet : (member.quiet ≡ 0) ⊎ (member.quiet + 127 ≤ turns)
 
 -- how many turns in a row found nothing, after one more turn
 abbrev pub idle_with : ℕ → TurnKind → ℕ
 idle_with idle kind = if is_idle kind then idle + 1 else 0
 
--- A worker leaves after so many turns in a row that found nothing, the last one among them: after 48 of them; at a look; or where a
+-- A worker leaves after so many turns in a row that found nothing, the last one among them: after 512 of them; at a look; or where a
 -- push was refused.
 abbrev pub LeavesAfter : TurnKind → ℕ → ℕ → Type 0
-LeavesAfter Empty number idle = 48 ≤ idle
-LeavesAfter Busy number idle = 48 ≤ idle
+LeavesAfter Empty number idle = 512 ≤ idle
+LeavesAfter Busy number idle = 512 ≤ idle
 LeavesAfter Stale number idle = IsLook number
 LeavesAfter Scanned number idle = IsLook number
 LeavesAfter Refused number idle = Unit {0}

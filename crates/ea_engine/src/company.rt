@@ -8,13 +8,13 @@ use std::sync::atomic::{AtomicBool, AtomicU64, AtomicUsize};
 use std::thread::yield_now;
 
 /// After how many turns in a row that found nothing a worker counts as idle.
-const IDLE_AFTER: u32 = 16;
+const IDLE_AFTER: u32 = 128;
 
 /// After how many more such turns while none is active it leaves: an entry that is left somewhere is found before.
-const QUIET_AFTER: u32 = 32;
+const QUIET_AFTER: u32 = 384;
 
 /// After how many turns in a row that found nothing a worker lets others run.
-const YIELDS_AFTER: u32 = 64;
+const YIELDS_AFTER: u32 = 512;
 
 /// After how many looks in a row that found others idle and none active a worker leaves: what is left is quicker searched by
 /// one thread.
@@ -29,11 +29,12 @@ const LOOKS_EVERY: u64 = 64;
 /// How many labels may fall, however few nodes there are.
 const FEW_FALLS: u64 = 16_384;
 
-/// How many pauses workers may make, however few entries they visit. A pause is a spin.
-const FEW_PAUSES: u64 = 65_536;
+/// How many turns of idle workers may find nothing, however few entries all visit. Those of a worker that soon finds some again, as
+/// while another scans a node with many arcs, are not among them.
+const FEW_WAITS: u64 = 16_384;
 
-/// How many pauses workers may make for each entry that they visit.
-const PAUSES_A_VISIT: u64 = 2;
+/// For how many entries that all visit one such turn more may find nothing.
+const VISITS_A_WAIT: u64 = 2;
 
 /// Labels may fall as often as they will.
 const NO_LIMIT: u64 = u64::MAX;
@@ -48,10 +49,11 @@ pub struct Company {
     begun: AtomicBool,
     /// Those that are idle. Who has not begun is not among them.
     idle: AtomicUsize,
-    /// How many labels fell, how many entries were visited, and how many pauses were made, up to each worker's last look.
+    /// How many labels fell, how many entries were visited, and how many turns of idle workers found nothing, up to each one's last
+    /// look.
     falls: AtomicU64,
     visits: AtomicU64,
-    pauses: AtomicU64,
+    waits: AtomicU64,
     /// Where more labels fell, all leave.
     most_falls: u64,
 }
@@ -70,7 +72,7 @@ pub struct Member<'a> {
     /// What it did since its last look, as its company counts it.
     falls: u64,
     visits: u64,
-    pauses: u64,
+    waits: u64,
 }
 
 /// Adds to a count: what it is then.
@@ -104,7 +106,7 @@ impl Company {
             idle: AtomicUsize::new(0),
             falls: AtomicU64::new(0),
             visits: AtomicU64::new(0),
-            pauses: AtomicU64::new(0),
+            waits: AtomicU64::new(0),
             most_falls,
         }
     }
@@ -123,7 +125,7 @@ impl Company {
             alone: 0,
             falls: 0,
             visits: 0,
-            pauses: 0,
+            waits: 0,
         }
     }
 }
@@ -176,17 +178,17 @@ impl Member<'_> {
 
     #[inline(never)]
     fn found_nothing(&mut self) -> Flow
-        ensures leaves { result ≡ Flow.Leave → 32 ≤ self.old.quiet }
+        ensures leaves { result ≡ Flow.Leave → 384 ≤ self.old.quiet }
         ensures idle { self.new.idle ≤ self.old.idle + 1 }
         ensures quiet { (self.new.quiet ≡ 0) ⊎ (self.new.quiet ≡ self.old.quiet)
-            ⊎ ((self.new.quiet ≤ self.old.quiet + 1) × (15 ≤ self.old.idle)) }
+            ⊎ ((self.new.quiet ≤ self.old.quiet + 1) × (127 ≤ self.old.idle)) }
         ensures alone { self.new.alone ≡ self.old.alone }
     {
         self.idle = self.idle.saturating_add(1);
-        self.pauses = self.pauses.wrapping_add(1 << self.idle.min(6));
         if self.idle < IDLE_AFTER {
             return Flow::Go;
         }
+        self.waits = self.waits.wrapping_add(1);
         if self.idle == IDLE_AFTER {
             self.company.idle.fetch_add(1, SeqCst);
         }
@@ -219,21 +221,18 @@ impl Member<'_> {
         ensures limit { result ≡ false → self.old.company.now.most_falls < NO_LIMIT }
         ensures rest { KeepsCounts self.old self.new }
     {
-        let (falls, visits, pauses) = (self.falls, self.visits, self.pauses);
+        let (falls, visits, waits) = (self.falls, self.visits, self.waits);
         self.falls = 0;
         self.visits = 0;
-        self.pauses = 0;
+        self.waits = 0;
         if self.company.most_falls == NO_LIMIT {
             return true;
         }
         let falls = told(&self.company.falls, falls);
         let visits = told(&self.company.visits, visits);
-        let pauses = told(&self.company.pauses, pauses);
+        let waits = told(&self.company.waits, waits);
         falls <= self.company.most_falls
-            && pauses
-                <= visits
-                    .saturating_mul(PAUSES_A_VISIT)
-                    .saturating_add(FEW_PAUSES)
+            && waits <= (visits / VISITS_A_WAIT).saturating_add(FEW_WAITS)
     }
 
     fn found_entry(&mut self, number: u64) -> Flow

@@ -12,7 +12,7 @@ pub struct Settings {
     pub turns: u64,
     /// Entries that are taken from a heap, or given to one, at once: 1 to 64.
     pub batch: u32,
-    /// Idle turns in a row after which a worker ends: 1 to 1,048,576.
+    /// Idle turns in a row after which a worker ends: 1 to 1,048,576. From 1,024 on it waits little after each.
     pub patience: u32,
 }
 

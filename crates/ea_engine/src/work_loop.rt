@@ -21,6 +21,9 @@ use rand_core::Rng;
 use std::alloc::Global;
 use std::hint;
 
+/// The patience of a worker from which on it waits little after a turn that found nothing.
+const MUCH_PATIENCE: u32 = 1_024;
+
 /// What a worker leaves.
 #[derive(Drop)]
 pub struct WorkerEnd<K: Known, R, F, E: EntryHeap = LeastHeap<Global>> {
@@ -53,10 +56,12 @@ fn is_last(kind: TurnKind, flow: Flow) -> bool
     kind.is_refused() || flow.is_leave()
 }
 
-// Waits a little after the n-th idle turn in a row, so that a worker isn't gone before the others' entries are there.
-fn pause(idle: u32) {
+// Waits a little after the n-th idle turn in a row. A worker of little patience waits longer, so that it isn't gone before the others'
+// entries are there; one of much patience soon looks again.
+fn pause(idle: u32, patience: u32) {
+    let most = if patience < MUCH_PATIENCE { 6 } else { 2 };
     if idle > 0 {
-        for _ in 0..(1u32 << idle.min(6)) {
+        for _ in 0..(1u32 << idle.min(most)) {
             hint::spin_loop();
         }
     }
@@ -104,7 +109,7 @@ pub fn work<
         let flow = tracer(end.turn);
         idle = idle_after(idle, end.turn.kind);
         if among_several {
-            pause(idle);
+            pause(idle, pace.patience);
         }
         ended = is_last(end.turn.kind, flow);
         number += 1;

@@ -13,6 +13,7 @@ ghost use Rattle.earliest.specs.Solved.{Serves};
 
 use crate::answering::Watched;
 use crate::drafts::{Draft, Job, Plan, Span, memory_of_texts};
+use crate::finding::processors;
 use crate::handing::Asks;
 use crate::lanes::{Desk, Lane, Lanes, make_in_lane};
 use crate::progress::{Progress, fault_after};
@@ -30,7 +31,7 @@ use ea_words::RunOptions;
 use std::alloc::Global;
 use std::marker::Brand;
 use std::mem;
-use std::thread::{Threads, available_parallelism};
+use std::thread::Threads;
 
 /// How many bytes of reports a thread keeps before they are sent, at most.
 const KEPT: usize = 67_108_864;
@@ -59,10 +60,7 @@ pub(crate) fn threads_at_once<H: Threads>(rt: &H, options: &RunOptions) -> usize
             if options.workers.is_some() || options.stats {
                 return 1;
             }
-            match available_parallelism(rt) {
-                Ok(processors) => processors.get().min(MOST_AT_ONCE as usize),
-                Err(_) => 1,
-            }
+            processors(rt).unwrap_or(1).min(MOST_AT_ONCE as usize)
         }
     }
 }

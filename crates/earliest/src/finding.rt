@@ -53,71 +53,54 @@ const MANY_NODES: u32 = 200_000;
 /// Two or three workers are from so many on.
 const MANY_FOR_TWO: u32 = 2_000_000;
 
-/// Where a source has arcs to one of so many nodes or to more, its scan alone is a large part of the work, and one worker's.
-const PART_AT_ONCE: usize = 8;
-
-/// Whether a source leads to a large part of all nodes at once, as the middle of a star does.
-fn is_wide(road: &Road, query: &Query) -> bool
-    requires { IsProblem road.now.network (length road.now.times.list.items) query.now }
-{
-    let few = road.network.nodes() as usize / PART_AT_ONCE;
-    for source in query.sources() {
-        if road.network.leaving(source.node).arcs.len() > few {
-            return true;
-        }
-    }
-    false
-}
-
-/// How many processors there are, at most as many as there may be workers; none where the system doesn't tell.
-fn processors<H: Threads>(rt: &H) -> Option<u32>
-    ensures { IfSome result (λ count. (1 ≤ count) × (count ≤ MOST_WORKERS)) }
+/// How many processors there are; none where the system doesn't tell.
+pub(crate) fn processors<H: Threads>(rt: &H) -> Option<usize>
+    ensures { IfSome result (λ count. 1 ≤ count) }
 {
     match available_parallelism(rt) {
-        Ok(processors) => Some(processors.get().min(MOST_WORKERS as usize) as u32),
+        Ok(processors) => Some(processors.get()),
         Err(_) => None,
     }
 }
 
 /// One worker for each processor, where so many are quicker on so many nodes than one thread.
-fn workers_on(processors: Option<u32>, nodes: u32) -> u32
-    requires { IfSome processors (λ count. (1 ≤ count) × (count ≤ MOST_WORKERS)) }
+fn workers_on(processors: Option<usize>, nodes: u32) -> u32
+    requires { IfSome processors (λ count. 1 ≤ count) }
     ensures { (1 ≤ result) × (result ≤ MOST_WORKERS) }
 {
     match processors {
-        Some(count) if count >= 4 || nodes >= MANY_FOR_TWO => count,
+        Some(count) if count >= 4 || nodes >= MANY_FOR_TWO => {
+            count.min(MOST_WORKERS as usize) as u32
+        }
         _ => 1,
     }
 }
 
-/// So many workers as are asked for, but no more than there are processors: more wait for one another.
-fn workers_asked(processors: Option<u32>, workers: u32) -> u32
-    requires processors { IfSome processors (λ count. (1 ≤ count) × (count ≤ MOST_WORKERS)) }
+/// So many workers as are asked for, but no more than there are processors: more wait for one another. One where they are too few
+/// for so many nodes.
+fn workers_asked(processors: Option<usize>, workers: u32, nodes: u32) -> u32
+    requires processors { IfSome processors (λ count. 1 ≤ count) }
     requires workers { (1 ≤ workers) × (workers ≤ MOST_WORKERS) }
     ensures { (1 ≤ result) × (result ≤ MOST_WORKERS) }
 {
-    match processors {
-        Some(count) => workers.min(count),
-        None => workers,
+    let most = processors.unwrap_or(MOST_WORKERS as usize);
+    let workers = (workers as usize).min(most) as u32;
+    if workers < 4 && nodes < FEW_FOR_TWO {
+        1
+    } else {
+        workers
     }
 }
 
-/// From how many nodes on so many workers that are asked for are as quick as the search of one thread.
-fn least_nodes(workers: u32) -> u32 {
-    if workers < 4 { FEW_FOR_TWO } else { FEW_NODES }
-}
-
 /// How many workers search a problem. With statistics it is those that are counted. Else those that are asked for, and where the
-/// program may choose, one for each processor where that is quicker; one is the search of one thread. One it is too where no more
-/// than one would have much to do.
+/// program may choose, one for each processor where that is quicker; one is the search of one thread.
 pub(crate) fn workers_of<H: Threads>(
     rt: &H,
     road: &Road,
     query: &Query,
     options: &RunOptions,
 ) -> u32
-    requires problem { IsProblem road.now.network (length road.now.times.list.items) query.now }
-    requires options { AreOptions options.now }
+    requires { AreOptions options.now }
     ensures some { (1 ≤ result) × (result ≤ MOST_WORKERS) }
     ensures counted { options.now.stats ≡ true → result ≡ counted_workers options.now }
 {
@@ -125,22 +108,16 @@ pub(crate) fn workers_of<H: Threads>(
         return options.counted_workers() as u32;
     }
     let nodes = road.network.nodes();
-    if nodes < FEW_NODES || is_wide(road, query) {
+    if nodes < FEW_NODES {
         return 1;
     }
-    let processors = processors(rt);
-    let Some(workers) = options.workers else {
-        if nodes >= MANY_NODES && !options.walks && query.target().is_none() {
-            return workers_on(processors, nodes);
-        }
-        return 1;
-    };
-    let workers = workers_asked(processors, workers as u32);
-    if nodes >= least_nodes(workers) {
-        workers
-    } else {
-        1
+    if let Some(workers) = options.workers {
+        return workers_asked(processors(rt), workers as u32, nodes);
     }
+    if nodes < MANY_NODES || options.walks || query.target().is_some() {
+        return 1;
+    }
+    workers_on(processors(rt), nodes)
 }
 
 /// The budget of turns where none is asked for.

@@ -57,22 +57,22 @@ fn goes_on_with(member: &mut Member<'_>, kind: TurnKind, first: u64, turns: u64)
 fn nobody_leaves_before_the_first_entry_is_found(rt: HostRuntime) {
     let company = Company::new();
     let mut early = company.member();
-    assert_that(&rt, "goes on", goes_on(&mut early, 1_000));
+    assert_that(&rt, "goes on", goes_on(&mut early, 2_000));
 }
 
-/// Short pauses, those of 20 turns, are no end.
+/// Short pauses, those of 160 turns, are no end.
 const ALL_LEAVE: [Row; 11] = [
     (0, TurnKind::Scanned, 1, 1, true),
-    (1, TurnKind::Empty, 0, 1_000, true),
+    (1, TurnKind::Empty, 0, 2_000, true),
     (1, TurnKind::Stale, 1, 1, true),
-    (0, TurnKind::Empty, 0, 1_000, true),
+    (0, TurnKind::Empty, 0, 2_000, true),
     (0, TurnKind::Cut, 1, 1, true),
-    (1, TurnKind::Empty, 0, 1_000, true),
-    (0, TurnKind::Empty, 0, 20, true),
-    (1, TurnKind::Empty, 0, 20, true),
+    (1, TurnKind::Empty, 0, 2_000, true),
+    (0, TurnKind::Empty, 0, 160, true),
+    (1, TurnKind::Empty, 0, 160, true),
     (0, TurnKind::Scanned, 1, 1, true),
-    (0, TurnKind::Empty, 0, 1_000, false),
-    (1, TurnKind::Empty, 0, 100, false),
+    (0, TurnKind::Empty, 0, 2_000, false),
+    (1, TurnKind::Empty, 0, 800, false),
 ];
 
 #[test]
@@ -82,9 +82,9 @@ fn all_leave_when_none_is_active(rt: HostRuntime) {
 
 const REFUSED: [Row; 4] = [
     (0, TurnKind::Scanned, 0, 1, true),
-    (1, TurnKind::Empty, 0, 1_000, true),
+    (1, TurnKind::Empty, 0, 2_000, true),
     (0, TurnKind::Refused, 1, 1, false),
-    (1, TurnKind::Empty, 0, 100, false),
+    (1, TurnKind::Empty, 0, 800, false),
 ];
 
 #[test]
@@ -102,21 +102,21 @@ fn visits_of_falls(member: &mut Member<'_>, lowered: u64) -> u64 {
     100_000
 }
 
-/// Whether a worker leaves after so many visits as should be, while the other one found nothing in 20 turns; and the other one then.
+/// Whether a worker leaves after so many visits as should be, while the other one found nothing in 160 turns; and the other one then.
 fn leaves_alone() -> bool {
     let company = Company::new();
     let mut one = company.member();
     let mut other = company.member();
-    if !goes_on(&mut other, 20) {
+    if !goes_on(&mut other, 160) {
         return false;
     }
     let alone = visits_of_falls(&mut one, 1);
-    alone > 10_000 && alone < 100_000 && !goes_on(&mut other, 1_000)
+    alone > 10_000 && alone < 100_000 && !goes_on(&mut other, 2_000)
 }
 
 /// What the other one does before a worker's visits: whether it scans an entry or makes so many turns that find nothing; and how many
 /// labels fall in each visit. The worker makes 100,000 visits and goes on.
-const STAYS: [(bool, u32, u64); 3] = [(true, 0, 1), (false, 0, 1), (false, 20, 0)];
+const STAYS: [(bool, u32, u64); 3] = [(true, 0, 1), (false, 0, 1), (false, 160, 0)];
 
 /// Whether the other one goes on after that; there is none where it does nothing.
 fn other_goes_on(company: &Company, scans: bool, turns: u32) -> bool {
@@ -211,21 +211,39 @@ fn workers_look_from_turn_256_on(rt: HostRuntime) {
     assert_that(&rt, "visit 256 is the last", first_look() == 256);
 }
 
-/// Whether a worker still goes on that found nothing in so many turns after 1,000 such ones, beside an active one.
+/// Whether a worker still goes on that found nothing in so many turns after 16,000 such ones, beside an active one.
 fn goes_on_after_waits(company: &Company, turns: u32) -> bool {
     let mut one = company.member();
     let mut other = company.member();
     let mut goes = after(&mut other, 1, TurnKind::Scanned);
-    // 2 + 4 + .. + 64 pauses in the first 6 turns, and 64 in each of the 994 others: 63,742.
-    goes = goes && goes_on(&mut one, 1_000) && after(&mut one, 1_024, TurnKind::Scanned);
+    // It is idle from the 128th turn on: 15,873 count.
+    goes = goes && goes_on(&mut one, 16_000) && after(&mut one, 1_024, TurnKind::Scanned);
     goes && goes_on(&mut one, turns) && after(&mut one, 1_088, TurnKind::Scanned)
 }
 
 #[test]
 fn workers_leave_where_they_wait_too_long(rt: HostRuntime) {
-    // 65,536 pauses may be made, and 2 for each of the 2 visits. After 33 more turns 65,596 are made, after 32 more 65,532.
+    // 16,384 may find nothing, and one for the 2 visits. After 639 more turns 512 more count, after 640 more 513.
     let (goes, leaves) = (Company::on(1_000_000), Company::on(1_000_000));
-    assert_that(&rt, "goes on after 32", goes_on_after_waits(&goes, 32));
-    assert_that(&rt, "leaves after 33", !goes_on_after_waits(&leaves, 33));
-    assert_that(&rt, "goes on", goes_on_after_waits(&Company::new(), 10_000));
+    assert_that(&rt, "goes on after 639", goes_on_after_waits(&goes, 639));
+    assert_that(&rt, "leaves after 640", !goes_on_after_waits(&leaves, 640));
+    assert_that(&rt, "goes on", goes_on_after_waits(&Company::new(), 20_000));
+}
+
+/// Whether a worker goes on that finds an entry after each 127 turns that found nothing, so often, beside an active one.
+fn goes_on_after_short_waits(company: &Company, finds: u64) -> bool {
+    let mut one = company.member();
+    let mut other = company.member();
+    let mut goes = after(&mut other, 1, TurnKind::Scanned);
+    for find in 0..finds {
+        let number = find.wrapping_mul(128);
+        goes = goes && goes_on(&mut one, 127) && after(&mut one, number, TurnKind::Stale);
+    }
+    goes
+}
+
+#[test]
+fn short_waits_are_no_end(rt: HostRuntime) {
+    let company = Company::on(1_000_000);
+    assert_that(&rt, "goes on", goes_on_after_short_waits(&company, 1_000));
 }
