@@ -1,19 +1,19 @@
 """Builds the program bin/earliest: proves the libraries that it stands on, as many side by side as there are processors and memory,
 tells which of how many are done, and then proves, builds and runs the program once, which answers the run that is stored in it.
 
-The library with the longest chain of others above it decides when all are done: it gets every processor. Others that are ready run beside
-it at a lower priority, by one job each, and so take what it leaves: a check by two jobs takes a third more of the processors in all.
+Libraries with long chains of others above them decide when all are done: each of those is checked by two jobs, and any other by one,
+since two take a third more of the processors in all. No more jobs run than there are processors. A library that nothing can run beside has
+them all.
 
-What an earlier build proved is kept in crates/NAME/out and not proved again. Each library is built as `rt lib` builds it. Of `rt lib` itself
-one call would wait for the other wherever both stand on one library, so all are built by one process, which holds their folders, as `rt ci`
-does.
+A first build keeps the statements of a library and not its proofs: what stands above is then checked in less time, since it loads less. What
+is built again, after a change, keeps in crates/NAME/out what it proved, and the next build proves of it what changed. Of `rt lib` itself one
+call would wait for the other wherever both stand on one library, so all are built by one process, which holds their folders, as `rt ci` does.
 """
 import os
 import shutil
 import subprocess
 import sys
 import tempfile
-import threading
 import time
 from concurrent.futures import FIRST_COMPLETED, ThreadPoolExecutor, wait
 
@@ -26,8 +26,8 @@ PROGRAM = "earliest_program"
 # What a library's proof takes, in bytes, with no job and for each: more than any of them was seen to take.
 MEMORY, MEMORY_OF_A_JOB = 1_500_000_000, 1_200_000_000
 
-# How much lower the priority is of what runs beside the longest chain.
-ASIDE = 10
+# A chain counts as long from this part of the longest one on: what a line takes to prove differs from library to library by a factor of two.
+LONG = 0.75
 
 
 class Libraries:
@@ -43,12 +43,12 @@ class Libraries:
         self.left = self.program.below()
         self.done = []
 
-    def build(self, crate, jobs, priority):
-        """Builds a library at a priority (`nice`): whether it is built."""
-        os.setpriority(os.PRIO_PROCESS, threading.get_native_id(), priority)
+    def build(self, crate, jobs):
+        """Builds a library by so many jobs: whether it is built."""
         begun = time.monotonic()
         with tempfile.TemporaryFile("w+", errors="replace") as crate.out:
-            is_built = crate.build_rlib(["--jobs", str(jobs)], anew=False) == 0
+            build = self.build_first if self.is_first(crate) else self.build_again
+            is_built = build(crate, ["--jobs", str(jobs)]) == 0
             crate.out.seek(0)
             said = crate.out.read()
         if is_built:
@@ -57,6 +57,28 @@ class Libraries:
         else:
             print(f"{said}\n{crate.name} is not proved", flush=True)
         return is_built
+
+    @staticmethod
+    def is_first(crate):
+        """Whether nothing is there of an earlier build."""
+        return not crate.has_kept() and not os.path.isdir(crate.rlib)
+
+    @staticmethod
+    def build_again(crate, flags):
+        """Builds a library over what an earlier build kept: its status."""
+        return crate.build_rlib(flags, anew=False)
+
+    @staticmethod
+    def build_first(crate, flags):
+        """Builds a library whose statements are kept: its status. The stamp tells other commands what it was built of."""
+        stamp, rlib = crate.stamp(), os.path.dirname(crate.rlib)
+        shutil.rmtree(rlib, ignore_errors=True)
+        os.makedirs(rlib)
+        status = crate.prove(["build", *crate.words(flags, keeps=False), "--statements", "-o", crate.rlib])
+        if status == 0 and crate.stamp() == stamp:
+            with open(os.path.join(rlib, "stamp"), "w", encoding="utf-8") as file:
+                file.write(stamp)
+        return status
 
     def chains(self):
         """The lines of each library and of the longest chain of others above it."""
@@ -74,25 +96,25 @@ class Libraries:
         left = sorted(self.left, key=lambda crate: -chain[crate.name])
         processors, memory = self.rt.processors(), 0.85 * self.rt.free()
         built, running = set(), {}
-        # A thread's priority can't be raised again: each library has a thread of its own.
-        while left or running:
-            longest = max([chain[crate.name] for crate in left] + [chain[crate.name] for crate, _ in running.values()])
-            for crate in [crate for crate in left if all(below.name in built for below in crate.below())]:
-                is_longest = chain[crate.name] == longest
-                jobs = processors if is_longest else 1
-                needs = MEMORY + MEMORY_OF_A_JOB * jobs
-                if running and needs > memory - sum(taken for _, taken in running.values()):
+        with ThreadPoolExecutor(max_workers=len(left) or 1) as pool:
+            while left or running:
+                ready = [crate for crate in left if all(below.name in built for below in crate.below())]
+                for crate in ready:
+                    free = processors - sum(jobs for _, jobs in running.values())
+                    longest = max(chain[it.name] for it in [*left, *(it for it, _ in running.values())])
+                    wanted = 2 if chain[crate.name] >= LONG * longest else 1
+                    jobs = processors if len(ready) == 1 and not running else min(wanted, free)
+                    taken = sum(MEMORY + MEMORY_OF_A_JOB * jobs for _, jobs in running.values())
+                    if jobs == 0 or running and taken + MEMORY + MEMORY_OF_A_JOB * jobs > memory:
+                        break
+                    left.remove(crate)
+                    running[pool.submit(self.build, crate, jobs)] = crate, jobs
+                if not running:
                     break
-                left.remove(crate)
-                pool = ThreadPoolExecutor(1)
-                running[pool.submit(self.build, crate, jobs, 0 if is_longest else ASIDE)] = crate, needs
-                pool.shutdown(wait=False)
-            if not running:
-                break
-            for ended in wait(running, return_when=FIRST_COMPLETED).done:
-                crate, _ = running.pop(ended)
-                if ended.result():
-                    built.add(crate.name)
+                for ended in wait(running, return_when=FIRST_COMPLETED).done:
+                    crate, _ = running.pop(ended)
+                    if ended.result():
+                        built.add(crate.name)
         for folder in held:
             os.close(folder)
         return len(built) == len(self.left)
