@@ -68,13 +68,12 @@ class Libraries:
         """Builds a library over what an earlier build kept: its status."""
         return crate.build_rlib(flags, anew=False)
 
-    @staticmethod
-    def build_first(crate, flags):
+    def build_first(self, crate, flags):
         """Builds a library whose statements are kept: its status. The stamp tells other commands what it was built of."""
         stamp, rlib = crate.stamp(), os.path.dirname(crate.rlib)
         shutil.rmtree(rlib, ignore_errors=True)
         os.makedirs(rlib)
-        status = crate.prove(["build", *crate.words(flags, keeps=False), "--statements", "-o", crate.rlib])
+        status = crate.call(self.rtlib.RATTLE, "build", *crate.words(flags, keeps=False), "--statements", "-o", crate.rlib)
         if status == 0 and crate.stamp() == stamp:
             with open(os.path.join(rlib, "stamp"), "w", encoding="utf-8") as file:
                 file.write(stamp)
