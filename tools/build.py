@@ -2,12 +2,14 @@
 tells which of how many are done, and then proves, builds and runs the program once, which answers the run that is stored in it.
 
 Libraries with long chains of others above them decide when all are done: each of those is checked by two jobs, and any other by one,
-since two take a third more of the processors in all. No more jobs run than there are processors. A library that nothing can run beside has
-them all.
+since two take a fifth to two thirds more of the processors in all. No more jobs run than there are processors. A library that nothing can
+run beside has them all.
 
-A first build keeps the statements of a library and not its proofs: what stands above is then checked in less time, since it loads less. What
-is built again, after a change, keeps in crates/NAME/out what it proved, and the next build proves of it what changed. Of `rt lib` itself one
-call would wait for the other wherever both stand on one library, so all are built by one process, which holds their folders, as `rt ci` does.
+A first build keeps the statements of a library and not its proofs: what stands above is then checked in less time, since it loads less.
+Statements fit only the builds that they were proved over. So crates/NAME/out/first tells what a library's first build was made of; where it
+is as it was then, it is built so again, and gives the same. Where it was changed, or stands on what was, it keeps in crates/NAME/out what
+it proved, and the next build proves of it what changed. Of `rt lib` itself one call would wait for the other wherever both stand on one
+library, so all are built by one process, which holds their folders, as `rt ci` does.
 """
 import os
 import shutil
@@ -47,8 +49,7 @@ class Libraries:
         """Builds a library by so many jobs: whether it is built."""
         begun = time.monotonic()
         with tempfile.TemporaryFile("w+", errors="replace") as crate.out:
-            build = self.build_first if self.is_first(crate) else self.build_again
-            is_built = build(crate, ["--jobs", str(jobs)]) == 0
+            is_built = self.status_of(crate, ["--jobs", str(jobs)]) == 0
             crate.out.seek(0)
             said = crate.out.read()
         if is_built:
@@ -58,25 +59,22 @@ class Libraries:
             print(f"{said}\n{crate.name} is not proved", flush=True)
         return is_built
 
-    @staticmethod
-    def is_first(crate):
-        """Whether nothing is there of an earlier build."""
-        return not crate.has_kept() and not os.path.isdir(crate.rlib)
-
-    @staticmethod
-    def build_again(crate, flags):
-        """Builds a library over what an earlier build kept: its status."""
-        return crate.build_rlib(flags, anew=False)
-
-    def build_first(self, crate, flags):
-        """Builds a library whose statements are kept: its status. The stamp tells other commands what it was built of."""
-        stamp, rlib = crate.stamp(), os.path.dirname(crate.rlib)
-        shutil.rmtree(rlib, ignore_errors=True)
-        os.makedirs(rlib)
+    def status_of(self, crate, flags):
+        """Builds a library where it isn't built: the status."""
+        out, stamp = os.path.join(crate.folder, "out"), crate.stamp()
+        first, kept = os.path.join(out, "first"), os.path.join(out, "rlib", "statements")
+        was = self.rtlib.text_of(first)
+        if was is None and (crate.has_kept() or os.path.isdir(crate.rlib)) or was not in (None, stamp):
+            return crate.build_rlib(flags, anew=False)
+        if crate.is_built() and os.path.isfile(kept):
+            return 0
+        shutil.rmtree(os.path.dirname(kept), ignore_errors=True)
+        os.makedirs(os.path.dirname(kept))
         status = crate.call(self.rtlib.RATTLE, "build", *crate.words(flags, keeps=False), "--statements", "-o", crate.rlib)
         if status == 0 and crate.stamp() == stamp:
-            with open(os.path.join(rlib, "stamp"), "w", encoding="utf-8") as file:
-                file.write(stamp)
+            for path in (first, kept, os.path.join(out, "rlib", "stamp")):
+                with open(path, "w", encoding="utf-8") as file:
+                    file.write(stamp)
         return status
 
     def chains(self):
