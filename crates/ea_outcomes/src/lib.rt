@@ -2,7 +2,9 @@
 #![tactic(auto)]
 
 mod fault;
+mod opened;
 mod saying;
 
 pub use fault::AnswerFault;
+pub use opened::Opened;
 pub use saying::{Outcome, say, show};

@@ -4,24 +4,16 @@ use Rattle.ea_text.specs.Device.{Seen}
 use Rattle.ea_files.specs.Files.{Reading, reading}
 use Rattle.ea_outcomes.specs.Asked.{Files, files_of, IsAnswered, IsFailed}
 use Rattle.ea_outcomes.specs.declared.fault.AnswerFault.{AnswerFault}
+use Rattle.ea_outcomes.specs.declared.opened.Opened.{Opened}
 use Rattle.ea_outcomes.specs.declared.saying.Outcome.{Outcome}
 use Rattle.ea_outcomes.specs.declared.saying.Outcome.TheVariants.{Accepted, Answer, Check as Refused}
 use Rattle.ea_ranking.specs.Ranks.{rank_asks}
 use Rattle.ea_words.specs.declared.options.Command.{Command}
-use Rattle.ea_words.specs.declared.options.Command.TheVariants.{Stored, Run, Pairs, Rank, Check, Explain, Formats}
+use Rattle.ea_words.specs.declared.options.Command.TheVariants.{Run, Pairs, Rank, Check}
 use Rattle.earliest.specs.Checks.{IsJudged, IsUnjudged}
 use Rattle.earliest.specs.Runs.{run_asks, pair_asks}
-use Rattle.earliest.specs.declared.performing.Opened.{Opened}
 use Rattle.earliest.specs.declared.performing.Performed.{Performed}
 use Rattle.earliest.specs.declared.performing.Performed.TheVariants.{Reported, Ranked, Checked}
-
--- The command names files, and for a check there is a report.
-abbrev pub HasFiles : {R : Type 0} → Command → Option R → Type 0
-HasFiles Stored report = ⊥
-HasFiles (Explain fault) report = ⊥
-HasFiles Formats report = ⊥
-HasFiles (Check gr ss tp name options) None = ⊥
-HasFiles _ report = Unit {0}
 
 -- The files of a command, and a report's reader before and after, where there is one.
 pub record PerformedOn : Type 0 where

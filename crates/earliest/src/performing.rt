@@ -1,29 +1,20 @@
 //! What each command does with its files.
 ghost use Rattle.std.specs.Prelude.{◌≡◌};
 ghost use Rattle.ea_words.specs.Limits.{HasLimits};
-ghost use Rattle.earliest.specs.Performed.{HasFiles, IsPerformed, outcome_by, performed_on};
+ghost use Rattle.ea_outcomes.specs.Named.{HasFiles};
+ghost use Rattle.earliest.specs.Performed.{IsPerformed, outcome_by, performed_on};
 
 use crate::answering::{Watched, answer_watched, pairs_watched};
 use crate::checking::check_watched;
 use ea_check::CheckFault;
 use ea_input::{ByteIn, ByteOut};
-use ea_outcomes::{AnswerFault, Outcome};
+use ea_outcomes::{AnswerFault, Opened, Outcome};
 use ea_ranking::rank_watched;
 use ea_report::Totals;
 use ea_watch::Watch;
 use ea_words::Command;
 use std::alloc::Global;
 use std::thread::Threads;
-
-/// The files that a command names, opened: the network, where searches start, the timetables where they are named, and the
-/// report that is to be checked.
-#[derive(Drop)]
-pub struct Opened<R: ByteIn> {
-    pub gr: R,
-    pub starts: R,
-    pub tp: Option<R>,
-    pub report: Option<R>,
-}
 
 /// What a command came to that was carried out.
 #[derive(Clone, Copy)]

@@ -1,20 +1,16 @@
-//! What a command does, and how its outcome is told.
+//! What a command does.
+ghost use Rattle.ea_outcomes.specs.Named.{HasFiles};
 ghost use Rattle.ea_words.specs.Limits.{HasLimits};
-ghost use Rattle.earliest.specs.Performed.{HasFiles};
 
-use crate::explaining::{explain_outcome, explain_unopened, explain_write};
-use crate::files::{Names, Sources, Unopened, names_of, open_all};
-use crate::line::Line;
-use crate::output::Output;
-use crate::pages::{explain_fault, show_text};
 use crate::stored::stored;
 use ea_explain::FORMATS;
 use ea_input::StdOut;
-use earliest::{AnswerFault, Command, FileWord, Outcome, Performed, outcome_of, perform, say};
+use ea_terminal::{
+    Line, Names, explain_fault, names_of, open_all, open_output, show_text, tell_end,
+    tell_unopened, tells_progress,
+};
+use earliest::{Command, Performed, outcome_of, perform};
 use std::thread::Threads;
-
-/// The status where the output can't be written and nobody is there to read the line that says so.
-const LEFT: u8 = 4;
 
 /// Does what a command asks for, and answers the status.
 pub fn carry_out<H: Threads + Sync>(
@@ -35,17 +31,6 @@ pub fn carry_out<H: Threads + Sync>(
     }
 }
 
-/// Whether a command is to tell how far it is.
-fn tells_progress(command: &Command<'_>) -> bool {
-    match command {
-        Command::Run { options, .. }
-        | Command::Pairs { options, .. }
-        | Command::Rank { options, .. }
-        | Command::Check { options, .. } => options.progress,
-        Command::Stored | Command::Explain { .. } | Command::Formats => false,
-    }
-}
-
 /// Does what a command asks for that names files.
 fn carry_out_with<H: Threads + Sync>(
     rt: &HostRuntime,
@@ -61,16 +46,9 @@ fn carry_out_with<H: Threads + Sync>(
         Ok(sources) => sources,
         Err(unopened) => return tell_unopened(rt, &unopened, explains),
     };
-    let mut output = match Output::open(rt, names.output) {
+    let mut output = match open_output(rt, &names) {
         Ok(output) => output,
-        Err(reason) => {
-            let unopened = Unopened {
-                word: FileWord::Out,
-                name: names.output.unwrap_or("-"),
-                reason,
-            };
-            return tell_unopened(rt, &unopened, explains);
-        }
+        Err(unopened) => return tell_unopened(rt, &unopened, explains),
     };
     let is_asked = tells_progress(command);
     let mut line = Line::begin(rt, is_asked);
@@ -88,65 +66,9 @@ fn carry_out_with<H: Threads + Sync>(
     };
     line.clear();
     let is_accepted = matches!(performed, Ok(Performed::Checked(Ok(()))));
-    let status = tell_performed(rt, performed, &mut sources, &output, explains);
+    let status = tell_end(rt, outcome_of(performed), &mut sources, &output, explains);
     if is_accepted && status == 0 && (is_asked || explains) {
         line.tell_checked();
     }
     status
-}
-
-/// Tells that a file can't be opened.
-fn tell_unopened(rt: &HostRuntime, unopened: &Unopened<'_>, explains: bool) -> u8 {
-    let status = tell(rt, &Outcome::Unopened(unopened.word));
-    if explains {
-        explain_unopened(rt, unopened);
-    }
-    status
-}
-
-/// Tells what a command came to, and puts a whole report in its place.
-fn tell_performed(
-    rt: &HostRuntime,
-    performed: Result<Performed, AnswerFault>,
-    sources: &mut Sources<'_>,
-    output: &Output,
-    explains: bool,
-) -> u8 {
-    let Some(outcome) = outcome_of(performed) else {
-        return tell_put(rt, output, explains);
-    };
-    let reason = output.refusal;
-    let is_left = output.is_left();
-    output.leave(rt);
-    if is_left && matches!(outcome, Outcome::Answer(AnswerFault::Write { .. })) {
-        return LEFT;
-    }
-    let status = tell(rt, &outcome);
-    if explains {
-        explain_outcome(rt, &outcome, sources, reason);
-    }
-    status
-}
-
-/// Puts a whole report in its place, and tells where that can't be done.
-fn tell_put(rt: &HostRuntime, output: &Output, explains: bool) -> u8 {
-    match output.put_in_place(rt) {
-        Ok(()) => 0,
-        Err(reason) => {
-            let written = output.written;
-            let status = tell(rt, &Outcome::Answer(AnswerFault::Write { written }));
-            if explains {
-                explain_write(rt, Some(reason));
-            }
-            status
-        }
-    }
-}
-
-/// Tells an outcome, and answers the status: what was asked for goes to standard output, the rest to standard error.
-pub fn tell(rt: &HostRuntime, outcome: &Outcome) -> u8 {
-    match outcome.asked_text() {
-        Some(text) => show_text(rt, text),
-        None => say(outcome, &mut StdOut::new(rt.stderr())),
-    }
 }

@@ -1,7 +1,6 @@
 //! The run that is built in, which is done where there are no words.
-use crate::output::Output;
-use crate::runs::tell;
 use ea_input::{StdIn, StdOut};
+use ea_terminal::{Output, tell};
 use earliest::{AnswerFault, Outcome, RunOptions, answer};
 use std::io::IsTerminal;
 use std::thread::Threads;

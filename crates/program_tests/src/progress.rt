@@ -1,7 +1,7 @@
 //! Who watches a command is told of each problem, and nothing else is different.
 ghost use Rattle.std.specs.Prelude.{◌≤◌, IfSome};
 ghost use Rattle.ea_words.specs.Limits.{AreOptions, HasLimits};
-ghost use Rattle.earliest.specs.Performed.{HasFiles};
+ghost use Rattle.ea_outcomes.specs.Named.{HasFiles};
 
 use crate::asked::{DEFAULTS, GRAPH, holds};
 use ea_input::{StdIn, StdOut};

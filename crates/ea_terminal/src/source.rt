@@ -6,7 +6,7 @@ use std::io::{self, ErrorKind, Read, Seek, SeekFrom, Stdin};
 const FRONT: usize = 512;
 
 /// How many bytes of a line are shown.
-pub const SHOWN: usize = 120;
+pub(crate) const SHOWN: usize = 120;
 
 /// Where the bytes come from.
 #[derive(Drop)]
@@ -18,18 +18,19 @@ enum Origin {
 /// A file that is read, and what its fault may be explained by.
 #[derive(Drop)]
 pub struct Source<'a> {
-    pub name: &'a str,
+    /// What it was opened by.
+    pub(crate) name: &'a str,
     origin: Origin,
     /// The first bytes that it gave.
     front: [u8; FRONT],
     kept: usize,
     /// Why the last read failed.
-    pub refusal: Option<ErrorKind>,
+    pub(crate) refusal: Option<ErrorKind>,
 }
 
 impl<'a> Source<'a> {
     /// Opens the file of a name; `-` is standard input.
-    pub fn open(rt: &HostRuntime, name: &'a str) -> Result<Source<'a>, ErrorKind> {
+    pub(crate) fn open(rt: &HostRuntime, name: &'a str) -> Result<Source<'a>, ErrorKind> {
         let origin = if name == "-" {
             Origin::Input(rt.stdin())
         } else {
@@ -48,7 +49,7 @@ impl<'a> Source<'a> {
     }
 
     /// The first bytes that it gave.
-    pub fn front(&self) -> &[u8] {
+    pub(crate) fn front(&self) -> &[u8] {
         match self.front.get(..self.kept) {
             Some(front) => front,
             None => &[],
@@ -67,7 +68,7 @@ impl<'a> Source<'a> {
     }
 
     /// The front of a line, counted from 1, read again; none where it can't be read again.
-    pub fn line(&mut self, alloc: std::alloc::Global, line: u64) -> Option<Vec<u8>> {
+    pub(crate) fn line(&mut self, alloc: std::alloc::Global, line: u64) -> Option<Vec<u8>> {
         let Origin::File(file) = &mut self.origin else {
             return None;
         };

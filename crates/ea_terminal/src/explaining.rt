@@ -1,10 +1,13 @@
 //! What is said after the line of a fault: what it means and what to do.
 use crate::files::{Sources, Unopened};
 use crate::source::{SHOWN, Source};
+use ea_check::CheckFault;
 use ea_explain::{fault_named, look_of, reason_of, wanted_of_line};
+use ea_files::FileWord;
 use ea_input::{InputFault, ReadFault};
+use ea_outcomes::{AnswerFault, Outcome};
 use ea_text::without_return;
-use earliest::{AnswerFault, CheckFault, FileWord, Outcome, bad_value_of};
+use ea_words::bad_value_of;
 use std::io::ErrorKind;
 
 /// Says something on standard error, indented.
@@ -19,12 +22,12 @@ fn remark_on(rt: &HostRuntime, name: &str, text: &str) {
 }
 
 /// Why a file can't be opened.
-pub fn explain_unopened(rt: &HostRuntime, unopened: &Unopened<'_>) {
+pub(crate) fn explain_unopened(rt: &HostRuntime, unopened: &Unopened<'_>) {
     remark_on(rt, unopened.name, reason_of(unopened.reason));
 }
 
 /// Which option's value is bad, and its limits.
-pub fn explain_words(rt: &HostRuntime, words: &[String]) {
+pub(crate) fn explain_words(rt: &HostRuntime, words: &[String]) {
     match bad_value_of(rt.alloc(), words) {
         None => remark(rt, "- is standard input, which one file alone can be"),
         Some(bad) => {
@@ -101,7 +104,7 @@ fn explain_check(rt: &HostRuntime, fault: CheckFault, sources: &mut Sources<'_>)
 }
 
 /// Why the output can't be written.
-pub fn explain_write(rt: &HostRuntime, reason: Option<ErrorKind>) {
+pub(crate) fn explain_write(rt: &HostRuntime, reason: Option<ErrorKind>) {
     match reason {
         Some(reason) => remark_on(rt, "the output", reason_of(reason)),
         None => remark_on(rt, "the output", "it takes nothing more"),
@@ -109,7 +112,7 @@ pub fn explain_write(rt: &HostRuntime, reason: Option<ErrorKind>) {
 }
 
 /// What the fault of a command means that has files.
-pub fn explain_outcome(
+pub(crate) fn explain_outcome(
     rt: &HostRuntime,
     outcome: &Outcome,
     sources: &mut Sources<'_>,

@@ -1,10 +1,22 @@
 //! The line that tells how far a command is.
-use earliest::Watch;
+use ea_watch::Watch;
+use ea_words::Command;
 use std::io::IsTerminal;
 use std::time::Instant;
 
 /// How many seconds are between two lines, at least.
 const PAUSE: u64 = 1;
+
+/// Whether a command is to tell how far it is.
+pub fn tells_progress(command: &Command<'_>) -> bool {
+    match command {
+        Command::Run { options, .. }
+        | Command::Pairs { options, .. }
+        | Command::Rank { options, .. }
+        | Command::Check { options, .. } => options.progress,
+        Command::Stored | Command::Explain { .. } | Command::Formats => false,
+    }
+}
 
 /// When a command began, and when a line was last told of it.
 #[derive(Clone, Copy)]

@@ -25,9 +25,9 @@ enum Goal {
 pub struct Output {
     goal: Goal,
     /// How many bytes it took.
-    pub written: u128,
+    pub(crate) written: u128,
     /// Why the last write failed.
-    pub refusal: Option<ErrorKind>,
+    pub(crate) refusal: Option<ErrorKind>,
 }
 
 impl Output {
@@ -41,7 +41,7 @@ impl Output {
     }
 
     /// The file of a name, or standard output where none is named or the name is `-`.
-    pub fn open(rt: &HostRuntime, name: Option<&str>) -> Result<Output, ErrorKind> {
+    pub(crate) fn open(rt: &HostRuntime, name: Option<&str>) -> Result<Output, ErrorKind> {
         let goal = match name {
             None | Some("-") => Goal::Output(rt.stdout()),
             Some(name) => goal_of(rt, name)?,
@@ -59,7 +59,7 @@ impl Output {
     }
 
     /// Puts a whole report in its place; else the reason why that can't be done, and the file that is named is as it was.
-    pub fn put_in_place(&self, rt: &HostRuntime) -> Result<(), ErrorKind> {
+    pub(crate) fn put_in_place(&self, rt: &HostRuntime) -> Result<(), ErrorKind> {
         let put = match &self.goal {
             Goal::Beside { file, made, name } => put(rt, file, made, name),
             Goal::Output(_) | Goal::Device(_) => Ok(()),
@@ -71,7 +71,7 @@ impl Output {
     }
 
     /// Leaves the file that is named as it was.
-    pub fn leave(&self, rt: &HostRuntime) {
+    pub(crate) fn leave(&self, rt: &HostRuntime) {
         if let Goal::Beside { made, .. } = &self.goal {
             let _ = fs::remove_file(rt, made.as_str());
         }

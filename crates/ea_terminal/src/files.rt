@@ -1,18 +1,21 @@
 //! The files that a command names, opened in their order.
 ghost use Rattle.std.specs.Prelude.{◌≡◌, IfOk, MatchOption, is_some};
-ghost use Rattle.earliest.specs.Performed.{HasFiles};
+ghost use Rattle.ea_outcomes.specs.Named.{HasFiles};
 
+use crate::output::Output;
 use crate::source::Source;
+use ea_files::FileWord;
 use ea_input::StdIn;
-use earliest::{Command, FileWord, Opened};
+use ea_outcomes::Opened;
+use ea_words::Command;
 use std::io::ErrorKind;
 
 /// A file that can't be opened: its word and name, and the system's reason.
 #[derive(Clone, Copy)]
 pub struct Unopened<'a> {
-    pub word: FileWord,
-    pub name: &'a str,
-    pub reason: ErrorKind,
+    pub(crate) word: FileWord,
+    pub(crate) name: &'a str,
+    pub(crate) reason: ErrorKind,
 }
 
 /// The names of a command's files.
@@ -20,12 +23,13 @@ pub struct Unopened<'a> {
 pub struct Names<'a> {
     gr: &'a str,
     /// Which file says where searches start.
-    pub word: FileWord,
+    word: FileWord,
     starts: &'a str,
     tp: Option<&'a str>,
+    /// The report that is to be checked.
     pub report: Option<&'a str>,
     /// The file that the report goes to.
-    pub output: Option<&'a str>,
+    output: Option<&'a str>,
 }
 
 /// The names of a command's files; none where it names no files.
@@ -139,6 +143,18 @@ pub fn open_all<'a>(rt: &HostRuntime, names: &Names<'a>) -> Result<Sources<'a>, 
     })
 }
 
+/// Opens what the report goes to; where that can't be done, the error tells why.
+pub fn open_output<'a>(rt: &HostRuntime, names: &Names<'a>) -> Result<Output, Unopened<'a>> {
+    match Output::open(rt, names.output) {
+        Ok(output) => Ok(output),
+        Err(reason) => Err(Unopened {
+            word: FileWord::Out,
+            name: names.output.unwrap_or("-"),
+            reason,
+        }),
+    }
+}
+
 /// A reader of a file that may be left out.
 fn reader<'a, 'b>(source: &'b mut Option<Source<'a>>) -> Option<StdIn<&'b mut Source<'a>>>
     ensures { is_some result ≡ is_some source.old }
@@ -163,7 +179,7 @@ impl<'a> Sources<'a> {
     }
 
     /// The file of a word, where the command has it.
-    pub fn named(&mut self, word: FileWord) -> Option<&mut Source<'a>> {
+    pub(crate) fn named(&mut self, word: FileWord) -> Option<&mut Source<'a>> {
         match word {
             FileWord::Gr => Some(&mut self.gr),
             FileWord::Tp => self.tp.as_mut(),

@@ -2,7 +2,8 @@
 use crate::output::Output;
 use ea_explain::{FAULTS, Fault, fault_named};
 use ea_input::StdOut;
-use earliest::{CommandFault, Outcome, say, show};
+use ea_outcomes::{Outcome, say, show};
+use ea_words::CommandFault;
 use std::alloc::{AllocError, Global};
 
 /// Writes a text to standard output, and answers the status. Where it can't be written, the line says so, but where nobody
