@@ -10,7 +10,6 @@ pub mod Worked
 pub mod Holds
 pub mod Seated
 pub mod Scans
-pub mod Parts
 pub mod Rows
 pub mod Reports
 pub mod Gathered

@@ -1,9 +1,5 @@
 pub mod Copied
 pub mod Counting
-pub mod Placing
-pub mod Piling
-pub mod Going
-pub mod Held
 pub mod Sending
 pub mod Verdicts
 pub mod OneReport

@@ -14,7 +14,7 @@ use Rattle.ea_road.proofs.Canonical.{one_canonical}
 use Rattle.ea_finish.specs.Answers.{Answered, HasArrivals, IsAnswer, arrival_of, walk_of}
 use Rattle.ea_finish.specs.Links.{linked_walk}
 use Rattle.ea_report.specs.Report.{source_line, pair_line, arrival_line, walk_text, node_text, each_node, problem_text}
-use Rattle.earliest.specs.Reported.{IsReportOf, AreReported}
+use Rattle.ea_drafts.specs.Reported.{IsReportOf, AreReported}
 use Rattle.ea_report.proofs.Problems.{all_text, target_text}
 use Rattle.ea_input.specs.Graph.{Graph, DenotesGraph}
 use Rattle.ea_input.specs.Table.{Table}

@@ -1,17 +1,15 @@
--- Reports that went out, one after the other.
-use Rattle.std.proofs.Common.{◌≡◌, ℕ, ◌+◌, ◌^◌, ◌<◌, ◌≤◌, true, List, [], ◌∷◌, ◌++◌, length, take, get_or, refl, ap, sym, ◌∙◌, arith, subst, inl, inr, append-nil, append_assoc, length-append}
+-- Reports that went out with their totals, or were cut short.
+use Rattle.std.proofs.Common.{◌≡◌, ℕ, ◌+◌, true, List, refl, sym, ◌∙◌, arith, subst}
 use Rattle.std.specs.Io.KnownBytes.{Appends}
-use Rattle.std.proofs.KnownBytes.{Appends-trans, Appends-nil}
-use Rattle.std.proofs.lemmas.List.{take_more}
-use Rattle.std.proofs.lemmas.Option.{slice_get_read}
+use Rattle.std.proofs.KnownBytes.{Appends-trans}
 use Rattle.ea_text.specs.Device.{Seen, BearsOn, GivesUp}
 use Rattle.ea_road.specs.Roads.{Roads}
 use Rattle.ea_road.specs.Queries.{Asking}
-use Rattle.ea_report.specs.Sent.{IsCutAt, IsNotLess}
+use Rattle.ea_report.specs.Sent.{IsCutAt}
 use Rattle.ea_report.specs.declared.stats.Totals.{Totals}
 use Rattle.ea_report.specs.Stats.{stats_text}
-use Rattle.earliest.specs.Reported.{IsReportOf, AreReported}
-use Rattle.earliest.specs.Fronts.{in_problem, in_totals, IsCutShort, IsSent, IsStoppedBy, IsWritten, AreSent, totals_text}
+use Rattle.ea_drafts.specs.Sent.{AreSent, IsStoppedBy}
+use Rattle.earliest.specs.Fronts.{in_problem, in_totals, IsCutShort, IsWritten, totals_text}
 use Rattle.ea_words.specs.declared.options.RunOptions.{RunOptions}
 use Rattle.earliest.specs.Counted.{AreBalanced, AreTotals}
 use Rattle.earliest.specs.Workers.{settings_by}
@@ -19,79 +17,39 @@ use Rattle.ea_outcomes.proofs.Outcomes.{IsCutting}
 use Rattle.ea_outcomes.specs.declared.fault.AnswerFault.{AnswerFault}
 use Rattle.ea_outcomes.specs.declared.fault.AnswerFault.TheVariants.{Read, Input, BadOption, Write, OutOfMemory}
 
-module _ (options : RunOptions) (roads : Roads) (answers : ℕ → ℕ → ℕ → ℕ → Type 0) where
-  -- One more report.
-  pub reported_more : (front : List Asking) (query : Asking) (texts text : List ℕ) → AreReported options.walks roads answers front texts → IsReportOf options.walks roads answers query text → AreReported options.walks roads answers (front ++ query ∷ []) (texts ++ text)
-  reported_more [] query texts text none is_report = (text, [], is_report, refl, rw none (sym (append-nil text)))
-  reported_more (first ∷ front) query texts text some is_report =
-      (some.0, some.1 ++ text, some.2, reported_more front query some.1 text some.3 is_report, rw some.4 (append_assoc some.0 some.1 text))
+-- The totals after all reports.
+module _ (options : RunOptions) (roads : Roads) (answers : ℕ → ℕ → ℕ → ℕ → Type 0)
+    (all : List Asking) (first old now : Seen) (before : ℕ) (totals : Totals) (sent : AreSent options.walks roads answers all first old before) where
+  pub totals_cut : (size : ℕ) → options.stats ≡ true → AreTotals (settings_by options) all totals → IsCutAt old.bytes now.bytes (stats_text totals) size → GivesUp old now → IsCutShort options roads answers all first now (Write (before + size))
+  totals_cut size told counted cut gone = in_totals (before + size) refl (record {
+    asked = told;
+    old = old;
+    before = before;
+    sent = sent;
+    totals = totals;
+    counted = counted;
+    size = size;
+    is_written = refl;
+    cut = cut;
+    gives_up = gone;
+  })
 
-  -- None yet.
-  pub sent_none : (first : Seen) → AreSent options.walks roads answers [] first first 0
-  sent_none first = record { report = []; are_reported = refl; appended = Appends-nil first.bytes; counted = refl; unfailed = refl; borne = omega arith; monotone = omega arith }
-
-  -- A count that doesn't fall.
-  goes_on : (first old now : ℕ) → first < 2 ^ 64 → first ≤ old → IsNotLess old now → first ≤ now
-  goes_on first old now fits before (inl h) = omega (arith, before, h)
-  goes_on first old now fits before (inr h) = omega (arith, fits, h)
-
-  -- One more went out.
-  pub sent_more : (front : List Asking) (query : Asking) (first old now : Seen) (before written : ℕ) → first.interrupted < 2 ^ 64 → AreSent options.walks roads answers front first old before → IsSent options.walks roads answers query old now before written → AreSent options.walks roads answers (front ++ query ∷ []) first now written
-  sent_more front query first old now before written fits sent more = record {
-    report = sent.report ++ more.text;
-    are_reported = reported_more front query sent.report more.text sent.are_reported more.is_report;
-    appended = Appends-trans first.bytes old.bytes now.bytes sent.report more.text sent.appended more.appended;
-    counted = more.counted ∙ ap (λ (n : ℕ). n + length more.text) sent.counted ∙ sym (length-append sent.report more.text);
-    unfailed = more.unfailed ∙ sent.unfailed;
-    borne = omega (arith, more.borne, sent.borne, length-append front (query ∷ []));
-    monotone = goes_on first.interrupted old.interrupted now.interrupted fits sent.monotone more.not_less;
+  pub all_written : Appends old.bytes now.bytes (totals_text options totals) → BearsOn old now → (options.stats ≡ true → AreTotals (settings_by options) all totals) → AreBalanced totals → IsWritten options roads answers all first now totals
+  all_written more bears counted balanced = record {
+    report = sent.report;
+    are_reported = sent.are_reported;
+    appended = Appends-trans first.bytes old.bytes now.bytes sent.report _ sent.appended more;
+    counted = counted;
+    balanced = balanced;
+    unfailed = bears.0 ∙ sent.unfailed;
+    borne = omega (arith, bears.1, sent.borne);
   }
-
-  -- The next problem of a list.
-  module _ (all : List Asking) (i : ℕ) (query : Asking) (inside : i < length all) (at : query ≡ get_or all i query) where
-    one_more : take (i + 1) all ≡ take i all ++ query ∷ []
-    one_more = take_more all i query inside ∙ ap (λ q. take i all ++ q ∷ []) (sym at)
-
-    -- Its report goes out.
-    pub sent_next : (first old now : Seen) (before written : ℕ) → first.interrupted < 2 ^ 64 → AreSent options.walks roads answers (take i all) first old before → IsSent options.walks roads answers query old now before written → AreSent options.walks roads answers (take (i + 1) all) first now written
-    sent_next first old now before written fits sent more = subst (λ qs. AreSent options.walks roads answers qs first now written) (sym one_more) (sent_more (take i all) query first old now before written fits sent more)
-
-    -- Its report stops.
-    pub stops : (first old now : Seen) (before : ℕ) → AreSent options.walks roads answers (take i all) first old before → (fault : AnswerFault) → IsStoppedBy options.walks roads answers query old now before fault → IsCutShort options roads answers all first now fault
-    stops first old now before sent fault stop = in_problem i query old before (slice_get_read all (length all) i query refl inside at) sent stop
-
-  -- The totals after all reports.
-  module _ (all : List Asking) (first old now : Seen) (before : ℕ) (totals : Totals) (sent : AreSent options.walks roads answers all first old before) where
-    pub totals_cut : (size : ℕ) → options.stats ≡ true → AreTotals (settings_by options) all totals → IsCutAt old.bytes now.bytes (stats_text totals) size → GivesUp old now → IsCutShort options roads answers all first now (Write (before + size))
-    totals_cut size told counted cut gone = in_totals (before + size) refl (record {
-      asked = told;
-      old = old;
-      before = before;
-      sent = sent;
-      totals = totals;
-      counted = counted;
-      size = size;
-      is_written = refl;
-      cut = cut;
-      gives_up = gone;
-    })
-
-    pub all_written : Appends old.bytes now.bytes (totals_text options totals) → BearsOn old now → (options.stats ≡ true → AreTotals (settings_by options) all totals) → AreBalanced totals → IsWritten options roads answers all first now totals
-    all_written more bears counted balanced = record {
-      report = sent.report;
-      are_reported = sent.are_reported;
-      appended = Appends-trans first.bytes old.bytes now.bytes sent.report _ sent.appended more;
-      counted = counted;
-      balanced = balanced;
-      unfailed = bears.0 ∙ sent.unfailed;
-      borne = omega (arith, bears.1, sent.borne);
-    }
 
 -- What cuts a report short is the device or memory.
 pub cuts_short : (options : RunOptions) (roads : Roads) (answers : ℕ → ℕ → ℕ → ℕ → Type 0) (problems : List Asking) (first now : Seen) (fault : AnswerFault) → IsCutShort options roads answers problems first now fault → IsCutting fault
 cuts_short options roads answers problems first now fault (in_totals written is cut) = subst IsCutting (sym is) tt
-cuts_short options roads answers problems first now fault (in_problem count query old before at sent stop) = by fault stop where
-  by : (f : AnswerFault) → IsStoppedBy options.walks roads answers query old now before f → IsCutting f
+cuts_short options roads answers problems first now fault (in_problem cut) = by fault cut.stopped where
+  by : (f : AnswerFault) → IsStoppedBy options.walks roads answers cut.query cut.old now cut.before f → IsCutting f
   by (Write written) stop = tt
   by (OutOfMemory written) stop = tt
   by (Read file fault) stop = stop

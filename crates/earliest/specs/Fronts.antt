@@ -1,64 +1,24 @@
 -- What went out of a report, whole or cut short.
-use Rattle.std.specs.Prelude.{◌≡◌, ◌⊎◌, ℕ, ◌+◌, ◌*◌, ◌≤◌, Bool, true, List, [], ◌++◌, Some, if◌then◌else◌, length, slice_get, take}
+use Rattle.std.specs.Prelude.{◌≡◌, ℕ, ◌+◌, ◌*◌, ◌≤◌, true, List, [], ◌++◌, if◌then◌else◌, length}
 use Rattle.std.specs.Io.KnownBytes.{Appends}
-use Rattle.ea_text.specs.Device.{BearsOn, GivesUp, Seen}
+use Rattle.ea_text.specs.Device.{GivesUp, Seen}
 use Rattle.ea_limits.specs.declared.TheConstants.{MOST_INTERRUPTIONS}
 use Rattle.ea_road.specs.Roads.{Roads}
 use Rattle.ea_road.specs.Queries.{Asking}
 use Rattle.ea_report.specs.declared.stats.Totals.{Totals}
-use Rattle.ea_report.specs.Sent.{IsCutAt, IsNotLess}
+use Rattle.ea_report.specs.Sent.{IsCutAt}
 use Rattle.ea_report.specs.Stats.{stats_text}
 use Rattle.ea_words.specs.declared.options.RunOptions.{RunOptions}
 use Rattle.earliest.specs.Counted.{AreBalanced, AreTotals}
-use Rattle.earliest.specs.Reported.{IsReportOf, AreReported}
+use Rattle.ea_drafts.specs.Reported.{AreReported}
+use Rattle.ea_drafts.specs.Sent.{AreCutShort, AreSent}
 use Rattle.earliest.specs.Workers.{settings_by}
 use Rattle.ea_outcomes.specs.declared.fault.AnswerFault.{AnswerFault}
-use Rattle.ea_outcomes.specs.declared.fault.AnswerFault.TheVariants.{Write, OutOfMemory}
+use Rattle.ea_outcomes.specs.declared.fault.AnswerFault.TheVariants.{Write}
 
 -- With statistics the totals stand after the reports.
 abbrev pub totals_text : RunOptions → Totals → List ℕ
 totals_text options totals = if options.stats then stats_text totals else []
-
--- ---- one problem
-
--- A problem's report went out.
-pub record IsSent (walks : Bool) (roads : Roads) (answers : ℕ → ℕ → ℕ → ℕ → Type 0) (query : Asking) (old now : Seen) (before written : ℕ) : Type 0 where
-  pub text : List ℕ
-  pub is_report : IsReportOf walks roads answers query text
-  pub appended : Appends old.bytes now.bytes text
-  pub counted : written ≡ before + length text
-  pub unfailed : now.failed ≡ old.failed
-  pub borne : now.interrupted ≤ old.interrupted + MOST_INTERRUPTIONS
-  pub not_less : IsNotLess old.interrupted now.interrupted
-
--- Only a front of a problem's report went out.
-pub record IsStopped (walks : Bool) (roads : Roads) (answers : ℕ → ℕ → ℕ → ℕ → Type 0) (query : Asking) (old now : Seen) (before written : ℕ) : Type 0 where
-  pub text : List ℕ
-  pub is_report : IsReportOf walks roads answers query text
-  pub sent : ℕ
-  pub counted : written ≡ before + sent
-  pub cut : IsCutAt old.bytes now.bytes text sent
-
--- Why: the device's first failure or its first interruption that isn't borne, in this report; or memory was refused, before
--- anything of it was written or later, and the device bore it.
-abbrev pub IsStoppedBy : Bool → Roads → (ℕ → ℕ → ℕ → ℕ → Type 0) → Asking → Seen → Seen → ℕ → AnswerFault → Type 0
-IsStoppedBy walks roads answers query old now before (Write written) =
-    IsStopped walks roads answers query old now before written × GivesUp old now
-IsStoppedBy walks roads answers query old now before (OutOfMemory written) =
-    ((written ≡ before) × (now ≡ old)) ⊎ (IsStopped walks roads answers query old now before written × BearsOn old now)
-IsStoppedBy walks roads answers query old now before _ = ⊥
-
--- ---- many
-
--- The reports of problems went out.
-pub record AreSent (walks : Bool) (roads : Roads) (answers : ℕ → ℕ → ℕ → ℕ → Type 0) (problems : List Asking) (first now : Seen) (written : ℕ) : Type 0 where
-  pub report : List ℕ
-  pub are_reported : AreReported walks roads answers problems report
-  pub appended : Appends first.bytes now.bytes report
-  pub counted : written ≡ length report
-  pub unfailed : now.failed ≡ first.failed
-  pub borne : now.interrupted ≤ first.interrupted + length problems * MOST_INTERRUPTIONS
-  pub monotone : first.interrupted ≤ now.interrupted
 
 -- The reports of all problems went out, and with statistics their totals: sums over runs of the problems, in balance. Without
 -- statistics the totals say nothing of runs. No call of
@@ -89,6 +49,5 @@ pub record AreTotalsCut (options : RunOptions) (roads : Roads) (answers : ℕ �
 
 -- What went out was cut short: the reports of so many problems went out whole, and the next one's stopped; or the totals did.
 pub data IsCutShort (options : RunOptions) (roads : Roads) (answers : ℕ → ℕ → ℕ → ℕ → Type 0) (problems : List Asking) (first now : Seen) (fault : AnswerFault) : Type 0 where
-  in_problem : (count : ℕ) (query : Asking) (old : Seen) (before : ℕ) → slice_get problems count ≡ Some query
-      → AreSent options.walks roads answers (take count problems) first old before → IsStoppedBy options.walks roads answers query old now before fault → IsCutShort options roads answers problems first now fault
+  in_problem : AreCutShort options.walks roads answers problems first now fault → IsCutShort options roads answers problems first now fault
   in_totals : (written : ℕ) → fault ≡ Write written → AreTotalsCut options roads answers problems first now written → IsCutShort options roads answers problems first now fault

@@ -1,11 +1,8 @@
 pub mod Checks
 pub mod Counted
-pub mod Drafts
 pub mod Fronts
-pub mod Reported
 pub mod Runs
 pub mod SameBytes
 pub mod Performed
-pub mod Solved
 pub mod Worked
 pub mod Workers

@@ -10,7 +10,7 @@ use Rattle.ea_files.specs.Starts.{run_problems, pair_problems}
 use Rattle.ea_report.specs.declared.stats.Totals.{Totals}
 use Rattle.ea_words.specs.declared.options.RunOptions.{RunOptions}
 use Rattle.earliest.specs.Fronts.{totals_text}
-use Rattle.earliest.specs.Reported.{AreReported}
+use Rattle.ea_drafts.specs.Reported.{AreReported}
 use Rattle.ea_outcomes.specs.Asked.{Files, IsAnswered, tp_had}
 use Rattle.earliest.specs.Runs.{run_asks, pair_asks}
 

@@ -5,7 +5,8 @@ ghost use Rattle.ea_outcomes.specs.Asked.{IsAnswered, IsFailed, files_of};
 ghost use Rattle.ea_words.specs.Limits.{AreOptions};
 ghost use Rattle.earliest.specs.Runs.{run_asks, pair_asks};
 
-use crate::progress::report_all;
+use crate::reports::report_all;
+use ea_drafts::Watched;
 use ea_files::{departures_fit, pair_queries, read_run_by, read_trips, run_queries};
 use ea_input::{ByteIn, ByteOut};
 use ea_outcomes::AnswerFault;
@@ -14,12 +15,6 @@ use ea_watch::{Silent, Watch};
 use ea_words::RunOptions;
 use std::alloc::Global;
 use std::thread::Threads;
-
-/// The options of a call, and who is told how far it is.
-pub(crate) struct Watched<'a, V: Watch> {
-    pub options: &'a RunOptions,
-    pub watch: &'a mut V,
-}
 
 /// Answers a run: reads the network, the sources and, where there are any, the timetables, and writes the report:
 /// for each source, or with `joint` for all together, the earliest arrival at each node, with `walks` a walk that

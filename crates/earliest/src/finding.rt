@@ -1,6 +1,6 @@
 //! The answer of a problem, by workers or by the search of one thread.
 ghost use Rattle.std.specs.Prelude.{◌≡◌, ◌≤◌, ℕ, All, IfOk, IfSome, length, replicate, true, vec_len};
-ghost use Rattle.ea_limits.specs.declared.TheConstants.{MOST_STARTS, MOST_WORKERS};
+ghost use Rattle.ea_limits.specs.declared.TheConstants.{MOST_AT_ONCE, MOST_STARTS, MOST_WORKERS};
 ghost use Rattle.ea_road.specs.Queries.{IsProblem};
 ghost use Rattle.ea_engine.specs.Companies.{idle_with, IsIdleFor, LeavesAs};
 ghost use Rattle.ea_engine.specs.Limits.{AreSettings};
@@ -8,7 +8,7 @@ ghost use Rattle.ea_engine.specs.Tallies.{IsTally};
 ghost use Rattle.ea_words.specs.Limits.{AreOptions, counted_workers};
 ghost use Rattle.earliest.specs.Counted.{AreBalanced, AreSmall, IsTotal, KeepsOn, totals_by};
 ghost use Rattle.ea_ranking.specs.Generators.{generators_from};
-ghost use Rattle.earliest.specs.Solved.{AnswersOn, ArrivesOn, Serves};
+ghost use Rattle.ea_drafts.specs.Solved.{AnswersOn, ArrivesOn};
 ghost use Rattle.earliest.specs.Workers.{AreAtHome, settings_with};
 
 use crate::totals::work_of;
@@ -16,8 +16,7 @@ use ea_engine::{
     Answer, Company, Counters, Crew, Flow, Homing, NoGate, Settings, Turn, solve, solve_arrivals,
 };
 use ea_files::Road;
-use ea_finish::Search;
-use ea_limits::{MOST_TURNS, MOST_WORKERS};
+use ea_limits::{MOST_AT_ONCE, MOST_TURNS, MOST_WORKERS};
 use ea_report::Totals;
 use ea_road::Query;
 use ea_words::RunOptions;
@@ -54,12 +53,29 @@ const MANY_NODES: u32 = 200_000;
 const MANY_FOR_TWO: u32 = 2_000_000;
 
 /// How many processors there are; none where the system doesn't tell.
-pub(crate) fn processors<H: Threads>(rt: &H) -> Option<usize>
+fn processors<H: Threads>(rt: &H) -> Option<usize>
     ensures { IfSome result (λ count. 1 ≤ count) }
 {
     match available_parallelism(rt) {
         Ok(processors) => Some(processors.get()),
         Err(_) => None,
+    }
+}
+
+/// How many problems are searched at once: as many as are asked for, else one where workers or statistics are asked for,
+/// else one for each processor.
+pub(crate) fn threads_at_once<H: Threads>(rt: &H, options: &RunOptions) -> usize
+    requires { AreOptions options.now }
+    ensures { (1 ≤ result) × (result ≤ MOST_AT_ONCE) }
+{
+    match options.at_once {
+        Some(threads) => threads as usize,
+        None => {
+            if options.workers.is_some() || options.stats {
+                return 1;
+            }
+            processors(rt).unwrap_or(1).min(MOST_AT_ONCE as usize)
+        }
     }
 }
 
@@ -408,42 +424,4 @@ pub(crate) fn find<H: Threads + Sync>(
                 → IsIdleFor member.exit (idle_with turns turn.kind) }
         { member.after(turn) },
     )
-}
-
-/// Arrays for searches of one thread on a road.
-fn reserve(alloc: Global, road: &Road, walks: bool) -> Result<Search, AllocError>
-    ensures { IfOk result (Serves road.now.network walks) }
-{
-    let nodes = road.network.nodes();
-    if walks {
-        Search::reserve(alloc, nodes)
-    } else {
-        Search::reserve_without_walks(alloc, nodes)
-    }
-}
-
-/// A search with the answer of a problem, on the arrays of the last one where there was one.
-pub(crate) fn search(
-    alloc: Global,
-    road: &Road,
-    query: &Query,
-    walks: bool,
-    last: Option<Search>,
-) -> Result<Search, AllocError>
-    requires problem { IsProblem road.now.network (length road.now.times.list.items) query.now }
-    requires serves { IfSome last (Serves road.now.network walks) }
-    ensures arrivals { IfOk result (λ search. ArrivesOn road.now query.now search.answer) }
-    ensures walks { IfOk result (λ search. walks ≡ true
-        → AnswersOn road.now query.now search.answer) }
-    ensures serves { IfOk result (Serves road.now.network walks) }
-{
-    let search = match last {
-        Some(search) => search,
-        None => reserve(alloc, road, walks)?,
-    };
-    if walks {
-        Ok(search.find_walks(&road.network, &road.times, query))
-    } else {
-        Ok(search.find_arrivals(&road.network, &road.times, query))
-    }
 }

@@ -1,18 +1,12 @@
 //! Earliest arrivals from files to reports: the calls that the program `earliest` makes.
 #![tactic(auto)]
 
-mod ahead;
 mod answering;
 mod checking;
-mod drafts;
 mod finding;
-mod handing;
-mod lanes;
 pub mod laws;
 mod performing;
-mod progress;
-mod round;
-mod sheet;
+mod reports;
 mod totals;
 
 pub use answering::{answer, answer_pairs};

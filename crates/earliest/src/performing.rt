@@ -4,9 +4,10 @@ ghost use Rattle.ea_words.specs.Limits.{HasLimits};
 ghost use Rattle.ea_outcomes.specs.Named.{HasFiles};
 ghost use Rattle.earliest.specs.Performed.{IsPerformed, outcome_by, performed_on};
 
-use crate::answering::{Watched, answer_watched, pairs_watched};
+use crate::answering::{answer_watched, pairs_watched};
 use crate::checking::check_watched;
 use ea_check::CheckFault;
+use ea_drafts::Watched;
 use ea_input::{ByteIn, ByteOut};
 use ea_outcomes::{AnswerFault, Opened, Outcome};
 use ea_ranking::rank_watched;

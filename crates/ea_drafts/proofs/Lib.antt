@@ -1,0 +1,5 @@
+pub mod Placing
+pub mod Piling
+pub mod Going
+pub mod Held
+pub mod Sent

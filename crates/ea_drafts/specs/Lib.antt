@@ -1,0 +1,5 @@
+pub mod Drafts
+pub mod Parts
+pub mod Reported
+pub mod Sent
+pub mod Solved

@@ -1,5 +1,0 @@
-use Rattle.earliest.specs.Drafts.{ArePiled}
-use Rattle.earliest.proofs.lanes.Desk.gather.Given as goal
-
-abbrev pub invariant-loop-taker : goal.invariant-loop-taker
-invariant-loop-taker g l = ArePiled l.job l.self.1.1.0.items

@@ -1,0 +1,63 @@
+use Rattle.std.proofs.Common.{[], length, refl, sym, subst, arith}
+use Rattle.std.proofs.lemmas.Result.{err_from_is_err_and}
+use Rattle.ea_outcomes.specs.Posed.{times_on}
+use Rattle.earliest.specs.Workers.{settings_by}
+use Rattle.earliest.proofs.Counting.{totals_next}
+use Rattle.ea_drafts.proofs.Sent.{stops, sent_next, sent_none}
+use Rattle.std.proofs.lemmas.List.{take_all}
+use Rattle.ea_road.specs.Queries.{Asking, IsProblem}
+use Rattle.ea_drafts.specs.Sent.{AreSent}
+use Rattle.earliest.specs.Fronts.{in_problem}
+use Rattle.earliest.proofs.reports.report_each.Goals as goal
+
+pub returns-in_err-report-clause-err : goal.returns-in_err-report-clause-err
+returns-in_err-report-clause-err g c =
+    let p = err_from_is_err_and c.from_residual.result c.from_residual.ensures.1 in
+    let first = g.W.Device.seen c.args.out.now in
+    rw (p.1, p.2) (in_problem (stops c.args.options.now.walks c.args.road.now.network (times_on c.args.road.now) c.args.queries.now c.loop-query.query-index c.query-item.result c.loop-query-test.true c.query-item.is first _ _ _ c.loop-query.invariant.sent _ c.in_err-report.ensures.err))
+
+pub loop-query-preserved : goal.loop-query-preserved
+loop-query-preserved g c =
+    let i = c.loop-query.query-index in
+    let inv = c.loop-query.invariant in
+    let now = g.W.Device.seen c.report.new.out in
+    let first = g.W.Device.seen c.args.out.now in
+    record {
+      done = omega (arith, inv.done);
+      fits = inv.fits;
+      sent = sent_next c.args.options.now.walks c.args.road.now.network (times_on c.args.road.now) c.args.queries.now i c.query-item.result c.loop-query-test.true c.query-item.is first _ now _ c.report.new.self.progress.written inv.fits inv.sent c.in_ok-report.ensures.ok;
+      bound = omega (arith, c.in_ok-report.ensures.bound, inv.bound);
+      counted = λ asked. let more = c.in_ok-report.ensures.counted asked in totals_next (settings_by c.args.options.now) c.args.queries.now i c.query-item.result c.loop-query-test.true c.query-item.is _ _ (inv.counted asked) more.0 more.1 more.2;
+      small = c.in_ok-report.ensures.small i inv.small;
+      balanced = c.in_ok-report.ensures.balanced;
+      search = c.report.ensures.search;
+    }
+
+pub loop-query-init : goal.loop-query-init
+loop-query-init g c =
+    let begun = c.begin-reports.ensures in
+    let options = c.args.options.now in
+    let network = c.args.road.now.network in
+    let times = times_on c.args.road.now in
+    let first = g.W.Device.seen c.args.out.now in
+    record {
+      done = refl;
+      fits = omega (arith, c.interruptions.ensures, c.interruptions.type_inv);
+      sent = subst (λ n. AreSent options.walks network times [] first first n) (sym begun.written) (sent_none options.walks network times first);
+      bound = omega (arith, begun.written);
+      counted = λ asked. record { all = []; counted = tt; sums = begun.totals };
+      small = begun.small;
+      balanced = begun.balanced;
+      search = rw begun.search tt;
+    }
+
+pub returns-clause-ok : goal.returns-clause-ok
+returns-clause-ok g c =
+    let road = c.args.road.now in
+    let all = take_all c.loop-query.query-index c.args.queries.now (omega (arith, c.loop-query-test.false)) in
+    subst (λ qs. AreSent c.args.options.now.walks road.network (times_on road) qs (g.W.Device.seen c.args.out.now) (g.W.Device.seen c.loop-query.out) c.loop-query.reports.progress.written) all c.loop-query.invariant.sent
+
+pub report-requires-clause-problem : goal.report-requires-clause-problem
+report-requires-clause-problem g c κs lent =
+    let road = c.args.road.now in
+    subst (λ (query : Asking). IsProblem road.network (length road.times.list.items) query) (sym c.query-item.is) (c.requires.problems c.loop-query.query-index c.query-item.result c.loop-query-test.true).0

@@ -1,0 +1,265 @@
+//! Reports of problems, written one after the other, and their totals.
+ghost use Rattle.std.specs.Prelude.{◌≡◌, ◌≤◌, ◌<◌, ◌+◌, ◌*◌, ◌^◌, ℕ, [], IfOk, IfErr, IfSome, None, OnOk, if◌then◌else◌, length, true};
+ghost use Rattle.std.specs.Io.KnownBytes.{Appends};
+ghost use Rattle.ea_text.specs.Device.{BearsOn, GivesUp};
+ghost use Rattle.ea_limits.specs.declared.TheConstants.{MOST_NODES, MOST_STARTS};
+ghost use Rattle.ea_road.specs.Queries.{IsProblem};
+ghost use Rattle.ea_report.specs.Sent.{IsCutAt};
+ghost use Rattle.ea_report.specs.Stats.{stats_text};
+ghost use Rattle.ea_report.specs.declared.stats.Totals.{Totals};
+ghost use Rattle.ea_words.specs.Limits.{AreOptions};
+ghost use Rattle.ea_outcomes.specs.Posed.{AreProblems, times_on};
+ghost use Rattle.ea_drafts.specs.Sent.{AreSent, IsSent, IsStoppedBy};
+ghost use Rattle.ea_drafts.specs.Solved.{AnswersOn, ArrivesOn, Serves};
+ghost use Rattle.earliest.specs.Counted.{AreBalanced, AreSmall, AreTotals, IsTotal, plus, totals_of};
+ghost use Rattle.earliest.specs.Fronts.{IsCutShort, IsWritten};
+ghost use Rattle.earliest.specs.Workers.{settings_by};
+
+use crate::finding::{Found, find, threads_at_once, workers_of};
+use crate::totals::{add_totals, no_totals};
+use ea_drafts::{Progress, Watched, report_ahead};
+use ea_files::Road;
+use ea_input::ByteOut;
+use ea_outcomes::AnswerFault;
+use ea_report::{Totals, write_stats};
+use ea_road::Query;
+use ea_watch::Watch;
+use ea_words::RunOptions;
+use std::alloc::Global;
+use std::thread::Threads;
+
+/// What went out so far, and the totals of its problems.
+#[derive(Drop)]
+pub(crate) struct Reports {
+    pub totals: Totals,
+    pub progress: Progress,
+}
+
+impl Reports {
+    /// Nothing went out.
+    fn begin() -> Reports
+        ensures totals { result.totals ≡ totals_of [] }
+        ensures balanced { AreBalanced result.totals }
+        ensures small { AreSmall 0 result.totals }
+        ensures written { result.progress.written ≡ 0 }
+        ensures search { result.progress.search ≡ None }
+    {
+        Reports {
+            totals: no_totals(),
+            progress: Progress::begin(None),
+        }
+    }
+}
+
+impl Reports {
+    /// Writes the report of a problem that workers have answered, and adds its totals.
+    fn write_found<W: ByteOut>(
+        &mut self,
+        alloc: Global,
+        road: &Road,
+        query: &Query,
+        found: &Found,
+        walks: bool,
+        out: &mut W,
+    ) -> Result<(), AnswerFault>
+        requires problem { IsProblem road.now.network (length road.now.times.list.items) query.now }
+        requires few { (length query.now.sources ≤ MOST_STARTS)
+            × (road.now.network.nodes ≤ MOST_NODES) }
+        requires arrivals { ArrivesOn road.now query.now found.now.answer }
+        requires canonical { walks ≡ true → AnswersOn road.now query.now found.now.answer }
+        requires room { self.old.progress.written ≤ MOST_STARTS * 2 ^ 90 }
+        requires small { ((problems : ℕ) × (problems < MOST_STARTS)
+            × AreSmall problems self.old.totals)
+            × AreSmall 1 found.now.totals }
+        requires balanced { AreBalanced self.old.totals × AreBalanced found.now.totals }
+        ensures ok { OnOk result (IsSent walks road.now.network (times_on road.now) query.now
+            (W.seen out.old) (W.seen out.new) self.old.progress.written self.new.progress.written) }
+        ensures err { IfErr result (IsStoppedBy walks road.now.network (times_on road.now) query.now
+            (W.seen out.old) (W.seen out.new) self.old.progress.written) }
+        ensures bound { OnOk result (self.new.progress.written ≤ self.old.progress.written + 2 ^ 90) }
+        ensures totals { OnOk result (self.new.totals ≡ plus self.old.totals found.now.totals) }
+        ensures balanced { OnOk result (AreBalanced self.new.totals) }
+        ensures small { OnOk result ((problems : ℕ) →
+            AreSmall problems self.old.totals → AreSmall (problems + 1) self.new.totals) }
+        ensures search { self.new.progress.search ≡ self.old.progress.search }
+    {
+        self.progress
+            .write(alloc, road, query, &found.answer, walks, out)?;
+        add_totals(&mut self.totals, &found.totals);
+        Ok(())
+    }
+
+    /// Finds the answer of a problem and writes its report. One worker is the search of one thread where nothing is to be
+    /// counted.
+    fn report<H: Threads + Sync, W: ByteOut>(
+        &mut self,
+        alloc: Global,
+        rt: &H,
+        road: &Road,
+        query: &Query,
+        options: &RunOptions,
+        out: &mut W,
+    ) -> Result<(), AnswerFault>
+        requires problem { IsProblem road.now.network (length road.now.times.list.items) query.now }
+        requires few { (length query.now.sources ≤ MOST_STARTS)
+            × (road.now.network.nodes ≤ MOST_NODES) }
+        requires options { AreOptions options.now }
+        requires room { self.old.progress.written ≤ MOST_STARTS * 2 ^ 90 }
+        requires small { (problems : ℕ) × (problems < MOST_STARTS)
+            × AreSmall problems self.old.totals }
+        requires balanced { AreBalanced self.old.totals }
+        requires search { IfSome self.old.progress.search (Serves road.now.network options.now.walks) }
+        ensures ok { OnOk result (IsSent
+            options.now.walks road.now.network (times_on road.now) query.now
+            (W.seen out.old) (W.seen out.new) self.old.progress.written self.new.progress.written) }
+        ensures err { IfErr result (IsStoppedBy
+            options.now.walks road.now.network (times_on road.now) query.now
+            (W.seen out.old) (W.seen out.new) self.old.progress.written) }
+        ensures bound { OnOk result (self.new.progress.written ≤ self.old.progress.written + 2 ^ 90) }
+        ensures counted { OnOk result (options.now.stats ≡ true →
+            (more : Totals) × IsTotal (settings_by options.now) query.now more
+            × (self.new.totals ≡ plus self.old.totals more)) }
+        ensures balanced { OnOk result (AreBalanced self.new.totals) }
+        ensures small { OnOk result ((problems : ℕ) →
+            AreSmall problems self.old.totals → AreSmall (problems + 1) self.new.totals) }
+        ensures search { IfSome self.new.progress.search (Serves road.now.network options.now.walks) }
+    {
+        let workers = workers_of(rt, road, query, options);
+        if workers == 1 && !options.stats {
+            return self
+                .progress
+                .report_alone(alloc, road, query, options.walks, out);
+        }
+        match find(alloc, rt, road, query, options, workers) {
+            Ok(found) => self.write_found(alloc, road, query, &found, options.walks, out),
+            Err(_) => Err(AnswerFault::OutOfMemory {
+                written: self.progress.written,
+            }),
+        }
+    }
+}
+
+/// Writes the reports of problems in their order, and tells the watch after each.
+fn report_each<H: Threads + Sync, W: ByteOut, V: Watch>(
+    alloc: Global,
+    rt: &H,
+    road: &Road,
+    queries: &[Query],
+    options: &RunOptions,
+    out: &mut W,
+    watch: &mut V,
+) -> Result<Reports, AnswerFault>
+    requires problems { AreProblems road.now queries.now }
+    requires few { (length queries.now ≤ MOST_STARTS) × (road.now.network.nodes ≤ MOST_NODES) }
+    requires options { AreOptions options.now }
+    ensures ok { IfOk result (λ reports.
+        AreSent options.now.walks road.now.network (times_on road.now) queries.now
+        (W.seen out.old) (W.seen out.new) reports.progress.written) }
+    ensures err { IfErr result
+        (IsCutShort options.now road.now.network (times_on road.now) queries.now
+        (W.seen out.old) (W.seen out.new)) }
+    ensures bound { IfOk result (λ reports. reports.progress.written ≤ MOST_STARTS * 2 ^ 90) }
+    ensures counted { IfOk result (λ reports. options.now.stats ≡ true
+        → AreTotals (settings_by options.now) queries.now reports.totals) }
+    ensures balanced { IfOk result (λ reports. AreBalanced reports.totals) }
+{
+    let mut reports = Reports::begin();
+    // Tells that the count is one of 64 bits.
+    let _ = out.interruptions();
+    let mut done = 0;
+    for query in queries {
+        reports.report(alloc, rt, road, query, options, out)?;
+        done += 1;
+        watch.did(done, queries.len());
+    }
+    Ok(reports)
+}
+
+/// Writes the reports of problems in their order: by several threads at once where the options or the processors say so.
+fn report_problems<H: Threads + Sync, W: ByteOut, V: Watch>(
+    alloc: Global,
+    rt: &H,
+    road: &Road,
+    queries: &[Query],
+    options: &RunOptions,
+    out: &mut W,
+    watch: &mut V,
+) -> Result<Reports, AnswerFault>
+    requires problems { AreProblems road.now queries.now }
+    requires few { (length queries.now ≤ MOST_STARTS) × (road.now.network.nodes ≤ MOST_NODES) }
+    requires options { AreOptions options.now }
+    ensures ok { IfOk result (λ reports.
+        AreSent options.now.walks road.now.network (times_on road.now) queries.now
+        (W.seen out.old) (W.seen out.new) reports.progress.written) }
+    ensures err { IfErr result
+        (IsCutShort options.now road.now.network (times_on road.now) queries.now
+        (W.seen out.old) (W.seen out.new)) }
+    ensures bound { IfOk result (λ reports. reports.progress.written ≤ MOST_STARTS * 2 ^ 90) }
+    ensures counted { IfOk result (λ reports. options.now.stats ≡ true
+        → AreTotals (settings_by options.now) queries.now reports.totals) }
+    ensures balanced { IfOk result (λ reports. AreBalanced reports.totals) }
+{
+    let threads = threads_at_once(rt, options);
+    if options.stats || options.workers.unwrap_or(1) > 1 || threads == 1 || queries.len() < 2 {
+        report_each(alloc, rt, road, queries, options, out, watch)
+    } else {
+        let watched = Watched { options, watch };
+        match report_ahead(alloc, rt, road, queries, watched, threads, out) {
+            Ok(progress) => Ok(Reports {
+                totals: no_totals(),
+                progress,
+            }),
+            Err(fault) => Err(fault),
+        }
+    }
+}
+
+/// Writes with statistics the totals.
+fn write_totals<W: ByteOut>(reports: &Reports, stats: bool, out: &mut W) -> Result<(), AnswerFault>
+    requires { reports.now.progress.written ≤ MOST_STARTS * 2 ^ 90 }
+    ensures ok { OnOk result (Appends (W.seen out.old).bytes (W.seen out.new).bytes
+        (if stats then stats_text reports.now.totals else [])) }
+    ensures borne { OnOk result (BearsOn (W.seen out.old) (W.seen out.new)) }
+    ensures err { IfErr result (λ fault. (sent : ℕ) × (stats ≡ true)
+        × (fault ≡ AnswerFault.Write (reports.now.progress.written + sent))
+        × IsCutAt (W.seen out.old).bytes (W.seen out.new).bytes
+        (stats_text reports.now.totals) sent
+        × GivesUp (W.seen out.old) (W.seen out.new)) }
+{
+    if stats {
+        match write_stats(&reports.totals, out) {
+            Ok(_) => Ok(()),
+            Err(fault) => Err(AnswerFault::Write {
+                written: reports.progress.written + fault.written,
+            }),
+        }
+    } else {
+        Ok(())
+    }
+}
+
+/// Writes the reports of problems in their order, and then with statistics the totals.
+pub(crate) fn report_all<H: Threads + Sync, W: ByteOut, V: Watch>(
+    alloc: Global,
+    rt: &H,
+    road: &Road,
+    queries: &[Query],
+    options: &RunOptions,
+    out: &mut W,
+    watch: &mut V,
+) -> Result<Totals, AnswerFault>
+    requires problems { AreProblems road.now queries.now }
+    requires few { (length queries.now ≤ MOST_STARTS) × (road.now.network.nodes ≤ MOST_NODES) }
+    requires options { AreOptions options.now }
+    ensures ok { IfOk result (IsWritten options.now road.now.network (times_on road.now) queries.now
+        (W.seen out.old) (W.seen out.new)) }
+    ensures err { IfErr result
+        (IsCutShort options.now road.now.network (times_on road.now) queries.now
+        (W.seen out.old) (W.seen out.new)) }
+{
+    let reports = report_problems(alloc, rt, road, queries, options, out, watch)?;
+    match write_totals(&reports, options.stats, out) {
+        Ok(()) => Ok(reports.totals),
+        Err(fault) => Err(fault),
+    }
+}
