@@ -3,8 +3,8 @@ use Rattle.std.proofs.Common.{◌<◌, ℕ, Bool, List, [], ◌∷◌, length, r
 use Rattle.ea_text.specs.Device.{Seen}
 use Rattle.ea_road.specs.Roads.{Roads}
 use Rattle.ea_road.specs.Queries.{Asking}
-use Rattle.ea_outcomes.specs.declared.fault.AnswerFault.{AnswerFault}
-use Rattle.ea_outcomes.specs.declared.fault.AnswerFault.TheVariants.{OutOfMemory}
+use Rattle.ea_asked.specs.declared.fault.AnswerFault.{AnswerFault}
+use Rattle.ea_asked.specs.declared.fault.AnswerFault.TheVariants.{OutOfMemory}
 use Rattle.ea_drafts.specs.declared.drafts.Job.{Job}
 use Rattle.ea_drafts.specs.Drafts.{GoesOn, StopsAfter}
 use Rattle.ea_drafts.specs.Sent.{AreCutShort}

@@ -7,7 +7,7 @@ use Rattle.ea_text.specs.Device.{Seen}
 use Rattle.ea_road.specs.Roads.{Roads}
 use Rattle.ea_road.specs.Queries.{Asking}
 use Rattle.ea_report.specs.Sent.{IsNotLess}
-use Rattle.ea_outcomes.specs.declared.fault.AnswerFault.{AnswerFault}
+use Rattle.ea_asked.specs.declared.fault.AnswerFault.{AnswerFault}
 use Rattle.ea_drafts.specs.Reported.{IsReportOf, AreReported}
 use Rattle.ea_drafts.specs.Sent.{AreCutShort, AreSent, IsSent, IsStoppedBy}
 

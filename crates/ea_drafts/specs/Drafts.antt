@@ -5,8 +5,8 @@ use Rattle.ea_road.specs.Queries.{Asking}
 use Rattle.ea_files.specs.declared.road.Road.{Road}
 use Rattle.ea_drafts.specs.Parts.{AllFrom}
 use Rattle.ea_limits.specs.declared.TheConstants.{MOST_NODES, MOST_STARTS}
-use Rattle.ea_outcomes.specs.declared.fault.AnswerFault.{AnswerFault}
-use Rattle.ea_outcomes.specs.Posed.{AreProblems, times_on}
+use Rattle.ea_asked.specs.declared.fault.AnswerFault.{AnswerFault}
+use Rattle.ea_asked.specs.Posed.{AreProblems, times_on}
 use Rattle.ea_drafts.specs.declared.drafts.Draft.{Draft}
 use Rattle.ea_drafts.specs.declared.drafts.Draft.TheVariants as draft
 use Rattle.ea_drafts.specs.declared.drafts.Job.{Job}

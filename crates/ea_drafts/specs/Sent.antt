@@ -6,8 +6,8 @@ use Rattle.ea_limits.specs.declared.TheConstants.{MOST_INTERRUPTIONS}
 use Rattle.ea_road.specs.Roads.{Roads}
 use Rattle.ea_road.specs.Queries.{Asking}
 use Rattle.ea_report.specs.Sent.{IsCutAt, IsNotLess}
-use Rattle.ea_outcomes.specs.declared.fault.AnswerFault.{AnswerFault}
-use Rattle.ea_outcomes.specs.declared.fault.AnswerFault.TheVariants.{Write, OutOfMemory}
+use Rattle.ea_asked.specs.declared.fault.AnswerFault.{AnswerFault}
+use Rattle.ea_asked.specs.declared.fault.AnswerFault.TheVariants.{Write, OutOfMemory}
 use Rattle.ea_drafts.specs.Reported.{IsReportOf, AreReported}
 
 -- ---- one problem

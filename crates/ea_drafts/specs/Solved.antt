@@ -5,7 +5,7 @@ use Rattle.ea_road.specs.Roads.{Roads}
 use Rattle.ea_files.specs.declared.road.Road.{Road}
 use Rattle.ea_finish.specs.Answers.{Answered, HasArrivals, IsAnswer}
 use Rattle.ea_finish.specs.Listings.{Searched}
-use Rattle.ea_outcomes.specs.Posed.{times_on}
+use Rattle.ea_asked.specs.Posed.{times_on}
 
 -- The answer has the least arrivals of the query on the road.
 abbrev pub ArrivesOn : Road → Asking → Answered → Type 0

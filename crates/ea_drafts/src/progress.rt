@@ -2,17 +2,17 @@
 ghost use Rattle.std.specs.Prelude.{◌≡◌, ◌≤◌, ◌<◌, ◌+◌, ◌*◌, ◌^◌, IfErr, IfSome, None, OnOk, length, true};
 ghost use Rattle.ea_limits.specs.declared.TheConstants.{MOST_NODES, MOST_STARTS};
 ghost use Rattle.ea_road.specs.Queries.{IsProblem};
-ghost use Rattle.ea_outcomes.specs.Faults;
-ghost use Rattle.ea_outcomes.specs.Posed.{times_on};
+ghost use Rattle.ea_asked.specs.Faults;
+ghost use Rattle.ea_asked.specs.Posed.{times_on};
 ghost use Rattle.ea_drafts.specs.Sent.{IsSent, IsStoppedBy};
 ghost use Rattle.ea_drafts.specs.Solved.{AnswersOn, ArrivesOn, Serves};
 
 use crate::searching::search;
 use crossbeam_deque::Worker;
+use ea_asked::AnswerFault;
 use ea_files::Road;
 use ea_finish::{Answer, Search};
 use ea_input::ByteOut;
-use ea_outcomes::AnswerFault;
 use ea_report::{ReportOptions, WriteFault, WriteFaultKind, write_problem};
 use ea_road::Query;
 use std::alloc::Global;

@@ -1,4 +1,1 @@
-pub mod Posing
-pub mod Asking
-pub mod Outcomes
 pub mod Telling

@@ -1,10 +1,8 @@
-//! What a command comes to: why it is not whole, and how that is told in a line and a status.
+//! What a command comes to, and how that is told in a line and a status.
 #![tactic(auto)]
 
-mod fault;
 mod opened;
 mod saying;
 
-pub use fault::AnswerFault;
 pub use opened::Opened;
 pub use saying::{Outcome, say, show};

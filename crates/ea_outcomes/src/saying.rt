@@ -4,7 +4,7 @@ ghost use Rattle.std.specs.List.{flat_map};
 ghost use Rattle.ea_outcomes.specs.Said;
 ghost use Rattle.ea_outcomes.specs.Said.{IsSaid, IsShown, IsUnshown, asked_text, line_of, status_of, plain_line, file_line, text_line, written_line, check_line, command_line, command_status, answer_line, answer_status, input_line, input_status, read_line, read_status, refused_line, refused_status};
 
-use crate::fault::AnswerFault;
+use ea_asked::AnswerFault;
 use ea_check::CheckFault;
 use ea_files::FileWord;
 use ea_input::{ByteOut, FaultKind, InputFault, ReadFault};

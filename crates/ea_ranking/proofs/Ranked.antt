@@ -20,9 +20,9 @@ use Rattle.ea_report.specs.Sent.{IsCutBy, IsReason, Stops}
 use Rattle.ea_report.specs.declared.report.WriteFault.{WriteFault}
 use Rattle.ea_report.specs.declared.report.WriteFaultKind.TheVariants.{WriteFailed}
 use Rattle.ea_ranking.specs.Ranks.{AddsRanks, AreRanks, AreRankTexts, AreDelivered, HasOneSource, IsRankFront, IsRankingCut, IsRankText, StopsRanks, rank_line}
-use Rattle.ea_outcomes.proofs.Outcomes.{IsCutting}
-use Rattle.ea_outcomes.specs.declared.fault.AnswerFault.{AnswerFault}
-use Rattle.ea_outcomes.specs.declared.fault.AnswerFault.TheVariants.{Read, Input, BadOption, Write, OutOfMemory}
+use Rattle.ea_asked.proofs.Outcomes.{IsCutting}
+use Rattle.ea_asked.specs.declared.fault.AnswerFault.{AnswerFault}
+use Rattle.ea_asked.specs.declared.fault.AnswerFault.TheVariants.{Read, Input, BadOption, Write, OutOfMemory}
 
 -- Some workers with some heaps each have some heaps.
 pub few_heaps : (workers heaps : ℕ) → 1 ≤ workers → workers ≤ 16 → 2 ≤ heaps → heaps ≤ 8 → (2 ≤ workers * heaps) × (workers * heaps ≤ 128)

@@ -22,10 +22,10 @@ use Rattle.ea_report.specs.Sent.{Adds, Delivers, IsCutAt, Stops}
 use Rattle.ea_report.specs.declared.report.WriteFaultKind.TheVariants.{WriteFailed}
 use Rattle.ea_words.specs.Limits.{counted_workers}
 use Rattle.ea_words.specs.declared.options.RunOptions.{RunOptions}
-use Rattle.ea_outcomes.specs.Asked.{Asks}
+use Rattle.ea_asked.specs.Asked.{Asks}
 use Rattle.ea_ranking.specs.Generators.{words_from}
-use Rattle.ea_outcomes.specs.declared.fault.AnswerFault.{AnswerFault}
-use Rattle.ea_outcomes.specs.declared.fault.AnswerFault.TheVariants.{Read, Input, BadOption, Write, OutOfMemory}
+use Rattle.ea_asked.specs.declared.fault.AnswerFault.{AnswerFault}
+use Rattle.ea_asked.specs.declared.fault.AnswerFault.TheVariants.{Read, Input, BadOption, Write, OutOfMemory}
 
 -- A recorded run has as many heaps as all workers have.
 abbrev pub heaps_of : RunOptions → ℕ

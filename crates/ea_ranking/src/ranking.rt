@@ -9,13 +9,13 @@ ghost use Rattle.ea_report.specs.Deliverers.{direct_delivery};
 ghost use Rattle.ea_report.specs.Sent.{Adds, Stops};
 ghost use Rattle.ea_report.specs.declared.report.WriteFaultKind.TheVariants.{WriteFailed};
 ghost use Rattle.ea_words.specs.Limits.{AreOptions};
-ghost use Rattle.ea_outcomes.specs.Asked.{IsAnswered, IsFailed, files_of};
-ghost use Rattle.ea_outcomes.specs.Posed.{AreProblems, times_on};
+ghost use Rattle.ea_asked.specs.Asked.{IsAnswered, IsFailed, files_of};
+ghost use Rattle.ea_asked.specs.Posed.{AreProblems, times_on};
 ghost use Rattle.ea_ranking.specs.Ranks.{AddsRanks, AreRanks, HasOneSource, IsRanking, IsRankingCut, StopsRanks, heaps_of, rank_asks, rank_line};
 
+use ea_asked::AnswerFault;
 use ea_files::{Road, departures_fit, read_run, run_queries};
 use ea_input::{ByteIn, ByteOut};
-use ea_outcomes::AnswerFault;
 use ea_rank::{Summary, ranks, record_run};
 use ea_report::{Direct, WriteFault};
 use ea_road::{Query, Source};

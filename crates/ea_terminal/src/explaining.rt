@@ -1,11 +1,12 @@
 //! What is said after the line of a fault: what it means and what to do.
 use crate::files::{Sources, Unopened};
 use crate::source::{SHOWN, Source};
+use ea_asked::AnswerFault;
 use ea_check::CheckFault;
 use ea_explain::{fault_named, look_of, reason_of, wanted_of_line};
 use ea_files::FileWord;
 use ea_input::{InputFault, ReadFault};
-use ea_outcomes::{AnswerFault, Outcome};
+use ea_outcomes::Outcome;
 use ea_text::without_return;
 use ea_words::bad_value_of;
 use std::io::ErrorKind;

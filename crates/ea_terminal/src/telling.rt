@@ -3,8 +3,9 @@ use crate::explaining::{explain_outcome, explain_unopened, explain_words, explai
 use crate::files::{Sources, Unopened};
 use crate::output::Output;
 use crate::pages::show_text;
+use ea_asked::AnswerFault;
 use ea_input::StdOut;
-use ea_outcomes::{AnswerFault, Outcome, say};
+use ea_outcomes::{Outcome, say};
 use ea_words::CommandFault;
 
 /// The status where the output can't be written and nobody is there to read the line that says so.

@@ -8,7 +8,7 @@ use Rattle.ea_input.specs.Pairs.{DenotesPairs}
 use Rattle.ea_files.specs.Files.{IsAllIfThere}
 use Rattle.ea_files.specs.Given.{AreGiven, Denotes, Given}
 use Rattle.earliest.specs.Fronts.{totals_text}
-use Rattle.ea_outcomes.specs.Asked.{Files, tp_had}
+use Rattle.ea_asked.specs.Asked.{Files, tp_had}
 use Rattle.earliest.specs.SameBytes.{AnsweredPairsAgree, AnsweredRunsAgree, Answering, AnswersPairs, AnswersRun, HadTexts, IsPairReport, IsRunReport}
 use Rattle.earliest.proofs.OneReport.{pairs_have_one_report, runs_have_one_report}
 

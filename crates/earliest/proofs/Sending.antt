@@ -13,9 +13,9 @@ use Rattle.earliest.specs.Fronts.{in_problem, in_totals, IsCutShort, IsWritten, 
 use Rattle.ea_words.specs.declared.options.RunOptions.{RunOptions}
 use Rattle.earliest.specs.Counted.{AreBalanced, AreTotals}
 use Rattle.earliest.specs.Workers.{settings_by}
-use Rattle.ea_outcomes.proofs.Outcomes.{IsCutting}
-use Rattle.ea_outcomes.specs.declared.fault.AnswerFault.{AnswerFault}
-use Rattle.ea_outcomes.specs.declared.fault.AnswerFault.TheVariants.{Read, Input, BadOption, Write, OutOfMemory}
+use Rattle.ea_asked.proofs.Outcomes.{IsCutting}
+use Rattle.ea_asked.specs.declared.fault.AnswerFault.{AnswerFault}
+use Rattle.ea_asked.specs.declared.fault.AnswerFault.TheVariants.{Read, Input, BadOption, Write, OutOfMemory}
 
 -- The totals after all reports.
 module _ (options : RunOptions) (roads : Roads) (answers : ℕ → ℕ → ℕ → ℕ → Type 0)

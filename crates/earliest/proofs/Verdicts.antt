@@ -10,10 +10,10 @@ use Rattle.ea_files.specs.Given.{Given, IsRoadOf}
 use Rattle.ea_check.specs.Checked.{IsChecked, sources_of}
 use Rattle.ea_check.specs.Form.{lines_of_report}
 use Rattle.ea_check.specs.declared.fault.CheckFault.{CheckFault}
-use Rattle.ea_outcomes.specs.Asked.{AreSound, Files}
-use Rattle.ea_outcomes.specs.Faults.{answer_fault}
-use Rattle.ea_outcomes.specs.Posed.{times_on}
-use Rattle.ea_outcomes.proofs.Outcomes.{asked}
+use Rattle.ea_asked.specs.Asked.{AreSound, Files}
+use Rattle.ea_asked.specs.Faults.{answer_fault}
+use Rattle.ea_asked.specs.Posed.{times_on}
+use Rattle.ea_asked.proofs.Outcomes.{asked}
 use Rattle.ea_words.specs.declared.options.RunOptions.{RunOptions}
 use Rattle.earliest.specs.Checks.{IsReadWhole, IsFirstAtFault, IsJudged, IsUnjudged}
 use Rattle.earliest.specs.Runs.{run_asks}

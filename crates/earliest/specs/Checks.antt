@@ -9,9 +9,9 @@ use Rattle.ea_files.specs.Given.{Given}
 use Rattle.ea_check.specs.Checked.{IsChecked, sources_of}
 use Rattle.ea_check.specs.Form.{lines_of_report}
 use Rattle.ea_check.specs.declared.fault.CheckFault.{CheckFault}
-use Rattle.ea_outcomes.specs.Asked.{AreAsked, AreRead, AreSound, Files, HasLateStart, IsFault}
-use Rattle.ea_outcomes.specs.declared.fault.AnswerFault.{AnswerFault}
-use Rattle.ea_outcomes.specs.declared.fault.AnswerFault.TheVariants.{Read, Input, BadOption, Write, OutOfMemory}
+use Rattle.ea_asked.specs.Asked.{AreAsked, AreRead, AreSound, Files, HasLateStart, IsFault}
+use Rattle.ea_asked.specs.declared.fault.AnswerFault.{AnswerFault}
+use Rattle.ea_asked.specs.declared.fault.AnswerFault.TheVariants.{Read, Input, BadOption, Write, OutOfMemory}
 use Rattle.ea_words.specs.declared.options.RunOptions.{RunOptions}
 use Rattle.earliest.specs.Runs.{run_asks}
 

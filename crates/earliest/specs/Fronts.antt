@@ -13,8 +13,8 @@ use Rattle.earliest.specs.Counted.{AreBalanced, AreTotals}
 use Rattle.ea_drafts.specs.Reported.{AreReported}
 use Rattle.ea_drafts.specs.Sent.{AreCutShort, AreSent}
 use Rattle.earliest.specs.Workers.{settings_by}
-use Rattle.ea_outcomes.specs.declared.fault.AnswerFault.{AnswerFault}
-use Rattle.ea_outcomes.specs.declared.fault.AnswerFault.TheVariants.{Write}
+use Rattle.ea_asked.specs.declared.fault.AnswerFault.{AnswerFault}
+use Rattle.ea_asked.specs.declared.fault.AnswerFault.TheVariants.{Write}
 
 -- With statistics the totals stand after the reports.
 abbrev pub totals_text : RunOptions → Totals → List ℕ

@@ -2,8 +2,8 @@
 use Rattle.std.specs.Prelude.{◌≡◌, Option, Some, None, Result, Ok, Err, option_map}
 use Rattle.ea_text.specs.Device.{Seen}
 use Rattle.ea_files.specs.Files.{Reading, reading}
-use Rattle.ea_outcomes.specs.Asked.{Files, files_of, IsAnswered, IsFailed}
-use Rattle.ea_outcomes.specs.declared.fault.AnswerFault.{AnswerFault}
+use Rattle.ea_asked.specs.Asked.{Files, files_of, IsAnswered, IsFailed}
+use Rattle.ea_asked.specs.declared.fault.AnswerFault.{AnswerFault}
 use Rattle.ea_outcomes.specs.declared.opened.Opened.{Opened}
 use Rattle.ea_outcomes.specs.declared.saying.Outcome.{Outcome}
 use Rattle.ea_outcomes.specs.declared.saying.Outcome.TheVariants.{Accepted, Answer, Check as Refused}

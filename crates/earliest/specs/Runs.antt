@@ -5,7 +5,7 @@ use Rattle.ea_input.specs.Sources.{DenotesSources}
 use Rattle.ea_input.specs.Pairs.{DenotesPairs}
 use Rattle.ea_files.specs.declared.fault.FileWord.TheVariants.{Ss, P2p}
 use Rattle.ea_files.specs.Starts.{AreWithin, run_problems, pair_problems}
-use Rattle.ea_outcomes.specs.Asked.{Asks}
+use Rattle.ea_asked.specs.Asked.{Asks}
 use Rattle.ea_report.specs.declared.stats.Totals.{Totals}
 use Rattle.ea_words.specs.declared.options.RunOptions.{RunOptions}
 use Rattle.earliest.specs.Fronts.{IsCutShort, IsWritten}

@@ -11,7 +11,7 @@ use Rattle.ea_report.specs.declared.stats.Totals.{Totals}
 use Rattle.ea_words.specs.declared.options.RunOptions.{RunOptions}
 use Rattle.earliest.specs.Fronts.{totals_text}
 use Rattle.ea_drafts.specs.Reported.{AreReported}
-use Rattle.ea_outcomes.specs.Asked.{Files, IsAnswered, tp_had}
+use Rattle.ea_asked.specs.Asked.{Files, IsAnswered, tp_had}
 use Rattle.earliest.specs.Runs.{run_asks, pair_asks}
 
 -- The report of a run of these texts, from these departures on. No word of workers, heaps, turns or seed occurs here.

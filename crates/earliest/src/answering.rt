@@ -1,15 +1,15 @@
 //! From files to a report.
 ghost use Rattle.std.specs.Prelude.{IfOk, IfErr};
 ghost use Rattle.ea_files.specs.Files.{reading};
-ghost use Rattle.ea_outcomes.specs.Asked.{IsAnswered, IsFailed, files_of};
+ghost use Rattle.ea_asked.specs.Asked.{IsAnswered, IsFailed, files_of};
 ghost use Rattle.ea_words.specs.Limits.{AreOptions};
 ghost use Rattle.earliest.specs.Runs.{run_asks, pair_asks};
 
 use crate::reports::report_all;
+use ea_asked::AnswerFault;
 use ea_drafts::Watched;
 use ea_files::{departures_fit, pair_queries, read_run_by, read_trips, run_queries};
 use ea_input::{ByteIn, ByteOut};
-use ea_outcomes::AnswerFault;
 use ea_report::Totals;
 use ea_watch::{Silent, Watch};
 use ea_words::RunOptions;

@@ -1,14 +1,14 @@
 //! Reports, checked.
 ghost use Rattle.std.specs.Prelude.{IfOk, IfErr};
 ghost use Rattle.ea_files.specs.Files.{reading};
-ghost use Rattle.ea_outcomes.specs.Asked.{files_of};
+ghost use Rattle.ea_asked.specs.Asked.{files_of};
 ghost use Rattle.ea_words.specs.Limits.{AreOptions};
 ghost use Rattle.earliest.specs.Checks.{IsJudged, IsUnjudged};
 
+use ea_asked::AnswerFault;
 use ea_check::CheckFault;
 use ea_files::{departures_fit, read_report, read_run, run_queries};
 use ea_input::ByteIn;
-use ea_outcomes::AnswerFault;
 use ea_watch::{Silent, Watch};
 use ea_words::RunOptions;
 use std::alloc::Global;

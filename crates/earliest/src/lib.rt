@@ -11,9 +11,10 @@ mod totals;
 
 pub use answering::{answer, answer_pairs};
 pub use checking::check_report;
+pub use ea_asked::AnswerFault;
 pub use ea_check::CheckFault;
 pub use ea_files::{FileFault, FileWord};
-pub use ea_outcomes::{AnswerFault, Opened, Outcome, say, show};
+pub use ea_outcomes::{Opened, Outcome, say, show};
 pub use ea_ranking::rank_report;
 pub use ea_report::Totals;
 pub use ea_watch::{Silent, Watch};

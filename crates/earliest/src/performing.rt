@@ -6,10 +6,11 @@ ghost use Rattle.earliest.specs.Performed.{IsPerformed, outcome_by, performed_on
 
 use crate::answering::{answer_watched, pairs_watched};
 use crate::checking::check_watched;
+use ea_asked::AnswerFault;
 use ea_check::CheckFault;
 use ea_drafts::Watched;
 use ea_input::{ByteIn, ByteOut};
-use ea_outcomes::{AnswerFault, Opened, Outcome};
+use ea_outcomes::{Opened, Outcome};
 use ea_ranking::rank_watched;
 use ea_report::Totals;
 use ea_watch::Watch;

@@ -1,4 +1,4 @@
-use Rattle.ea_outcomes.specs.Posed.{times_on}
+use Rattle.ea_asked.specs.Posed.{times_on}
 use Rattle.ea_drafts.proofs.Going.{stops_at_once}
 use Rattle.ea_drafts.proofs.ahead.report_asked.Goals as goal
 

@@ -1,7 +1,7 @@
 use Rattle.std.proofs.lemmas.Result.{err_from_is_err_and}
 use Rattle.std.proofs.Common.{[], sym, arith, subst}
 use Rattle.std.proofs.lemmas.List.{take_all}
-use Rattle.ea_outcomes.specs.Posed.{times_on}
+use Rattle.ea_asked.specs.Posed.{times_on}
 use Rattle.ea_drafts.specs.Sent.{AreSent}
 use Rattle.ea_drafts.proofs.Sent.{sent_none}
 use Rattle.ea_drafts.proofs.ahead.send_all.Goals as goal

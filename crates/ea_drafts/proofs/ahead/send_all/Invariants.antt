@@ -1,5 +1,5 @@
 use Rattle.std.proofs.Common.{◌<◌, ◌-◌, ◌^◌, length, take}
-use Rattle.ea_outcomes.specs.Posed.{times_on}
+use Rattle.ea_asked.specs.Posed.{times_on}
 use Rattle.ea_drafts.specs.Drafts.{CanSend}
 use Rattle.ea_drafts.specs.Sent.{AreSent}
 use Rattle.ea_drafts.proofs.ahead.send_all.Given as goal

@@ -1,6 +1,6 @@
 use Rattle.std.proofs.Common.{◌≡◌, ◌+◌, ◌<◌, arith, length, refl, sym, subst, take}
 use Rattle.std.proofs.lemmas.Result.{err_from_is_err_and}
-use Rattle.ea_outcomes.specs.Posed.{times_on}
+use Rattle.ea_asked.specs.Posed.{times_on}
 use Rattle.ea_drafts.specs.Sent.{AreSent}
 use Rattle.ea_drafts.proofs.Sent.{sent_next, stops}
 use Rattle.std.proofs.lemmas.Option.{slice_get_read}

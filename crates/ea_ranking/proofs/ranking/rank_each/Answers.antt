@@ -1,6 +1,6 @@
 use Rattle.std.proofs.Common.{arith, rules}
 use Rattle.std.proofs.lemmas.Result.{err_from_is_err_and}
-use Rattle.ea_outcomes.specs.Posed.{times_on}
+use Rattle.ea_asked.specs.Posed.{times_on}
 use Rattle.ea_ranking.proofs.Ranked.{next_delivered, ranks_stop}
 use Rattle.ea_ranking.proofs.ranking.rank_each.Goals as goal
 

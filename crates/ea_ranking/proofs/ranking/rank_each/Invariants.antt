@@ -1,6 +1,6 @@
 use Rattle.std.proofs.Common.{◌≡◌, ◌≤◌, ◌*◌, ◌^◌, take}
 use Rattle.ea_report.specs.Deliverers.{direct_delivery}
-use Rattle.ea_outcomes.specs.Posed.{times_on}
+use Rattle.ea_asked.specs.Posed.{times_on}
 use Rattle.ea_ranking.specs.Ranks.{AreDelivered}
 use Rattle.ea_ranking.proofs.ranking.rank_each.Given as goal
 

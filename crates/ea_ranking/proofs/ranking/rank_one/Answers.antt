@@ -1,5 +1,5 @@
 use Rattle.ea_report.specs.Deliverers.{direct_delivery}
-use Rattle.ea_outcomes.specs.Posed.{times_on}
+use Rattle.ea_asked.specs.Posed.{times_on}
 use Rattle.ea_ranking.proofs.Ranked.{rank_text, stops_for_device}
 use Rattle.ea_ranking.proofs.ranking.rank_one.Goals as goal
 

@@ -7,11 +7,11 @@ use Rattle.ea_files.specs.declared.fault.FileWord.TheVariants.{Ss}
 use Rattle.ea_files.specs.Files.{reading}
 use Rattle.ea_files.specs.Starts.{AreWithin, run_problems}
 use Rattle.ea_files.proofs.Denoting.{sources_are_nodes}
-use Rattle.ea_outcomes.specs.Asked.{files_of}
-use Rattle.ea_outcomes.specs.Posed.{AreProblems, times_on}
-use Rattle.ea_outcomes.specs.declared.fault.AnswerFault.{AnswerFault}
-use Rattle.ea_outcomes.proofs.Outcomes.{answered, failed, files_failed, first_there, given_is_sound, sound_there}
-use Rattle.ea_outcomes.proofs.Posing.{few_runs, run_is_posed}
+use Rattle.ea_asked.specs.Asked.{files_of}
+use Rattle.ea_asked.specs.Posed.{AreProblems, times_on}
+use Rattle.ea_asked.specs.declared.fault.AnswerFault.{AnswerFault}
+use Rattle.ea_asked.proofs.Outcomes.{answered, failed, files_failed, first_there, given_is_sound, sound_there}
+use Rattle.ea_asked.proofs.Posing.{few_runs, run_is_posed}
 use Rattle.ea_ranking.specs.Ranks.{HasOneSource, IsRanking, IsRankingCut, heaps_of, rank_asks}
 use Rattle.ea_ranking.proofs.Ranked.{each_alone, on_ok, ranking_cuts}
 use Rattle.ea_ranking.proofs.ranking.rank_watched.Goals as goal

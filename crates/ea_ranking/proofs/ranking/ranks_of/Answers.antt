@@ -2,7 +2,7 @@ use Rattle.std.proofs.Common.{ℕ, List, subst}
 use Rattle.rand_core.specs.Steps.{stream_of, steps_u64_high}
 use Rattle.rand_xoshiro.specs.Xoshiro256.{plus_plus}
 use Rattle.ea_rank.specs.Courses.{IsRunBy}
-use Rattle.ea_outcomes.specs.Posed.{times_on}
+use Rattle.ea_asked.specs.Posed.{times_on}
 use Rattle.ea_ranking.proofs.ranking.ranks_of.Goals as goal
 
 pub returns-in-Ok : goal.returns-in-Ok

@@ -7,12 +7,12 @@ use Rattle.ea_files.specs.declared.fault.FileWord.TheVariants.{Ss}
 use Rattle.ea_files.specs.Files.{reading}
 use Rattle.ea_files.specs.Starts.{AreWithin, run_problems}
 use Rattle.ea_files.proofs.Denoting.{sources_are_nodes}
-use Rattle.ea_outcomes.specs.Posed.{AreProblems}
+use Rattle.ea_asked.specs.Posed.{AreProblems}
 use Rattle.earliest.specs.Runs.{run_asks}
-use Rattle.ea_outcomes.specs.Asked.{files_of}
-use Rattle.ea_outcomes.proofs.Outcomes.{answered, failed, files_failed, first_there, given_is_sound, sound_there}
+use Rattle.ea_asked.specs.Asked.{files_of}
+use Rattle.ea_asked.proofs.Outcomes.{answered, failed, files_failed, first_there, given_is_sound, sound_there}
 use Rattle.earliest.proofs.Sending.{cuts_short}
-use Rattle.ea_outcomes.proofs.Posing.{run_is_posed, few_runs, few_nodes}
+use Rattle.ea_asked.proofs.Posing.{run_is_posed, few_runs, few_nodes}
 use Rattle.earliest.proofs.answering.answer_watched.Goals as goal
 
 pub returns-in_err-files-clause-failed : goal.returns-in_err-files-clause-failed

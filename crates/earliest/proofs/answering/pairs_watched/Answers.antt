@@ -7,12 +7,12 @@ use Rattle.ea_files.specs.declared.fault.FileWord.TheVariants.{P2p}
 use Rattle.ea_files.specs.Files.{reading}
 use Rattle.ea_files.specs.Starts.{AreWithin, pair_problems}
 use Rattle.ea_files.proofs.Denoting.{pairs_are_nodes}
-use Rattle.ea_outcomes.specs.Posed.{AreProblems}
+use Rattle.ea_asked.specs.Posed.{AreProblems}
 use Rattle.earliest.specs.Runs.{pair_asks}
-use Rattle.ea_outcomes.specs.Asked.{files_of}
-use Rattle.ea_outcomes.proofs.Outcomes.{answered, failed, files_failed, first_there, given_is_sound, sound_there}
+use Rattle.ea_asked.specs.Asked.{files_of}
+use Rattle.ea_asked.proofs.Outcomes.{answered, failed, files_failed, first_there, given_is_sound, sound_there}
 use Rattle.earliest.proofs.Sending.{cuts_short}
-use Rattle.ea_outcomes.proofs.Posing.{pairs_are_posed, few_pairs, few_nodes}
+use Rattle.ea_asked.proofs.Posing.{pairs_are_posed, few_pairs, few_nodes}
 use Rattle.earliest.proofs.answering.pairs_watched.Goals as goal
 
 pub returns-in_err-files-clause-failed : goal.returns-in_err-files-clause-failed

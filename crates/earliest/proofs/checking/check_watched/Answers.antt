@@ -8,13 +8,13 @@ use Rattle.ea_files.specs.declared.fault.FileWord.TheVariants.{Ss}
 use Rattle.ea_files.specs.Files.{reading}
 use Rattle.ea_files.specs.Starts.{AreWithin, run_problems}
 use Rattle.ea_files.proofs.Denoting.{sources_are_nodes}
-use Rattle.ea_outcomes.specs.Posed.{AreProblems}
-use Rattle.ea_outcomes.proofs.Asking.{each_asked, none_aimed}
-use Rattle.ea_outcomes.specs.Asked.{files_of}
-use Rattle.ea_outcomes.proofs.Outcomes.{first_there, given_is_sound, sound_there}
+use Rattle.ea_asked.specs.Posed.{AreProblems}
+use Rattle.ea_asked.proofs.Asking.{each_asked, none_aimed}
+use Rattle.ea_asked.specs.Asked.{files_of}
+use Rattle.ea_asked.proofs.Outcomes.{first_there, given_is_sound, sound_there}
 use Rattle.earliest.specs.Checks.{in_report, in_run}
 use Rattle.earliest.specs.Runs.{run_asks}
-use Rattle.ea_outcomes.proofs.Posing.{run_is_posed}
+use Rattle.ea_asked.proofs.Posing.{run_is_posed}
 use Rattle.earliest.proofs.Verdicts.{judged, unread}
 use Rattle.earliest.proofs.checking.check_watched.Goals as goal
 

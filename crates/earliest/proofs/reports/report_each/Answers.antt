@@ -1,6 +1,6 @@
 use Rattle.std.proofs.Common.{[], length, refl, sym, subst, arith}
 use Rattle.std.proofs.lemmas.Result.{err_from_is_err_and}
-use Rattle.ea_outcomes.specs.Posed.{times_on}
+use Rattle.ea_asked.specs.Posed.{times_on}
 use Rattle.earliest.specs.Workers.{settings_by}
 use Rattle.earliest.proofs.Counting.{totals_next}
 use Rattle.ea_drafts.proofs.Sent.{stops, sent_next, sent_none}

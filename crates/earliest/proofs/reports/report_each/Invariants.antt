@@ -1,6 +1,6 @@
 use Rattle.std.proofs.Common.{◌≡◌, ◌≤◌, ◌<◌, ◌*◌, true, ◌^◌, take, IfSome}
 use Rattle.earliest.specs.Counted.{AreBalanced, AreSmall, AreTotals}
-use Rattle.ea_outcomes.specs.Posed.{times_on}
+use Rattle.ea_asked.specs.Posed.{times_on}
 use Rattle.ea_drafts.specs.Sent.{AreSent}
 use Rattle.ea_drafts.specs.Solved.{Serves}
 use Rattle.earliest.specs.Workers.{settings_by}

@@ -10,8 +10,8 @@ use Rattle.ea_files.specs.declared.fault.FileFault.{FileFault}
 use Rattle.ea_files.specs.declared.fault.FileFault.TheVariants as file
 use Rattle.ea_files.specs.Files.{IsBorne, IsBorneIfThere, IsFirstFault, Reading, Tables, tables}
 use Rattle.ea_files.specs.Given.{Given, AreGiven, roads_of, times_of}
-use Rattle.ea_outcomes.specs.declared.fault.AnswerFault.{AnswerFault}
-use Rattle.ea_outcomes.specs.declared.fault.AnswerFault.TheVariants.{Read, Input, BadOption, Write, OutOfMemory}
+use Rattle.ea_asked.specs.declared.fault.AnswerFault.{AnswerFault}
+use Rattle.ea_asked.specs.declared.fault.AnswerFault.TheVariants.{Read, Input, BadOption, Write, OutOfMemory}
 
 -- The files of a command before and after they were read: the network, where searches start, and timetables where there are any.
 pub record Files : Type 0 where

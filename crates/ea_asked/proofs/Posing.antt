@@ -1,5 +1,5 @@
 -- What files denote are problems of their road.
-use Rattle.std.proofs.Common.{◌≡◌, ℕ, zero, suc, ◌≤◌, Bool, true, false, List, [], ◌∷◌, length, get_or, map, ap, sym, ◌∙◌, arith, subst}
+use Rattle.std.proofs.Common.{◌≡◌, ℕ, zero, suc, ◌≤◌, Bool, true, false, List, [], ◌∷◌, length, get_or, map, ap, sym, arith, subst}
 use Rattle.std.specs.Prelude.{All, Some, unwrap_or}
 use Rattle.std.proofs.lemmas.Option.{none-some}
 use Rattle.std.proofs.lemmas.List.{length-map}
@@ -12,7 +12,7 @@ use Rattle.ea_files.specs.Given.{Given, IsRoadOf, roads_of}
 use Rattle.ea_files.specs.Sound.{IsSound}
 use Rattle.ea_files.specs.Starts.{departure, AreWithin, asks_all, sources_from, run_problems, pair_problems}
 use Rattle.ea_files.proofs.Departing.{each_from, each_pair, length-sources_from, length-pair_problems}
-use Rattle.ea_outcomes.specs.Posed.{AreProblems, IsPosed}
+use Rattle.ea_asked.specs.Posed.{AreProblems, IsPosed}
 
 -- A source of a network departs within the horizon.
 abbrev Departs : ℕ → Source → Type 0

@@ -2,8 +2,8 @@
 use Rattle.std.specs.Prelude.{ℕ, ◌+◌}
 use Rattle.ea_files.specs.declared.fault.FileFault.{FileFault}
 use Rattle.ea_files.specs.declared.fault.FileFault.TheVariants as file
-use Rattle.ea_outcomes.specs.declared.fault.AnswerFault.{AnswerFault}
-use Rattle.ea_outcomes.specs.declared.fault.AnswerFault.TheVariants.{Read, Input, Write, OutOfMemory}
+use Rattle.ea_asked.specs.declared.fault.AnswerFault.{AnswerFault}
+use Rattle.ea_asked.specs.declared.fault.AnswerFault.TheVariants.{Read, Input, Write, OutOfMemory}
 use Rattle.ea_report.specs.declared.report.WriteFault.{WriteFault}
 use Rattle.ea_report.specs.declared.report.WriteFaultKind.{WriteFaultKind}
 use Rattle.ea_report.specs.declared.report.WriteFaultKind.TheVariants.{WriteFailed, OutOfMemory as NoMemory}

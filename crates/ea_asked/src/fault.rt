@@ -27,7 +27,7 @@ pub enum AnswerFault {
 }
 
 impl From<FileFault> for AnswerFault {
-    ghost use Rattle.ea_outcomes.specs.Faults.{answer_fault};
+    ghost use Rattle.ea_asked.specs.Faults.{answer_fault};
 
     ghost from_gives = { λ file fault. fault ≡ answer_fault file };
 
@@ -41,7 +41,7 @@ impl From<FileFault> for AnswerFault {
 }
 
 impl From<AllocError> for AnswerFault {
-    ghost use Rattle.ea_outcomes.specs.declared.fault.AnswerFault.TheVariants.{OutOfMemory};
+    ghost use Rattle.ea_asked.specs.declared.fault.AnswerFault.TheVariants.{OutOfMemory};
 
     ghost from_gives = { λ _ fault. fault ≡ OutOfMemory 0 };
 

@@ -1,5 +1,5 @@
 -- What a command comes to.
-use Rattle.std.proofs.Common.{◌≡◌, ℕ, List, refl, sym, ap, subst, inl, inr}
+use Rattle.std.proofs.Common.{◌≡◌, ℕ, List, refl, ap, subst, inl, inr}
 use Rattle.std.specs.Prelude.{Option, Some, None, Result, Ok, Err, IfOk, IfErr, option_map}
 use Rattle.ea_input.specs.Checks.{Format}
 use Rattle.ea_input.specs.Formats.{table_format}
@@ -15,14 +15,14 @@ use Rattle.ea_files.specs.declared.fault.FileFault.TheVariants as file
 use Rattle.ea_files.specs.declared.fault.FileWord.{FileWord}
 use Rattle.ea_files.specs.declared.fault.FileWord.TheVariants.{Tp}
 use Rattle.ea_files.specs.Files.{bytes_there, in_network, in_starts, in_table, IsBorne, IsBorneIfThere, IsFaultIfThere, IsFirstFault, Reading, tables}
-use Rattle.ea_files.specs.Given.{Given, AreGiven, IsRoadOf, roads_of, times_of}
+use Rattle.ea_files.specs.Given.{Given, AreGiven, IsRoadOf, times_of}
 use Rattle.ea_files.specs.Sound.{IsSound}
 use Rattle.ea_files.proofs.Denoting.{denoting_is_sound}
-use Rattle.ea_outcomes.specs.Asked.{AreAsked, AreRead, AreSound, Asks, Files, files_of, IsAnswered, IsFailed, IsFault, tables_of, tp_had}
-use Rattle.ea_outcomes.specs.Faults.{answer_fault}
-use Rattle.ea_outcomes.specs.Posed.{times_on}
-use Rattle.ea_outcomes.specs.declared.fault.AnswerFault.{AnswerFault}
-use Rattle.ea_outcomes.specs.declared.fault.AnswerFault.TheVariants.{Read, Input, BadOption, Write, OutOfMemory}
+use Rattle.ea_asked.specs.Asked.{AreAsked, AreSound, Asks, Files, files_of, IsAnswered, IsFailed, IsFault, tables_of}
+use Rattle.ea_asked.specs.Faults.{answer_fault}
+use Rattle.ea_asked.specs.Posed.{times_on}
+use Rattle.ea_asked.specs.declared.fault.AnswerFault.{AnswerFault}
+use Rattle.ea_asked.specs.declared.fault.AnswerFault.TheVariants.{Read, Input, BadOption, Write, OutOfMemory}
 
 pub given_is_sound : {X : Type 0} (DenotesStarts : ℕ → List (List (List ℕ)) → X → Type 0) (gr starts : Option (List ℕ)) (tp : Option (Option (List ℕ))) (given : Given) (found : X) → AreGiven DenotesStarts gr starts tp given found → IsSound given
 given_is_sound DenotesStarts gr starts tp given found read = denoting_is_sound (field_lines read.gr_text) read.tp_text given read.denoted.graph read.denoted.table

@@ -5,7 +5,7 @@ use Rattle.std.specs.List.{IsAmong}
 use Rattle.ea_road.specs.Queries.{Asking, IsProblem}
 use Rattle.ea_files.specs.declared.road.Road.{Road}
 use Rattle.ea_files.specs.Starts.{asks_all, sources_from, run_problems}
-use Rattle.ea_outcomes.specs.Posed.{AreProblems}
+use Rattle.ea_asked.specs.Posed.{AreProblems}
 
 each_mapped : {X Y : Type 0} (P : Y → Type 0) (f : X → Y) → ((x : X) → P (f x)) → (xs : List X) → All P (map f xs)
 each_mapped P f holds [] k d lt = absurd (omega arith)

@@ -1,0 +1,3 @@
+pub mod Posing
+pub mod Asking
+pub mod Outcomes
