@@ -1,5 +1,6 @@
 pub mod Worklists
 pub mod Entries
+pub mod Packed
 pub mod Falls
 pub mod Boundary
 pub mod Linkings

@@ -9,3 +9,4 @@ pub mod Stored
 pub mod Frontiers
 pub mod Listings
 pub mod Candidates
+pub mod Words

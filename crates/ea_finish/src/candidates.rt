@@ -7,8 +7,8 @@ ghost use Rattle.ea_finish.specs.Listings.{AreLabelsListed};
 ghost use Rattle.ea_finish.specs.Underway.{bound_of};
 
 use crate::finishing::lower;
-use crate::levels::Track;
 use crate::opens::Opens;
+use crate::table::Table;
 use ea_road::{Arc, HORIZON, Network, TravelTimes};
 use std::marker::Model;
 
@@ -66,17 +66,18 @@ impl Candidates {
             → self.new ≡ self.old ++ (candidate.time, candidate.node) ∷ [] }
         ensures late { last < candidate.time → self.new ≡ self.old }
     {
-        self.list[self.count] = candidate;
+        // The rest is the count itself. It shows the compiler that the list's places aren't the count's, which stays in a register then.
+        self.list[self.count % ROOM] = candidate;
         self.count += usize::from(candidate.time <= last);
     }
 
     /// Looks at an arc that is left at a departure: its arrival is added where it is no later than the label of its head.
     #[inline(always)]
-    fn look_at<T: TravelTimes>(
+    fn look_at<T: TravelTimes, L: Table>(
         &mut self,
         network: &Network,
         times: &T,
-        table: &[u64],
+        table: &L,
         number: u32,
         arc: Arc,
         departure: u64,
@@ -84,18 +85,18 @@ impl Candidates {
         requires arc { IsArc network.now number arc }
         requires departure { departure ≤ HORIZON }
         requires classes { top_class network.now.arcs ≤ T.classes times.now }
-        requires places { length table.now ≡ network.now.nodes }
+        requires places { length (L.labels table.now) ≡ network.now.nodes }
         requires room { length self.old < 128 }
         ensures gathered { Gathered network.now (T.answers times.now) arc.tail departure
-            (number ∷ []) table.now self.old self.new }
+            (number ∷ []) (L.labels table.now) self.old self.new }
         ensures room { length self.new ≤ length self.old + 1 }
     {
         network.keeps_limits();
         let _ = number;
-        let label = table[arc.head as usize - 1];
+        let last = table.last(arc.head);
         // No arc arrives before it is left. Where it is plain, a sum costs less than to look.
         if arc.class > 0 {
-            if label <= departure {
+            if last < departure {
                 return;
             }
         }
@@ -105,26 +106,26 @@ impl Candidates {
             node: arc.head,
             from: arc.tail,
         };
-        self.add(candidate, label.min(HORIZON));
+        self.add(candidate, last);
     }
 
     /// Looks at the arcs from a node, left at its label. False where there may be no room for all their heads; then nothing is
     /// changed.
     #[inline(always)]
-    pub(crate) fn gather<T: TravelTimes>(
+    pub(crate) fn gather<T: TravelTimes, L: Table>(
         &mut self,
         network: &Network,
         times: &T,
-        table: &[u64],
+        table: &L,
         node: u32,
         departure: u64,
     ) -> bool
         requires node { IsNode network.now.nodes node }
         requires departure { departure ≤ HORIZON }
         requires classes { top_class network.now.arcs ≤ T.classes times.now }
-        requires places { length table.now ≡ network.now.nodes }
+        requires places { length (L.labels table.now) ≡ network.now.nodes }
         ensures gathered { IsTrue result → Gathered network.now (T.answers times.now) node
-            departure (leaving network.now node) table.now self.old self.new }
+            departure (leaving network.now node) (L.labels table.now) self.old self.new }
         ensures crowded { (IsTrue result → ⊥) → self.new ≡ self.old }
         ensures only { length self.old + length (leaving network.now node) ≤ 128 → IsTrue result }
     {
@@ -148,28 +149,24 @@ impl Candidates {
     }
 
     /// Offers each to its node: a label above it falls to it, and the node is opened. Then there is none.
-    pub(crate) fn offer<K: Track, W: Opens>(
-        &mut self,
-        track: &mut K,
-        table: &mut [u64],
-        todo: &mut W,
-    )
+    pub(crate) fn offer<L: Table, W: Opens>(&mut self, table: &mut L, todo: &mut W)
         requires nodes { (time node : ℕ) → Contains self.old (time, node)
             → IsNode (W.room todo.old).nodes node }
-        requires places { length table.old ≡ (W.room todo.old).nodes }
+        requires in_time { (time node : ℕ) → Contains self.old (time, node) → time ≤ HORIZON }
+        requires places { length (L.labels table.old) ≡ (W.room todo.old).nodes }
         ensures none { self.new ≡ [] }
         ensures offered { Offered self.old
-            table.old (W.waits todo.old (bound_of table.old))
-            table.new (W.waits todo.new (bound_of table.new)) }
-        ensures spent { sum table.new + W.size todo.new ≤ sum table.old + W.size todo.old }
+            (L.labels table.old) (W.waits todo.old (bound_of (L.labels table.old)))
+            (L.labels table.new) (W.waits todo.new (bound_of (L.labels table.new))) }
+        ensures spent { sum (L.labels table.new) + W.size todo.new ≤ sum (L.labels table.old) + W.size todo.old }
         ensures room { W.room todo.new ≡ W.room todo.old }
-        ensures listed { AreLabelsListed table.old (K.lists track.old)
-            → AreLabelsListed table.new (K.lists track.new) }
+        ensures listed { AreLabelsListed (L.labels table.old) (L.lists table.old)
+            → AreLabelsListed (L.labels table.new) (L.lists table.new) }
     {
         for place in 0..self.count {
             let candidate = self.list[place];
-            track.leave(candidate.from);
-            lower(track, table, todo, candidate.node, candidate.time);
+            table.leave(candidate.from);
+            lower(table, todo, candidate.node, candidate.time);
         }
         self.count = 0;
     }

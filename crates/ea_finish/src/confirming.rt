@@ -7,37 +7,39 @@ ghost use Rattle.ea_road.specs.Roads.{IsArc, IsNode, top_class};
 ghost use Rattle.ea_finish.specs.Confirmed.{AreBegun, AreConfirmed, ArePreset, AreReady, IsReady};
 ghost use Rattle.ea_finish.specs.Links.{AreLinks, AreStarts, link, no_link};
 ghost use Rattle.ea_finish.specs.Listings.{AreLabelsListed, AreLinksListed, IsListed, KeepsListed};
+ghost use Rattle.ea_finish.specs.Words.{IsMarked, labels_in};
 ghost use Rattle.ea_finish.specs.Offers.{IsSpent, IsSpread, MeetsBound, Offers, Precedes};
 
 use crate::levels::Levels;
 use crate::link::{Link, NO_ARC, NO_LEVEL, NO_LINK};
-use crate::notes::UNNOTED;
 use crate::unwinding::{link_all, pass, sow, spread};
 use crate::waiting::Waiting;
+use crate::words::{UNNOTED, level_in, take_levels};
 use ea_road::{Arc, HORIZON, Network, Source, TravelTimes};
 
 /// Of so many nodes one is mended at most. Beyond that it may cost less to find all links anew.
 const PART: usize = 2;
 
-/// The level that was noted for a node.
-fn level_of(noted: u16) -> u32
+/// The level of a word, as a link has it.
+fn level_of(word: u64) -> u32
     ensures { result ≤ NO_LEVEL }
 {
+    let noted = level_in(word);
     if noted < UNNOTED {
-        u32::from(noted)
+        noted as u32
     } else {
         NO_LEVEL
     }
 }
 
-/// Gives each node its noted level, and no arc yet.
-fn preset(levels: &[u16], links: &mut [Link])
+/// Gives each node the level of its word, and no arc yet.
+fn preset(words: &[u64], links: &mut [Link])
     ensures places { length links.new ≡ length links.old }
     ensures preset { ArePreset links.new }
 {
     for place in 0..links.len() {
-        let level = match levels.get(place) {
-            Some(noted) => level_of(*noted),
+        let level = match words.get(place) {
+            Some(word) => level_of(*word),
             None => NO_LEVEL,
         };
         links[place] = Link {
@@ -217,13 +219,12 @@ fn are_ready(links: &[Link]) -> bool
     true
 }
 
-/// Whether the links are found from the noted levels.
+/// Whether the links are found from the levels that they have at first.
 fn confirm_levels<T: TravelTimes>(
     network: &Network,
     times: &T,
     sources: &[Source],
     table: &[u64],
-    levels: &[u16],
     links: &mut [Link],
     waiting: &mut Waiting,
 ) -> bool
@@ -232,6 +233,7 @@ fn confirm_levels<T: TravelTimes>(
     requires places { (length table.now ≡ network.now.nodes)
         × (length links.old ≡ network.now.nodes) }
     requires nodes { waiting.old.nodes ≡ network.now.nodes }
+    requires preset { ArePreset links.old }
     ensures places { length links.new ≡ length links.old }
     ensures nodes { waiting.new.nodes ≡ waiting.old.nodes }
     ensures nobody { IsTrue result → waiting.new.waiting ≡ [] }
@@ -239,7 +241,6 @@ fn confirm_levels<T: TravelTimes>(
         (IsLabel (label_of table.now)) links.new }
 {
     network.keeps_limits();
-    preset(levels, links);
     confirm_sources(table, sources, links, waiting);
     confirm_arcs(network, times, table, links, waiting);
     if !mend_waiting(network, times, table, links, waiting) {
@@ -253,40 +254,37 @@ pub(crate) fn link_noted<T: TravelTimes>(
     network: &Network,
     times: &T,
     sources: &[Source],
-    table: &[u64],
     levels: &mut Levels,
     links: &mut [Link],
     waiting: &mut Waiting,
 )
     requires classes { top_class network.now.arcs ≤ T.classes times.now }
     requires sources { AreStarts network.now.nodes sources.now }
-    requires places { length table.now ≡ network.now.nodes }
+    requires places { length levels.old.words.items ≡ network.now.nodes }
     requires nobody { waiting.old.waiting ≡ [] }
     requires nodes { waiting.old.nodes ≡ network.now.nodes }
     requires none { links.old ≡ replicate network.now.nodes no_link }
-    requires labels { AreLabelsListed table.now (IsListed levels.old.listed) }
+    requires labels { AreLabelsListed (labels_in levels.old.words.items) (λ node.
+        IsListed levels.old.listed node × IsMarked levels.old.words.items node) }
     ensures links { AreLinks network.now (T.answers times.now) sources.now
-        (IsLabel (label_of table.now)) links.new }
+        (IsLabel (label_of (labels_in levels.old.words.items))) links.new }
     ensures nobody { waiting.new.waiting ≡ [] }
     ensures nodes { waiting.new.nodes ≡ waiting.old.nodes }
+    ensures labels { levels.new.words.items ≡ labels_in levels.old.words.items }
     ensures kept { KeepsListed (IsListed levels.old.listed) (IsListed levels.new.listed) }
     ensures listed { AreLinksListed links.new (IsListed levels.new.listed) }
 {
-    if levels.are_many() {
-        levels.listed.add_all();
-        if confirm_levels(
-            network,
-            times,
-            sources,
-            table,
-            levels.notes.levels(),
-            links,
-            waiting,
-        ) {
-            return;
-        }
+    if !levels.are_many() {
+        levels.listed.take_levels(&mut levels.words);
+        link_all(network, times, sources, &levels.words, links, waiting);
+        return;
+    }
+    levels.listed.add_all();
+    preset(&levels.words, links);
+    take_levels(&mut levels.words);
+    if !confirm_levels(network, times, sources, &levels.words, links, waiting) {
         links.fill(NO_LINK);
         waiting.clear();
+        link_all(network, times, sources, &levels.words, links, waiting);
     }
-    link_all(network, times, sources, table, links, waiting);
 }

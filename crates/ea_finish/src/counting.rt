@@ -2,20 +2,35 @@
 ghost use Rattle.ea_road.specs.Queries.{IsProblem};
 
 use crate::frontier::{Frontier, empty_lists};
-use crate::levels::Track;
 use crate::open::Open;
 use crate::searching::search;
-use ea_road::{NONE, Network, Query, TravelTimes};
+use crate::table::{Table, touched};
+use ea_road::{HORIZON, NONE, Network, Query, TravelTimes};
 use std::alloc::{AllocError, Global};
 
-/// Counts the offers.
+/// Labels, and the offers are counted.
 #[derive(Drop)]
 struct Counting {
+    labels: Vec<u64>,
     count: u64,
 }
 
-impl Track for Counting {
-    ghost lists = { λ counting node. Unit };
+impl Table for Counting {
+    ghost labels = { λ table. table.labels.items };
+
+    ghost lists = { λ table node. Unit };
+
+    fn label(&self, node: u32) -> u64 {
+        self.labels[node as usize - 1]
+    }
+
+    fn last(&self, node: u32) -> u64 {
+        self.label(node).min(HORIZON)
+    }
+
+    fn touch(&self, node: u32) -> u64 {
+        touched(&self.labels, node)
+    }
 
     fn begin(&mut self) {}
 
@@ -23,9 +38,11 @@ impl Track for Counting {
         self.count = self.count.wrapping_add(1);
     }
 
-    fn fell(&mut self, _node: u32) {}
+    fn fall(&mut self, node: u32, time: u64) {
+        self.labels[node as usize - 1] = time;
+    }
 
-    fn met(&mut self, _node: u32) {}
+    fn meet(&mut self, _node: u32) {}
 }
 
 /// How many times the search of one thread offers to nodes where its windows have this width. No more nodes are scanned, for each but
@@ -40,18 +57,11 @@ pub fn count_offers<T: TravelTimes>(
 ) -> Result<u64, AllocError>
     requires { IsProblem network.now (T.classes times.now) query.now }
 {
-    let mut counting = Counting { count: 0 };
     let todo = Open::reserve_without_walks(alloc, network.nodes())?;
     let lists = empty_lists(alloc)?;
     let mut frontier = Frontier::over(lists, todo, width);
-    let mut table = vec![in alloc; NONE; network.nodes() as usize]?;
-    search(
-        network,
-        times,
-        query,
-        &mut counting,
-        &mut table,
-        &mut frontier,
-    );
+    let labels = vec![in alloc; NONE; network.nodes() as usize]?;
+    let mut counting = Counting { labels, count: 0 };
+    search(network, times, query, &mut counting, &mut frontier);
     Ok(counting.count)
 }

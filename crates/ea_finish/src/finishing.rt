@@ -9,9 +9,9 @@ ghost use Rattle.ea_finish.specs.Listings.{AreLabelsListed, KeepsListed};
 ghost use Rattle.ea_finish.specs.Scans.{FallsBy, KeepsLess, Scanned};
 ghost use Rattle.ea_finish.specs.Underway.{IsFinished, IsUnderway, bound_of};
 
-use crate::levels::{Track, Untracked};
 use crate::open::Open;
 use crate::opens::Opens;
+use crate::table::{Bare, Table};
 use ea_road::{Arc, HORIZON, NONE, Network, Query, TravelTimes};
 
 /// A table of labels, the first that of node 1, and a list in which nobody waits.
@@ -24,95 +24,86 @@ pub struct Finished {
 }
 
 /// Offers a time to a node: a label above it falls to it, and the node is opened.
-pub(crate) fn lower<K: Track, W: Opens>(
-    track: &mut K,
-    table: &mut [u64],
-    todo: &mut W,
-    node: u32,
-    time: u64,
-)
+pub(crate) fn lower<L: Table, W: Opens>(table: &mut L, todo: &mut W, node: u32, time: u64)
     requires node { (0 < node) × (node ≤ (W.room todo.old).nodes) }
-    requires places { length table.old ≡ (W.room todo.old).nodes }
+    requires in_time { time ≤ HORIZON }
+    requires places { length (L.labels table.old) ≡ (W.room todo.old).nodes }
     ensures lowers { KeepsLess node time
-        table.old (W.waits todo.old (bound_of table.old))
-        table.new (W.waits todo.new (bound_of table.new)) }
-    ensures spent { sum table.new + W.size todo.new ≤ sum table.old + W.size todo.old }
+        (L.labels table.old) (W.waits todo.old (bound_of (L.labels table.old)))
+        (L.labels table.new) (W.waits todo.new (bound_of (L.labels table.new))) }
+    ensures spent { sum (L.labels table.new) + W.size todo.new ≤ sum (L.labels table.old) + W.size todo.old }
     ensures room { W.room todo.new ≡ W.room todo.old }
-    ensures listed { AreLabelsListed table.old (K.lists track.old)
-        → AreLabelsListed table.new (K.lists track.new) }
+    ensures listed { AreLabelsListed (L.labels table.old) (L.lists table.old)
+        → AreLabelsListed (L.labels table.new) (L.lists table.new) }
 {
-    let place = node as usize - 1;
-    let before = table[place];
+    let before = table.label(node);
     if time < before {
-        table[place] = time;
+        table.fall(node, time);
         todo.open(node, time);
-        track.fell(node);
     } else if time == before {
-        track.met(node);
+        table.meet(node);
     }
 }
 
 /// Offers its head the arrival along one arc.
-fn follow<T: TravelTimes, K: Track, W: Opens>(
+fn follow<T: TravelTimes, L: Table, W: Opens>(
     network: &Network,
     times: &T,
     number: u32,
     arc: Arc,
     departure: u64,
-    track: &mut K,
-    table: &mut [u64],
+    table: &mut L,
     todo: &mut W,
 )
     requires arc { IsArc network.now number arc }
     requires departure { departure ≤ HORIZON }
     requires classes { top_class network.now.arcs ≤ T.classes times.now }
-    requires places { length table.old ≡ network.now.nodes }
+    requires places { length (L.labels table.old) ≡ network.now.nodes }
     requires nodes { (W.room todo.old).nodes ≡ network.now.nodes }
     ensures scanned { Scanned network.now (T.answers times.now) arc.tail departure (number ∷ [])
-        table.old (W.waits todo.old (bound_of table.old))
-        table.new (W.waits todo.new (bound_of table.new)) }
-    ensures spent { sum table.new + W.size todo.new ≤ sum table.old + W.size todo.old }
+        (L.labels table.old) (W.waits todo.old (bound_of (L.labels table.old)))
+        (L.labels table.new) (W.waits todo.new (bound_of (L.labels table.new))) }
+    ensures spent { sum (L.labels table.new) + W.size todo.new ≤ sum (L.labels table.old) + W.size todo.old }
     ensures room { W.room todo.new ≡ W.room todo.old }
-    ensures listed { AreLabelsListed table.old (K.lists track.old)
-        → AreLabelsListed table.new (K.lists track.new) }
+    ensures listed { AreLabelsListed (L.labels table.old) (L.lists table.old)
+        → AreLabelsListed (L.labels table.new) (L.lists table.new) }
 {
     network.keeps_limits();
     let _ = number;
     // No arc arrives before it is left. Where all arcs are plain, a sum costs less than to look.
     if network.top_class() > 0 {
-        if table[arc.head as usize - 1] <= departure {
+        if table.label(arc.head) <= departure {
             return;
         }
     }
     let arrival = times.arrive(arc.class, u64::from(arc.weight), departure);
     if arrival <= HORIZON {
-        lower(track, table, todo, arc.head, arrival);
+        lower(table, todo, arc.head, arrival);
     }
 }
 
 /// Offers each head the arrival along the arcs from a node, left at its label. The arcs are read as they lie by tail.
-pub(crate) fn scan<T: TravelTimes, K: Track, W: Opens>(
+pub(crate) fn scan<T: TravelTimes, L: Table, W: Opens>(
     network: &Network,
     times: &T,
     node: u32,
     departure: u64,
-    track: &mut K,
-    table: &mut [u64],
+    table: &mut L,
     todo: &mut W,
 )
     requires node { IsNode network.now.nodes node }
     requires departure { departure ≤ HORIZON }
     requires classes { top_class network.now.arcs ≤ T.classes times.now }
-    requires places { length table.old ≡ network.now.nodes }
+    requires places { length (L.labels table.old) ≡ network.now.nodes }
     requires nodes { (W.room todo.old).nodes ≡ network.now.nodes }
     ensures scanned { Scanned network.now (T.answers times.now) node departure
         (leaving network.now node)
-        table.old (W.waits todo.old (bound_of table.old))
-        table.new (W.waits todo.new (bound_of table.new)) }
-    ensures spent { sum table.new + W.size todo.new ≤ sum table.old + W.size todo.old }
+        (L.labels table.old) (W.waits todo.old (bound_of (L.labels table.old)))
+        (L.labels table.new) (W.waits todo.new (bound_of (L.labels table.new))) }
+    ensures spent { sum (L.labels table.new) + W.size todo.new ≤ sum (L.labels table.old) + W.size todo.old }
     ensures room { W.room todo.new ≡ W.room todo.old }
-    ensures listed { AreLabelsListed table.old (K.lists track.old)
-        → AreLabelsListed table.new (K.lists track.new) }
+    ensures listed { AreLabelsListed (L.labels table.old) (L.lists table.old)
+        → AreLabelsListed (L.labels table.new) (L.lists table.new) }
 {
     let leaving = network.leaving(node);
     let numbers = leaving.numbers;
@@ -124,7 +115,6 @@ pub(crate) fn scan<T: TravelTimes, K: Track, W: Opens>(
             numbers[place],
             arcs[place].with_tail(node),
             departure,
-            track,
             table,
             todo,
         );
@@ -132,50 +122,47 @@ pub(crate) fn scan<T: TravelTimes, K: Track, W: Opens>(
 }
 
 /// The label above which a label need not be least: the target's, and NONE where all nodes are asked.
-pub(crate) fn latest(target: Option<u32>, table: &[u64]) -> u64
-    requires { IfSome target (λ node. (0 < node) × (node ≤ length table.now)) }
-    ensures { result ≡ limit target (label_of table.now) }
+pub(crate) fn latest<L: Table>(target: Option<u32>, table: &L) -> u64
+    requires { IfSome target (λ node. (0 < node) × (node ≤ length (L.labels table.now))) }
+    ensures { result ≡ limit target (label_of (L.labels table.now)) }
 {
     match target {
-        Some(node) => table[node as usize - 1],
+        Some(node) => table.label(node),
         None => NONE,
     }
 }
 
 /// Scans waiting nodes at their labels, in the order in which they were opened, until nobody waits.
-pub(crate) fn finish_noted<T: TravelTimes, K: Track>(
+pub(crate) fn finish_noted<T: TravelTimes, L: Table>(
     network: &Network,
     times: &T,
     query: &Query,
-    mut table: Vec<u64>,
+    table: &mut L,
     mut todo: Open,
-    track: &mut K,
-) -> Finished
+) -> Open
     requires problem { IsProblem network.now (T.classes times.now) query.now }
     requires underway { IsUnderway network.now (T.answers times.now) query.now
-        table.items todo.waiting }
+        (L.labels table.old) todo.waiting }
     requires room { todo.nodes ≡ network.now.nodes }
     ensures finished { IsFinished network.now (T.answers times.now) query.now
-        result.table.items result.todo }
-    ensures walks { result.todo.walks ≡ todo.walks }
+        (L.labels table.new) result }
+    ensures walks { result.walks ≡ todo.walks }
     ensures beyond { FallsBy network.now (T.answers times.now)
-        (limit query.now.target (label_of table.items))
-        (label_of table.items) (label_of result.table.items) }
-    ensures listed { AreLabelsListed table.items (K.lists track.old)
-        → AreLabelsListed result.table.items (K.lists track.new) }
+        (limit query.now.target (label_of (L.labels table.old)))
+        (label_of (L.labels table.old)) (label_of (L.labels table.new)) }
+    ensures listed { AreLabelsListed (L.labels table.old) (L.lists table.old)
+        → AreLabelsListed (L.labels table.new) (L.lists table.new) }
 {
     network.keeps_limits();
     let target = query.target();
     while let Some(node) = todo.take() {
-        let departure = table[node as usize - 1];
-        let last = latest(target, &table).min(HORIZON);
+        let departure = table.label(node);
+        let last = latest(target, table).min(HORIZON);
         if departure <= last {
-            scan(
-                network, times, node, departure, track, &mut table, &mut todo,
-            );
+            scan(network, times, node, departure, table, &mut todo);
         }
     }
-    Finished { table, todo }
+    todo
 }
 
 /// Scans waiting nodes at their labels, in the order in which they were opened, until nobody waits. Then each label is
@@ -210,5 +197,10 @@ pub fn finish<T: TravelTimes>(
         → label_of result.table.items node ≡ time }
 {
     network.keeps_limits();
-    finish_noted(network, times, query, table, todo, &mut Untracked)
+    let mut bare = Bare { labels: table };
+    let todo = finish_noted(network, times, query, &mut bare, todo);
+    Finished {
+        table: bare.labels,
+        todo,
+    }
 }

@@ -5,6 +5,7 @@ ghost use Rattle.ea_finish.specs.Underway.{bound_of};
 
 use crate::open::Open;
 use crate::opens::Opens;
+use crate::table::Table;
 use crate::touching::{AHEAD, touch_entries, touch_first_arcs};
 use ea_road::{Network, window_bits};
 use std::alloc::{AllocError, Global};
@@ -207,15 +208,15 @@ impl Frontier {
     }
 
     /// Moves entries from the window to the hand, but for those whose label fell since.
-    fn draw(&mut self, table: &[u64])
-        requires { length table.now ≡ self.old.todo.nodes }
-        ensures { KeepsWaiting (bound_of table.now) self.old self.new }
+    fn draw<L: Table>(&mut self, table: &L)
+        requires { length (L.labels table.now) ≡ self.old.todo.nodes }
+        ensures { KeepsWaiting (bound_of (L.labels table.now)) self.old self.new }
     {
         'drawing: for _ in 0..AHEAD {
             let Some((time, node)) = self.pop(WINDOW) else {
                 return;
             };
-            if table[node as usize - 1] == time {
+            if table.label(node) == time {
                 self.put(HAND, time, node);
             }
         }
@@ -224,9 +225,9 @@ impl Frontier {
     /// Fills the hand from a window that has many entries. Where the arcs of the hand's nodes begin, and the first of them, is read
     /// ahead, so that many loads are under way at once.
     #[inline(never)]
-    fn refill(&mut self, network: &Network, table: &[u64])
-        requires { length table.now ≡ self.old.todo.nodes }
-        ensures { KeepsWaiting (bound_of table.now) self.old self.new }
+    fn refill<L: Table>(&mut self, network: &Network, table: &L)
+        requires { length (L.labels table.now) ≡ self.old.todo.nodes }
+        ensures { KeepsWaiting (bound_of (L.labels table.now)) self.old self.new }
     {
         self.narrow();
         self.advance();
@@ -246,11 +247,11 @@ impl Frontier {
 
     /// Takes an entry out, of nearly the least time; none where there is none, but for those whose label fell since.
     #[inline(always)]
-    pub(crate) fn take(&mut self, network: &Network, table: &[u64]) -> Option<(u64, u32)>
-        requires { length table.now ≡ self.old.todo.nodes }
+    pub(crate) fn take<L: Table>(&mut self, network: &Network, table: &L) -> Option<(u64, u32)>
+        requires { length (L.labels table.now) ≡ self.old.todo.nodes }
         ensures { MatchOption result
-            (KeepsWaiting (bound_of table.now) self.old self.new × HaveNone self.new.lists)
-            (λ found. Takes (bound_of table.now) found self.old self.new) }
+            (KeepsWaiting (bound_of (L.labels table.now)) self.old self.new × HaveNone self.new.lists)
+            (λ found. Takes (bound_of (L.labels table.now)) found self.old self.new) }
     {
         if let Some(entry) = self.pop(HAND) {
             return Some(entry);
@@ -281,10 +282,10 @@ impl Frontier {
     }
 
     /// Puts the nodes that wait in the list among the entries, at their labels.
-    pub(crate) fn move_in(&mut self, table: &[u64])
-        requires { length table.now ≡ self.old.todo.nodes }
-        ensures rest { (node : ℕ) → WaitsAt self.old (bound_of table.now) node
-            → WaitsAt self.new (bound_of table.now) node }
+    pub(crate) fn move_in<L: Table>(&mut self, table: &L)
+        requires { length (L.labels table.now) ≡ self.old.todo.nodes }
+        ensures rest { (node : ℕ) → WaitsAt self.old (bound_of (L.labels table.now)) node
+            → WaitsAt self.new (bound_of (L.labels table.now)) node }
         ensures room { (self.new.todo.nodes ≡ self.old.todo.nodes)
             × (self.new.todo.walks ≡ self.old.todo.walks) }
     {
@@ -292,7 +293,7 @@ impl Frontier {
             let Some(node) = self.take_waiting() else {
                 return;
             };
-            let time = table[node as usize - 1];
+            let time = table.label(node);
             let place = self.list_of(time);
             self.put(place, time, node);
         }

@@ -1,87 +1,38 @@
-//! What a search notes: which nodes it reached, and their levels as it sees them, which are guesses.
-ghost use Rattle.std.specs.Prelude.{◌≡◌, ℕ};
+//! Labels with what a search for walks notes: which nodes it reached, and their levels as it sees them, which are guesses.
+ghost use Rattle.std.specs.Prelude.{◌≡◌};
 ghost use Rattle.ea_finish.specs.Listings.{KeepsListed};
 
 use crate::listed::Listed;
-use crate::notes::Notes;
+use crate::risen::Risen;
+use crate::table::{Table, touched};
+use crate::words::{label_in, last_in, level_in, set_level, word_of};
 
-/// What a search notes, which is known where it is compiled: the nodes that it reached, and levels.
-pub(crate) trait Track {
-    /// Whether a node is listed as reached.
-    ghost lists: { Self → ℕ → Type 0 };
-
-    /// The nodes whose labels fall from now on are those of sources.
-    fn begin(&mut self)
-        ensures { KeepsListed (lists self.old) (lists self.new) };
-
-    /// The nodes whose labels fall from now on are heads of the arcs from this one.
-    fn leave(&mut self, node: u32)
-        ensures { KeepsListed (lists self.old) (lists self.new) };
-
-    /// A node's label fell, for the first time or again.
-    fn fell(&mut self, node: u32)
-        ensures there { lists self.new node }
-        ensures kept { KeepsListed (lists self.old) (lists self.new) };
-
-    /// A node's label was reached again.
-    fn met(&mut self, node: u32)
-        ensures { KeepsListed (lists self.old) (lists self.new) };
-}
-
-/// Nothing is noted.
-#[derive(Drop)]
-pub(crate) struct Untracked;
-
-impl Track for Untracked {
-    ghost lists = { λ untracked node. Unit };
-
-    fn begin(&mut self) {}
-
-    fn leave(&mut self, _node: u32) {}
-
-    fn fell(&mut self, _node: u32) {}
-
-    fn met(&mut self, _node: u32) {}
-}
-
-impl Track for Listed {
-    ghost use Rattle.ea_finish.specs.Listings.{IsListed};
-
-    ghost lists = { λ listed node. IsListed listed node };
-
-    fn begin(&mut self) {}
-
-    fn leave(&mut self, _node: u32) {}
-
-    fn fell(&mut self, node: u32) {
-        self.add(node);
-    }
-
-    fn met(&mut self, _node: u32) {}
-}
-
-/// The nodes that were reached, and what is noted of them.
+/// Labels, the nodes that have one, and what is noted of these.
 #[derive(Drop)]
 pub(crate) struct Levels {
+    /// A word for each node, of its label and its level.
+    pub words: Vec<u64>,
     pub listed: Listed,
-    pub notes: Notes,
+    pub risen: Risen,
     /// Whether arcs may be waited for. Then a label may stay where that of the node before it falls, and its level rises.
     waits: bool,
     /// The node whose arcs are followed; 0 for the sources.
     from: u32,
     /// The level to which they lead.
-    above: u16,
+    above: u64,
     falls: usize,
 }
 
 impl Levels {
-    /// No level is noted yet.
-    pub(crate) fn new(listed: Listed, notes: Notes, waits: bool) -> Levels
-        ensures { result.listed ≡ listed }
+    /// Words of labels alone: no level is noted yet.
+    pub(crate) fn new(words: Vec<u64>, listed: Listed, risen: Risen, waits: bool) -> Levels
+        ensures words { result.words ≡ words }
+        ensures listed { result.listed ≡ listed }
     {
         Levels {
+            words,
             listed,
-            notes,
+            risen,
             waits,
             from: 0,
             above: 0,
@@ -91,14 +42,33 @@ impl Levels {
 
     /// Whether so many nodes were reached that one look at each arc costs less than to find their links anew.
     pub(crate) fn are_many(&self) -> bool {
-        self.falls >= self.notes.levels().len() / 4
+        self.falls >= self.words.len() / 4
     }
 }
 
-impl Track for Levels {
+impl Table for Levels {
     ghost use Rattle.ea_finish.specs.Listings.{IsListed};
+    ghost use Rattle.ea_finish.specs.Words.{IsMarked, labels_in};
 
-    ghost lists = { λ levels node. IsListed levels.listed node };
+    ghost labels = { λ table. labels_in table.words.items };
+
+    ghost lists = { λ table node.
+        IsListed table.listed node × IsMarked table.words.items node };
+
+    #[inline(always)]
+    fn label(&self, node: u32) -> u64 {
+        label_in(self.words[node as usize - 1])
+    }
+
+    #[inline(always)]
+    fn last(&self, node: u32) -> u64 {
+        last_in(self.words[node as usize - 1])
+    }
+
+    #[inline(always)]
+    fn touch(&self, node: u32) -> u64 {
+        touched(&self.words, node)
+    }
 
     fn begin(&mut self) {
         self.from = 0;
@@ -108,26 +78,29 @@ impl Track for Levels {
     #[inline(always)]
     fn leave(&mut self, node: u32) {
         self.from = node;
-        self.above = self.notes.level(node).saturating_add(1);
+        self.above = level_in(touched(&self.words, node)).saturating_add(1);
     }
 
     #[inline(always)]
-    fn fell(&mut self, node: u32) {
+    fn fall(&mut self, node: u32, time: u64) {
+        let place = node as usize - 1;
+        let rises = self.waits && level_in(self.words[place]) < self.above;
+        self.risen.add_if(rises, node);
+        self.words[place] = word_of(time, self.above);
         self.listed.add(node);
-        self.notes.renew(node, self.above, self.waits);
         self.falls = self.falls.saturating_add(1);
     }
 
     #[inline(never)]
-    fn met(&mut self, node: u32) {
-        let noted = self.notes.level(node);
+    fn meet(&mut self, node: u32) {
+        let noted = level_in(touched(&self.words, node));
         if self.above < noted {
-            self.notes.note(node, self.above);
+            set_level(&mut self.words, node, self.above);
         } else if self.above > noted {
             // What is noted may be from the same arc, before the level of its tail rose.
-            if self.notes.has_risen(self.from) {
-                self.notes.note(node, self.above);
-                self.notes.rise(node);
+            if self.risen.has(self.from) {
+                set_level(&mut self.words, node, self.above);
+                self.risen.add(node);
             }
         }
     }

@@ -11,15 +11,17 @@ mod frontier;
 mod levels;
 mod link;
 mod listed;
-mod notes;
 mod open;
 mod opens;
+mod risen;
 mod search;
 mod searching;
 mod soon;
+mod table;
 mod touching;
 mod unwinding;
 mod waiting;
+mod words;
 
 pub use alone::{arrivals_alone, arrivals_alone_by, solve_alone, solve_alone_by};
 pub use answer::Answer;

@@ -4,9 +4,11 @@ ghost use Rattle.ea_road.specs.declared.TheConstants.{NONE};
 ghost use Rattle.ea_finish.specs.Links.{link, no_link};
 ghost use Rattle.ea_finish.specs.Listings.{AreLabelsListed, AreLinksListed, IsListed, KeepsListed, nothing};
 ghost use Rattle.ea_finish.specs.Underway.{bound_of};
+ghost use Rattle.ea_finish.specs.Words.{IsMarked, labels_in};
 
 use crate::link::{Link, NO_LINK};
-use crate::notes::Notes;
+use crate::risen::Risen;
+use crate::words::{take_level, take_levels};
 use ea_road::NONE;
 use std::alloc::Global;
 use std::marker::Model;
@@ -92,8 +94,23 @@ impl Listed {
         self.all = true;
     }
 
+    /// Leaves of each listed node's word its label alone.
+    pub(crate) fn take_levels(&self, words: &mut [u64])
+        requires { AreLabelsListed (labels_in words.old)
+            (λ node. IsListed self.now node × IsMarked words.old node) }
+        ensures { words.new ≡ labels_in words.old }
+    {
+        if self.all {
+            take_levels(words);
+            return;
+        }
+        for node in &self.nodes {
+            take_level(words, *node);
+        }
+    }
+
     /// Puts back what the listed nodes have of labels and links, and what is noted of them. Then no node is listed.
-    pub(crate) fn put_back(&mut self, table: &mut [u64], links: &mut [Link], notes: &mut Notes)
+    pub(crate) fn put_back(&mut self, table: &mut [u64], links: &mut [Link], risen: &mut Risen)
         requires labels { AreLabelsListed table.old (IsListed self.old) }
         requires links { AreLinksListed links.old (IsListed self.old) }
         ensures nothing { self.new ≡ nothing }
@@ -103,7 +120,7 @@ impl Listed {
         if self.all {
             table.fill(NONE);
             links.fill(NO_LINK);
-            notes.forget_all();
+            risen.forget_all();
             self.nodes.clear();
             self.all = false;
             return;
@@ -111,7 +128,7 @@ impl Listed {
         while let Some(node) = self.nodes.pop() {
             take_label(table, node);
             take_link(links, node);
-            notes.forget(node);
+            risen.forget(node);
         }
     }
 }

@@ -9,14 +9,15 @@ ghost use Rattle.ea_finish.specs.Underway.{IsFinished};
 
 use crate::answer::Answer;
 use crate::confirming::link_noted;
-use crate::finishing::{Finished, finish_noted};
+use crate::finishing::finish_noted;
 use crate::frontier::{Frontier, empty_lists};
-use crate::levels::{Levels, Track};
+use crate::levels::Levels;
 use crate::link::NO_LINK;
 use crate::listed::Listed;
-use crate::notes::Notes;
 use crate::open::Open;
+use crate::risen::Risen;
 use crate::searching::search;
+use crate::table::{Reached, Table};
 use crate::waiting::Waiting;
 use ea_road::{NONE, Network, Query, TravelTimes};
 use std::alloc::{AllocError, Global};
@@ -31,7 +32,7 @@ pub struct Search {
     waiting: Waiting,
     lists: Vec<Vec<(u64, u32)>>,
     listed: Listed,
-    notes: Notes,
+    risen: Risen,
 }
 
 impl Model for Search {
@@ -79,37 +80,32 @@ struct Arrays {
     lists: Vec<Vec<(u64, u32)>>,
 }
 
-/// Searches from the sources until each label is least, on arrays as they were at first.
-fn find<T: TravelTimes, K: Track>(
+/// Searches from the sources until each label is least, on a table without labels and lists without entries.
+fn find<T: TravelTimes, L: Table>(
     network: &Network,
     times: &T,
     query: &Query,
     width: u64,
-    arrays: Arrays,
-    track: &mut K,
-) -> Arrays
+    lists: Vec<Vec<(u64, u32)>>,
+    todo: Open,
+    table: &mut L,
+) -> (Vec<Vec<(u64, u32)>>, Open)
     requires problem { IsProblem network.now (T.classes times.now) query.now }
-    requires labels { arrays.table.items ≡ replicate network.now.nodes NONE }
-    requires room { arrays.todo.nodes ≡ network.now.nodes }
-    requires lists { (length arrays.lists.items ≡ 66)
-        × HaveNone (map (λ l. l.items) arrays.lists.items) }
+    requires labels { L.labels table.old ≡ replicate network.now.nodes NONE }
+    requires room { todo.nodes ≡ network.now.nodes }
+    requires lists { (length lists.items ≡ 66) × HaveNone (map (λ l. l.items) lists.items) }
     ensures finished { IsFinished network.now (T.answers times.now) query.now
-        result.table.items result.todo }
-    ensures walks { result.todo.walks ≡ arrays.todo.walks }
-    ensures lists { (length result.lists.items ≡ 66)
-        × HaveNone (map (λ l. l.items) result.lists.items) }
-    ensures listed { AreLabelsListed result.table.items (K.lists track.new) }
+        (L.labels table.new) result.1 }
+    ensures walks { result.1.walks ≡ todo.walks }
+    ensures lists { (length result.0.items ≡ 66)
+        × HaveNone (map (λ l. l.items) result.0.items) }
+    ensures listed { AreLabelsListed (L.labels table.new) (L.lists table.new) }
 {
-    let Arrays {
-        mut table,
-        todo,
-        lists,
-    } = arrays;
     let mut frontier = Frontier::over(lists, todo, width);
-    search(network, times, query, track, &mut table, &mut frontier);
+    search(network, times, query, table, &mut frontier);
     let (lists, todo) = frontier.into_parts();
-    let Finished { table, todo } = finish_noted(network, times, query, table, todo, track);
-    Arrays { table, todo, lists }
+    let todo = finish_noted(network, times, query, table, todo);
+    (lists, todo)
 }
 
 impl Search {
@@ -123,14 +119,14 @@ impl Search {
         let table = vec![in alloc; NONE; nodes as usize]?;
         let room = room_of(nodes, walks);
         let links = vec![in alloc; NO_LINK; room]?;
-        let notes = Notes::reserve(alloc, room)?;
+        let risen = Risen::reserve(alloc, room)?;
         Ok(Search {
             answer: Answer::new(nodes, None, table, links, false),
             walks,
             waiting,
             lists,
             listed: Listed::new(alloc, nodes),
-            notes,
+            risen,
         })
     }
 
@@ -166,7 +162,7 @@ impl Search {
     }
 
     /// The arrays as they were at first, and what lists the nodes that are reached.
-    fn into_arrays(self) -> (Arrays, Listed, Notes)
+    fn into_arrays(self) -> (Arrays, Listed, Risen)
         ensures labels { result.0.table.items ≡ replicate self.nodes NONE }
         ensures todo { result.0.todo
             ≡ record { nodes = self.nodes; waiting = []; walks = self.walks } }
@@ -180,12 +176,12 @@ impl Search {
             waiting,
             lists,
             mut listed,
-            mut notes,
+            mut risen,
         } = self;
         let (mut table, mut links) = answer.into_arrays();
-        listed.put_back(&mut table, &mut links, &mut notes);
+        listed.put_back(&mut table, &mut links, &mut risen);
         let todo = Open::of(waiting, links, walks);
-        (Arrays { table, todo, lists }, listed, notes)
+        (Arrays { table, todo, lists }, listed, risen)
     }
 
     /// Answers a query without walks: the search is handed over and comes back with its answer. It takes no memory but what
@@ -203,18 +199,24 @@ impl Search {
         ensures room { (result.nodes ≡ self.nodes) × (result.walks ≡ self.walks) }
     {
         let walks = self.walks;
-        let (arrays, mut listed, notes) = self.into_arrays();
+        let (arrays, listed, risen) = self.into_arrays();
+        let Arrays { table, todo, lists } = arrays;
+        let mut reached = Reached {
+            labels: table,
+            listed,
+        };
         // Wider ones scan more nodes again, narrower ones spread their lists more often.
         let width = network.mean_weight().saturating_mul(2);
-        let found = find(network, times, query, width, arrays, &mut listed);
-        let (waiting, links) = found.todo.into_parts();
+        let (lists, todo) = find(network, times, query, width, lists, todo, &mut reached);
+        let Reached { labels, listed } = reached;
+        let (waiting, links) = todo.into_parts();
         Search {
-            answer: Answer::new(network.nodes(), query.target(), found.table, links, false),
+            answer: Answer::new(network.nodes(), query.target(), labels, links, false),
             walks,
             waiting,
-            lists: found.lists,
+            lists,
             listed,
-            notes,
+            risen,
         }
     }
 
@@ -226,27 +228,33 @@ impl Search {
         ensures answer { IsAnswer network.now (T.answers times.now) query.now result.answer }
         ensures room { (result.nodes ≡ self.nodes) × (result.walks ≡ true) }
     {
-        let (arrays, listed, notes) = self.into_arrays();
-        let mut levels = Levels::new(listed, notes, network.top_class() > 0);
+        let (arrays, listed, risen) = self.into_arrays();
+        let Arrays { table, todo, lists } = arrays;
+        let mut levels = Levels::new(table, listed, risen, network.top_class() > 0);
         let width = width_with_walks(network);
-        let found = find(network, times, query, width, arrays, &mut levels);
-        let (mut waiting, mut links) = found.todo.into_parts();
+        let (lists, todo) = find(network, times, query, width, lists, todo, &mut levels);
+        let (mut waiting, mut links) = todo.into_parts();
         link_noted(
             network,
             times,
             query.sources(),
-            &found.table,
             &mut levels,
             &mut links,
             &mut waiting,
         );
+        let Levels {
+            words,
+            listed,
+            risen,
+            ..
+        } = levels;
         Search {
-            answer: Answer::new(network.nodes(), query.target(), found.table, links, true),
+            answer: Answer::new(network.nodes(), query.target(), words, links, true),
             walks: true,
             waiting,
-            lists: found.lists,
-            listed: levels.listed,
-            notes: levels.notes,
+            lists,
+            listed,
+            risen,
         }
     }
 }

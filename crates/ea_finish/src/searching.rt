@@ -14,54 +14,53 @@ ghost use Rattle.ea_finish.specs.Underway.{IsUnderway, bound_of};
 use crate::candidates::Candidates;
 use crate::finishing::{latest, lower, scan};
 use crate::frontier::Frontier;
-use crate::levels::Track;
+use crate::table::Table;
 use ea_road::{HORIZON, Network, Query, TravelTimes};
 
 /// Labels each source's node at most with its departure, and puts it on the frontier.
-fn begin<T: TravelTimes, K: Track>(
+fn begin<T: TravelTimes, L: Table>(
     network: &Network,
     times: &T,
     query: &Query,
-    track: &mut K,
-    table: &mut [u64],
+    table: &mut L,
     frontier: &mut Frontier,
 )
     requires problem { IsProblem network.now (T.classes times.now) query.now }
     requires room { frontier.old.todo.nodes ≡ network.now.nodes }
-    requires none { table.old ≡ replicate network.now.nodes NONE }
+    requires none { (L.labels table.old) ≡ replicate network.now.nodes NONE }
     ensures underway { AwaitsScans network.now (T.answers times.now) query.now
-        table.new (WaitsAt frontier.new (bound_of table.new)) }
+        (L.labels table.new) (WaitsAt frontier.new (bound_of (L.labels table.new))) }
     ensures nodes { frontier.new.todo.nodes ≡ frontier.old.todo.nodes }
     ensures walks { frontier.new.todo.walks ≡ frontier.old.todo.walks }
-    ensures listed { AreLabelsListed table.new (K.lists track.new) }
+    ensures listed { AreLabelsListed (L.labels table.new) (L.lists table.new) }
 {
-    track.begin();
+    table.begin();
     for source in query.sources() {
-        lower(track, table, frontier, source.node, source.departure);
+        lower(table, frontier, source.node, source.departure);
     }
 }
 
 /// Gathers what the scan of an entry's node offers, if the entry is of the node's label and that is no later than the last time.
 /// False where there may be no room for all.
-fn take_up<T: TravelTimes>(
+fn take_up<T: TravelTimes, L: Table>(
     network: &Network,
     times: &T,
-    table: &[u64],
+    table: &L,
     last: u64,
     entry: (u64, u32),
     candidates: &mut Candidates,
 ) -> bool
     requires classes { top_class network.now.arcs ≤ T.classes times.now }
-    requires places { length table.now ≡ network.now.nodes }
+    requires places { length (L.labels table.now) ≡ network.now.nodes }
     requires last { last ≤ HORIZON }
     requires node { IsNode network.now.nodes entry.1 }
-    ensures taken { IsTrue result → TakesUp network.now (T.answers times.now) table.now last entry
+    ensures taken { IsTrue result → TakesUp network.now (T.answers times.now) (L.labels table.now) last entry
         candidates.old candidates.new }
-    ensures crowded { (IsTrue result → ⊥) → (entry.0 ≡ bound_of table.now entry.1)
+    ensures crowded { (IsTrue result → ⊥) → (entry.0 ≡ bound_of (L.labels table.now) entry.1)
         × (entry.0 ≤ last) × (candidates.new ≡ candidates.old) }
 {
     let (time, node) = entry;
-    if table[node as usize - 1] == time {
+    if table.label(node) == time {
         if time <= last {
             return candidates.gather(network, times, table, node, time);
         }
@@ -70,25 +69,25 @@ fn take_up<T: TravelTimes>(
 }
 
 /// Takes an entry and those of the hand up. A node for whose arcs there may be no room is answered, and the entries after it stay.
-fn take_hand_up<T: TravelTimes>(
+fn take_hand_up<T: TravelTimes, L: Table>(
     network: &Network,
     times: &T,
-    table: &[u64],
+    table: &L,
     last: u64,
     first: (u64, u32),
     frontier: &mut Frontier,
     candidates: &mut Candidates,
 ) -> Option<u32>
     requires classes { top_class network.now.arcs ≤ T.classes times.now }
-    requires places { length table.now ≡ network.now.nodes }
+    requires places { length (L.labels table.now) ≡ network.now.nodes }
     requires last { last ≤ HORIZON }
     requires node { IsNode network.now.nodes first.1 }
     requires room { frontier.old.todo.nodes ≡ network.now.nodes }
     requires none { candidates.old ≡ [] }
-    ensures emptied { Empties network.now (T.answers times.now) table.now last first
+    ensures emptied { Empties network.now (T.answers times.now) (L.labels table.now) last first
         frontier.old frontier.new candidates.new result }
     ensures crowded { IfSome result (λ node. IsNode network.now.nodes node
-        × (bound_of table.now node ≤ last)) }
+        × (bound_of (L.labels table.now) node ≤ last)) }
 {
     let mut next = Some(first);
     while let Some(entry) = next {
@@ -102,28 +101,27 @@ fn take_hand_up<T: TravelTimes>(
 
 /// Scans the nodes of the frontier at their labels, until it has no entry. What the scans of a hand offer is offered once all of it is
 /// gathered.
-fn exhaust<T: TravelTimes, K: Track>(
+fn exhaust<T: TravelTimes, L: Table>(
     network: &Network,
     times: &T,
     query: &Query,
-    track: &mut K,
-    table: &mut [u64],
+    table: &mut L,
     frontier: &mut Frontier,
 )
     requires problem { IsProblem network.now (T.classes times.now) query.now }
     requires room { frontier.old.todo.nodes ≡ network.now.nodes }
     requires underway { AwaitsScans network.now (T.answers times.now) query.now
-        table.old (WaitsAt frontier.old (bound_of table.old)) }
+        (L.labels table.old) (WaitsAt frontier.old (bound_of (L.labels table.old))) }
     ensures underway { AwaitsScans network.now (T.answers times.now) query.now
-        table.new (Contains frontier.new.todo.waiting) }
+        (L.labels table.new) (Contains frontier.new.todo.waiting) }
     ensures nodes { frontier.new.todo.nodes ≡ frontier.old.todo.nodes }
     ensures walks { frontier.new.todo.walks ≡ frontier.old.todo.walks }
     ensures beyond { FallsBy network.now (T.answers times.now)
-        (limit query.now.target (bound_of table.old))
-        (bound_of table.old) (bound_of table.new) }
+        (limit query.now.target (bound_of (L.labels table.old)))
+        (bound_of (L.labels table.old)) (bound_of (L.labels table.new)) }
     ensures none { HaveNone frontier.new.lists }
-    ensures listed { AreLabelsListed table.old (K.lists track.old)
-        → AreLabelsListed table.new (K.lists track.new) }
+    ensures listed { AreLabelsListed (L.labels table.old) (L.lists table.old)
+        → AreLabelsListed (L.labels table.new) (L.lists table.new) }
 {
     network.keeps_limits();
     let target = query.target();
@@ -139,62 +137,60 @@ fn exhaust<T: TravelTimes, K: Track>(
             frontier,
             &mut candidates,
         );
-        candidates.offer(track, table, frontier);
+        candidates.offer(table, frontier);
         if let Some(node) = crowded {
-            track.leave(node);
-            let time = table[node as usize - 1];
-            scan(network, times, node, time, track, table, frontier);
+            table.leave(node);
+            let time = table.label(node);
+            scan(network, times, node, time, table, frontier);
         }
     }
 }
 
 /// A search from the sources, on a frontier without entries. Only nodes for which it finds no memory still wait then.
-pub(crate) fn search<T: TravelTimes, K: Track>(
+pub(crate) fn search<T: TravelTimes, L: Table>(
     network: &Network,
     times: &T,
     query: &Query,
-    track: &mut K,
-    table: &mut [u64],
+    table: &mut L,
     frontier: &mut Frontier,
 )
     requires problem { IsProblem network.now (T.classes times.now) query.now }
     requires room { frontier.old.todo.nodes ≡ network.now.nodes }
-    requires none { table.old ≡ replicate network.now.nodes NONE }
+    requires none { (L.labels table.old) ≡ replicate network.now.nodes NONE }
     ensures underway { IsUnderway network.now (T.answers times.now) query.now
-        table.new frontier.new.todo.waiting }
+        (L.labels table.new) frontier.new.todo.waiting }
     ensures nodes { frontier.new.todo.nodes ≡ frontier.old.todo.nodes }
     ensures walks { frontier.new.todo.walks ≡ frontier.old.todo.walks }
     ensures none { HaveNone frontier.new.lists }
-    ensures listed { AreLabelsListed table.new (K.lists track.new) }
+    ensures listed { AreLabelsListed (L.labels table.new) (L.lists table.new) }
 {
     network.keeps_limits();
-    begin(network, times, query, track, table, frontier);
-    exhaust(network, times, query, track, table, frontier);
+    begin(network, times, query, table, frontier);
+    exhaust(network, times, query, table, frontier);
 }
 
 /// The search from a table as it stands, on a frontier in whose list the nodes wait that are open. Only nodes for which it
 /// finds no memory still wait then.
-pub(crate) fn search_on<T: TravelTimes, K: Track>(
+pub(crate) fn search_on<T: TravelTimes, L: Table>(
     network: &Network,
     times: &T,
     query: &Query,
-    track: &mut K,
-    table: &mut [u64],
+    table: &mut L,
     frontier: &mut Frontier,
 )
     requires problem { IsProblem network.now (T.classes times.now) query.now }
     requires room { frontier.old.todo.nodes ≡ network.now.nodes }
     requires underway { IsUnderway network.now (T.answers times.now) query.now
-        table.old frontier.old.todo.waiting }
+        (L.labels table.old) frontier.old.todo.waiting }
     ensures underway { IsUnderway network.now (T.answers times.now) query.now
-        table.new frontier.new.todo.waiting }
+        (L.labels table.new) frontier.new.todo.waiting }
     ensures nodes { frontier.new.todo.nodes ≡ frontier.old.todo.nodes }
     ensures walks { frontier.new.todo.walks ≡ frontier.old.todo.walks }
     ensures beyond { FallsBy network.now (T.answers times.now)
-        (limit query.now.target (bound_of table.old))
-        (bound_of table.old) (bound_of table.new) }
+        (limit query.now.target (bound_of (L.labels table.old)))
+        (bound_of (L.labels table.old)) (bound_of (L.labels table.new)) }
 {
     network.keeps_limits();
     frontier.move_in(table);
-    exhaust(network, times, query, track, table, frontier);
+    exhaust(network, times, query, table, frontier);
 }

@@ -8,9 +8,9 @@ ghost use Rattle.ea_finish.specs.Underway.{IsFinished, IsUnderway};
 
 use crate::finishing::{Finished, finish};
 use crate::frontier::{Frontier, empty_lists};
-use crate::levels::Untracked;
 use crate::open::Open;
 use crate::searching::search_on;
+use crate::table::Bare;
 use ea_road::{Network, Query, TravelTimes};
 use std::alloc::Global;
 
@@ -20,7 +20,7 @@ fn finish_on<T: TravelTimes>(
     times: &T,
     query: &Query,
     lists: Vec<Vec<(u64, u32)>>,
-    mut table: Vec<u64>,
+    table: Vec<u64>,
     todo: Open,
 ) -> Finished
     requires problem { IsProblem network.now (T.classes times.now) query.now }
@@ -37,16 +37,10 @@ fn finish_on<T: TravelTimes>(
 {
     network.keeps_limits();
     let mut frontier = Frontier::over(lists, todo, network.mean_weight());
-    search_on(
-        network,
-        times,
-        query,
-        &mut Untracked,
-        &mut table,
-        &mut frontier,
-    );
+    let mut bare = Bare { labels: table };
+    search_on(network, times, query, &mut bare, &mut frontier);
     let (_, todo) = frontier.into_parts();
-    finish(network, times, query, table, todo)
+    finish(network, times, query, bare.labels, todo)
 }
 
 /// As `finish`, but the waiting nodes are first searched in about the order of their labels, as `arrivals_alone` searches

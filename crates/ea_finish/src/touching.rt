@@ -2,6 +2,7 @@
 //! them are under way at once, the more the less there is to do for each. Of the numbers that come back nothing is promised.
 
 use crate::link::Link;
+use crate::table::{Table, touched};
 use ea_road::{LeavingArc, Network};
 
 /// How many nodes are read ahead at once.
@@ -18,19 +19,11 @@ fn arcs_from(network: &Network, node: u32) -> &[LeavingArc] {
     &[]
 }
 
-/// The label of a node.
-fn label_at(table: &[u64], node: u32) -> u64 {
-    match table.get((node as usize).wrapping_sub(1)) {
-        Some(label) => *label,
-        None => 0,
-    }
-}
-
 /// Reads the labels of entries' nodes, and where their arcs begin.
-pub(crate) fn touch_entries(network: &Network, table: &[u64], entries: &[(u64, u32)]) -> u64 {
+pub(crate) fn touch_entries<L: Table>(network: &Network, table: &L, entries: &[(u64, u32)]) -> u64 {
     let mut seen = 0;
     for entry in entries {
-        seen ^= label_at(table, entry.1) ^ u64::from(network.touch_place(entry.1));
+        seen ^= table.touch(entry.1) ^ u64::from(network.touch_place(entry.1));
     }
     seen
 }
@@ -48,7 +41,7 @@ pub(crate) fn touch_first_arcs(network: &Network, entries: &[(u64, u32)]) -> u64
 pub(crate) fn touch_nodes(network: &Network, table: &[u64], nodes: &Nodes) -> u64 {
     let mut seen = 0;
     for node in nodes {
-        seen ^= label_at(table, *node) ^ u64::from(network.touch_place(*node));
+        seen ^= touched(table, *node) ^ u64::from(network.touch_place(*node));
     }
     for node in nodes {
         seen ^= u64::from(network.touch_arc(*node));
@@ -61,7 +54,7 @@ pub(crate) fn touch_heads(network: &Network, table: &[u64], links: &[Link], node
     let mut seen = 0;
     for node in nodes {
         for arc in arcs_from(network, *node) {
-            seen ^= label_at(table, arc.head);
+            seen ^= touched(table, arc.head);
         }
     }
     for node in nodes {

@@ -10,7 +10,7 @@ confirm_sources-requires-clause-sources g c = rw c.requires.nodes c.requires.sou
 pub returns-clause-links : goal.returns-clause-links
 returns-clause-links g c = λ ready.
     let begun = c.confirm_sources.ensures.begun in
-    let places : length c.confirm_sources.new.links ≡ c.args.network.now.nodes = omega (arith, c.confirm_sources.ensures.places, c.preset.ensures.places, c.requires.places.1) in
+    let places : length c.confirm_sources.new.links ≡ c.args.network.now.nodes = omega (arith, c.confirm_sources.ensures.places, c.requires.places.1) in
     let first = AreConfirmed-begun c.args.network.now (g.T.TravelTimes.answers c.args.times.now) c.args.sources.now c.args.table.now c.confirm_sources.new.links c.confirm_sources.new.waiting.waiting _ places begun in
     let confirmed = c.mend_waiting.ensures.confirmed c.args.sources.now _ (c.confirm_arcs.ensures.confirmed c.args.sources.now first) in
     let nobody = c.mend_waiting.ensures.nobody c.if-not-mend_waiting.false in

@@ -4,8 +4,8 @@ use Rattle.ea_finish.proofs.finishing.finish.Goals as goal
 
 pub returns-clause-least : goal.returns-clause-least
 returns-clause-least g c = λ node is_node asked.
-    asked_labels_are_least c.args.network.now _ _ c.args.query.now (label_of c.finish_noted.result.table.items) c.keeps_limits.ensures c.requires.problem.classed (g.met.T.TravelTimes.fifo c.args.times.now) c.finish_noted.ensures.finished.fixed node is_node asked
+    asked_labels_are_least c.args.network.now _ _ c.args.query.now (label_of c.finish_noted-todo.new.table.labels.items) c.keeps_limits.ensures c.requires.problem.classed (g.met.T.TravelTimes.fifo c.args.times.now) c.finish_noted-todo.ensures.finished.fixed node is_node asked
 
 pub returns-clause-exact : goal.returns-clause-exact
 returns-clause-exact g c = λ node time is_node least low.
-    (least_is_label c.args.network.now _ _ c.args.query.now (label_of c.finish_noted.result.table.items) c.keeps_limits.ensures c.requires.problem.classed (g.met.T.TravelTimes.fifo c.args.times.now) c.finish_noted.ensures.finished.fixed node time is_node low least).0
+    (least_is_label c.args.network.now _ _ c.args.query.now (label_of c.finish_noted-todo.new.table.labels.items) c.keeps_limits.ensures c.requires.problem.classed (g.met.T.TravelTimes.fifo c.args.times.now) c.finish_noted-todo.ensures.finished.fixed node time is_node low least).0

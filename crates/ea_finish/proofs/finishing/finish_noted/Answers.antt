@@ -1,20 +1,18 @@
-use Rattle.std.proofs.Common.{◌≡◌, ◌-◌, ◌<◌, ◌≤◌, length, sym, ◌∙◌, ap, arith, rules, inl, inr}
-use Rattle.std.proofs.lemmas.List.{get_or_read, with_items_is}
+use Rattle.std.proofs.Common.{◌<◌, ◌≤◌, ◌∙◌, ap, arith, rules, inl, inr}
 use Rattle.std.proofs.lemmas.Bool.{cases_lt}
 use Rattle.ea_road.specs.Labels.{limit}
-use Rattle.ea_road.specs.declared.TheConstants.{NONE}
 use Rattle.ea_road.proofs.ByTail.{leaving_has}
 use Rattle.ea_finish.specs.Underway.{bound_of}
 use Rattle.ea_finish.specs.Worklist.{Room}
 use Rattle.ea_finish.proofs.Worklists.{Contains-cons_cases}
 use Rattle.ea_finish.proofs.Boundary.{underway_of, same_limit, fixed_of}
-use Rattle.ea_finish.proofs.Entries.{bound_of-at, AwaitsScansFrom-scanned, AwaitsScansFrom-unlabelled, AwaitsScansFrom-above}
+use Rattle.ea_finish.proofs.Entries.{AwaitsScansFrom-scanned, AwaitsScansFrom-unlabelled, AwaitsScansFrom-above}
 use Rattle.ea_finish.proofs.Falls.{FallsBy-same, FallsBy-then, FallsBy-scanned, FallsBy-labels, limit_falls}
 use Rattle.ea_finish.proofs.finishing.finish_noted.Goals as goal
 
 pub loop-node-init : goal.loop-node-init
 loop-node-init g c = record {
-  underway = underway_of c.args.network.now _ _ c.args.query.now c.keeps_limits.ensures c.requires.problem c.args.table.items c.requires.underway.places c.args.todo.waiting c.requires.underway;
+  underway = underway_of c.args.network.now _ _ c.args.query.now c.keeps_limits.ensures c.requires.problem (g.L.Table.labels c.args.table.now) c.requires.underway.places c.args.todo.waiting c.requires.underway;
   falls = FallsBy-same _ _ _ _;
   room = c.requires.room;
   walks = search rules;
@@ -24,34 +22,33 @@ loop-node-init g c = record {
 pub loop-node-preserved-then-departure-last :
     goal.loop-node-preserved-then-departure-last
 loop-node-preserved-then-departure-last g c =
-    let table = c.loop-node.table.items in
+    let table = g.L.Table.labels c.loop-node.table in
     let node = c.in-Some.node in
     let before = rw c.in-Some.ensures.taken at c.loop-node.invariant.underway in
     let is_node : (0 < node) × (node ≤ c.loop-node.todo.nodes) = c.in-Some.ensures.node in
     let room = c.loop-node.invariant.room in
     let places = before.places in
-    let at_label : c.index-departure.result.now ≡ bound_of table node = get_or_read table (node - 1) c.index-departure.result.now (omega arith) c.index-departure.ensures NONE ∙ sym (bound_of-at table node is_node.0) in
-    let limited = rw (c.target-target.ensures.target, c.deref.ensures.value, ← same_limit c.args.network.now (g.T.TravelTimes.answers c.args.times.now) _ c.args.query.now c.keeps_limits.ensures c.requires.problem table places) at c.latest.ensures in
-    let scanned = rw c.deref_mut.ensures.value at c.scan.ensures.scanned in
-    let filled : length c.scan.new.table ≡ c.loop-node.table.len = omega (arith, scanned.places, c.loop-node.table.ok.0) in
+    let at_label = c.label-departure.ensures in
+    let limited = rw (c.target-target.ensures.target, ← same_limit c.args.network.now (g.T.TravelTimes.answers c.args.times.now) _ c.args.query.now c.keeps_limits.ensures c.requires.problem table places) at c.latest.ensures in
+    let scanned = c.scan.ensures.scanned in
     record {
-      underway = rw (with_items_is c.loop-node.table c.scan.new.table filled) (AwaitsScansFrom-scanned _ _ _ _ node _ _ _ _ _ _ _ before (λ v there. Contains-cons_cases node v _ there) at_label (omega arith) (λ n arc is_arc tail. leaving_has c.args.network.now node n arc is_arc tail) scanned);
-      falls = rw (with_items_is c.loop-node.table c.scan.new.table filled) (FallsBy-then _ _ _ _ _ _ _ c.loop-node.invariant.falls (FallsBy-scanned _ _ _ _ _ _ _ _ _ scanned) (omega (arith, limited, c.min-last.ensures, c.if-departure-last.true, limit_falls _ _ _ _ _ _ c.loop-node.invariant.falls c.requires.problem.target)));
+      underway = (AwaitsScansFrom-scanned _ _ _ _ node _ _ _ _ _ _ _ before (λ v there. Contains-cons_cases node v _ there) at_label (omega arith) (λ n arc is_arc tail. leaving_has c.args.network.now node n arc is_arc tail) scanned);
+      falls = (FallsBy-then _ _ _ _ _ _ _ c.loop-node.invariant.falls (FallsBy-scanned _ _ _ _ _ _ _ _ _ scanned) (omega (arith, limited, c.min-last.ensures, c.if-departure-last.true, limit_falls _ _ _ _ _ _ c.loop-node.invariant.falls c.requires.problem.target)));
       room = ap (λ (r : Room). r.nodes) c.scan.ensures.room ∙ c.in-Some.ensures.room.0 ∙ room;
       walks = ap (λ (r : Room). r.walks) c.scan.ensures.room ∙ c.in-Some.ensures.room.1 ∙ c.loop-node.invariant.walks;
-      listed = rw (with_items_is c.loop-node.table c.scan.new.table filled) (λ first. rw c.deref_mut.ensures.value at c.scan.ensures.listed (c.loop-node.invariant.listed first));
+      listed = (λ first. c.scan.ensures.listed (c.loop-node.invariant.listed first));
     }
 
 pub loop-node-preserved : goal.loop-node-preserved
 loop-node-preserved g c =
-    let table = c.loop-node.table.items in
+    let table = g.L.Table.labels c.loop-node.table in
     let node = c.in-Some.node in
     let before = rw c.in-Some.ensures.taken at c.loop-node.invariant.underway in
     let is_node : (0 < node) × (node ≤ c.loop-node.todo.nodes) = c.in-Some.ensures.node in
     let room = c.loop-node.invariant.room in
     let places = before.places in
-    let at_label : c.index-departure.result.now ≡ bound_of table node = get_or_read table (node - 1) c.index-departure.result.now (omega arith) c.index-departure.ensures NONE ∙ sym (bound_of-at table node is_node.0) in
-    let limited = rw (c.target-target.ensures.target, c.deref.ensures.value, ← same_limit c.args.network.now (g.T.TravelTimes.answers c.args.times.now) _ c.args.query.now c.keeps_limits.ensures c.requires.problem table places) at c.latest.ensures in
+    let at_label = c.label-departure.ensures in
+    let limited = rw (c.target-target.ensures.target, ← same_limit c.args.network.now (g.T.TravelTimes.answers c.args.times.now) _ c.args.query.now c.keeps_limits.ensures c.requires.problem table places) at c.latest.ensures in
     record {
       underway = elim (cases_lt (limit c.args.query.now.target (bound_of table)) (bound_of table node)) [
         | inl above ↦ AwaitsScansFrom-above _ _ _ _ node table _ _ before (λ v there. Contains-cons_cases node v _ there) above
@@ -68,7 +65,7 @@ returns-clause-finished g c =
     let under = rw c.in_default.ensures.taken.0 at c.loop-node.invariant.underway in
     record {
       places = under.places;
-      fixed = fixed_of c.args.network.now _ _ c.args.query.now c.keeps_limits.ensures c.requires.problem c.loop-node.table.items under.places under;
+      fixed = fixed_of c.args.network.now _ _ c.args.query.now c.keeps_limits.ensures c.requires.problem (g.L.Table.labels c.loop-node.table) under.places under;
       nobody = rw c.in_default.ensures.taken.1 c.in_default.ensures.taken.0;
       room = c.in_default.ensures.room.0 ∙ c.loop-node.invariant.room;
     }
@@ -77,5 +74,5 @@ pub returns-clause-beyond : goal.returns-clause-beyond
 returns-clause-beyond g c =
     let under = c.loop-node.invariant.underway in
     let before = c.requires.underway.places in
-    rw (← same_limit c.args.network.now (g.T.TravelTimes.answers c.args.times.now) _ c.args.query.now c.keeps_limits.ensures c.requires.problem c.args.table.items before)
+    rw (← same_limit c.args.network.now (g.T.TravelTimes.answers c.args.times.now) _ c.args.query.now c.keeps_limits.ensures c.requires.problem (g.L.Table.labels c.args.table.now) before)
     (FallsBy-labels _ _ _ _ _ before under.places c.loop-node.invariant.falls)

@@ -7,13 +7,13 @@ use Rattle.ea_finish.proofs.finishing.finish_noted.Given as goal
 
 abbrev pub invariant-loop-node : goal.invariant-loop-node
 invariant-loop-node g l = record {
-  underway : AwaitsScansFrom l.network (g.T.TravelTimes.answers l.times) l.query.sources l.query.target l.table.items (Contains l.todo.waiting);
-  falls : FallsBy l.network (g.T.TravelTimes.answers l.times) (limit l.query.target (bound_of l.initial.table.items)) (bound_of l.initial.table.items) (bound_of l.table.items);
+  underway : AwaitsScansFrom l.network (g.T.TravelTimes.answers l.times) l.query.sources l.query.target (g.L.Table.labels l.table) (Contains l.todo.waiting);
+  falls : FallsBy l.network (g.T.TravelTimes.answers l.times) (limit l.query.target (bound_of (g.L.Table.labels l.initial.table))) (bound_of (g.L.Table.labels l.initial.table)) (bound_of (g.L.Table.labels l.table));
   room : l.todo.nodes ≡ l.network.nodes;
   walks : l.todo.walks ≡ l.initial.todo.walks;
-  listed : AreLabelsListed l.initial.table.items (g.K.Track.lists l.initial.track) → AreLabelsListed l.table.items (g.K.Track.lists l.track);
+  listed : AreLabelsListed (g.L.Table.labels l.initial.table) (g.L.Table.lists l.initial.table) → AreLabelsListed (g.L.Table.labels l.table) (g.L.Table.lists l.table);
 }
 
 -- each lowering takes one from the sum at least, and adds one waiting node at most
 abbrev pub decreases-loop-node : goal.decreases-loop-node
-decreases-loop-node g l = sum l.table.items + length l.todo.waiting
+decreases-loop-node g l = sum (g.L.Table.labels l.table) + length l.todo.waiting

@@ -17,10 +17,10 @@ among_at sources place inside = (place, (inside, get_or_default sources place no
 
 pub loop-source-init : goal.loop-source-init
 loop-source-init g c = record {
-  underway = rw c.requires.none (AwaitsScansFrom-none _ _ _ _);
+  underway = rw (c.begin.ensures.labels, c.requires.none) (AwaitsScansFrom-none _ _ _ _);
   nodes = search rules;
   walks = search rules;
-  listed = λ v has. absurd (has (ap (λ xs. bound_of xs v) c.requires.none ∙ bound_of-none c.args.network.now.nodes v));
+  listed = λ v has. absurd (has (ap (λ xs. bound_of xs v) (c.begin.ensures.labels ∙ c.requires.none) ∙ bound_of-none c.args.network.now.nodes v));
 }
 
 pub lower-requires-clause-node : goal.lower-requires-clause-node
@@ -28,6 +28,12 @@ lower-requires-clause-node g c =
     let within = rw c.sources-source-items.ensures.sources at c.loop-source-test.true in
     let node = c.requires.problem.sources _ (among_at c.args.query.now.sources c.loop-source.source-index within) in
     rw c.sources-source-items.ensures.sources (node.from_one, omega (arith, node.to_last, c.loop-source.invariant.nodes, c.requires.room))
+
+pub lower-requires-clause-in_time : goal.lower-requires-clause-in_time
+lower-requires-clause-in_time g c =
+    let within = rw c.sources-source-items.ensures.sources at c.loop-source-test.true in
+    let departs = c.requires.problem.departures _ (among_at c.args.query.now.sources c.loop-source.source-index within) in
+    rw c.sources-source-items.ensures.sources departs
 
 pub loop-source-preserved : goal.loop-source-preserved
 loop-source-preserved g c =
@@ -49,5 +55,5 @@ returns-clause-underway g c =
     let sources = c.args.query.now.sources in
     let past = rw c.sources-source-items.ensures.sources at c.loop-source-test.false in
     let all = take_all c.loop-source.source-index sources past in
-    let P : List Source → Type 0 = λ xs. AwaitsScansFrom c.args.network.now (g.T.TravelTimes.answers c.args.times.now) xs c.args.query.now.target c.loop-source.table (WaitsAt c.loop-source.frontier (bound_of c.loop-source.table)) in
+    let P : List Source → Type 0 = λ xs. AwaitsScansFrom c.args.network.now (g.T.TravelTimes.answers c.args.times.now) xs c.args.query.now.target (g.L.Table.labels c.loop-source.table) (WaitsAt c.loop-source.frontier (bound_of (g.L.Table.labels c.loop-source.table))) in
     subst P all c.loop-source.invariant.underway

@@ -8,8 +8,8 @@ use Rattle.ea_finish.proofs.searching.begin.Given as goal
 -- right for the sources so far
 abbrev pub invariant-loop-source : goal.invariant-loop-source
 invariant-loop-source g l = record {
-  underway : AwaitsScansFrom l.network (g.T.TravelTimes.answers l.times) (take l.source-index l.query.sources) l.query.target l.table (WaitsAt l.frontier (bound_of l.table));
+  underway : AwaitsScansFrom l.network (g.T.TravelTimes.answers l.times) (take l.source-index l.query.sources) l.query.target (g.L.Table.labels l.table) (WaitsAt l.frontier (bound_of (g.L.Table.labels l.table)));
   nodes : l.frontier.todo.nodes ≡ l.initial.frontier.todo.nodes;
   walks : l.frontier.todo.walks ≡ l.initial.frontier.todo.walks;
-  listed : AreLabelsListed l.table (g.K.Track.lists l.track);
+  listed : AreLabelsListed (g.L.Table.labels l.table) (g.L.Table.lists l.table);
 }

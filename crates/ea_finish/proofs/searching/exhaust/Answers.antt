@@ -6,7 +6,6 @@ use Rattle.ea_finish.proofs.Boundary.{same_limit}
 use Rattle.ea_finish.proofs.Entries.{AwaitsScansFrom-moved, AwaitsScansFrom-scanned}
 use Rattle.ea_finish.proofs.Falls.{FallsBy-same, FallsBy-then, FallsBy-scanned, limit_falls}
 use Rattle.ea_finish.proofs.Gatherings.{AwaitsScansFrom-hand, FallsBy-offered, had_is_node}
-use Rattle.ea_finish.proofs.Linkings.{bound_of_read}
 use Rattle.ea_finish.proofs.searching.exhaust.Goals as goal
 
 pub loop-entry-init : goal.loop-entry-init
@@ -23,20 +22,23 @@ pub offer-requires-clause-nodes : goal.offer-requires-clause-nodes
 offer-requires-clause-nodes g c time node there =
     let emptied = c.take_hand_up-crowded.ensures.emptied in
     let taken = c.in-Some.ensures in
-    let is_node = had_is_node c.args.network.now _ c.loop-entry.table c.min-last.result time node c.keeps_limits.ensures (emptied.had (time, node) there) in
+    let is_node = had_is_node c.args.network.now _ (g.L.Table.labels c.loop-entry.table) c.min-last.result time node c.keeps_limits.ensures (emptied.had (time, node) there) in
     record { from_one = is_node.from_one; to_last = omega (arith, is_node.to_last, emptied.nodes, taken.nodes, c.loop-entry.invariant.nodes, c.requires.room) }
+
+pub offer-requires-clause-in_time : goal.offer-requires-clause-in_time
+offer-requires-clause-in_time g c time node there = (c.take_hand_up-crowded.ensures.emptied.had (time, node) there).step.in_time
 
 pub scan-requires-clause-departure : goal.scan-requires-clause-departure
 scan-requires-clause-departure g c =
     let node = c.in-Some-crowded.node in
     let crowded = c.in-Some-crowded.ensures.crowded in
     let offered = c.offer.ensures.offered in
-    let read = bound_of_read c.offer.new.table node crowded.0.from_one (omega (arith, crowded.0.to_last, offered.places, c.loop-entry.invariant.underway.places)) in
+    let read = rw c.leave.ensures.labels at c.label-time.ensures in
     omega (arith, read, offered.lower node, crowded.1, c.min-last.ensures)
 
 pub loop-entry-preserved : goal.loop-entry-preserved
 loop-entry-preserved g c =
-    let table = c.loop-entry.table in
+    let table = (g.L.Table.labels c.loop-entry.table) in
     let before = c.loop-entry.invariant.underway in
     let taken = c.in-Some.ensures in
     let emptied = c.take_hand_up-crowded.ensures.emptied in
@@ -44,7 +46,7 @@ loop-entry-preserved g c =
     let limited = rw (c.target-target.ensures.target, ← same_limit c.args.network.now (g.T.TravelTimes.answers c.args.times.now) _ c.args.query.now c.keeps_limits.ensures c.requires.problem table before.places) at c.latest.ensures in
     let fell = FallsBy-offered c.args.network.now _ table c.min-last.result _ _ _ _ emptied.had offered in
     record {
-      underway = AwaitsScansFrom-moved _ _ _ _ c.offer.new.table _ _ (AwaitsScansFrom-hand c.args.network.now _ _ _ table c.min-last.result c.in-Some.entry _ _ _ _ _ _ _ (omega (arith, limited, c.min-last.ensures)) before taken emptied offered)
+      underway = AwaitsScansFrom-moved _ _ _ _ (g.L.Table.labels c.offer.new.table) _ _ (AwaitsScansFrom-hand c.args.network.now _ _ _ table c.min-last.result c.in-Some.entry _ _ _ _ _ _ _ (omega (arith, limited, c.min-last.ensures)) before taken emptied offered)
           (λ v waits. elim waits [
             | inl held ↦ absurd (c.in_default-crowded.not-Some v held)
             | inr still ↦ still
@@ -58,17 +60,17 @@ loop-entry-preserved g c =
 
 pub loop-entry-preserved-in-Some-crowded : goal.loop-entry-preserved-in-Some-crowded
 loop-entry-preserved-in-Some-crowded g c =
-    let table = c.loop-entry.table in
+    let table = (g.L.Table.labels c.loop-entry.table) in
     let node = c.in-Some-crowded.node in
     let crowded = c.in-Some-crowded.ensures.crowded in
     let before = c.loop-entry.invariant.underway in
     let taken = c.in-Some.ensures in
     let emptied = c.take_hand_up-crowded.ensures.emptied in
     let offered = c.offer.ensures.offered in
-    let scanned = c.scan.ensures.scanned in
+    let scanned = rw c.leave.ensures.labels at c.scan.ensures.scanned in
     let limited = rw (c.target-target.ensures.target, ← same_limit c.args.network.now (g.T.TravelTimes.answers c.args.times.now) _ c.args.query.now c.keeps_limits.ensures c.requires.problem table before.places) at c.latest.ensures in
     let fell = FallsBy-offered c.args.network.now _ table c.min-last.result _ _ _ _ emptied.had offered in
-    let read = bound_of_read c.offer.new.table node crowded.0.from_one (omega (arith, crowded.0.to_last, offered.places, before.places)) in
+    let read = rw c.leave.ensures.labels at c.label-time.ensures in
     let first = FallsBy-then _ _ _ _ _ _ _ c.loop-entry.invariant.falls fell (omega (arith, limited, c.min-last.ensures, limit_falls _ _ _ _ _ _ c.loop-entry.invariant.falls c.requires.problem.target)) in
     let hand = AwaitsScansFrom-hand c.args.network.now _ _ _ table c.min-last.result c.in-Some.entry _ _ _ _ _ _ _ (omega (arith, limited, c.min-last.ensures)) before taken emptied offered in
     record {
@@ -80,7 +82,7 @@ loop-entry-preserved-in-Some-crowded g c =
       falls = FallsBy-then _ _ _ _ _ _ _ first (FallsBy-scanned _ _ _ _ _ _ _ _ _ scanned) (omega (arith, limited, c.min-last.ensures, read, offered.lower node, crowded.1, limit_falls _ _ _ _ _ _ c.loop-entry.invariant.falls c.requires.problem.target));
       nodes = ap (λ (r : Room). r.nodes) (c.scan.ensures.room ∙ c.offer.ensures.room) ∙ emptied.nodes ∙ taken.nodes ∙ c.loop-entry.invariant.nodes;
       walks = ap (λ (r : Room). r.walks) (c.scan.ensures.room ∙ c.offer.ensures.room) ∙ emptied.walks ∙ taken.walks ∙ c.loop-entry.invariant.walks;
-      listed = λ all. c.scan.ensures.listed (λ v has. c.leave.ensures v (c.offer.ensures.listed (c.loop-entry.invariant.listed all) v has));
+      listed = λ all. c.scan.ensures.listed (λ v has. c.leave.ensures.kept v (c.offer.ensures.listed (c.loop-entry.invariant.listed all) v (λ none. has (ap (λ xs. bound_of xs v) c.leave.ensures.labels ∙ none))));
       none = c.offer.ensures.none;
     }
   where
@@ -89,7 +91,7 @@ loop-entry-preserved-in-Some-crowded g c =
 
 pub returns-clause-underway : goal.returns-clause-underway
 returns-clause-underway g c =
-    let table = c.loop-entry.table in
+    let table = (g.L.Table.labels c.loop-entry.table) in
     let kept = c.in_default.ensures.0 in
     AwaitsScansFrom-moved _ _ _ _ table _ _ c.loop-entry.invariant.underway (λ v waits. elim (kept.rest v waits) [
       | inl listed ↦ listed

@@ -8,14 +8,14 @@ use Rattle.ea_finish.proofs.searching.exhaust.Given as goal
 
 abbrev pub invariant-loop-entry : goal.invariant-loop-entry
 invariant-loop-entry g l = record {
-  underway : AwaitsScansFrom l.network (g.T.TravelTimes.answers l.times) l.query.sources l.query.target l.table (WaitsAt l.frontier (bound_of l.table));
-  falls : FallsBy l.network (g.T.TravelTimes.answers l.times) (limit l.query.target (bound_of l.initial.table)) (bound_of l.initial.table) (bound_of l.table);
+  underway : AwaitsScansFrom l.network (g.T.TravelTimes.answers l.times) l.query.sources l.query.target (g.L.Table.labels l.table) (WaitsAt l.frontier (bound_of (g.L.Table.labels l.table)));
+  falls : FallsBy l.network (g.T.TravelTimes.answers l.times) (limit l.query.target (bound_of (g.L.Table.labels l.initial.table))) (bound_of (g.L.Table.labels l.initial.table)) (bound_of (g.L.Table.labels l.table));
   nodes : l.frontier.todo.nodes ≡ l.initial.frontier.todo.nodes;
   walks : l.frontier.todo.walks ≡ l.initial.frontier.todo.walks;
-  listed : AreLabelsListed l.initial.table (g.K.Track.lists l.initial.track) → AreLabelsListed l.table (g.K.Track.lists l.track);
+  listed : AreLabelsListed (g.L.Table.labels l.initial.table) (g.L.Table.lists l.initial.table) → AreLabelsListed (g.L.Table.labels l.table) (g.L.Table.lists l.table);
   none : l.candidates ≡ [];
 }
 
 -- each lowering takes one from the sum at least, and adds one entry at most
 abbrev pub decreases-loop-entry : goal.decreases-loop-entry
-decreases-loop-entry g l = sum l.table + entries_in l.frontier
+decreases-loop-entry g l = sum (g.L.Table.labels l.table) + entries_in l.frontier

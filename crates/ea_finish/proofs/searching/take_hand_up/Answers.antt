@@ -13,7 +13,7 @@ loop-next-init g c = record {
     | inl is ↦ inr (inl (ap (λ (e : ℕ × ℕ). Some e) is))
     | inr still ↦ inl (inl still)
   ];
-  had = rw c.requires.none (had_none c.args.network.now _ c.args.table.now c.args.last);
+  had = rw c.requires.none (had_none c.args.network.now _ (g.L.Table.labels c.args.table.now) c.args.last);
   fewer = omega arith;
   nodes = refl;
   walks = refl;
@@ -22,7 +22,7 @@ loop-next-init g c = record {
 
 pub loop-next-preserved : goal.loop-next-preserved
 loop-next-preserved g c =
-    let table = c.args.table.now in
+    let table = (g.L.Table.labels c.args.table.now) in
     let inv = c.loop-next.invariant in
     let taken = c.take_up.ensures.taken c.if-not-take_up.false in
     let room = next_room c.take_drawn-next.result _ _ c.take_drawn-next.ensures in
@@ -56,7 +56,7 @@ loop-next-smaller g c =
 
 pub returns-then-not-take_up-clause-emptied : goal.returns-then-not-take_up-clause-emptied
 returns-then-not-take_up-clause-emptied g c =
-    let table = c.args.table.now in
+    let table = (g.L.Table.labels c.args.table.now) in
     let inv = c.loop-next.invariant in
     let crowded = c.take_up.ensures.crowded (λ yes. absurd (false≢true (sym c.if-not-take_up.true ∙ yes))) in
     record {

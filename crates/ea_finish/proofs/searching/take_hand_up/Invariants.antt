@@ -9,9 +9,9 @@ use Rattle.ea_finish.proofs.searching.take_hand_up.Given as goal
 -- what waited, where the next entry is at hand
 abbrev pub invariant-loop-next : goal.invariant-loop-next
 invariant-loop-next g l = record {
-  rest : (node : ℕ) → (l.fn.first ≡ (bound_of l.table node, node)) ⊎ WaitsAt l.initial.frontier (bound_of l.table) node
-      → (WaitsAt l.frontier (bound_of l.table) node ⊎ IsPending l.network (g.T.TravelTimes.answers l.times) l.table l.candidates node) ⊎ ((l.next ≡ Some (bound_of l.table node, node)) ⊎ (l.last < bound_of l.table node));
-  had : AreHadBy l.network (g.T.TravelTimes.answers l.times) l.table l.last l.candidates;
+  rest : (node : ℕ) → (l.fn.first ≡ (bound_of (g.L.Table.labels l.table) node, node)) ⊎ WaitsAt l.initial.frontier (bound_of (g.L.Table.labels l.table)) node
+      → (WaitsAt l.frontier (bound_of (g.L.Table.labels l.table)) node ⊎ IsPending l.network (g.T.TravelTimes.answers l.times) (g.L.Table.labels l.table) l.candidates node) ⊎ ((l.next ≡ Some (bound_of (g.L.Table.labels l.table) node, node)) ⊎ (l.last < bound_of (g.L.Table.labels l.table) node));
+  had : AreHadBy l.network (g.T.TravelTimes.answers l.times) (g.L.Table.labels l.table) l.last l.candidates;
   fewer : entries_in l.frontier ≤ entries_in l.initial.frontier;
   nodes : l.frontier.todo.nodes ≡ l.initial.frontier.todo.nodes;
   walks : l.frontier.todo.walks ≡ l.initial.frontier.todo.walks;

@@ -1,18 +1,17 @@
-use Rattle.std.proofs.Common.{◌∙◌, ℕ, ap, inl, subst, sym, arith}
+use Rattle.std.proofs.Common.{◌∙◌, ℕ, ap, inl, subst, sym}
 use Rattle.ea_road.proofs.ByTail.{leaving_has}
 use Rattle.ea_finish.specs.Candidates.{IsPending}
 use Rattle.ea_finish.specs.Underway.{bound_of}
 use Rattle.ea_finish.proofs.Gatherings.{gathered_is_pending, had_more}
-use Rattle.ea_finish.proofs.Linkings.{bound_of_read}
 use Rattle.ea_finish.proofs.searching.take_up.Goals as goal
 
 pub returns-then-time-last-clause-taken : goal.returns-then-time-last-clause-taken
 returns-then-time-last-clause-taken g c = λ yes.
     let roads = c.args.network.now in
-    let table = c.args.table.now in
+    let table = (g.L.Table.labels c.args.table.now) in
     let node = c.args.entry.1 in
     let is_node = c.requires.node in
-    let at_label = sym c.if-table-node.true ∙ bound_of_read table node is_node.from_one (omega (arith, is_node.to_last, c.requires.places)) in
+    let at_label = sym c.if-label-time.true ∙ c.label.ensures in
     let gathered = c.gather.ensures.gathered yes in
     record {
       kept = gathered.kept;
@@ -22,18 +21,18 @@ returns-then-time-last-clause-taken g c = λ yes.
 
 pub returns-then-time-last-clause-crowded : goal.returns-then-time-last-clause-crowded
 returns-then-time-last-clause-crowded g c = λ no.
-    let table = c.args.table.now in
+    let table = (g.L.Table.labels c.args.table.now) in
     let is_node = c.requires.node in
-    let at_label = sym c.if-table-node.true ∙ bound_of_read table c.args.entry.1 is_node.from_one (omega (arith, is_node.to_last, c.requires.places)) in
+    let at_label = sym c.if-label-time.true ∙ c.label.ensures in
     (at_label, c.if-time-last.true, c.gather.ensures.crowded no)
 
-pub returns-else-table-node-clause-taken : goal.returns-else-table-node-clause-taken
-returns-else-table-node-clause-taken g c = λ yes.
-    let table = c.args.table.now in
+pub returns-else-label-time-clause-taken : goal.returns-else-label-time-clause-taken
+returns-else-label-time-clause-taken g c = λ yes.
+    let table = (g.L.Table.labels c.args.table.now) in
     let is_node = c.requires.node in
-    let at_label = bound_of_read table c.args.entry.1 is_node.from_one (omega (arith, is_node.to_last, c.requires.places)) in
+    let at_label = c.label.ensures in
     record {
       kept = λ other there. there;
       had = λ before. before;
-      pending = λ v is. absurd (c.if-table-node.false (at_label ∙ ap (bound_of table) (ap (λ (e : ℕ × ℕ). e.1) is) ∙ sym (ap (λ (e : ℕ × ℕ). e.0) is)));
+      pending = λ v is. absurd (c.if-label-time.false (at_label ∙ ap (bound_of table) (ap (λ (e : ℕ × ℕ). e.1) is) ∙ sym (ap (λ (e : ℕ × ℕ). e.0) is)));
     }

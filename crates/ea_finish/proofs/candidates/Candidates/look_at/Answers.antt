@@ -1,9 +1,6 @@
-use Rattle.std.proofs.Common.{◌-◌, inl, inr, arith}
+use Rattle.std.proofs.Common.{inl, inr, arith}
 use Rattle.std.proofs.lemmas.Bool.{cases_lt}
-use Rattle.std.proofs.lemmas.List.{get_or_default}
-use Rattle.ea_road.specs.declared.TheConstants.{NONE}
 use Rattle.ea_road.proofs.Arcs.{is_question}
-use Rattle.ea_finish.proofs.Entries.{bound_of-at}
 use Rattle.ea_finish.proofs.Gatherings.{Gathered-adds, Gathered-keeps}
 use Rattle.ea_finish.proofs.candidates.Candidates.look_at.Goals as goal
 
@@ -14,32 +11,26 @@ arrive-time-requires g c =
 pub returns-clause-gathered : goal.returns-clause-gathered
 returns-clause-gathered g c =
     let arc = c.args.arc in
-    let table = c.args.table.now in
+    let table = g.L.Table.labels c.args.table.now in
     let time = c.arrive-time.result in
     let fifo = g.met.T.TravelTimes.fifo c.args.times.now in
     let question = is_question c.args.network.now _ c.args.number c.args.departure arc c.keeps_limits.ensures c.requires.classes c.requires.arc c.requires.departure in
     let answer = rw c.from.ensures at c.arrive-time.ensures in
-    let head = (c.keeps_limits.ensures.each_fits c.args.number arc c.requires.arc).head in
-    let at = bound_of-at table arc.head head.from_one in
-    let same = get_or_default table (arc.head - 1) 0 NONE (omega (arith, head.from_one, head.to_last, c.requires.places)) in
-    elim (cases_lt c.min.result time) [
+    elim (cases_lt c.last-last.result time) [
       | inl late ↦ rw (c.add.ensures.late late) (Gathered-keeps c.args.network.now _ c.args.number c.args.departure arc table c.args.self.now c.requires.arc
-          (λ a other in_time. let low = fifo.in_order arc.class arc.weight c.args.departure c.args.departure time a question question answer other (omega arith) in omega (arith, low, late, c.min.ensures, at, same, in_time)))
-      | inr soon ↦ rw (c.add.ensures.in_time soon) (Gathered-adds c.args.network.now _ c.args.number c.args.departure time arc table c.args.self.now c.requires.arc answer (omega (arith, soon, c.min.ensures))
+          (λ a other in_time. let low = fifo.in_order arc.class arc.weight c.args.departure c.args.departure time a question question answer other (omega arith) in omega (arith, low, late, c.last-last.ensures, in_time)))
+      | inr soon ↦ rw (c.add.ensures.in_time soon) (Gathered-adds c.args.network.now _ c.args.number c.args.departure time arc table c.args.self.now c.requires.arc answer (omega (arith, soon, c.last-last.ensures))
           (λ a other.
           let low = fifo.in_order arc.class arc.weight c.args.departure c.args.departure time a question question answer other (omega arith) in
           let high = fifo.in_order arc.class arc.weight c.args.departure c.args.departure a time question question other answer (omega arith) in
           omega (arith, low, high)))
     ]
 
-pub returns-then-label-departure-clause-gathered : goal.returns-then-label-departure-clause-gathered
-returns-then-label-departure-clause-gathered g c =
+pub returns-then-last-departure-clause-gathered : goal.returns-then-last-departure-clause-gathered
+returns-then-last-departure-clause-gathered g c =
     let arc = c.args.arc in
-    let table = c.args.table.now in
+    let table = g.L.Table.labels c.args.table.now in
     let fifo = g.met.T.TravelTimes.fifo c.args.times.now in
     let question = is_question c.args.network.now _ c.args.number c.args.departure arc c.keeps_limits.ensures c.requires.classes c.requires.arc c.requires.departure in
-    let head = (c.keeps_limits.ensures.each_fits c.args.number arc c.requires.arc).head in
-    let at = bound_of-at table arc.head head.from_one in
-    let same = get_or_default table (arc.head - 1) 0 NONE (omega (arith, head.from_one, head.to_last, c.requires.places)) in
     Gathered-keeps c.args.network.now _ c.args.number c.args.departure arc table c.args.self.now c.requires.arc
-    (λ a answer in_time. let after = fifo.not_before arc.class arc.weight c.args.departure a question answer in omega (arith, after, c.if-label-departure.true, at, same))
+    (λ a answer in_time. let after = fifo.not_before arc.class arc.weight c.args.departure a question answer in omega (arith, after, c.if-last-departure.true, c.last-last.ensures, c.requires.departure))

@@ -7,8 +7,8 @@ use Rattle.ea_finish.proofs.candidates.Candidates.offer.Given as goal
 -- the candidates so far were offered
 abbrev pub invariant-loop-place : goal.invariant-loop-place
 invariant-loop-place g l = record {
-  offered : Offered (take l.place (entries_of l.self-inside.list)) l.initial.table (g.W.Opens.waits l.initial.todo (bound_of l.initial.table)) l.table (g.W.Opens.waits l.todo (bound_of l.table));
-  spent : sum l.table + g.W.Opens.size l.todo ≤ sum l.initial.table + g.W.Opens.size l.initial.todo;
+  offered : Offered (take l.place (entries_of l.self-inside.list)) (g.L.Table.labels l.initial.table) (g.W.Opens.waits l.initial.todo (bound_of (g.L.Table.labels l.initial.table))) (g.L.Table.labels l.table) (g.W.Opens.waits l.todo (bound_of (g.L.Table.labels l.table)));
+  spent : sum (g.L.Table.labels l.table) + g.W.Opens.size l.todo ≤ sum (g.L.Table.labels l.initial.table) + g.W.Opens.size l.initial.todo;
   room : g.W.Opens.room l.todo ≡ g.W.Opens.room l.initial.todo;
-  listed : AreLabelsListed l.initial.table (g.K.Track.lists l.initial.track) → AreLabelsListed l.table (g.K.Track.lists l.track);
+  listed : AreLabelsListed (g.L.Table.labels l.initial.table) (g.L.Table.lists l.initial.table) → AreLabelsListed (g.L.Table.labels l.table) (g.L.Table.lists l.table);
 }

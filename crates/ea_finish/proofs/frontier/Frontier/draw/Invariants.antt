@@ -3,4 +3,4 @@ use Rattle.ea_finish.specs.Underway.{bound_of}
 use Rattle.ea_finish.proofs.frontier.Frontier.draw.Given as goal
 
 abbrev pub invariant-drawing : goal.invariant-drawing
-invariant-drawing l = KeepsWaiting (bound_of l.table) l.initial.self l.self
+invariant-drawing g l = KeepsWaiting (bound_of (g.L.Table.labels l.table)) l.initial.self l.self

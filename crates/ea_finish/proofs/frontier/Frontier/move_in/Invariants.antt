@@ -4,8 +4,8 @@ use Rattle.ea_finish.specs.Underway.{bound_of}
 use Rattle.ea_finish.proofs.frontier.Frontier.move_in.Given as goal
 
 abbrev pub invariant-moving : goal.invariant-moving
-invariant-moving l = record {
-  rest : (node : ℕ) → WaitsAt l.initial.self (bound_of l.table) node → WaitsAt l.self (bound_of l.table) node;
+invariant-moving g l = record {
+  rest : (node : ℕ) → WaitsAt l.initial.self (bound_of (g.L.Table.labels l.table)) node → WaitsAt l.self (bound_of (g.L.Table.labels l.table)) node;
   nodes : l.self.todo.nodes ≡ l.initial.self.todo.nodes;
   walks : l.self.todo.walks ≡ l.initial.self.todo.walks;
 }

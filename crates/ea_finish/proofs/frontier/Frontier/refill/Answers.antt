@@ -4,16 +4,16 @@ use Rattle.ea_finish.proofs.Fronts.{KeepsWaiting-then}
 use Rattle.ea_finish.proofs.frontier.Frontier.refill.Goals as goal
 
 pub draw-requires : goal.draw-requires
-draw-requires c =
-    let label = bound_of c.args.table.now in
+draw-requires g c =
+    let label = bound_of (g.L.Table.labels c.args.table.now) in
     omega (arith, c.requires, (c.narrow.ensures label).nodes, (c.advance.ensures label).nodes)
 
 pub returns : goal.returns
-returns c =
-    let label = bound_of c.args.table.now in
+returns g c =
+    let label = bound_of (g.L.Table.labels c.args.table.now) in
     rw c.self-2.view_is (KeepsWaiting-then label _ _ _ (KeepsWaiting-then label _ _ _ (c.narrow.ensures label) (c.advance.ensures label)) c.draw.ensures)
 
 pub returns-then-len-lt-FEW : goal.returns-then-len-lt-FEW
-returns-then-len-lt-FEW c =
-    let label = bound_of c.args.table.now in
+returns-then-len-lt-FEW g c =
+    let label = bound_of (g.L.Table.labels c.args.table.now) in
     rw c.self.view_is (KeepsWaiting-then label _ _ _ (c.narrow.ensures label) (c.advance.ensures label))

@@ -3,41 +3,46 @@ use Rattle.std.proofs.lemmas.List.{length-map, with_items_is}
 use Rattle.ea_finish.specs.Worklist.{Worklist}
 use Rattle.ea_finish.proofs.Answered.{is_answer, stored}
 use Rattle.ea_finish.proofs.Listings.{room_again}
+use Rattle.ea_finish.proofs.Packed.{labels_in-none}
 use Rattle.ea_finish.proofs.search.Search.find_walks.Goals as goal
 
 pub link_noted-requires-clause-sources : goal.link_noted-requires-clause-sources
 link_noted-requires-clause-sources g c =
     rw c.sources.ensures.sources (λ source among. (c.requires.problem.sources source among, c.requires.problem.departures source among))
 
+pub find-lists-requires-clause-labels : goal.find-lists-requires-clause-labels
+find-lists-requires-clause-labels g c =
+    rw (c.new-levels.ensures.words, c.into_arrays-arrays.ensures.labels, c.requires.nodes) (labels_in-none c.args.network.now.nodes)
+
 pub new-requires : goal.new-requires
 new-requires g c =
-    let finished = c.find-found.ensures.finished in
-    let links = rw (c.sources.ensures.sources, c.deref.ensures.value) at c.link_noted.ensures.links in
-    let many = room_again _ _ _ true _ c.into_parts-waiting.ensures.links (sym finished.room) (c.find-found.ensures.walks ∙ ap (λ (w : Worklist). w.walks) c.into_arrays-arrays.ensures.todo ∙ c.requires.walks) in
+    let finished = rw (← c.link_noted.ensures.labels) at c.find-lists.ensures.finished in
+    let links = rw (c.sources.ensures.sources, ← c.link_noted.ensures.labels) at c.link_noted.ensures.links in
+    let many = room_again _ _ _ true _ c.into_parts-waiting.ensures.links (sym finished.room) (c.find-lists.ensures.walks ∙ ap (λ (w : Worklist). w.walks) c.into_arrays-arrays.ensures.todo ∙ c.requires.walks) in
     let filled : length c.link_noted.new.links ≡ c.into_parts-waiting.result.1.len = omega (arith, many, links.places, c.into_parts-waiting.result.1.ok.0) in
-    rw (with_items_is c.into_parts-waiting.result.1 c.link_noted.new.links filled, c.nodes.ensures.nodes, c.target.ensures.target) (stored c.args.network.now _ _ c.args.query.now c.nodes.ensures.network c.requires.problem (g.met.T.TravelTimes.fifo c.args.times.now) c.find-found.result.table.items finished.places finished.fixed c.link_noted.new.links links)
+    rw (with_items_is c.into_parts-waiting.result.1 c.link_noted.new.links filled, c.nodes.ensures.nodes, c.target.ensures.target) (stored c.args.network.now _ _ c.args.query.now c.nodes.ensures.network c.requires.problem (g.met.T.TravelTimes.fifo c.args.times.now) c.link_noted.new.levels.words.items finished.places finished.fixed c.link_noted.new.links links)
 
 pub invariant_of-result : goal.invariant_of-result
 invariant_of-result g c =
-    let finished = c.find-found.ensures.finished in
-    let links = rw (c.sources.ensures.sources, c.deref.ensures.value) at c.link_noted.ensures.links in
-    let many = room_again _ _ _ true _ c.into_parts-waiting.ensures.links (sym finished.room) (c.find-found.ensures.walks ∙ ap (λ (w : Worklist). w.walks) c.into_arrays-arrays.ensures.todo ∙ c.requires.walks) in
+    let finished = rw (← c.link_noted.ensures.labels) at c.find-lists.ensures.finished in
+    let links = rw (c.sources.ensures.sources, ← c.link_noted.ensures.labels) at c.link_noted.ensures.links in
+    let many = room_again _ _ _ true _ c.into_parts-waiting.ensures.links (sym finished.room) (c.find-lists.ensures.walks ∙ ap (λ (w : Worklist). w.walks) c.into_arrays-arrays.ensures.todo ∙ c.requires.walks) in
     let filled : length c.link_noted.new.links ≡ c.into_parts-waiting.result.1.len = omega (arith, many, links.places, c.into_parts-waiting.result.1.ok.0) in
     let nodes = c.link_noted.ensures.nodes ∙ c.into_parts-waiting.ensures.nodes ∙ finished.room in
     rw (c.new.ensures, with_items_is c.into_parts-waiting.result.1 c.link_noted.new.links filled) (record {
       nobody = c.link_noted.ensures.nobody;
       labels = finished.places ∙ sym nodes;
       links = links.places ∙ sym nodes;
-      many = rw length-map c.find-found.ensures.lists.0;
-      none = c.find-found.ensures.lists.1;
-      reached = λ v has. c.link_noted.ensures.kept v (c.find-found.ensures.listed v has);
+      many = rw length-map c.find-lists.ensures.lists.0;
+      none = c.find-lists.ensures.lists.1;
+      reached = λ v has. c.link_noted.ensures.kept v ((rw (← c.link_noted.ensures.labels) at c.find-lists.ensures.listed) v has).0;
       linked = c.link_noted.ensures.listed;
     })
 
 pub returns-clause-answer : goal.returns-clause-answer
 returns-clause-answer g c =
-    let finished = c.find-found.ensures.finished in
-    let links = rw (c.sources.ensures.sources, c.deref.ensures.value) at c.link_noted.ensures.links in
-    let many = room_again _ _ _ true _ c.into_parts-waiting.ensures.links (sym finished.room) (c.find-found.ensures.walks ∙ ap (λ (w : Worklist). w.walks) c.into_arrays-arrays.ensures.todo ∙ c.requires.walks) in
+    let finished = rw (← c.link_noted.ensures.labels) at c.find-lists.ensures.finished in
+    let links = rw (c.sources.ensures.sources, ← c.link_noted.ensures.labels) at c.link_noted.ensures.links in
+    let many = room_again _ _ _ true _ c.into_parts-waiting.ensures.links (sym finished.room) (c.find-lists.ensures.walks ∙ ap (λ (w : Worklist). w.walks) c.into_arrays-arrays.ensures.todo ∙ c.requires.walks) in
     let filled : length c.link_noted.new.links ≡ c.into_parts-waiting.result.1.len = omega (arith, many, links.places, c.into_parts-waiting.result.1.ok.0) in
-    rw (c.new.ensures, with_items_is c.into_parts-waiting.result.1 c.link_noted.new.links filled, c.nodes.ensures.nodes, c.target.ensures.target) (is_answer c.args.network.now _ _ c.args.query.now c.nodes.ensures.network c.requires.problem (g.met.T.TravelTimes.fifo c.args.times.now) c.find-found.result.table.items finished.places finished.fixed c.link_noted.new.links links)
+    rw (c.new.ensures, with_items_is c.into_parts-waiting.result.1 c.link_noted.new.links filled, c.nodes.ensures.nodes, c.target.ensures.target) (is_answer c.args.network.now _ _ c.args.query.now c.nodes.ensures.network c.requires.problem (g.met.T.TravelTimes.fifo c.args.times.now) c.link_noted.new.levels.words.items finished.places finished.fixed c.link_noted.new.links links)

@@ -1,0 +1,141 @@
+//! The labels of nodes while they are found, and what is noted of the nodes beside them.
+ghost use Rattle.std.specs.Prelude.{◌≡◌, ℕ, ◌-◌, ◌<◌, ◌≤◌, List, length, min, set};
+ghost use Rattle.ea_limits.specs.declared.TheConstants.{HORIZON};
+ghost use Rattle.ea_finish.specs.Listings.{KeepsListed};
+ghost use Rattle.ea_finish.specs.Underway.{bound_of};
+
+use crate::listed::Listed;
+use ea_road::HORIZON;
+
+/// Labels of nodes, and what is noted beside them, which is known where it is compiled: the nodes that were reached, and levels.
+pub(crate) trait Table {
+    /// The label of each node, the first that of node 1; NONE where it has none.
+    ghost labels: { Self → List ℕ };
+
+    /// Whether a node is listed as reached.
+    ghost lists: { Self → ℕ → Type 0 };
+
+    /// The label of a node.
+    fn label(&self, node: u32) -> u64
+        requires { (0 < node) × (node ≤ length (labels self.now)) }
+        ensures { result ≡ bound_of (labels self.now) node };
+
+    /// The latest time that the label of a node may fall to or is: the label, and HORIZON where there is none.
+    fn last(&self, node: u32) -> u64
+        requires { (0 < node) × (node ≤ length (labels self.now)) }
+        ensures { result ≡ min (bound_of (labels self.now) node) HORIZON };
+
+    /// Reads the label of a node ahead. Of the number nothing is promised.
+    fn touch(&self, node: u32) -> u64;
+
+    /// The nodes whose labels fall from now on are those of sources.
+    fn begin(&mut self)
+        ensures labels { labels self.new ≡ labels self.old }
+        ensures kept { KeepsListed (lists self.old) (lists self.new) };
+
+    /// The nodes whose labels fall from now on are heads of the arcs from this one.
+    fn leave(&mut self, node: u32)
+        ensures labels { labels self.new ≡ labels self.old }
+        ensures kept { KeepsListed (lists self.old) (lists self.new) };
+
+    /// The label of a node falls to a time, for the first time or again.
+    fn fall(&mut self, node: u32, time: u64)
+        requires node { (0 < node) × (node ≤ length (labels self.old)) }
+        requires time { time ≤ HORIZON }
+        ensures labels { labels self.new ≡ set (labels self.old) (node - 1) time }
+        ensures there { lists self.new node }
+        ensures kept { KeepsListed (lists self.old) (lists self.new) };
+
+    /// The label of a node is reached again.
+    fn meet(&mut self, node: u32)
+        ensures labels { labels self.new ≡ labels self.old }
+        ensures kept { KeepsListed (lists self.old) (lists self.new) };
+}
+
+/// The label of a node in a list, where the node is one.
+pub(crate) fn touched(labels: &[u64], node: u32) -> u64 {
+    match labels.get((node as usize).wrapping_sub(1)) {
+        Some(label) => *label,
+        None => 0,
+    }
+}
+
+/// Labels, and nothing is noted.
+#[derive(Drop)]
+pub(crate) struct Bare {
+    pub labels: Vec<u64>,
+}
+
+impl Table for Bare {
+    ghost labels = { λ table. table.labels.items };
+
+    ghost lists = { λ table node. Unit };
+
+    #[inline(always)]
+    fn label(&self, node: u32) -> u64 {
+        self.labels[node as usize - 1]
+    }
+
+    #[inline(always)]
+    fn last(&self, node: u32) -> u64 {
+        self.label(node).min(HORIZON)
+    }
+
+    #[inline(always)]
+    fn touch(&self, node: u32) -> u64 {
+        touched(&self.labels, node)
+    }
+
+    fn begin(&mut self) {}
+
+    fn leave(&mut self, _node: u32) {}
+
+    #[inline(always)]
+    fn fall(&mut self, node: u32, time: u64) {
+        self.labels[node as usize - 1] = time;
+    }
+
+    fn meet(&mut self, _node: u32) {}
+}
+
+/// Labels, and the nodes that have one are listed.
+#[derive(Drop)]
+pub(crate) struct Reached {
+    pub labels: Vec<u64>,
+    pub listed: Listed,
+}
+
+impl Table for Reached {
+    ghost use Rattle.ea_finish.specs.Listings.{IsListed};
+
+    ghost labels = { λ table. table.labels.items };
+
+    ghost lists = { λ table node. IsListed table.listed node };
+
+    #[inline(always)]
+    fn label(&self, node: u32) -> u64 {
+        self.labels[node as usize - 1]
+    }
+
+    #[inline(always)]
+    fn last(&self, node: u32) -> u64 {
+        self.label(node).min(HORIZON)
+    }
+
+    #[inline(always)]
+    fn touch(&self, node: u32) -> u64 {
+        touched(&self.labels, node)
+    }
+
+    fn begin(&mut self) {}
+
+    fn leave(&mut self, _node: u32) {}
+
+    #[inline(always)]
+    fn fall(&mut self, node: u32, time: u64) {
+        self.labels[node as usize - 1] = time;
+        self.listed.add(node);
+    }
+
+    fn meet(&mut self, _node: u32) {}
+}
