@@ -14,7 +14,7 @@ use Rattle.ea_road.specs.Arrivals.{Reaches, stays}
 use Rattle.ea_road.specs.Labels.{label_of, limit}
 use Rattle.ea_road.proofs.Arcs.{one_arc}
 use Rattle.ea_road.proofs.Reached.{reaches_more}
-use Rattle.ea_finish.specs.Scans.{KeepsLess, LowersNone, Scanned, Step, AwaitsScansFrom}
+use Rattle.ea_finish.specs.Scans.{KeepsLess, KeepsMet, IsMet, IsPlaced, MeetsAll, Scanned, Step, AwaitsScansFrom}
 use Rattle.ea_finish.specs.Underway.{bound_of}
 use Rattle.ea_finish.proofs.Worklists.{Contains-cons_cases}
 
@@ -69,6 +69,14 @@ KeepsLess-falls table waits waits' v t h l falls there kept = record {
   kept = kept;
 }
 
+-- a node whose label is as before is another than the one whose label fell
+pub is_other : (table table' : List ℕ) (v t w : ℕ) → table' ≡ set table (v - 1) t → 0 < v → v ≤ length table → t < bound_of table v → bound_of table' w ≡ bound_of table w → w ≢ v
+is_other table table' v t w is from_one inside less same here =
+    let F : ℕ → Type 0 = λ x. bound_of table' x ≡ bound_of table x in
+    let still : bound_of table' v ≡ bound_of table v = subst F here same in
+    let now : bound_of table' v ≡ t = ap (λ xs. bound_of xs v) is ∙ bound_of-set_same table v t from_one inside in
+    omega arith
+
 -- the table's sum falls by what the label falls
 pub sum-falls : (table : List ℕ) (v t : ℕ) → 0 < v → v ≤ length table → t < bound_of table v → sum (set table (v - 1) t) + 1 ≤ sum table
 sum-falls table v t h l falls =
@@ -101,6 +109,24 @@ pub reaches_step : (roads : Roads) (answers : ℕ → ℕ → ℕ → ℕ → Ty
 reaches_step roads answers sources node time number head arrival reaches step =
     reaches_more roads answers sources node time number head arrival step.arc reaches step.is_arc step.is_tail step.is_head step.answer step.in_time
 
+-- what is kept twice is kept
+pub KeepsMet-then : (table table' table'' : List ℕ) (met met' met'' : ℕ → ℕ → ℕ → Type 0) → ((v : ℕ) → bound_of table' v ≤ bound_of table v) → ((v : ℕ) → bound_of table'' v ≤ bound_of table' v) → KeepsMet table met table' met' → KeepsMet table' met' table'' met'' → KeepsMet table met table'' met''
+KeepsMet-then table table' table'' met met' met'' low low' one two v u k same_v same_u has =
+    let one_v = low v in
+    let two_v = low' v in
+    let one_u = low u in
+    let two_u = low' u in
+    two v u k (omega arith) (omega arith) (one v u k (omega arith) (omega arith) has)
+
+-- what was met is met where labels fell elsewhere
+pub IsMet-still : (roads : Roads) (table table' : List ℕ) (met met' : ℕ → ℕ → ℕ → Type 0) (u n v a : ℕ) → bound_of table' v ≤ bound_of table v → bound_of table' u ≡ bound_of table u → KeepsMet table met table' met' → IsMet roads table met u n v a → IsMet roads table' met' u n v a
+IsMet-still roads table table' met met' u n v a low same_u still was = (
+  omega (arith, was.0),
+  λ same.
+      let found = was.1 (omega (arith, was.0)) in
+      (found.0, found.1, still v u found.0 (omega (arith, was.0)) same_u found.2),
+)
+
 -- only the number itself
 pub Contains-one : (e x : ℕ) → Contains (x ∷ []) e → x ≡ e
 Contains-one e x h = elim (Contains-cons_cases x e [] h) [ inl s ↦ s | inr c ↦ absurd (omega (arith, c.1)) ]
@@ -120,13 +146,15 @@ module _ (roads : Roads) (answers : ℕ → ℕ → ℕ → ℕ → Type 0) wher
   step-number u d e e' v b same step = let P : ℕ → Type 0 = λ x. Step roads answers u d x v b in subst P (sym same) step
 
   -- the head of the arc was offered its arrival
-  pub Scanned-lowers : (e d b : ℕ) (arc : Arc) (table : List ℕ) (waits : ℕ → Type 0) (table' : List ℕ) (waits' : ℕ → Type 0) → IsArc roads e arc → answers arc.class arc.weight d b → b ≤ HORIZON → ((a : ℕ) → answers arc.class arc.weight d a → b ≤ a) → KeepsLess arc.head b table waits table' waits' → Scanned roads answers arc.tail d (e ∷ []) table waits table' waits'
-  Scanned-lowers e d b arc table waits table' waits' is answer in_time least lowers = record {
+  pub Scanned-lowers : (e d b place : ℕ) (arc : Arc) (table : List ℕ) (waits : ℕ → Type 0) (met : ℕ → ℕ → ℕ → Type 0) (table' : List ℕ) (waits' : ℕ → Type 0) (met' : ℕ → ℕ → ℕ → Type 0) → IsArc roads e arc → IsPlaced roads arc.tail place e → answers arc.class arc.weight d b → b ≤ HORIZON → ((a : ℕ) → answers arc.class arc.weight d a → b ≤ a) → KeepsLess arc.head b table waits table' waits' → (bound_of table' arc.head ≡ b → met' arc.head arc.tail place) → KeepsMet table met table' met' → Scanned roads answers arc.tail d (e ∷ []) table waits met table' waits' met'
+  Scanned-lowers e d b place arc table waits met table' waits' met' is placed answer in_time least lowers reached still = record {
     places = lowers.places;
     lower = lower;
     fallen = fallen;
     kept = lowers.kept;
     passed = passed;
+    meets = λ same. meets;
+    still = still;
   }
     where
       lower : (v : ℕ) → bound_of table' v ≤ bound_of table v
@@ -171,48 +199,68 @@ module _ (roads : Roads) (answers : ℕ → ℕ → ℕ → ℕ → Type 0) wher
           let low : b ≤ a = least a (step-answer arc.tail d e v a arc is here) in
           rw (← head) (omega arith)
 
+      at_arc : (a : ℕ) → b ≤ a → IsMet roads table' met' arc.tail e arc.head a
+      at_arc a low = (omega (arith, lowers.least), λ same. (place, placed, reached (omega (arith, same, lowers.least))))
+
+      meets : (n v a : ℕ) → Contains (e ∷ []) n → Step roads answers arc.tail d n v a → IsMet roads table' met' arc.tail n v a
+      meets n v a there step =
+          let one : e ≡ n = Contains-one n e there in
+          let here = step-number arc.tail d e n v a one step in
+          let head : arc.head ≡ v = step-head arc.tail d e v a arc is here in
+          let low : b ≤ a = least a (step-answer arc.tail d e v a arc is here) in
+          let P : ℕ → ℕ → Type 0 = λ x y. IsMet roads table' met' arc.tail x y a in
+          subst (λ x. P x v) one (subst (P e) head (at_arc a low))
+
   -- no label can take an arrival past the horizon
-  pub Scanned-late : (e d b : ℕ) (arc : Arc) (table : List ℕ) (waits : ℕ → Type 0) → IsArc roads e arc → HORIZON < b → ((a : ℕ) → answers arc.class arc.weight d a → b ≤ a) → Scanned roads answers arc.tail d (e ∷ []) table waits table waits
-  Scanned-late e d b arc table waits is late least = record {
+  pub Scanned-late : (e d b : ℕ) (arc : Arc) (table : List ℕ) (waits : ℕ → Type 0) (met : ℕ → ℕ → ℕ → Type 0) → IsArc roads e arc → HORIZON < b → ((a : ℕ) → answers arc.class arc.weight d a → b ≤ a) → Scanned roads answers arc.tail d (e ∷ []) table waits met table waits met
+  Scanned-late e d b arc table waits met is late least = record {
     places = refl;
     lower = λ v. omega arith;
     fallen = λ v falls. absurd (omega arith);
     kept = λ v there. there;
-    passed = passed;
+    passed = λ n v a there step. (passed n v a there step).0;
+    meets = λ same. passed;
+    still = λ v u k same_v same_u has. has;
   }
     where
-      passed : (n v a : ℕ) → Contains (e ∷ []) n → Step roads answers arc.tail d n v a → bound_of table v ≤ a
+      passed : (n v a : ℕ) → Contains (e ∷ []) n → Step roads answers arc.tail d n v a → IsMet roads table met arc.tail n v a
       passed n v a there step =
           let here = step-number arc.tail d e n v a (Contains-one n e there) step in
           let low : b ≤ a = least a (step-answer arc.tail d e v a arc is here) in
           let time : a ≤ HORIZON = step.in_time in
           absurd (omega arith)
 
-  -- a label that is at most the departure can take no arrival
-  pub Scanned-settled : (e d : ℕ) (arc : Arc) (table : List ℕ) (waits : ℕ → Type 0) → IsArc roads e arc → bound_of table arc.head ≤ d → ((a : ℕ) → answers arc.class arc.weight d a → d ≤ a) → Scanned roads answers arc.tail d (e ∷ []) table waits table waits
-  Scanned-settled e d arc table waits is low after = record {
+  -- a label below the departure can take no arrival
+  pub Scanned-settled : (e d : ℕ) (arc : Arc) (table : List ℕ) (waits : ℕ → Type 0) (met : ℕ → ℕ → ℕ → Type 0) → IsArc roads e arc → bound_of table arc.head < d → ((a : ℕ) → answers arc.class arc.weight d a → d ≤ a) → Scanned roads answers arc.tail d (e ∷ []) table waits met table waits met
+  Scanned-settled e d arc table waits met is low after = record {
     places = refl;
     lower = λ v. omega arith;
     fallen = λ v falls. absurd (omega arith);
     kept = λ v there. there;
-    passed = passed;
+    passed = λ n v a there step. (passed n v a there step).0;
+    meets = λ same. passed;
+    still = λ v u k same_v same_u has. has;
   }
     where
-      passed : (n v a : ℕ) → Contains (e ∷ []) n → Step roads answers arc.tail d n v a → bound_of table v ≤ a
+      passed : (n v a : ℕ) → Contains (e ∷ []) n → Step roads answers arc.tail d n v a → IsMet roads table met arc.tail n v a
       passed n v a there step =
           let here = step-number arc.tail d e n v a (Contains-one n e there) step in
           let head : arc.head ≡ v = step-head arc.tail d e v a arc is here in
           let onward : d ≤ a = after a (step-answer arc.tail d e v a arc is here) in
-          rw (← head) (omega arith)
+          let P : ℕ → Type 0 = λ x. bound_of table x < a in
+          let low : bound_of table v < a = subst P head (omega arith) in
+          (omega arith, λ same. absurd (omega arith))
 
   -- one arc after others
-  pub Scanned-more : (u d e : ℕ) (numbers table table' table'' : List ℕ) (waits waits' waits'' : ℕ → Type 0) → Scanned roads answers u d numbers table waits table' waits' → Scanned roads answers u d (e ∷ []) table' waits' table'' waits'' → Scanned roads answers u d (numbers ++ e ∷ []) table waits table'' waits''
-  Scanned-more u d e numbers table table' table'' waits waits' waits'' first last = record {
+  pub Scanned-more : (u d e : ℕ) (numbers table table' table'' : List ℕ) (waits waits' waits'' : ℕ → Type 0) (met met' met'' : ℕ → ℕ → ℕ → Type 0) → Scanned roads answers u d numbers table waits met table' waits' met' → Scanned roads answers u d (e ∷ []) table' waits' met' table'' waits'' met'' → Scanned roads answers u d (numbers ++ e ∷ []) table waits met table'' waits'' met''
+  Scanned-more u d e numbers table table' table'' waits waits' waits'' met met' met'' first last = record {
     places = last.places ∙ first.places;
     lower = λ v. (let one = first.lower v in let two = last.lower v in omega arith);
     fallen = fallen;
     kept = λ v there. last.kept v (first.kept v there);
     passed = passed;
+    meets = meets;
+    still = KeepsMet-then table table' table'' met met' met'' first.lower last.lower first.still last.still;
   }
     where
       fallen : (v : ℕ) → bound_of table'' v < bound_of table v → waits'' v × ((n : ℕ) × Step roads answers u d n v (bound_of table'' v))
@@ -232,19 +280,30 @@ module _ (roads : Roads) (answers : ℕ → ℕ → ℕ → ℕ → Type 0) wher
         | inr late ↦ last.passed n v a late step
       ]
 
-  pub Scanned-none : (u d : ℕ) (table : List ℕ) (waits : ℕ → Type 0) → Scanned roads answers u d [] table waits table waits
-  Scanned-none u d table waits = record {
+      meets : bound_of table'' u ≡ bound_of table u → (n v a : ℕ) → Contains (numbers ++ e ∷ []) n → Step roads answers u d n v a → IsMet roads table'' met'' u n v a
+      meets same n v a there step =
+          let low = last.lower u in
+          let was = first.lower u in
+          elim (Contains-append_cases numbers (e ∷ []) n there) [
+            | inl early ↦ IsMet-still roads table' table'' met' met'' u n v a (last.lower v) (omega arith) last.still (first.meets (omega arith) n v a early step)
+            | inr late ↦ last.meets (omega arith) n v a late step
+          ]
+
+  pub Scanned-none : (u d : ℕ) (table : List ℕ) (waits : ℕ → Type 0) (met : ℕ → ℕ → ℕ → Type 0) → Scanned roads answers u d [] table waits met table waits met
+  Scanned-none u d table waits met = record {
     places = refl;
     lower = λ v. omega arith;
     fallen = λ v falls. absurd (omega arith);
     kept = λ v there. there;
     passed = λ n v a there step. absurd (omega (arith, there.1));
+    meets = λ same n v a there step. absurd (omega (arith, there.1));
+    still = λ v u k same_v same_u has. has;
   }
 
   module _ (sources : List Source) where
     -- the node in front was scanned at its label
-    pub AwaitsScansFrom-scanned : (target : Option ℕ) (u d : ℕ) (numbers table table' : List ℕ) (before waits waits' : ℕ → Type 0) → AwaitsScansFrom roads answers sources target table before → ((v : ℕ) → before v → (u ≡ v) ⊎ waits v) → d ≡ bound_of table u → d ≤ HORIZON → ((n : ℕ) (arc : Arc) → IsArc roads n arc → arc.tail ≡ u → Contains numbers n) → Scanned roads answers u d numbers table waits table' waits' → AwaitsScansFrom roads answers sources target table' waits'
-    AwaitsScansFrom-scanned target u d numbers table table' before waits waits' under taken at_label in_time every scanned = record {
+    pub AwaitsScansFrom-scanned : (target : Option ℕ) (u d : ℕ) (numbers table table' : List ℕ) (met met' : ℕ → ℕ → ℕ → Type 0) (before waits waits' : ℕ → Type 0) → AwaitsScansFrom roads answers sources target table met before → ((v : ℕ) → before v → (u ≡ v) ⊎ waits v) → d ≡ bound_of table u → d ≤ HORIZON → ((n : ℕ) (arc : Arc) → IsArc roads n arc → arc.tail ≡ u → Contains numbers n) → Scanned roads answers u d numbers table waits met table' waits' met' → AwaitsScansFrom roads answers sources target table' met' waits'
+    AwaitsScansFrom-scanned target u d numbers table table' met met' before waits waits' under taken at_label in_time every scanned = record {
       places = scanned.places ∙ under.places;
       reached = reached;
       started = λ s given. (let low = scanned.lower s.node in let was = under.started s given in omega arith);
@@ -270,25 +329,26 @@ module _ (roads : Roads) (answers : ℕ → ℕ → ℕ → ℕ → Type 0) wher
         ]
 
         -- the arcs from u were passed
-        here : LowersNone roads answers table' u d
-        here e w b step = scanned.passed e w b (every e step.arc step.is_arc step.is_tail) step
+        here : bound_of table' u ≡ bound_of table u → MeetsAll roads answers table' met' u d
+        here as_was e w b step = scanned.meets as_was e w b (every e step.arc step.is_arc step.is_tail) step
 
-        below : (v a : ℕ) → LowersNone roads answers table v a → LowersNone roads answers table' v a
-        below v a old e w b step = let low = scanned.lower w in let was = old e w b step in omega arith
+        below : (v a : ℕ) → bound_of table' v ≡ bound_of table v → MeetsAll roads answers table met v a → MeetsAll roads answers table' met' v a
+        below v a as_was old e w b step = IsMet-still roads table table' met met' v e w b (scanned.lower w) as_was scanned.still (old e w b step)
 
-        settled : (v : ℕ) → bound_of table' v ≢ NONE → LowersNone roads answers table' v (bound_of table' v) ⊎ (waits' v ⊎ (limit target (bound_of table') < bound_of table' v))
+        settled : (v : ℕ) → bound_of table' v ≢ NONE → MeetsAll roads answers table' met' v (bound_of table' v) ⊎ (waits' v ⊎ (limit target (bound_of table') < bound_of table' v))
         settled v there = elim (cases_lt (bound_of table' v) (bound_of table v)) [
           | inl falls ↦ inr (inl (scanned.fallen v falls).0)
           | inr h ↦ (
               let same = same_entry v h in
-              let P : ℕ → Type 0 = λ x. LowersNone roads answers table' v x in
+              let P : ℕ → Type 0 = λ x. MeetsAll roads answers table' met' v x in
               elim (under.settled v (omega arith)) [
-                | inl old ↦ inl (subst P same (below v (bound_of table v) old))
+                | inl old ↦ inl (subst P same (below v (bound_of table v) (sym same) old))
                 | inr (inl there) ↦ elim (taken v there) [
                   | inl is_u ↦ (
-                      let Q : ℕ → Type 0 = λ x. LowersNone roads answers table' x d in
+                      let Q : ℕ → Type 0 = λ x. MeetsAll roads answers table' met' x d in
+                      let R : ℕ → Type 0 = λ x. bound_of table' x ≡ bound_of table x in
                       let at_v : d ≡ bound_of table' v = at_label ∙ ap (bound_of table) is_u ∙ same in
-                      inl (subst P at_v (subst Q is_u here)))
+                      inl (subst P at_v (subst Q is_u (here (subst R (sym is_u) (sym same))))))
                   | inr other ↦ inr (inl (scanned.kept v other))
                 ]
                 | inr (inr above) ↦ inr (inr (let fell = limit-lower target table table' scanned.lower in omega arith))
@@ -296,15 +356,15 @@ module _ (roads : Roads) (answers : ℕ → ℕ → ℕ → ℕ → Type 0) wher
         ]
 
     -- a node with no label needs no scan
-    pub AwaitsScansFrom-unlabelled : (target : Option ℕ) (u : ℕ) (table : List ℕ) (before waits : ℕ → Type 0) → AwaitsScansFrom roads answers sources target table before → ((v : ℕ) → before v → (u ≡ v) ⊎ waits v) → HORIZON < bound_of table u → AwaitsScansFrom roads answers sources target table waits
-    AwaitsScansFrom-unlabelled target u table before waits under taken late = record {
+    pub AwaitsScansFrom-unlabelled : (target : Option ℕ) (u : ℕ) (table : List ℕ) (met : ℕ → ℕ → ℕ → Type 0) (before waits : ℕ → Type 0) → AwaitsScansFrom roads answers sources target table met before → ((v : ℕ) → before v → (u ≡ v) ⊎ waits v) → HORIZON < bound_of table u → AwaitsScansFrom roads answers sources target table met waits
+    AwaitsScansFrom-unlabelled target u table met before waits under taken late = record {
       places = under.places;
       reached = under.reached;
       started = under.started;
       settled = settled;
     }
       where
-        settled : (v : ℕ) → bound_of table v ≢ NONE → LowersNone roads answers table v (bound_of table v) ⊎ (waits v ⊎ (limit target (bound_of table) < bound_of table v))
+        settled : (v : ℕ) → bound_of table v ≢ NONE → MeetsAll roads answers table met v (bound_of table v) ⊎ (waits v ⊎ (limit target (bound_of table) < bound_of table v))
         settled v there = elim (under.settled v there) [
           | inl old ↦ inl old
           | inr (inl wait) ↦ elim (taken v wait) [
@@ -318,15 +378,15 @@ module _ (roads : Roads) (answers : ℕ → ℕ → ℕ → ℕ → Type 0) wher
         ]
 
     -- a node whose label is above the limit needs no scan
-    pub AwaitsScansFrom-above : (target : Option ℕ) (u : ℕ) (table : List ℕ) (before waits : ℕ → Type 0) → AwaitsScansFrom roads answers sources target table before → ((v : ℕ) → before v → (u ≡ v) ⊎ waits v) → limit target (bound_of table) < bound_of table u → AwaitsScansFrom roads answers sources target table waits
-    AwaitsScansFrom-above target u table before waits under taken high = record {
+    pub AwaitsScansFrom-above : (target : Option ℕ) (u : ℕ) (table : List ℕ) (met : ℕ → ℕ → ℕ → Type 0) (before waits : ℕ → Type 0) → AwaitsScansFrom roads answers sources target table met before → ((v : ℕ) → before v → (u ≡ v) ⊎ waits v) → limit target (bound_of table) < bound_of table u → AwaitsScansFrom roads answers sources target table met waits
+    AwaitsScansFrom-above target u table met before waits under taken high = record {
       places = under.places;
       reached = under.reached;
       started = under.started;
       settled = settled;
     }
       where
-        settled : (v : ℕ) → bound_of table v ≢ NONE → LowersNone roads answers table v (bound_of table v) ⊎ (waits v ⊎ (limit target (bound_of table) < bound_of table v))
+        settled : (v : ℕ) → bound_of table v ≢ NONE → MeetsAll roads answers table met v (bound_of table v) ⊎ (waits v ⊎ (limit target (bound_of table) < bound_of table v))
         settled v there = elim (under.settled v there) [
           | inl old ↦ inl old
           | inr (inl wait) ↦ elim (taken v wait) [
@@ -337,8 +397,8 @@ module _ (roads : Roads) (answers : ℕ → ℕ → ℕ → ℕ → Type 0) wher
         ]
 
     -- a further source was offered its departure
-    pub AwaitsScansFrom-source : (target : Option ℕ) (s : Source) (table : List ℕ) (waits : ℕ → Type 0) (table' : List ℕ) (waits' : ℕ → Type 0) → s.departure ≤ HORIZON → AwaitsScansFrom roads answers sources target table waits → KeepsLess s.node s.departure table waits table' waits' → AwaitsScansFrom roads answers (sources ++ s ∷ []) target table' waits'
-    AwaitsScansFrom-source target s table waits table' waits' in_time under lowers = record {
+    pub AwaitsScansFrom-source : (target : Option ℕ) (s : Source) (table : List ℕ) (met : ℕ → ℕ → ℕ → Type 0) (waits : ℕ → Type 0) (table' : List ℕ) (met' : ℕ → ℕ → ℕ → Type 0) (waits' : ℕ → Type 0) → s.departure ≤ HORIZON → AwaitsScansFrom roads answers sources target table met waits → KeepsLess s.node s.departure table waits table' waits' → KeepsMet table met table' met' → AwaitsScansFrom roads answers (sources ++ s ∷ []) target table' met' waits'
+    AwaitsScansFrom-source target s table met waits table' met' waits' in_time under lowers keeps = record {
       places = lowers.places ∙ under.places;
       reached = reached;
       started = started;
@@ -398,7 +458,7 @@ module _ (roads : Roads) (answers : ℕ → ℕ → ℕ → ℕ → Type 0) wher
               subst P new low)
         ]
 
-        settled : (v : ℕ) → bound_of table' v ≢ NONE → LowersNone roads answers table' v (bound_of table' v) ⊎ (waits' v ⊎ (limit target (bound_of table') < bound_of table' v))
+        settled : (v : ℕ) → bound_of table' v ≢ NONE → MeetsAll roads answers table' met' v (bound_of table' v) ⊎ (waits' v ⊎ (limit target (bound_of table') < bound_of table' v))
         settled v there = elim (cases_lt (bound_of table' v) (bound_of table v)) [
           | inl falls ↦ elim (cases_eq v s.node) [
             | inl here ↦ (
@@ -414,8 +474,8 @@ module _ (roads : Roads) (answers : ℕ → ℕ → ℕ → ℕ → Type 0) wher
               let same : bound_of table v ≡ bound_of table' v = omega arith in
               elim (under.settled v (omega arith)) [
                 | inl old ↦ (
-                    let P : ℕ → Type 0 = λ x. LowersNone roads answers table' v x in
-                    let still : LowersNone roads answers table' v (bound_of table v) = λ e w b step. (let fell = lower w in let was = old e w b step in omega arith) in
+                    let P : ℕ → Type 0 = λ x. MeetsAll roads answers table' met' v x in
+                    let still : MeetsAll roads answers table' met' v (bound_of table v) = λ e w b step. IsMet-still roads table table' met met' v e w b (lower w) (sym same) keeps (old e w b step) in
                     inl (subst P same still))
                 | inr (inl wait) ↦ inr (inl (lowers.kept v wait))
                 | inr (inr above) ↦ inr (inr (let fell = limit-lower target table table' lower in omega arith))
@@ -431,8 +491,8 @@ bound_of-none n (suc k) = elim (cases_lt k n) [
   | inr l ↦ get_or_past (replicate n NONE) k NONE (rw length-replicate l)
 ]
 
-pub AwaitsScansFrom-none : (roads : Roads) (answers : ℕ → ℕ → ℕ → ℕ → Type 0) (target : Option ℕ) (waits : ℕ → Type 0) → AwaitsScansFrom roads answers [] target (replicate roads.nodes NONE) waits
-AwaitsScansFrom-none roads answers target waits = record {
+pub AwaitsScansFrom-none : (roads : Roads) (answers : ℕ → ℕ → ℕ → ℕ → Type 0) (target : Option ℕ) (met : ℕ → ℕ → ℕ → Type 0) (waits : ℕ → Type 0) → AwaitsScansFrom roads answers [] target (replicate roads.nodes NONE) met waits
+AwaitsScansFrom-none roads answers target met waits = record {
   places = length-replicate roads.nodes NONE;
   reached = λ v there. (let e = bound_of-none roads.nodes v in absurd (omega arith));
   started = λ s given. absurd (omega (arith, given.1.0));
@@ -440,8 +500,8 @@ AwaitsScansFrom-none roads answers target waits = record {
 }
 
 -- what waits may be said in another way
-pub AwaitsScansFrom-moved : (roads : Roads) (answers : ℕ → ℕ → ℕ → ℕ → Type 0) (sources : List Source) (target : Option ℕ) (table : List ℕ) (before waits : ℕ → Type 0) → AwaitsScansFrom roads answers sources target table before → ((v : ℕ) → before v → waits v) → AwaitsScansFrom roads answers sources target table waits
-AwaitsScansFrom-moved roads answers sources target table before waits under moved = record {
+pub AwaitsScansFrom-moved : (roads : Roads) (answers : ℕ → ℕ → ℕ → ℕ → Type 0) (sources : List Source) (target : Option ℕ) (table : List ℕ) (met : ℕ → ℕ → ℕ → Type 0) (before waits : ℕ → Type 0) → AwaitsScansFrom roads answers sources target table met before → ((v : ℕ) → before v → waits v) → AwaitsScansFrom roads answers sources target table met waits
+AwaitsScansFrom-moved roads answers sources target table met before waits under moved = record {
   places = under.places;
   reached = under.reached;
   started = under.started;

@@ -30,8 +30,8 @@ module _ (roads : Roads) (answers : ℕ → ℕ → ℕ → ℕ → Type 0) wher
   }
 
   -- a node was scanned
-  pub FallsBy-scanned : (u departure : ℕ) (numbers table table' : List ℕ) (waits waits' : ℕ → Type 0) → Scanned roads answers u departure numbers table waits table' waits' → FallsBy roads answers departure (bound_of table) (bound_of table')
-  FallsBy-scanned u departure numbers table table' waits waits' scanned = record {
+  pub FallsBy-scanned : (u departure : ℕ) (numbers table table' : List ℕ) (waits waits' : ℕ → Type 0) (met met' : ℕ → ℕ → ℕ → Type 0) → Scanned roads answers u departure numbers table waits met table' waits' met' → FallsBy roads answers departure (bound_of table) (bound_of table')
+  FallsBy-scanned u departure numbers table table' waits waits' met met' scanned = record {
     lower = λ node is. scanned.lower node;
     fallen = λ node is falls.
         let by = scanned.fallen node falls in

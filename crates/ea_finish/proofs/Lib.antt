@@ -1,11 +1,15 @@
 pub mod Worklists
 pub mod Entries
-pub mod Packed
 pub mod Falls
+pub mod Had
 pub mod Boundary
 pub mod Linkings
 pub mod Linked
-pub mod Confirmings
+pub mod Mendings
+pub mod Notings
+pub mod Replayings
+pub mod Sowings
+pub mod Numbered
 pub mod Followed
 pub mod Answered
 pub mod Fronts

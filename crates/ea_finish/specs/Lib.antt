@@ -3,10 +3,11 @@ pub mod Underway
 pub mod Scans
 pub mod Links
 pub mod Offers
-pub mod Confirmed
+pub mod Mended
 pub mod Answers
 pub mod Stored
 pub mod Frontiers
 pub mod Listings
+pub mod Notes
+pub mod Replayed
 pub mod Candidates
-pub mod Words

@@ -20,6 +20,10 @@ impl Table for Counting {
 
     ghost lists = { λ table node. Unit };
 
+    ghost met = { λ table node from place. Unit };
+
+    ghost had = { λ table node from place. ⊥ };
+
     fn label(&self, node: u32) -> u64 {
         self.labels[node as usize - 1]
     }
@@ -32,17 +36,18 @@ impl Table for Counting {
         touched(&self.labels, node)
     }
 
-    fn begin(&mut self) {}
-
-    fn leave(&mut self, _node: u32) {
-        self.count = self.count.wrapping_add(1);
-    }
-
-    fn fall(&mut self, node: u32, time: u64) {
+    fn start(&mut self, node: u32, time: u64) {
         self.labels[node as usize - 1] = time;
     }
 
-    fn meet(&mut self, _node: u32) {}
+    fn fall(&mut self, node: u32, time: u64, _from: u32, _place: usize) {
+        self.labels[node as usize - 1] = time;
+        self.count = self.count.wrapping_add(1);
+    }
+
+    fn meet(&mut self, _node: u32, _from: u32, _place: usize) {
+        self.count = self.count.wrapping_add(1);
+    }
 }
 
 /// How many times the search of one thread offers to nodes where its windows have this width. No more nodes are scanned, for each but

@@ -1,4 +1,4 @@
-ghost use Rattle.std.specs.Prelude.{◌≡◌, ℕ, ◌+◌, ◌<◌, ◌≤◌, [], ◌∷◌, List, length, sum, IfSome};
+ghost use Rattle.std.specs.Prelude.{◌≡◌, ℕ, ◌+◌, ◌<◌, ◌≤◌, [], ◌∷◌, List, length, sum, Contains, IfSome};
 ghost use Rattle.ea_limits.specs.declared.TheConstants.{HORIZON};
 ghost use Rattle.ea_road.specs.declared.TheConstants.{NONE};
 ghost use Rattle.ea_road.specs.Arrivals.{IsLeast, IsLeastAt};
@@ -6,7 +6,8 @@ ghost use Rattle.ea_road.specs.Labels.{label_of, limit, time_of};
 ghost use Rattle.ea_road.specs.Queries.{IsAsked, IsProblem};
 ghost use Rattle.ea_road.specs.Roads.{IsArc, IsNode, leaving, top_class};
 ghost use Rattle.ea_finish.specs.Listings.{AreLabelsListed, KeepsListed};
-ghost use Rattle.ea_finish.specs.Scans.{FallsBy, KeepsLess, Scanned};
+ghost use Rattle.ea_finish.specs.Notes.{AreHad};
+ghost use Rattle.ea_finish.specs.Scans.{AddsHad, AwaitsScans, FallsBy, IsHadAt, KeepsLess, KeepsMet, Scanned, number_at};
 ghost use Rattle.ea_finish.specs.Underway.{IsFinished, IsUnderway, bound_of};
 
 use crate::open::Open;
@@ -23,14 +24,48 @@ pub struct Finished {
     pub todo: Open,
 }
 
-/// Offers a time to a node: a label above it falls to it, and the node is opened.
-pub(crate) fn lower<L: Table, W: Opens>(table: &mut L, todo: &mut W, node: u32, time: u64)
+/// Offers a source's node its departure: a label above it falls to it, and the node is opened.
+pub(crate) fn start<L: Table, W: Opens>(table: &mut L, todo: &mut W, node: u32, departure: u64)
+    requires node { (0 < node) × (node ≤ (W.room todo.old).nodes) }
+    requires in_time { departure ≤ HORIZON }
+    requires places { length (L.labels table.old) ≡ (W.room todo.old).nodes }
+    ensures lowers { KeepsLess node departure
+        (L.labels table.old) (W.waits todo.old (bound_of (L.labels table.old)))
+        (L.labels table.new) (W.waits todo.new (bound_of (L.labels table.new))) }
+    ensures still { KeepsMet (L.labels table.old) (L.met table.old)
+        (L.labels table.new) (L.met table.new) }
+    ensures adds { (v u k : ℕ) → L.had table.new v u k → L.had table.old v u k }
+    ensures room { W.room todo.new ≡ W.room todo.old }
+    ensures listed { AreLabelsListed (L.labels table.old) (L.lists table.old)
+        → AreLabelsListed (L.labels table.new) (L.lists table.new) }
+{
+    if departure < table.label(node) {
+        table.start(node, departure);
+        todo.open(node, departure);
+    }
+}
+
+/// Offers a node the arrival by an arc, which is the one at this place among those that leave its tail: a label above it falls to it,
+/// and the node is opened.
+pub(crate) fn lower<L: Table, W: Opens>(
+    table: &mut L,
+    todo: &mut W,
+    node: u32,
+    time: u64,
+    from: u32,
+    place: usize,
+)
     requires node { (0 < node) × (node ≤ (W.room todo.old).nodes) }
     requires in_time { time ≤ HORIZON }
     requires places { length (L.labels table.old) ≡ (W.room todo.old).nodes }
     ensures lowers { KeepsLess node time
         (L.labels table.old) (W.waits todo.old (bound_of (L.labels table.old)))
         (L.labels table.new) (W.waits todo.new (bound_of (L.labels table.new))) }
+    ensures met { bound_of (L.labels table.new) node ≡ time → L.met table.new node from place }
+    ensures still { KeepsMet (L.labels table.old) (L.met table.old)
+        (L.labels table.new) (L.met table.new) }
+    ensures adds { AddsHad (IsHadAt node from place time (L.labels table.new))
+        (L.labels table.old) (L.had table.old) (L.labels table.new) (L.had table.new) }
     ensures spent { sum (L.labels table.new) + W.size todo.new ≤ sum (L.labels table.old) + W.size todo.old }
     ensures room { W.room todo.new ≡ W.room todo.old }
     ensures listed { AreLabelsListed (L.labels table.old) (L.lists table.old)
@@ -38,47 +73,51 @@ pub(crate) fn lower<L: Table, W: Opens>(table: &mut L, todo: &mut W, node: u32, 
 {
     let before = table.label(node);
     if time < before {
-        table.fall(node, time);
+        table.fall(node, time, from, place);
         todo.open(node, time);
     } else if time == before {
-        table.meet(node);
+        table.meet(node, from, place);
     }
 }
 
-/// Offers its head the arrival along one arc.
+/// Offers its head the arrival along one arc, which is the one at this place among those that leave its tail.
 fn follow<T: TravelTimes, L: Table, W: Opens>(
     network: &Network,
     times: &T,
-    number: u32,
+    place: usize,
     arc: Arc,
     departure: u64,
     table: &mut L,
     todo: &mut W,
 )
-    requires arc { IsArc network.now number arc }
+    requires arc { IsArc network.now (number_at network.now arc.tail place) arc }
+    requires placed { place < length (leaving network.now arc.tail) }
     requires departure { departure ≤ HORIZON }
     requires classes { top_class network.now.arcs ≤ T.classes times.now }
     requires places { length (L.labels table.old) ≡ network.now.nodes }
     requires nodes { (W.room todo.old).nodes ≡ network.now.nodes }
-    ensures scanned { Scanned network.now (T.answers times.now) arc.tail departure (number ∷ [])
-        (L.labels table.old) (W.waits todo.old (bound_of (L.labels table.old)))
-        (L.labels table.new) (W.waits todo.new (bound_of (L.labels table.new))) }
+    ensures scanned { Scanned network.now (T.answers times.now) arc.tail departure
+        (number_at network.now arc.tail place ∷ [])
+        (L.labels table.old) (W.waits todo.old (bound_of (L.labels table.old))) (L.met table.old)
+        (L.labels table.new) (W.waits todo.new (bound_of (L.labels table.new))) (L.met table.new) }
+    ensures had { bound_of (L.labels table.old) arc.tail ≤ departure
+        → AreHad network.now (T.answers times.now) (L.labels table.old) (L.had table.old)
+        → AreHad network.now (T.answers times.now) (L.labels table.new) (L.had table.new) }
     ensures spent { sum (L.labels table.new) + W.size todo.new ≤ sum (L.labels table.old) + W.size todo.old }
     ensures room { W.room todo.new ≡ W.room todo.old }
     ensures listed { AreLabelsListed (L.labels table.old) (L.lists table.old)
         → AreLabelsListed (L.labels table.new) (L.lists table.new) }
 {
     network.keeps_limits();
-    let _ = number;
     // No arc arrives before it is left. Where all arcs are plain, a sum costs less than to look.
     if network.top_class() > 0 {
-        if table.label(arc.head) <= departure {
+        if table.label(arc.head) < departure {
             return;
         }
     }
     let arrival = times.arrive(arc.class, u64::from(arc.weight), departure);
     if arrival <= HORIZON {
-        lower(table, todo, arc.head, arrival);
+        lower(table, todo, arc.head, arrival, arc.tail, place);
     }
 }
 
@@ -98,21 +137,22 @@ pub(crate) fn scan<T: TravelTimes, L: Table, W: Opens>(
     requires nodes { (W.room todo.old).nodes ≡ network.now.nodes }
     ensures scanned { Scanned network.now (T.answers times.now) node departure
         (leaving network.now node)
-        (L.labels table.old) (W.waits todo.old (bound_of (L.labels table.old)))
-        (L.labels table.new) (W.waits todo.new (bound_of (L.labels table.new))) }
+        (L.labels table.old) (W.waits todo.old (bound_of (L.labels table.old))) (L.met table.old)
+        (L.labels table.new) (W.waits todo.new (bound_of (L.labels table.new))) (L.met table.new) }
+    ensures had { bound_of (L.labels table.old) node ≤ departure
+        → AreHad network.now (T.answers times.now) (L.labels table.old) (L.had table.old)
+        → AreHad network.now (T.answers times.now) (L.labels table.new) (L.had table.new) }
     ensures spent { sum (L.labels table.new) + W.size todo.new ≤ sum (L.labels table.old) + W.size todo.old }
     ensures room { W.room todo.new ≡ W.room todo.old }
     ensures listed { AreLabelsListed (L.labels table.old) (L.lists table.old)
         → AreLabelsListed (L.labels table.new) (L.lists table.new) }
 {
-    let leaving = network.leaving(node);
-    let numbers = leaving.numbers;
-    let arcs = leaving.arcs;
+    let arcs = network.leaving(node).arcs;
     for place in 0..arcs.len() {
         follow(
             network,
             times,
-            numbers[place],
+            place,
             arcs[place].with_tail(node),
             departure,
             table,
@@ -141,11 +181,15 @@ pub(crate) fn finish_noted<T: TravelTimes, L: Table>(
     mut todo: Open,
 ) -> Open
     requires problem { IsProblem network.now (T.classes times.now) query.now }
-    requires underway { IsUnderway network.now (T.answers times.now) query.now
-        (L.labels table.old) todo.waiting }
+    requires underway { AwaitsScans network.now (T.answers times.now) query.now
+        (L.labels table.old) (L.met table.old) (Contains todo.waiting) }
     requires room { todo.nodes ≡ network.now.nodes }
     ensures finished { IsFinished network.now (T.answers times.now) query.now
         (L.labels table.new) result }
+    ensures met { AwaitsScans network.now (T.answers times.now) query.now
+        (L.labels table.new) (L.met table.new) (Contains []) }
+    ensures had { AreHad network.now (T.answers times.now) (L.labels table.old) (L.had table.old)
+        → AreHad network.now (T.answers times.now) (L.labels table.new) (L.had table.new) }
     ensures walks { result.walks ≡ todo.walks }
     ensures beyond { FallsBy network.now (T.answers times.now)
         (limit query.now.target (label_of (L.labels table.old)))

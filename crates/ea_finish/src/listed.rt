@@ -4,11 +4,8 @@ ghost use Rattle.ea_road.specs.declared.TheConstants.{NONE};
 ghost use Rattle.ea_finish.specs.Links.{link, no_link};
 ghost use Rattle.ea_finish.specs.Listings.{AreLabelsListed, AreLinksListed, IsListed, KeepsListed, nothing};
 ghost use Rattle.ea_finish.specs.Underway.{bound_of};
-ghost use Rattle.ea_finish.specs.Words.{IsMarked, labels_in};
 
 use crate::link::{Link, NO_LINK};
-use crate::risen::Risen;
-use crate::words::{take_level, take_levels};
 use ea_road::NONE;
 use std::alloc::Global;
 use std::marker::Model;
@@ -77,7 +74,10 @@ impl Listed {
         ensures there { IsListed self.new node }
         ensures kept { KeepsListed (IsListed self.old) (IsListed self.new) }
     {
-        if self.all || self.nodes.len() >= self.most {
+        if self.all {
+            return;
+        }
+        if self.nodes.len() >= self.most {
             self.all = true;
             return;
         }
@@ -94,23 +94,8 @@ impl Listed {
         self.all = true;
     }
 
-    /// Leaves of each listed node's word its label alone.
-    pub(crate) fn take_levels(&self, words: &mut [u64])
-        requires { AreLabelsListed (labels_in words.old)
-            (λ node. IsListed self.now node × IsMarked words.old node) }
-        ensures { words.new ≡ labels_in words.old }
-    {
-        if self.all {
-            take_levels(words);
-            return;
-        }
-        for node in &self.nodes {
-            take_level(words, *node);
-        }
-    }
-
-    /// Puts back what the listed nodes have of labels and links, and what is noted of them. Then no node is listed.
-    pub(crate) fn put_back(&mut self, table: &mut [u64], links: &mut [Link], risen: &mut Risen)
+    /// Puts back what the listed nodes have of labels and links. Then no node is listed.
+    pub(crate) fn put_back(&mut self, table: &mut [u64], links: &mut [Link])
         requires labels { AreLabelsListed table.old (IsListed self.old) }
         requires links { AreLinksListed links.old (IsListed self.old) }
         ensures nothing { self.new ≡ nothing }
@@ -120,7 +105,6 @@ impl Listed {
         if self.all {
             table.fill(NONE);
             links.fill(NO_LINK);
-            risen.forget_all();
             self.nodes.clear();
             self.all = false;
             return;
@@ -128,7 +112,6 @@ impl Listed {
         while let Some(node) = self.nodes.pop() {
             take_label(table, node);
             take_link(links, node);
-            risen.forget(node);
         }
     }
 }

@@ -1,23 +1,25 @@
 //! The arrays of searches by one thread, which answer query after query.
-ghost use Rattle.std.specs.Prelude.{◌≡◌, [], true, false, length, map, replicate, if◌then◌else◌, IfOk};
+ghost use Rattle.std.specs.Prelude.{◌≡◌, ℕ, [], true, false, None, Contains, length, map, replicate, if◌then◌else◌, IfOk};
 ghost use Rattle.ea_road.specs.Queries.{IsProblem};
 ghost use Rattle.ea_road.specs.declared.TheConstants.{NONE};
 ghost use Rattle.ea_finish.specs.Answers.{HasArrivals, IsAnswer};
 ghost use Rattle.ea_finish.specs.Frontiers.{HaveNone};
 ghost use Rattle.ea_finish.specs.Listings.{AreLabelsListed, nothing};
+ghost use Rattle.ea_finish.specs.Notes.{AreHad};
+ghost use Rattle.ea_finish.specs.Scans.{AwaitsScans};
 ghost use Rattle.ea_finish.specs.Underway.{IsFinished};
 
 use crate::answer::Answer;
-use crate::confirming::link_noted;
 use crate::finishing::finish_noted;
 use crate::frontier::{Frontier, empty_lists};
-use crate::levels::Levels;
 use crate::link::NO_LINK;
+use crate::linking::link_noted;
 use crate::listed::Listed;
+use crate::noted::Noted;
 use crate::open::Open;
-use crate::risen::Risen;
 use crate::searching::search;
 use crate::table::{Reached, Table};
+use crate::unwinding::link_all;
 use crate::waiting::Waiting;
 use ea_road::{NONE, Network, Query, TravelTimes};
 use std::alloc::{AllocError, Global};
@@ -32,7 +34,8 @@ pub struct Search {
     waiting: Waiting,
     lists: Vec<Vec<(u64, u32)>>,
     listed: Listed,
-    risen: Risen,
+    notes: Vec<u64>,
+    ties: Vec<u32>,
 }
 
 impl Model for Search {
@@ -55,21 +58,27 @@ fn room_of(nodes: u32, walks: bool) -> usize
     if walks { nodes as usize } else { 0 }
 }
 
-/// The least mean weight for which windows are wide: below it many walks come to a node at the same time, of different levels.
+/// How wide the windows are where nothing is noted. In wider ones more nodes are scanned again, in narrower ones lists are spread more often.
+fn width_without_walks(network: &Network) -> u64 {
+    network.mean_weight().saturating_mul(2)
+}
+
+/// The least mean weight for which windows of a search with notes are wide: below it many arcs come to a node at the same time, from
+/// nodes of different levels.
 const LARGE_MEAN: u64 = 8;
 
-/// How wide the windows of a search with walks are. In a wide one a node may be scanned before its level is known. Where all arcs are
-/// plain, its heads' levels are too high then, and they are mended. Where arcs are waited for, a level may be too low, so that all links
-/// are found anew; so the windows are narrower there.
-fn width_with_walks(network: &Network) -> u64 {
+/// How wide the windows of a search with notes are. Where a node is scanned too early in its window, its heads have a level from it that
+/// changes. Below a large mean weight that is so of many, whose levels all were mended, so the windows are mostly single times there. Where
+/// arcs are waited for, a head may keep its label and have too low a level, so they are narrower there.
+fn width_with_notes(network: &Network) -> u64 {
     let mean = network.mean_weight();
     if mean < LARGE_MEAN {
         return mean / 8;
     }
     if network.top_class() > 0 {
-        return mean / 2;
+        return mean;
     }
-    mean.saturating_mul(2)
+    width_without_walks(network)
 }
 
 /// The arrays on which a search runs.
@@ -78,6 +87,9 @@ struct Arrays {
     table: Vec<u64>,
     todo: Open,
     lists: Vec<Vec<(u64, u32)>>,
+    listed: Listed,
+    notes: Vec<u64>,
+    ties: Vec<u32>,
 }
 
 /// Searches from the sources until each label is least, on a table without labels and lists without entries.
@@ -94,8 +106,12 @@ fn find<T: TravelTimes, L: Table>(
     requires labels { L.labels table.old ≡ replicate network.now.nodes NONE }
     requires room { todo.nodes ≡ network.now.nodes }
     requires lists { (length lists.items ≡ 66) × HaveNone (map (λ l. l.items) lists.items) }
+    requires had { (v u k : ℕ) → L.had table.old v u k → ⊥ }
     ensures finished { IsFinished network.now (T.answers times.now) query.now
         (L.labels table.new) result.1 }
+    ensures met { AwaitsScans network.now (T.answers times.now) query.now
+        (L.labels table.new) (L.met table.new) (Contains []) }
+    ensures had { AreHad network.now (T.answers times.now) (L.labels table.new) (L.had table.new) }
     ensures walks { result.1.walks ≡ todo.walks }
     ensures lists { (length result.0.items ≡ 66)
         × HaveNone (map (λ l. l.items) result.0.items) }
@@ -119,14 +135,14 @@ impl Search {
         let table = vec![in alloc; NONE; nodes as usize]?;
         let room = room_of(nodes, walks);
         let links = vec![in alloc; NO_LINK; room]?;
-        let risen = Risen::reserve(alloc, room)?;
         Ok(Search {
             answer: Answer::new(nodes, None, table, links, false),
             walks,
             waiting,
             lists,
             listed: Listed::new(alloc, nodes),
-            risen,
+            notes: Vec::new(alloc),
+            ties: Vec::new(alloc),
         })
     }
 
@@ -161,14 +177,15 @@ impl Search {
         self.answer
     }
 
-    /// The arrays as they were at first, and what lists the nodes that are reached.
-    fn into_arrays(self) -> (Arrays, Listed, Risen)
-        ensures labels { result.0.table.items ≡ replicate self.nodes NONE }
-        ensures todo { result.0.todo
+    /// The arrays as they were at first.
+    fn into_arrays(self) -> Arrays
+        ensures labels { result.table.items ≡ replicate self.nodes NONE }
+        ensures todo { result.todo
             ≡ record { nodes = self.nodes; waiting = []; walks = self.walks } }
-        ensures lists { (length result.0.lists.items ≡ 66)
-            × HaveNone (map (λ l. l.items) result.0.lists.items) }
-        ensures listed { result.1 ≡ nothing }
+        ensures lists { (length result.lists.items ≡ 66)
+            × HaveNone (map (λ l. l.items) result.lists.items) }
+        ensures listed { result.listed ≡ nothing }
+        ensures notes { result.notes.items ≡ [] }
     {
         let Search {
             answer,
@@ -176,12 +193,20 @@ impl Search {
             waiting,
             lists,
             mut listed,
-            mut risen,
+            mut notes,
+            ties,
         } = self;
         let (mut table, mut links) = answer.into_arrays();
-        listed.put_back(&mut table, &mut links, &mut risen);
-        let todo = Open::of(waiting, links, walks);
-        (Arrays { table, todo, lists }, listed, risen)
+        listed.put_back(&mut table, &mut links);
+        notes.clear();
+        Arrays {
+            table,
+            todo: Open::of(waiting, links, walks),
+            lists,
+            listed,
+            notes,
+            ties,
+        }
     }
 
     /// Answers a query without walks: the search is handed over and comes back with its answer. It takes no memory but what
@@ -199,14 +224,19 @@ impl Search {
         ensures room { (result.nodes ≡ self.nodes) × (result.walks ≡ self.walks) }
     {
         let walks = self.walks;
-        let (arrays, listed, risen) = self.into_arrays();
-        let Arrays { table, todo, lists } = arrays;
+        let Arrays {
+            table,
+            todo,
+            lists,
+            listed,
+            notes,
+            ties,
+        } = self.into_arrays();
         let mut reached = Reached {
             labels: table,
             listed,
         };
-        // Wider ones scan more nodes again, narrower ones spread their lists more often.
-        let width = network.mean_weight().saturating_mul(2);
+        let width = width_without_walks(network);
         let (lists, todo) = find(network, times, query, width, lists, todo, &mut reached);
         let Reached { labels, listed } = reached;
         let (waiting, links) = todo.into_parts();
@@ -216,7 +246,8 @@ impl Search {
             waiting,
             lists,
             listed,
-            risen,
+            notes,
+            ties,
         }
     }
 
@@ -228,33 +259,92 @@ impl Search {
         ensures answer { IsAnswer network.now (T.answers times.now) query.now result.answer }
         ensures room { (result.nodes ≡ self.nodes) × (result.walks ≡ true) }
     {
-        let (arrays, listed, risen) = self.into_arrays();
-        let Arrays { table, todo, lists } = arrays;
-        let mut levels = Levels::new(table, listed, risen, network.top_class() > 0);
-        let width = width_with_walks(network);
-        let (lists, todo) = find(network, times, query, width, lists, todo, &mut levels);
+        if query.target().is_none() {
+            self.find_all_walks(network, times, query)
+        } else {
+            self.find_pair_walk(network, times, query)
+        }
+    }
+
+    /// The walks to all nodes, by the notes of the search.
+    fn find_all_walks<T: TravelTimes>(self, network: &Network, times: &T, query: &Query) -> Search
+        requires problem { IsProblem network.now (T.classes times.now) query.now }
+        requires all { query.now.target ≡ None }
+        requires nodes { self.nodes ≡ network.now.nodes }
+        requires walks { self.walks ≡ true }
+        ensures answer { IsAnswer network.now (T.answers times.now) query.now result.answer }
+        ensures room { (result.nodes ≡ self.nodes) × (result.walks ≡ true) }
+    {
+        let Arrays {
+            table,
+            todo,
+            lists,
+            mut listed,
+            notes,
+            mut ties,
+        } = self.into_arrays();
+        let mut noted = Noted::new(table, notes);
+        let width = width_with_notes(network);
+        let (lists, todo) = find(network, times, query, width, lists, todo, &mut noted);
         let (mut waiting, mut links) = todo.into_parts();
         link_noted(
             network,
             times,
-            query.sources(),
-            &mut levels,
+            query,
+            &noted,
             &mut links,
             &mut waiting,
+            &mut ties,
         );
-        let Levels {
-            words,
-            listed,
-            risen,
-            ..
-        } = levels;
+        // What is made of the answer is about as long as all that is put back then.
+        listed.add_all();
+        let Noted { labels, notes, .. } = noted;
         Search {
-            answer: Answer::new(network.nodes(), query.target(), words, links, true),
+            answer: Answer::new(network.nodes(), query.target(), labels, links, true),
             walks: true,
             waiting,
             lists,
             listed,
-            risen,
+            notes,
+            ties,
+        }
+    }
+
+    /// The walk to the target of a pair.
+    fn find_pair_walk<T: TravelTimes>(self, network: &Network, times: &T, query: &Query) -> Search
+        requires problem { IsProblem network.now (T.classes times.now) query.now }
+        requires nodes { self.nodes ≡ network.now.nodes }
+        requires walks { self.walks ≡ true }
+        ensures answer { IsAnswer network.now (T.answers times.now) query.now result.answer }
+        ensures room { (result.nodes ≡ self.nodes) × (result.walks ≡ true) }
+    {
+        let Arrays {
+            table,
+            todo,
+            lists,
+            listed,
+            notes,
+            ties,
+        } = self.into_arrays();
+        let mut reached = Reached {
+            labels: table,
+            listed,
+        };
+        let width = width_without_walks(network);
+        let (lists, todo) = find(network, times, query, width, lists, todo, &mut reached);
+        let Reached { labels, listed } = reached;
+        let (mut waiting, mut links) = todo.into_parts();
+        let sources = query.sources();
+        link_all(network, times, sources, &labels, &mut links, &mut waiting);
+        let answer = Answer::new(network.nodes(), query.target(), labels, links, true);
+        Search {
+            answer,
+            walks: true,
+            waiting,
+            lists,
+            listed,
+            notes,
+            ties,
         }
     }
 }

@@ -1,5 +1,5 @@
 //! A search from the sources, nearly in the order of times.
-ghost use Rattle.std.specs.Prelude.{◌≡◌, ◌≤◌, [], Contains, IfSome, IsTrue, length, replicate};
+ghost use Rattle.std.specs.Prelude.{◌≡◌, ℕ, ◌≤◌, [], Contains, IfSome, IsTrue, length, replicate};
 ghost use Rattle.ea_limits.specs.declared.TheConstants.{HORIZON};
 ghost use Rattle.ea_road.specs.Labels.{limit};
 ghost use Rattle.ea_road.specs.Queries.{IsProblem};
@@ -8,11 +8,12 @@ ghost use Rattle.ea_road.specs.declared.TheConstants.{NONE};
 ghost use Rattle.ea_finish.specs.Candidates.{Empties, TakesUp};
 ghost use Rattle.ea_finish.specs.Frontiers.{HaveNone, WaitsAt};
 ghost use Rattle.ea_finish.specs.Listings.{AreLabelsListed};
+ghost use Rattle.ea_finish.specs.Notes.{AreHad};
 ghost use Rattle.ea_finish.specs.Scans.{AwaitsScans, FallsBy};
-ghost use Rattle.ea_finish.specs.Underway.{IsUnderway, bound_of};
+ghost use Rattle.ea_finish.specs.Underway.{bound_of};
 
 use crate::candidates::Candidates;
-use crate::finishing::{latest, lower, scan};
+use crate::finishing::{latest, scan, start};
 use crate::frontier::Frontier;
 use crate::table::Table;
 use ea_road::{HORIZON, Network, Query, TravelTimes};
@@ -29,14 +30,15 @@ fn begin<T: TravelTimes, L: Table>(
     requires room { frontier.old.todo.nodes ≡ network.now.nodes }
     requires none { (L.labels table.old) ≡ replicate network.now.nodes NONE }
     ensures underway { AwaitsScans network.now (T.answers times.now) query.now
-        (L.labels table.new) (WaitsAt frontier.new (bound_of (L.labels table.new))) }
+        (L.labels table.new) (L.met table.new)
+        (WaitsAt frontier.new (bound_of (L.labels table.new))) }
+    ensures adds { (v u k : ℕ) → L.had table.new v u k → L.had table.old v u k }
     ensures nodes { frontier.new.todo.nodes ≡ frontier.old.todo.nodes }
     ensures walks { frontier.new.todo.walks ≡ frontier.old.todo.walks }
     ensures listed { AreLabelsListed (L.labels table.new) (L.lists table.new) }
 {
-    table.begin();
     for source in query.sources() {
-        lower(table, frontier, source.node, source.departure);
+        start(table, frontier, source.node, source.departure);
     }
 }
 
@@ -111,9 +113,12 @@ fn exhaust<T: TravelTimes, L: Table>(
     requires problem { IsProblem network.now (T.classes times.now) query.now }
     requires room { frontier.old.todo.nodes ≡ network.now.nodes }
     requires underway { AwaitsScans network.now (T.answers times.now) query.now
-        (L.labels table.old) (WaitsAt frontier.old (bound_of (L.labels table.old))) }
+        (L.labels table.old) (L.met table.old)
+        (WaitsAt frontier.old (bound_of (L.labels table.old))) }
     ensures underway { AwaitsScans network.now (T.answers times.now) query.now
-        (L.labels table.new) (Contains frontier.new.todo.waiting) }
+        (L.labels table.new) (L.met table.new) (Contains frontier.new.todo.waiting) }
+    ensures had { AreHad network.now (T.answers times.now) (L.labels table.old) (L.had table.old)
+        → AreHad network.now (T.answers times.now) (L.labels table.new) (L.had table.new) }
     ensures nodes { frontier.new.todo.nodes ≡ frontier.old.todo.nodes }
     ensures walks { frontier.new.todo.walks ≡ frontier.old.todo.walks }
     ensures beyond { FallsBy network.now (T.answers times.now)
@@ -139,7 +144,6 @@ fn exhaust<T: TravelTimes, L: Table>(
         );
         candidates.offer(table, frontier);
         if let Some(node) = crowded {
-            table.leave(node);
             let time = table.label(node);
             scan(network, times, node, time, table, frontier);
         }
@@ -157,8 +161,10 @@ pub(crate) fn search<T: TravelTimes, L: Table>(
     requires problem { IsProblem network.now (T.classes times.now) query.now }
     requires room { frontier.old.todo.nodes ≡ network.now.nodes }
     requires none { (L.labels table.old) ≡ replicate network.now.nodes NONE }
-    ensures underway { IsUnderway network.now (T.answers times.now) query.now
-        (L.labels table.new) frontier.new.todo.waiting }
+    requires had { (v u k : ℕ) → L.had table.old v u k → ⊥ }
+    ensures underway { AwaitsScans network.now (T.answers times.now) query.now
+        (L.labels table.new) (L.met table.new) (Contains frontier.new.todo.waiting) }
+    ensures had { AreHad network.now (T.answers times.now) (L.labels table.new) (L.had table.new) }
     ensures nodes { frontier.new.todo.nodes ≡ frontier.old.todo.nodes }
     ensures walks { frontier.new.todo.walks ≡ frontier.old.todo.walks }
     ensures none { HaveNone frontier.new.lists }
@@ -180,10 +186,10 @@ pub(crate) fn search_on<T: TravelTimes, L: Table>(
 )
     requires problem { IsProblem network.now (T.classes times.now) query.now }
     requires room { frontier.old.todo.nodes ≡ network.now.nodes }
-    requires underway { IsUnderway network.now (T.answers times.now) query.now
-        (L.labels table.old) frontier.old.todo.waiting }
-    ensures underway { IsUnderway network.now (T.answers times.now) query.now
-        (L.labels table.new) frontier.new.todo.waiting }
+    requires underway { AwaitsScans network.now (T.answers times.now) query.now
+        (L.labels table.old) (L.met table.old) (Contains frontier.old.todo.waiting) }
+    ensures underway { AwaitsScans network.now (T.answers times.now) query.now
+        (L.labels table.new) (L.met table.new) (Contains frontier.new.todo.waiting) }
     ensures nodes { frontier.new.todo.nodes ≡ frontier.old.todo.nodes }
     ensures walks { frontier.new.todo.walks ≡ frontier.old.todo.walks }
     ensures beyond { FallsBy network.now (T.answers times.now)

@@ -1,7 +1,8 @@
 //! The labels of nodes while they are found, and what is noted of the nodes beside them.
-ghost use Rattle.std.specs.Prelude.{◌≡◌, ℕ, ◌-◌, ◌<◌, ◌≤◌, List, length, min, set};
+ghost use Rattle.std.specs.Prelude.{◌≡◌, ◌≢◌, ℕ, ◌-◌, ◌<◌, ◌≤◌, ◌⊎◌, List, length, min, set};
 ghost use Rattle.ea_limits.specs.declared.TheConstants.{HORIZON};
 ghost use Rattle.ea_finish.specs.Listings.{KeepsListed};
+ghost use Rattle.ea_finish.specs.Scans.{IsArcOf};
 ghost use Rattle.ea_finish.specs.Underway.{bound_of};
 
 use crate::listed::Listed;
@@ -14,6 +15,13 @@ pub(crate) trait Table {
 
     /// Whether a node is listed as reached.
     ghost lists: { Self → ℕ → Type 0 };
+
+    /// By which arcs labels were met since the labels of the arcs' tails fell last: the node, the tail, and the place of the arc among
+    /// those that leave the tail, from 0. Where nothing is noted, all count as met.
+    ghost met: { Self → ℕ → ℕ → ℕ → Type 0 };
+
+    /// By which arcs nodes have their labels. Where nothing is noted, it is none.
+    ghost had: { Self → ℕ → ℕ → ℕ → Type 0 };
 
     /// The label of a node.
     fn label(&self, node: u32) -> u64
@@ -28,28 +36,36 @@ pub(crate) trait Table {
     /// Reads the label of a node ahead. Of the number nothing is promised.
     fn touch(&self, node: u32) -> u64;
 
-    /// The nodes whose labels fall from now on are those of sources.
-    fn begin(&mut self)
-        ensures labels { labels self.new ≡ labels self.old }
-        ensures kept { KeepsListed (lists self.old) (lists self.new) };
-
-    /// The nodes whose labels fall from now on are heads of the arcs from this one.
-    fn leave(&mut self, node: u32)
-        ensures labels { labels self.new ≡ labels self.old }
-        ensures kept { KeepsListed (lists self.old) (lists self.new) };
-
-    /// The label of a node falls to a time, for the first time or again.
-    fn fall(&mut self, node: u32, time: u64)
+    /// The label of a source's node falls to a departure.
+    fn start(&mut self, node: u32, time: u64)
         requires node { (0 < node) × (node ≤ length (labels self.old)) }
         requires time { time ≤ HORIZON }
         ensures labels { labels self.new ≡ set (labels self.old) (node - 1) time }
         ensures there { lists self.new node }
-        ensures kept { KeepsListed (lists self.old) (lists self.new) };
+        ensures kept { KeepsListed (lists self.old) (lists self.new) }
+        ensures still { (v u k : ℕ) → v ≢ node → u ≢ node → met self.old v u k → met self.new v u k }
+        ensures adds { (v u k : ℕ) → had self.new v u k → had self.old v u k };
 
-    /// The label of a node is reached again.
-    fn meet(&mut self, node: u32)
+    /// The label of a node falls to a time, for the first time or again, by the arc at this place among those that leave a node.
+    fn fall(&mut self, node: u32, time: u64, from: u32, place: usize)
+        requires node { (0 < node) × (node ≤ length (labels self.old)) }
+        requires time { time ≤ HORIZON }
+        ensures labels { labels self.new ≡ set (labels self.old) (node - 1) time }
+        ensures there { lists self.new node }
+        ensures kept { KeepsListed (lists self.old) (lists self.new) }
+        ensures met { met self.new node from place }
+        ensures still { (v u k : ℕ) → v ≢ node → u ≢ node → met self.old v u k → met self.new v u k }
+        ensures adds { (v u k : ℕ) → had self.new v u k
+            → IsArcOf node from place v u k ⊎ ((v ≢ node) × had self.old v u k) };
+
+    /// The label of a node is reached again, by the arc at this place among those that leave a node.
+    fn meet(&mut self, node: u32, from: u32, place: usize)
         ensures labels { labels self.new ≡ labels self.old }
-        ensures kept { KeepsListed (lists self.old) (lists self.new) };
+        ensures kept { KeepsListed (lists self.old) (lists self.new) }
+        ensures met { met self.new node from place }
+        ensures still { (v u k : ℕ) → met self.old v u k → met self.new v u k }
+        ensures adds { (v u k : ℕ) → had self.new v u k
+            → IsArcOf node from place v u k ⊎ had self.old v u k };
 }
 
 /// The label of a node in a list, where the node is one.
@@ -71,6 +87,10 @@ impl Table for Bare {
 
     ghost lists = { λ table node. Unit };
 
+    ghost met = { λ table node from place. Unit };
+
+    ghost had = { λ table node from place. ⊥ };
+
     #[inline(always)]
     fn label(&self, node: u32) -> u64 {
         self.labels[node as usize - 1]
@@ -86,16 +106,16 @@ impl Table for Bare {
         touched(&self.labels, node)
     }
 
-    fn begin(&mut self) {}
-
-    fn leave(&mut self, _node: u32) {}
+    fn start(&mut self, node: u32, time: u64) {
+        self.fall(node, time, 0, 0);
+    }
 
     #[inline(always)]
-    fn fall(&mut self, node: u32, time: u64) {
+    fn fall(&mut self, node: u32, time: u64, _from: u32, _place: usize) {
         self.labels[node as usize - 1] = time;
     }
 
-    fn meet(&mut self, _node: u32) {}
+    fn meet(&mut self, _node: u32, _from: u32, _place: usize) {}
 }
 
 /// Labels, and the nodes that have one are listed.
@@ -112,6 +132,10 @@ impl Table for Reached {
 
     ghost lists = { λ table node. IsListed table.listed node };
 
+    ghost met = { λ table node from place. Unit };
+
+    ghost had = { λ table node from place. ⊥ };
+
     #[inline(always)]
     fn label(&self, node: u32) -> u64 {
         self.labels[node as usize - 1]
@@ -127,15 +151,15 @@ impl Table for Reached {
         touched(&self.labels, node)
     }
 
-    fn begin(&mut self) {}
-
-    fn leave(&mut self, _node: u32) {}
+    fn start(&mut self, node: u32, time: u64) {
+        self.fall(node, time, 0, 0);
+    }
 
     #[inline(always)]
-    fn fall(&mut self, node: u32, time: u64) {
+    fn fall(&mut self, node: u32, time: u64, _from: u32, _place: usize) {
         self.labels[node as usize - 1] = time;
         self.listed.add(node);
     }
 
-    fn meet(&mut self, _node: u32) {}
+    fn meet(&mut self, _node: u32, _from: u32, _place: usize) {}
 }

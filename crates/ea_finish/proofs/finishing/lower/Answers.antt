@@ -1,7 +1,7 @@
-use Rattle.std.proofs.Common.{◌≡◌, ℕ, ◌-◌, ◌≤◌, length, set, inl, inr, subst, sym, ◌∙◌, ap, arith}
+use Rattle.std.proofs.Common.{◌≡◌, ◌≢◌, ℕ, ◌-◌, ◌<◌, ◌≤◌, length, set, inl, inr, subst, sym, ◌∙◌, ap, arith}
 use Rattle.std.proofs.lemmas.Bool.{cases_eq}
 use Rattle.ea_finish.specs.Underway.{bound_of}
-use Rattle.ea_finish.proofs.Entries.{bound_of-set_same, bound_of-set_other, KeepsLess-falls, KeepsLess-stays, sum-falls}
+use Rattle.ea_finish.proofs.Entries.{bound_of-set_same, bound_of-set_other, is_other, KeepsLess-falls, KeepsLess-stays, sum-falls}
 use Rattle.ea_finish.proofs.finishing.lower.Goals as goal
 
 pub fall-requires-clause-node : goal.fall-requires-clause-node
@@ -57,3 +57,22 @@ returns-then-time-before-clause-listed g c = λ first v has.
 pub returns-then-time-before-2-clause-listed : goal.returns-then-time-before-2-clause-listed
 returns-then-time-before-2-clause-listed g c = λ first v has.
     c.meet.ensures.kept v (first v (λ none. has (ap (λ xs. bound_of xs v) c.meet.ensures.labels ∙ none)))
+
+pub returns-then-time-before-clause-still : goal.returns-then-time-before-clause-still
+returns-then-time-before-clause-still g c v u k same_v same_u met =
+    let table = g.L.Table.labels c.args.table.now in
+    let inside : c.args.node ≤ length table = omega (arith, c.requires.node.1, c.requires.places) in
+    let less : c.args.time < bound_of table c.args.node = omega (arith, c.label-before.ensures, c.if-time-before.true) in
+    let other : (w : ℕ) → bound_of (g.L.Table.labels c.fall.new.self) w ≡ bound_of table w → w ≢ c.args.node = λ w same. is_other table _ c.args.node c.args.time w c.fall.ensures.labels c.requires.node.0 inside less same in
+    c.fall.ensures.still v u k (other v same_v) (other u same_u) met
+
+pub returns-then-time-before-clause-adds : goal.returns-then-time-before-clause-adds
+returns-then-time-before-clause-adds g c v u k had =
+    let node = c.args.node in
+    let table = g.L.Table.labels c.args.table.now in
+    let inside : node ≤ length table = omega (arith, c.requires.node.1, c.requires.places) in
+    let here = ap (λ xs. bound_of xs node) c.fall.ensures.labels ∙ bound_of-set_same table node c.args.time c.requires.node.0 inside in
+    elim (c.fall.ensures.adds v u k had) [
+      | inl new ↦ inr (new, here)
+      | inr old ↦ inl (ap (λ xs. bound_of xs v) c.fall.ensures.labels ∙ bound_of-set_other table node v c.args.time c.requires.node.0 old.0, old.1)
+    ]

@@ -11,3 +11,6 @@ returns-clause-lists g c = (c.into_parts-lists.ensures.length, rw c.into_parts-l
 
 pub returns-clause-listed : goal.returns-clause-listed
 returns-clause-listed g c = c.finish_noted-todo.ensures.listed c.search.ensures.listed
+
+pub returns-clause-had : goal.returns-clause-had
+returns-clause-had g c = c.finish_noted-todo.ensures.had c.search.ensures.had

@@ -1,7 +1,5 @@
-use Rattle.ea_finish.proofs.Boundary.{public_of}
 use Rattle.ea_finish.proofs.searching.search.Goals as goal
 
-pub returns-clause-underway : goal.returns-clause-underway
-returns-clause-underway g c =
-    let under = c.exhaust.ensures.underway in
-    (public_of c.args.network.now _ _ c.args.query.now c.keeps_limits.ensures c.requires.problem (g.L.Table.labels c.exhaust.new.table) under.places c.exhaust.new.frontier.todo.waiting under)
+-- no arc is noted at first
+pub returns-clause-had : goal.returns-clause-had
+returns-clause-had g c = c.exhaust.ensures.had (λ v u k has. absurd (c.requires.had v u k (c.begin.ensures.adds v u k has)))

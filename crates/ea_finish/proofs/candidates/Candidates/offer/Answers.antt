@@ -1,19 +1,19 @@
 use Rattle.std.proofs.Common.{◌<◌, ◌∙◌, length, get_or, ap, arith}
+use Rattle.std.proofs.lemmas.List.{take_more}
 use Rattle.ea_finish.specs.declared.candidates.Candidate.{Candidate}
-use Rattle.ea_finish.specs.Underway.{bound_of}
 use Rattle.ea_finish.specs.Worklist.{Room}
-use Rattle.ea_finish.proofs.Gatherings.{Offered-more, entries_next, entry_is_there}
+use Rattle.ea_finish.proofs.Gatherings.{Offered-more, candidate_is_there}
 use Rattle.ea_finish.proofs.candidates.Candidates.offer.Goals as goal
 
 abbrev none : Candidate
-none = record { time = 0; node = 0; from = 0 }
+none = record { time = 0; node = 0; from = 0; place = 0 }
 
 pub lower-requires-clause-node : goal.lower-requires-clause-node
 lower-requires-clause-node g c =
     let it = c.self.inside in
-    let there = entry_is_there it.list c.loop-place.place it.count none c.loop-place-test.true (omega (arith, c.self.invariant)) in
+    let there = candidate_is_there it.list c.loop-place.place it.count none c.loop-place-test.true (omega (arith, c.self.invariant)) in
     let candidate = get_or it.list c.loop-place.place none in
-    let node = rw (← c.self.view_is) at (c.requires.nodes candidate.time candidate.node) in
+    let node = rw (← c.self.view_is) at (c.requires.nodes candidate) in
     let is_node = node there in
     let room = ap (λ (r : Room). r.nodes) c.loop-place.invariant.room in
     (is_node.from_one, omega (arith, is_node.to_last, room))
@@ -21,17 +21,17 @@ lower-requires-clause-node g c =
 pub lower-requires-clause-in_time : goal.lower-requires-clause-in_time
 lower-requires-clause-in_time g c =
     let it = c.self.inside in
-    let there = entry_is_there it.list c.loop-place.place it.count none c.loop-place-test.true (omega (arith, c.self.invariant)) in
+    let there = candidate_is_there it.list c.loop-place.place it.count none c.loop-place-test.true (omega (arith, c.self.invariant)) in
     let candidate = get_or it.list c.loop-place.place none in
-    (rw (← c.self.view_is) at (c.requires.in_time candidate.time candidate.node)) there
+    (rw (← c.self.view_is) at (c.requires.in_time candidate)) there
 
 pub loop-place-preserved : goal.loop-place-preserved
 loop-place-preserved g c =
     let it = c.self.inside in
     let inside : c.loop-place.place < length it.list = omega (arith, c.loop-place-test.true, c.self.invariant) in
     record {
-      offered = rw (entries_next it.list c.loop-place.place none inside) (Offered-more _ _ _ _ _ _ _ _ _ c.loop-place.invariant.offered (rw c.leave.ensures.labels at c.lower.ensures.lowers));
-      spent = omega (arith, rw c.leave.ensures.labels at c.lower.ensures.spent, c.loop-place.invariant.spent);
+      offered = rw (take_more it.list c.loop-place.place none inside) (Offered-more _ (get_or it.list c.loop-place.place none) _ _ _ _ _ _ _ _ _ _ _ _ c.loop-place.invariant.offered c.lower.ensures.lowers c.lower.ensures.met c.lower.ensures.still c.lower.ensures.adds);
+      spent = omega (arith, c.lower.ensures.spent, c.loop-place.invariant.spent);
       room = c.lower.ensures.room ∙ c.loop-place.invariant.room;
-      listed = λ first. c.lower.ensures.listed (λ v has. c.leave.ensures.kept v (c.loop-place.invariant.listed first v (λ none. has (ap (λ xs. bound_of xs v) c.leave.ensures.labels ∙ none))));
+      listed = λ first. c.lower.ensures.listed (c.loop-place.invariant.listed first);
     }

@@ -13,7 +13,7 @@ invariant_of-result g c =
     rw c.new.ensures (record {
       nobody = c.into_parts-waiting.ensures.waiting ∙ finished.nobody;
       labels = finished.places ∙ sym (c.into_parts-waiting.ensures.nodes ∙ finished.room);
-      links = room_again _ _ _ _ _ c.into_parts-waiting.ensures.links c.into_parts-waiting.ensures.nodes (c.find-lists.ensures.walks ∙ ap (λ (w : Worklist). w.walks) c.into_arrays-arrays.ensures.todo ∙ sym (ap (λ (s : Searched). s.walks) c.self.view_is));
+      links = room_again _ _ _ _ _ c.into_parts-waiting.ensures.links c.into_parts-waiting.ensures.nodes (c.find-lists.ensures.walks ∙ ap (λ (w : Worklist). w.walks) c.into_arrays-table.ensures.todo ∙ sym (ap (λ (s : Searched). s.walks) c.self.view_is));
       many = rw length-map c.find-lists.ensures.lists.0;
       none = c.find-lists.ensures.lists.1;
       reached = c.find-lists.ensures.listed;
@@ -24,3 +24,6 @@ pub returns-clause-arrivals : goal.returns-clause-arrivals
 returns-clause-arrivals g c =
     let finished = c.find-lists.ensures.finished in
     rw (c.new.ensures, c.nodes.ensures.nodes, c.target.ensures.target) (has_arrivals c.args.network.now _ _ c.args.query.now c.nodes.ensures.network c.requires.problem (g.met.T.TravelTimes.fifo c.args.times.now) c.find-lists.new.table.labels.items finished.places finished.fixed _ false)
+
+pub find-lists-requires-clause-had : goal.find-lists-requires-clause-had
+find-lists-requires-clause-had g c v u k had = had

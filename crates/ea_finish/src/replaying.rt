@@ -1,0 +1,215 @@
+//! The notes of a search, followed in their order: links with arcs by which labels were had.
+ghost use Rattle.std.specs.Prelude.{◌≡◌, ◌≢◌, ℕ, ◌-◌, ◌<◌, ◌≤◌, Contains, IfSome, List, length, IsTrue, false};
+ghost use Rattle.ea_road.specs.declared.source.Source.{Source};
+ghost use Rattle.ea_road.specs.Roads.{Roads};
+ghost use Rattle.ea_finish.specs.Links.{link};
+ghost use Rattle.ea_finish.specs.Notes.{by_none, had_after, met_after, notes_in};
+ghost use Rattle.ea_finish.specs.Replayed.{AreReplayed, HaveOneArc, IsFollowed, IsReachedAgain};
+ghost use Rattle.ea_finish.specs.Scans.{IsPlaced};
+
+use crate::link::{Link, NO_LEVEL};
+use crate::notes::{Note, note_in};
+use crate::waiting::Waiting;
+use ea_road::Network;
+
+/// With more ties than this any node may be one of them: the list is not looked through then.
+const MOST_TIES: usize = 4_096;
+
+/// Where a node's link stands among so many.
+fn place_of(node: u32, count: usize) -> Option<usize>
+    ensures { IfSome result (λ place. (0 < node) × (place ≡ node - 1) × (place < count)) }
+{
+    let place = (node as usize).wrapping_sub(1);
+    if place < count { Some(place) } else { None }
+}
+
+/// The number of the arc at a place, from 0, among those that leave a node.
+pub(crate) fn number_of(network: &Network, from: u32, place: u32) -> Option<u32>
+    ensures { IfSome result (λ number. IsPlaced network.now from place number) }
+{
+    if from == 0 || from > network.nodes() {
+        return None;
+    }
+    network.leaving(from).numbers.get(place as usize).copied()
+}
+
+/// Whether a node may have had more than one arc at its label.
+fn may_be_tied(ties: &[u32], node: u32) -> bool
+    ensures { result ≡ false → Contains ties.now node → ⊥ }
+{
+    ties.len() > MOST_TIES || ties.contains(&node)
+}
+
+/// A node was reached again by the arc of its own link, from a tail whose level may be another by now: the node takes the
+/// level above that. False where the level would rise at a node that may be tied.
+fn relevel(node: u32, new: Link, links: &mut [Link], waiting: &mut Waiting, ties: &[u32]) -> bool
+    requires node { (0 < node) × (node ≤ waiting.old.nodes) }
+    requires places { length links.old ≡ waiting.old.nodes }
+    requires level { (link links.old node).level ≢ 0 }
+    requires same { HaveOneArc (link links.old node) new }
+    ensures places { length links.new ≡ length links.old }
+    ensures nodes { waiting.new.nodes ≡ waiting.old.nodes }
+    ensures reached { IsTrue result → (roads : Roads)
+        → IsReachedAgain roads node new links.old waiting.old.waiting ties.now
+        links.new waiting.new.waiting ties.now }
+{
+    let place = node as usize - 1;
+    let level = links[place].level;
+    if level < new.level && may_be_tied(ties, node) {
+        return false;
+    }
+    links[place] = new;
+    if new.level < level {
+        waiting.add(node);
+    }
+    true
+}
+
+/// Offers a node, which is tied, a link by an arc that its own link does not have. It keeps the one of fewer arcs, and of
+/// these the one by the lower number. False where the arcs have no numbers.
+fn choose(
+    network: &Network,
+    node: u32,
+    new: Link,
+    links: &mut [Link],
+    waiting: &mut Waiting,
+) -> bool
+    requires node { (0 < node) × (node ≤ waiting.old.nodes) }
+    requires places { length links.old ≡ waiting.old.nodes }
+    ensures places { length links.new ≡ length links.old }
+    ensures nodes { waiting.new.nodes ≡ waiting.old.nodes }
+    ensures reached { IsTrue result → (ties ties' : List ℕ)
+        → ((v : ℕ) → Contains ties v → Contains ties' v) → Contains ties' node
+        → IsReachedAgain network.now node new links.old waiting.old.waiting ties
+        links.new waiting.new.waiting ties' }
+{
+    let place = node as usize - 1;
+    let old = links[place];
+    if new.level < old.level {
+        links[place] = new;
+        waiting.add(node);
+    } else if new.level == old.level && new.level < NO_LEVEL {
+        let Some(number) = number_of(network, new.from, new.arc) else {
+            return false;
+        };
+        let Some(other) = number_of(network, old.from, old.arc) else {
+            return false;
+        };
+        if number < other {
+            links[place] = new;
+        }
+    }
+    true
+}
+
+/// A node was reached again by the arc of a new link, at the label that it had. False where it was given up. It stands
+/// apart, so that the loop over notes is short: nearly all of them are of labels that fell.
+#[inline(never)]
+fn tie(
+    network: &Network,
+    node: u32,
+    new: Link,
+    links: &mut [Link],
+    waiting: &mut Waiting,
+    ties: &mut Vec<u32>,
+) -> bool
+    requires node { (0 < node) × (node ≤ waiting.old.nodes) }
+    requires places { length links.old ≡ waiting.old.nodes }
+    requires level { 0 < new.level }
+    ensures places { length links.new ≡ length links.old }
+    ensures nodes { waiting.new.nodes ≡ waiting.old.nodes }
+    ensures reached { IsTrue result → IsReachedAgain network.now node new
+        links.old waiting.old.waiting ties.old.items
+        links.new waiting.new.waiting ties.new.items }
+{
+    let old = links[node as usize - 1];
+    if old.level == 0 {
+        return true;
+    }
+    if old.from == new.from && old.arc == new.arc {
+        return relevel(node, new, links, waiting, ties);
+    }
+    if ties.push(node).is_err() {
+        return false;
+    }
+    choose(network, node, new, links, waiting)
+}
+
+/// The link by the arc of a note, to a level.
+#[inline(always)]
+fn link_by(note: Note, level: u32) -> Link
+    ensures { result ≡ record { level = level; arc = note.place; from = note.from } }
+{
+    Link {
+        level,
+        arc: note.place,
+        from: note.from,
+    }
+}
+
+/// Follows one note: a node whose label fell takes the link by the note's arc, whatever it had before. False where it was
+/// given up.
+#[inline(always)]
+fn follow_note(
+    network: &Network,
+    note: Note,
+    links: &mut [Link],
+    waiting: &mut Waiting,
+    ties: &mut Vec<u32>,
+) -> bool
+    requires places { length links.old ≡ network.now.nodes }
+    requires nodes { waiting.old.nodes ≡ network.now.nodes }
+    ensures places { length links.new ≡ length links.old }
+    ensures nodes { waiting.new.nodes ≡ waiting.old.nodes }
+    ensures followed { IsTrue result → IsFollowed network.now note
+        links.old waiting.old.waiting ties.old.items
+        links.new waiting.new.waiting ties.new.items }
+{
+    let Some(from) = place_of(note.from, links.len()) else {
+        return false;
+    };
+    let Some(place) = place_of(note.node, links.len()) else {
+        return false;
+    };
+    let level = links[from].level.saturating_add(1);
+    if note.again {
+        return tie(
+            network,
+            note.node,
+            link_by(note, level),
+            links,
+            waiting,
+            ties,
+        );
+    }
+    // It is made here once more: what is handed to a call stands in memory, and would be waited for.
+    links[place] = link_by(note, level);
+    true
+}
+
+/// Follows notes in their order, from links that are begun at sources. False where it was given up; then links and nodes
+/// that wait are of no use.
+pub(crate) fn replay(
+    network: &Network,
+    notes: &[u64],
+    links: &mut [Link],
+    waiting: &mut Waiting,
+    ties: &mut Vec<u32>,
+) -> bool
+    requires places { length links.old ≡ network.now.nodes }
+    requires nodes { waiting.old.nodes ≡ network.now.nodes }
+    ensures places { length links.new ≡ length links.old }
+    ensures nodes { waiting.new.nodes ≡ waiting.old.nodes }
+    ensures replayed { IsTrue result → (sources : List Source) (table : List ℕ)
+        → AreReplayed network.now sources table by_none by_none links.old waiting.old.waiting
+        → AreReplayed network.now sources table (had_after (notes_in notes.now) by_none)
+        (met_after (notes_in notes.now) by_none) links.new waiting.new.waiting }
+{
+    ties.clear();
+    for word in notes {
+        if !follow_note(network, note_in(*word), links, waiting, ties) {
+            return false;
+        }
+    }
+    true
+}
