@@ -1,7 +1,8 @@
 -- How notes are followed.
 use Rattle.std.proofs.Common.{◌≡◌, ◌≢◌, ℕ, ◌+◌, ◌-◌, ◌<◌, ◌≤◌, min, true, false, List, [], ◌∷◌, ◌++◌, length, get_or, set, Contains, refl, sym, ◌∙◌, ap, subst, ◌⊎◌, inl, inr, arith}
 use Rattle.std.proofs.lemmas.Bool.{cases_lt, cases_eq, cases_Bool, false≢true}
-use Rattle.std.proofs.lemmas.List.{length-set}
+use Rattle.std.proofs.lemmas.List.{append_assoc, length-set}
+use Rattle.std.proofs.lemmas.List.Elements.{Contains-append_left, Contains-push}
 use Rattle.ea_road.specs.declared.source.Source.{Source}
 use Rattle.ea_road.specs.Roads.{Roads}
 use Rattle.ea_finish.specs.declared.link.Link.{Link}
@@ -11,7 +12,7 @@ use Rattle.ea_finish.specs.Links.{link}
 use Rattle.ea_finish.specs.Notes.{IsNoteOf, and_had, and_met, had_after, met_after, by_none}
 use Rattle.ea_finish.proofs.Notings.{had-last, had-then, met-last, met-had}
 use Rattle.ea_finish.specs.Offers.{IsSeed, Precedes}
-use Rattle.ea_finish.specs.Replayed.{AreReplayed, AreTied, HaveOneArc, IsFallen, IsFollowed, IsReachedAgain, link_of, with_number}
+use Rattle.ea_finish.specs.Replayed.{AreAfter, AreReplayed, AreTied, AreWoken, HaveOneArc, IsFallen, IsFollowed, IsReachedAgain, link_of, with_number}
 use Rattle.ea_finish.specs.Scans.{number_at}
 use Rattle.ea_finish.proofs.Linkings.{link_read, link-set_same, link-set_other, Precedes-not_itself, Precedes-trans}
 
@@ -28,8 +29,16 @@ Precedes-above : (arc from : ℕ) (b : Link) → Precedes (record { level = b.le
 Precedes-above arc from b (inl less) = omega arith
 Precedes-above arc from b (inr same) = omega (arith, same.0)
 
+-- what is put at the end of a list is in it
+pub Contains-two : (xs : List (ℕ × ℕ)) (a b : ℕ × ℕ) → Contains (xs ++ a ∷ b ∷ []) a × Contains (xs ++ a ∷ b ∷ []) b
+Contains-two xs a b =
+    let one : (xs ++ a ∷ []) ++ b ∷ [] ≡ xs ++ a ∷ b ∷ [] = append_assoc xs (a ∷ []) (b ∷ []) in (
+      subst (λ (ys : List (ℕ × ℕ)). Contains ys a) one (Contains-append_left (xs ++ a ∷ []) (b ∷ []) a (Contains-push xs a)),
+      subst (λ (ys : List (ℕ × ℕ)). Contains ys b) one (Contains-push (xs ++ a ∷ []) b),
+    )
+
 -- a node keeps its link
-pub IsReachedAgain-kept : (roads : Roads) (node : ℕ) (new : Link) (links : List Link) (waiting ties ties' : List ℕ) → (new.level < NO_LEVEL → Precedes (with_number roads new) (with_number roads (link links node)) → ⊥) → ((v : ℕ) → Contains ties v → Contains ties' v) → ((link links node).level ≡ 0) ⊎ Contains ties' node → IsReachedAgain roads node new links waiting ties links waiting ties'
+pub IsReachedAgain-kept : (roads : Roads) (node : ℕ) (new : Link) (links : List Link) (waiting : List ℕ) (ties ties' : List (ℕ × ℕ)) → (new.level < NO_LEVEL → Precedes (with_number roads new) (with_number roads (link links node)) → ⊥) → ((tie : ℕ × ℕ) → Contains ties tie → Contains ties' tie) → ((link links node).level ≡ 0) ⊎ (((link links node).level ≢ 0) × (Contains ties' (node, new.from) × Contains ties' (node, (link links node).from))) → IsReachedAgain roads node new links waiting ties links waiting ties'
 IsReachedAgain-kept roads node new links waiting ties ties' passed listed tied = record {
   places = refl;
   others = λ v ne. refl;
@@ -43,7 +52,7 @@ IsReachedAgain-kept roads node new links waiting ties ties' passed listed tied =
 }
 
 -- a node takes the new link
-module _ (roads : Roads) (node : ℕ) (new : Link) (links : List Link) (waiting waiting' ties ties' : List ℕ) (first : 0 < node) (last : node ≤ length links) (fallen : new.level < (link links node).level → Contains waiting' node) (kept : (v : ℕ) → Contains waiting v → Contains waiting' v) where
+module _ (roads : Roads) (node : ℕ) (new : Link) (links : List Link) (waiting waiting' : List ℕ) (ties ties' : List (ℕ × ℕ)) (first : 0 < node) (last : node ≤ length links) (fallen : new.level < (link links node).level → Contains waiting' node) (kept : (v : ℕ) → Contains waiting v → Contains waiting' v) where
   abbrev now : List Link
   now = set links (node - 1) new
 
@@ -51,8 +60,8 @@ module _ (roads : Roads) (node : ℕ) (new : Link) (links : List Link) (waiting 
   at_node = link-set_same links node new first last
 
   -- and is one that has had another arc
-  pub IsReachedAgain-taken : Precedes (with_number roads new) (with_number roads (link links node)) → ((v : ℕ) → Contains ties v → Contains ties' v) → Contains ties' node → IsReachedAgain roads node new links waiting ties now waiting' ties'
-  IsReachedAgain-taken better listed tied =
+  pub IsReachedAgain-taken : Precedes (with_number roads new) (with_number roads (link links node)) → ((tie : ℕ × ℕ) → Contains ties tie → Contains ties' tie) → (link links node).level ≢ 0 → Contains ties' (node, new.from) → Contains ties' (node, (link links node).from) → IsReachedAgain roads node new links waiting ties now waiting' ties'
+  IsReachedAgain-taken better listed linked tied other =
       let level = ap (λ (l : Link). l.level) at_node in
       let P : Link → Type 0 = λ x. Precedes (with_number roads new) (with_number roads x) in
       let Q : Link → Type 0 = λ x. (l : Link) → Precedes l (with_number roads x) → Precedes l (with_number roads (link links node)) in
@@ -65,12 +74,12 @@ module _ (roads : Roads) (node : ℕ) (new : Link) (links : List Link) (waiting 
         passed = λ room there. Precedes-not_itself (with_number roads new) (subst P at_node there);
         better = inl (subst Q (sym at_node) (λ l there. Precedes-trans l (with_number roads new) (with_number roads (link links node)) there better));
         listed = listed;
-        tied = inr (inr tied);
+        tied = inr (inr (linked, (tied, other)));
       }
 
   -- or it is by the arc that it had
-  pub IsReachedAgain-moved : (link links node).level ≢ 0 → HaveOneArc (link links node) new → ((link links node).level < new.level → Contains ties node → ⊥) → IsReachedAgain roads node new links waiting ties now waiting' ties
-  IsReachedAgain-moved linked same untied =
+  pub IsReachedAgain-moved : (link links node).level ≢ 0 → HaveOneArc (link links node) new → ((link links node).level < new.level → AreWoken ties node waiting') → IsReachedAgain roads node new links waiting ties now waiting' ties
+  IsReachedAgain-moved linked same woken =
       let level = ap (λ (l : Link). l.level) at_node in
       let P : Link → Type 0 = λ x. Precedes (with_number roads new) (with_number roads x) in
       let Q : Link → Type 0 = λ x. (l : Link) → Precedes l (with_number roads x) → Precedes l (with_number roads (link links node)) in
@@ -82,7 +91,7 @@ module _ (roads : Roads) (node : ℕ) (new : Link) (links : List Link) (waiting 
         kept = kept;
         passed = λ room there. Precedes-not_itself (with_number roads new) (subst P at_node there);
         better = elim (cases_lt (link links node).level new.level) [
-          | inl risen ↦ inr ((linked, same), untied risen)
+          | inl risen ↦ inr ((linked, same), woken risen)
           | inr low ↦ inl (subst Q (sym at_node) (λ l there. lower l low there))
         ];
         listed = λ v there. there;
@@ -119,7 +128,7 @@ IsFallen-set node new links first last = record {
 }
 
 -- what follows one note
-module _ (roads : Roads) (note : Note) (had met : ℕ → ℕ → ℕ → Type 0) (links links' : List Link) (waiting waiting' ties ties' : List ℕ) where
+module _ (roads : Roads) (note : Note) (had met : ℕ → ℕ → ℕ → Type 0) (links links' : List Link) (waiting waiting' : List ℕ) (ties ties' : List (ℕ × ℕ)) where
   abbrev step : List Link → ℕ → ℕ → Link
   step xs u k = record { level = (link xs u).level + 1; arc = number_at roads u k; from = u }
 
@@ -239,7 +248,7 @@ module _ (roads : Roads) (note : Note) (had met : ℕ → ℕ → ℕ → Type 0
               | inr risen ↦ elim (tied note.node u k (included note.node u k old.1)) [
                 | inl begins ↦ absurd (risen.0.0 begins)
                 | inr (inl own) ↦ inl (λ better. new (own.0 ∙ risen.0.1.0) (own.1 ∙ risen.0.1.1) better)
-                | inr (inr there) ↦ absurd (risen.1 there)
+                | inr (inr there) ↦ inr (risen.1 u there)
               ]
             ]
           ]
@@ -300,24 +309,34 @@ module _ (roads : Roads) (note : Note) (had met : ℕ → ℕ → ℕ → Type 0
       | inr old ↦ elim (tied v u k old.1) [
         | inl begins ↦ (let at_v = ap (λ (l : Link). l.level) (reached.others v ne) in inl (at_v ∙ begins))
         | inr (inl own) ↦ inr (inl (own.0 ∙ sym (ap (λ (l : Link). l.from) (reached.others v ne)), own.1 ∙ sym (ap (λ (l : Link). l.arc) (reached.others v ne))))
-        | inr (inr there) ↦ inr (inr (reached.listed v there))
+        | inr (inr there) ↦ inr (inr (reached.listed (v, u) there))
       ]
     ]
   ]
     where
       Tie : ℕ → ℕ → ℕ → Type 0
-      Tie x u k = ((link links' x).level ≡ 0) ⊎ (((u ≡ (link links' x).from) × (k ≡ (link links' x).arc)) ⊎ Contains ties' x)
+      Tie x u k = ((link links' x).level ≡ 0) ⊎ (((u ≡ (link links' x).from) × (k ≡ (link links' x).arc)) ⊎ Contains ties' (x, u))
+
+      listed : (x : ℕ) → u ≡ x → Contains ties' (note.node, x) → Contains ties' (note.node, u)
+      listed x same there = subst (λ (n : ℕ). Contains ties' (note.node, n)) (sym same) there
 
       here : and_had note had note.node u k → Tie note.node u k
       here there = elim reached.tied [
         | inl begins ↦ inl begins
-        | inr (inr listed) ↦ inr (inr listed)
+        | inr (inr two) ↦ elim there [
+          | inl of ↦ inr (inr (listed note.from of.1 two.1.0))
+          | inr old ↦ elim (tied note.node u k old.1) [
+            | inl begins ↦ absurd (two.0 begins)
+            | inr (inl own) ↦ inr (inr (listed (link links note.node).from own.0 two.1.1))
+            | inr (inr before) ↦ inr (inr (reached.listed (note.node, u) before))
+          ]
+        ]
         | inr (inl one) ↦ elim there [
           | inl of ↦ inr (inl (of.1 ∙ sym one.1.1.0, of.2 ∙ sym one.1.1.1))
           | inr old ↦ elim (tied note.node u k old.1) [
             | inl begins ↦ absurd (one.0 begins)
             | inr (inl own) ↦ inr (inl (own.0 ∙ one.1.0.0 ∙ sym one.1.1.0, own.1 ∙ one.1.0.1 ∙ sym one.1.1.1))
-            | inr (inr before) ↦ inr (inr (reached.listed note.node before))
+            | inr (inr before) ↦ inr (inr (reached.listed (note.node, u) before))
           ]
         ]
       ]
@@ -345,8 +364,48 @@ module _ (roads : Roads) (note : Note) (had met : ℕ → ℕ → ℕ → Type 0
         subst (AreTied (and_had note had) links') (sym fell.1.1) (AreTied-fell tied falls fell.0))
   ]
 
+-- a node was raised: it was reached once more by the arc of its link
+module _ (roads : Roads) (note : Note) (notes : List Note) (links links' : List Link) (waiting waiting' : List ℕ) (ties ties' : List (ℕ × ℕ)) (again : note.again ≡ true) (same : HaveOneArc (link links note.node) (link_of note links)) (begun : (link links note.node).level ≢ 0) (linked : (link links note.node).level < NO_LEVEL) (reached : IsReachedAgain roads note.node (link_of note links) links waiting ties links' waiting' ties') where
+  abbrev had : ℕ → ℕ → ℕ → Type 0
+  had = had_after notes by_none
+
+  abbrev met : ℕ → ℕ → ℕ → Type 0
+  met = met_after notes by_none
+
+  never : {v : ℕ} → note.again ≡ false → v ≢ note.node
+  never falls = absurd (false≢true (sym falls ∙ again))
+
+  pub AreAfter-raised : (sources : List Source) (table : List ℕ) → AreAfter roads sources table notes links waiting ties → AreAfter roads sources table notes links' waiting' ties'
+  AreAfter-raised sources table before = (
+    record {
+      places = after.places;
+      low = after.low;
+      linked = λ v there. elim (after.linked v there) [
+        | inl seed ↦ inl seed
+        | inr (inl of) ↦ inr (here v (link links' v).from (link links' v).arc of)
+        | inr (inr by) ↦ inr by.1
+      ];
+      passed = λ v u k by. after.passed v u k (inr ((λ falls. absurd (false≢true (sym falls ∙ again))), by));
+    },
+    λ v u k by. AreTied-followed roads note had by_none links links' waiting waiting' ties ties' before.1 followed v u k (inr (never, by)),
+  )
+    where
+      followed : IsFollowed roads note links waiting ties links' waiting' ties'
+      followed = record { fell = λ falls. absurd (false≢true (sym falls ∙ again)); again = λ _. reached }
+
+      after : AreReplayed roads sources table (and_had note had) (and_met note met) links' waiting'
+      after = AreReplayed-followed roads note had met links links' waiting waiting' ties ties' sources table before.0 (omega arith) (met-had notes by_none by_none (λ v u k by. by)) before.1 followed
+
+      -- the arc of the note is that of the link, by which the label was had
+      here : (v u k : ℕ) → IsNoteOf note v u k → had v u k
+      here v u k of = elim (before.0.linked note.node linked) [
+        | inl seed ↦ absurd (begun seed.0)
+        | inr by ↦ (
+            subst (λ (x : ℕ). had x u k) (sym of.0) (subst (λ (x : ℕ). had note.node u x) (same.1 ∙ sym of.2) (subst (λ (x : ℕ). had note.node x (link links note.node).arc) (same.0 ∙ sym of.1) by)))
+      ]
+
 -- so many notes were followed, and one more
-module _ (roads : Roads) (notes : List Note) (note : Note) (links links' : List Link) (waiting waiting' ties ties' : List ℕ) (followed : IsFollowed roads note links waiting ties links' waiting' ties') (tied : AreTied (had_after notes by_none) links ties) where
+module _ (roads : Roads) (notes : List Note) (note : Note) (links links' : List Link) (waiting waiting' : List ℕ) (ties ties' : List (ℕ × ℕ)) (followed : IsFollowed roads note links waiting ties links' waiting' ties') (tied : AreTied (had_after notes by_none) links ties) where
   pub AreTied-more : AreTied (had_after (notes ++ note ∷ []) by_none) links' ties'
   AreTied-more v u k by = AreTied-followed roads note (had_after notes by_none) by_none links links' waiting waiting' ties ties' tied followed v u k (had-last notes note by_none v u k by)
 
@@ -361,5 +420,5 @@ module _ (roads : Roads) (notes : List Note) (note : Note) (links links' : List 
       }
 
 -- before the first note
-pub AreTied-none : (links : List Link) (ties : List ℕ) → AreTied (had_after [] by_none) links ties
+pub AreTied-none : (links : List Link) (ties : List (ℕ × ℕ)) → AreTied (had_after [] by_none) links ties
 AreTied-none links ties v u k by = absurd by

@@ -15,14 +15,17 @@ mod noted;
 mod notes;
 mod open;
 mod opens;
+mod raising;
 mod replaying;
 mod search;
 mod searching;
 mod soon;
 mod table;
+mod ties;
 mod touching;
 mod unwinding;
 mod waiting;
+mod words;
 
 pub use alone::{arrivals_alone, arrivals_alone_by, solve_alone, solve_alone_by};
 pub use answer::Answer;

@@ -15,7 +15,9 @@ ghost use Rattle.ea_finish.specs.Underway.{bound_of};
 use crate::link::{Link, NO_LEVEL, NO_LINK};
 use crate::mending::mend_waiting;
 use crate::noted::Noted;
+use crate::raising::raise;
 use crate::replaying::{number_of, replay};
+use crate::ties::Ties;
 use crate::unwinding::{link_all, sow};
 use crate::waiting::Waiting;
 use ea_road::{Network, Query, Source, TravelTimes};
@@ -88,7 +90,7 @@ fn link_by_notes<T: TravelTimes>(
     noted: &Noted,
     links: &mut [Link],
     waiting: &mut Waiting,
-    ties: &mut Vec<u32>,
+    ties: &mut Ties,
 ) -> bool
     requires classes { top_class network.now.arcs ≤ T.classes times.now }
     requires sources { AreStarts network.now.nodes sources.now }
@@ -97,10 +99,10 @@ fn link_by_notes<T: TravelTimes>(
     requires nodes { waiting.old.nodes ≡ network.now.nodes }
     requires none { links.old ≡ replicate network.now.nodes no_link }
     requires had { AreHad network.now (T.answers times.now) noted.now.labels.items
-        (had_after (notes_in noted.now.notes.items) by_none) }
+        (had_after (notes_in noted.now.notes) by_none) }
     requires met { (node : ℕ) → bound_of noted.now.labels.items node ≢ NONE
         → MeetsAll network.now (T.answers times.now) noted.now.labels.items
-        (met_after (notes_in noted.now.notes.items) by_none) node (bound_of noted.now.labels.items node) }
+        (met_after (notes_in noted.now.notes) by_none) node (bound_of noted.now.labels.items node) }
     ensures places { length links.new ≡ length links.old }
     ensures nodes { waiting.new.nodes ≡ waiting.old.nodes }
     ensures nobody { IsTrue result → waiting.new.waiting ≡ [] }
@@ -110,7 +112,10 @@ fn link_by_notes<T: TravelTimes>(
     network.keeps_limits();
     let table: &[u64] = &noted.labels;
     sow_all(table, sources, links, waiting);
-    if !replay(network, &noted.notes, links, waiting, ties) {
+    if !replay(network, noted.notes.as_slice(), links, waiting, ties) {
+        return false;
+    }
+    if !raise(network, links, waiting, ties) {
         return false;
     }
     sow_all(table, sources, links, waiting);
@@ -129,7 +134,7 @@ pub(crate) fn link_noted<T: TravelTimes>(
     noted: &Noted,
     links: &mut [Link],
     waiting: &mut Waiting,
-    ties: &mut Vec<u32>,
+    ties: &mut Ties,
 )
     requires problem { IsProblem network.now (T.classes times.now) query.now }
     requires all { query.now.target ≡ None }
@@ -138,10 +143,10 @@ pub(crate) fn link_noted<T: TravelTimes>(
     requires nodes { waiting.old.nodes ≡ network.now.nodes }
     requires none { links.old ≡ replicate network.now.nodes no_link }
     requires met { AwaitsScans network.now (T.answers times.now) query.now noted.now.labels.items
-        (λ v u k. (noted.now.whole ≡ false) ⊎ met_after (notes_in noted.now.notes.items) by_none v u k)
+        (λ v u k. (noted.now.whole ≡ false) ⊎ met_after (notes_in noted.now.notes) by_none v u k)
         (Contains []) }
     requires had { AreHad network.now (T.answers times.now) noted.now.labels.items
-        (λ v u k. (noted.now.whole ≡ true) × had_after (notes_in noted.now.notes.items) by_none v u k) }
+        (λ v u k. (noted.now.whole ≡ true) × had_after (notes_in noted.now.notes) by_none v u k) }
     ensures links { AreLinks network.now (T.answers times.now) query.now.sources
         (IsLabel (label_of noted.now.labels.items)) links.new }
     ensures nobody { waiting.new.waiting ≡ [] }

@@ -4,6 +4,7 @@ ghost use Rattle.ea_finish.specs.Notes.{notes_in};
 
 use crate::notes::{NODES, Note, PLACES, word_of};
 use crate::table::{Table, touched};
+use crate::words::Words;
 use ea_road::HORIZON;
 
 /// Labels, and by which arcs they fell or were reached again.
@@ -11,21 +12,21 @@ use ea_road::HORIZON;
 pub(crate) struct Noted {
     pub labels: Vec<u64>,
     /// A word for each note.
-    pub notes: Vec<u64>,
+    pub notes: Words,
     /// Whether nothing is missing from the notes: memory was not refused, and each note had room in a word.
     pub whole: bool,
 }
 
 impl Noted {
     /// Nothing is noted yet.
-    pub(crate) fn new(labels: Vec<u64>, mut notes: Vec<u64>) -> Noted
-        requires { notes.items ≡ [] }
+    pub(crate) fn new(labels: Vec<u64>, mut notes: Words) -> Noted
+        requires { notes ≡ [] }
         ensures labels { result.labels.items ≡ labels.items }
-        ensures notes { result.notes.items ≡ [] }
+        ensures notes { result.notes ≡ [] }
     {
         // Labels of road networks fall little more often than once.
         let many = labels.len().saturating_add(labels.len() / 4);
-        let whole = notes.reserve(many).is_ok();
+        let whole = notes.reserve(many);
         Noted {
             labels,
             notes,
@@ -45,7 +46,7 @@ impl Noted {
     fn note(&mut self, node: u32, from: u32, place: usize, again: bool)
         ensures labels { self.new.labels.items ≡ self.old.labels.items }
         ensures noted { (self.new.whole ≡ true) → (self.old.whole ≡ true)
-            × (notes_in self.new.notes.items ≡ notes_in self.old.notes.items
+            × (notes_in self.new.notes ≡ notes_in self.old.notes
             ++ (record { node = node; from = from; place = place; again = again }) ∷ []) }
     {
         if u64::from(node) >= NODES || u64::from(from) >= NODES || place as u64 >= PLACES {
@@ -58,7 +59,7 @@ impl Noted {
             place: place as u32,
             again,
         });
-        if self.notes.push(word).is_err() {
+        if !self.notes.push(word) {
             self.whole = false;
         }
     }
@@ -73,10 +74,10 @@ impl Table for Noted {
     ghost lists = { λ table node. Unit };
 
     ghost met = { λ table node from place.
-        (table.whole ≡ false) ⊎ met_after (notes_in table.notes.items) by_none node from place };
+        (table.whole ≡ false) ⊎ met_after (notes_in table.notes) by_none node from place };
 
     ghost had = { λ table node from place.
-        (table.whole ≡ true) × had_after (notes_in table.notes.items) by_none node from place };
+        (table.whole ≡ true) × had_after (notes_in table.notes) by_none node from place };
 
     #[inline(always)]
     fn label(&self, node: u32) -> u64 {

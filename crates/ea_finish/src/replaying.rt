@@ -1,22 +1,20 @@
 //! The notes of a search, followed in their order: links with arcs by which labels were had.
-ghost use Rattle.std.specs.Prelude.{◌≡◌, ◌≢◌, ℕ, ◌-◌, ◌<◌, ◌≤◌, Contains, IfSome, List, length, IsTrue, false};
+ghost use Rattle.std.specs.Prelude.{◌≡◌, ◌≢◌, ℕ, ◌-◌, ◌<◌, ◌≤◌, Contains, IfSome, List, length, IsTrue};
 ghost use Rattle.ea_road.specs.declared.source.Source.{Source};
 ghost use Rattle.ea_road.specs.Roads.{Roads};
 ghost use Rattle.ea_finish.specs.Links.{link};
-ghost use Rattle.ea_finish.specs.Notes.{by_none, had_after, met_after, notes_in};
-ghost use Rattle.ea_finish.specs.Replayed.{AreReplayed, HaveOneArc, IsFollowed, IsReachedAgain};
+ghost use Rattle.ea_finish.specs.Notes.{by_none, notes_in};
+ghost use Rattle.ea_finish.specs.Replayed.{AreAfter, AreReplayed, HaveOneArc, IsFollowed, IsReachedAgain};
 ghost use Rattle.ea_finish.specs.Scans.{IsPlaced};
 
 use crate::link::{Link, NO_LEVEL};
 use crate::notes::{Note, note_in};
+use crate::ties::Ties;
 use crate::waiting::Waiting;
 use ea_road::Network;
 
-/// With more ties than this any node may be one of them: the list is not looked through then.
-const MOST_TIES: usize = 4_096;
-
 /// Where a node's link stands among so many.
-fn place_of(node: u32, count: usize) -> Option<usize>
+pub(crate) fn place_of(node: u32, count: usize) -> Option<usize>
     ensures { IfSome result (λ place. (0 < node) × (place ≡ node - 1) × (place < count)) }
 {
     let place = (node as usize).wrapping_sub(1);
@@ -33,32 +31,32 @@ pub(crate) fn number_of(network: &Network, from: u32, place: u32) -> Option<u32>
     network.leaving(from).numbers.get(place as usize).copied()
 }
 
-/// Whether a node may have had more than one arc at its label.
-fn may_be_tied(ties: &[u32], node: u32) -> bool
-    ensures { result ≡ false → Contains ties.now node → ⊥ }
-{
-    ties.len() > MOST_TIES || ties.contains(&node)
-}
-
 /// A node was reached again by the arc of its own link, from a tail whose level may be another by now: the node takes the
-/// level above that. False where the level would rise at a node that may be tied.
-fn relevel(node: u32, new: Link, links: &mut [Link], waiting: &mut Waiting, ties: &[u32]) -> bool
+/// level above that. False where that was given up.
+pub(crate) fn relevel(
+    node: u32,
+    new: Link,
+    links: &mut [Link],
+    waiting: &mut Waiting,
+    ties: &mut Ties,
+) -> bool
     requires node { (0 < node) × (node ≤ waiting.old.nodes) }
     requires places { length links.old ≡ waiting.old.nodes }
     requires level { (link links.old node).level ≢ 0 }
     requires same { HaveOneArc (link links.old node) new }
     ensures places { length links.new ≡ length links.old }
     ensures nodes { waiting.new.nodes ≡ waiting.old.nodes }
+    ensures list { ties.new.list.items ≡ ties.old.list.items }
     ensures reached { IsTrue result → (roads : Roads)
-        → IsReachedAgain roads node new links.old waiting.old.waiting ties.now
-        links.new waiting.new.waiting ties.now }
+        → IsReachedAgain roads node new links.old waiting.old.waiting ties.old.list.items
+        links.new waiting.new.waiting ties.new.list.items }
 {
     let place = node as usize - 1;
     let level = links[place].level;
-    if level < new.level && may_be_tied(ties, node) {
-        return false;
-    }
     links[place] = new;
+    if level < new.level {
+        return ties.rise(node, waiting);
+    }
     if new.level < level {
         waiting.add(node);
     }
@@ -76,10 +74,12 @@ fn choose(
 ) -> bool
     requires node { (0 < node) × (node ≤ waiting.old.nodes) }
     requires places { length links.old ≡ waiting.old.nodes }
+    requires level { (link links.old node).level ≢ 0 }
     ensures places { length links.new ≡ length links.old }
     ensures nodes { waiting.new.nodes ≡ waiting.old.nodes }
-    ensures reached { IsTrue result → (ties ties' : List ℕ)
-        → ((v : ℕ) → Contains ties v → Contains ties' v) → Contains ties' node
+    ensures reached { IsTrue result → (ties ties' : List (ℕ × ℕ))
+        → ((tie : ℕ × ℕ) → Contains ties tie → Contains ties' tie)
+        → Contains ties' (node, new.from) → Contains ties' (node, (link links.old node).from)
         → IsReachedAgain network.now node new links.old waiting.old.waiting ties
         links.new waiting.new.waiting ties' }
 {
@@ -111,7 +111,7 @@ fn tie(
     new: Link,
     links: &mut [Link],
     waiting: &mut Waiting,
-    ties: &mut Vec<u32>,
+    ties: &mut Ties,
 ) -> bool
     requires node { (0 < node) × (node ≤ waiting.old.nodes) }
     requires places { length links.old ≡ waiting.old.nodes }
@@ -119,8 +119,8 @@ fn tie(
     ensures places { length links.new ≡ length links.old }
     ensures nodes { waiting.new.nodes ≡ waiting.old.nodes }
     ensures reached { IsTrue result → IsReachedAgain network.now node new
-        links.old waiting.old.waiting ties.old.items
-        links.new waiting.new.waiting ties.new.items }
+        links.old waiting.old.waiting ties.old.list.items
+        links.new waiting.new.waiting ties.new.list.items }
 {
     let old = links[node as usize - 1];
     if old.level == 0 {
@@ -129,7 +129,7 @@ fn tie(
     if old.from == new.from && old.arc == new.arc {
         return relevel(node, new, links, waiting, ties);
     }
-    if ties.push(node).is_err() {
+    if !ties.tie(node, new.from, old.from) {
         return false;
     }
     choose(network, node, new, links, waiting)
@@ -155,15 +155,15 @@ fn follow_note(
     note: Note,
     links: &mut [Link],
     waiting: &mut Waiting,
-    ties: &mut Vec<u32>,
+    ties: &mut Ties,
 ) -> bool
     requires places { length links.old ≡ network.now.nodes }
     requires nodes { waiting.old.nodes ≡ network.now.nodes }
     ensures places { length links.new ≡ length links.old }
     ensures nodes { waiting.new.nodes ≡ waiting.old.nodes }
     ensures followed { IsTrue result → IsFollowed network.now note
-        links.old waiting.old.waiting ties.old.items
-        links.new waiting.new.waiting ties.new.items }
+        links.old waiting.old.waiting ties.old.list.items
+        links.new waiting.new.waiting ties.new.list.items }
 {
     let Some(from) = place_of(note.from, links.len()) else {
         return false;
@@ -194,7 +194,7 @@ pub(crate) fn replay(
     notes: &[u64],
     links: &mut [Link],
     waiting: &mut Waiting,
-    ties: &mut Vec<u32>,
+    ties: &mut Ties,
 ) -> bool
     requires places { length links.old ≡ network.now.nodes }
     requires nodes { waiting.old.nodes ≡ network.now.nodes }
@@ -202,8 +202,8 @@ pub(crate) fn replay(
     ensures nodes { waiting.new.nodes ≡ waiting.old.nodes }
     ensures replayed { IsTrue result → (sources : List Source) (table : List ℕ)
         → AreReplayed network.now sources table by_none by_none links.old waiting.old.waiting
-        → AreReplayed network.now sources table (had_after (notes_in notes.now) by_none)
-        (met_after (notes_in notes.now) by_none) links.new waiting.new.waiting }
+        → AreAfter network.now sources table (notes_in notes.now)
+        links.new waiting.new.waiting ties.new.list.items }
 {
     ties.clear();
     for word in notes {

@@ -19,8 +19,10 @@ use crate::noted::Noted;
 use crate::open::Open;
 use crate::searching::search;
 use crate::table::{Reached, Table};
+use crate::ties::Ties;
 use crate::unwinding::link_all;
 use crate::waiting::Waiting;
+use crate::words::Words;
 use ea_road::{NONE, Network, Query, TravelTimes};
 use std::alloc::{AllocError, Global};
 use std::marker::Model;
@@ -34,8 +36,8 @@ pub struct Search {
     waiting: Waiting,
     lists: Vec<Vec<(u64, u32)>>,
     listed: Listed,
-    notes: Vec<u64>,
-    ties: Vec<u32>,
+    notes: Words,
+    ties: Ties,
 }
 
 impl Model for Search {
@@ -68,15 +70,11 @@ fn width_without_walks(network: &Network) -> u64 {
 const LARGE_MEAN: u64 = 8;
 
 /// How wide the windows of a search with notes are. Where a node is scanned too early in its window, its heads have a level from it that
-/// changes. Below a large mean weight that is so of many, whose levels all were mended, so the windows are mostly single times there. Where
-/// arcs are waited for, a head may keep its label and have too low a level, so they are narrower there.
+/// changes. Below a large mean weight that is so of many, whose levels all were mended, so the windows are mostly single times there.
 fn width_with_notes(network: &Network) -> u64 {
     let mean = network.mean_weight();
     if mean < LARGE_MEAN {
         return mean / 8;
-    }
-    if network.top_class() > 0 {
-        return mean;
     }
     width_without_walks(network)
 }
@@ -88,8 +86,8 @@ struct Arrays {
     todo: Open,
     lists: Vec<Vec<(u64, u32)>>,
     listed: Listed,
-    notes: Vec<u64>,
-    ties: Vec<u32>,
+    notes: Words,
+    ties: Ties,
 }
 
 /// Searches from the sources until each label is least, on a table without labels and lists without entries.
@@ -141,8 +139,8 @@ impl Search {
             waiting,
             lists,
             listed: Listed::new(alloc, nodes),
-            notes: Vec::new(alloc),
-            ties: Vec::new(alloc),
+            notes: Words::none(alloc),
+            ties: Ties::none(alloc),
         })
     }
 
@@ -185,7 +183,7 @@ impl Search {
         ensures lists { (length result.lists.items ≡ 66)
             × HaveNone (map (λ l. l.items) result.lists.items) }
         ensures listed { result.listed ≡ nothing }
-        ensures notes { result.notes.items ≡ [] }
+        ensures notes { result.notes ≡ [] }
     {
         let Search {
             answer,

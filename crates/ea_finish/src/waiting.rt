@@ -1,5 +1,5 @@
 ghost use Rattle.std.specs.Prelude.{◌≡◌, ℕ, ◌<◌, ◌≤◌, ◌+◌, [], ◌∷◌, ◌++◌, length};
-ghost use Rattle.std.specs.Prelude.{Contains, IfOk, IfSome, MatchOption, ◌⊎◌};
+ghost use Rattle.std.specs.Prelude.{Contains, IfOk, IfSome, IsTrue, MatchOption, ◌⊎◌};
 
 use crate::touching::{AHEAD, Nodes};
 use std::alloc::{AllocError, Global};
@@ -60,6 +60,19 @@ impl Waiting {
             self.marked[place] = true;
             self.queue.push_back_reserved(node);
         }
+    }
+
+    /// Puts what may be a node at the end, unless it waits already. False where it is no node.
+    pub(crate) fn wake(&mut self, node: u32) -> bool
+        ensures nodes { self.new.nodes ≡ self.old.nodes }
+        ensures inside { IsTrue result → Contains self.new.waiting node }
+        ensures kept { (v : ℕ) → Contains self.old.waiting v → Contains self.new.waiting v }
+    {
+        if node == 0 || node as usize > self.marked.len() {
+            return false;
+        }
+        self.add(node);
+        true
     }
 
     /// Takes the node that has waited longest.

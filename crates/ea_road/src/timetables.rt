@@ -87,18 +87,48 @@ impl Timetables {
         if class == 0 {
             return departure + weight;
         }
-        arrive_in(
-            &self.steps,
-            self.list[class as usize - 1],
-            weight,
-            departure,
-        )
+        arrive_in(&self.list, &self.steps, class, weight, departure)
     }
 }
 
-/// The arrival of a kind, with the steps of those that have some.
+/// The arrival of a class above 0. Kinds stay where they lie: each has four words, of which a search needs three at most.
 #[inline(never)]
-fn arrive_in(steps: &Option<StepTable>, kind: RawKind, weight: u64, departure: u64) -> u64
+fn arrive_in(
+    list: &[RawKind],
+    steps: &Option<StepTable>,
+    class: u32,
+    weight: u64,
+    departure: u64,
+) -> u64
+    requires from_one { 0 < class }
+    requires to_last { class ≤ length list.now }
+    requires fit { AreFit list.now (steps_in steps.now) }
+    requires weight { weight < 2 ^ 32 }
+    requires departure { departure ≤ HORIZON }
+    ensures { TimetablesAnswer list.now (steps_in steps.now) class weight departure result }
+{
+    arrive_of(steps, list[class as usize - 1], weight, departure)
+}
+
+/// The arrival of a kind, with the steps of those that have some.
+#[inline(always)]
+fn arrive_of(steps: &Option<StepTable>, kind: RawKind, weight: u64, departure: u64) -> u64
+    requires class { IsClass (steps_in steps.now) kind }
+    requires weight { weight < 2 ^ 32 }
+    requires departure { departure ≤ HORIZON }
+    ensures { ClassAnswers (steps_in steps.now) kind weight departure result }
+{
+    match kind {
+        RawKind::Speeds { .. } | RawKind::Trips { .. } => {
+            arrive_by_steps(steps, kind, weight, departure)
+        }
+        _ => arrive_by(kind, weight, departure),
+    }
+}
+
+/// The arrival of a kind that has steps, which stands apart so that the others are found in few registers.
+#[inline(never)]
+fn arrive_by_steps(steps: &Option<StepTable>, kind: RawKind, weight: u64, departure: u64) -> u64
     requires class { IsClass (steps_in steps.now) kind }
     requires weight { weight < 2 ^ 32 }
     requires departure { departure ≤ HORIZON }

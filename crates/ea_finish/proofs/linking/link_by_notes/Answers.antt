@@ -14,7 +14,7 @@ sow_all-requires-clause-sources g c = rw c.requires.nodes c.requires.sources
 
 pub sow_all-requires-2-clause-sources : goal.sow_all-requires-2-clause-sources
 sow_all-requires-2-clause-sources g c =
-    rw (c.replay.ensures.nodes ∙ c.sow_all.ensures.nodes ∙ c.requires.nodes) c.requires.sources
+    rw (c.raise.ensures.nodes ∙ c.replay.ensures.nodes ∙ c.sow_all.ensures.nodes ∙ c.requires.nodes) c.requires.sources
 
 pub returns-clause-links : goal.returns-clause-links
 returns-clause-links g c = rw (← c.deref-table.ensures.value) (λ yes.
@@ -23,7 +23,7 @@ returns-clause-links g c = rw (← c.deref-table.ensures.value) (λ yes.
     let fifo = g.met.T.TravelTimes.fifo c.args.times.now in
     let sources = c.args.sources.now in
     let table = c.deref-table.result.now in
-    let notes = notes_in c.deref.result.now in
+    let notes = notes_in c.as_slice.result.now in
     let waiting = c.sow_all-2.new.waiting.waiting in
     let had = had_after notes by_none in
     let met = met_after notes by_none in
@@ -31,9 +31,10 @@ returns-clause-links g c = rw (← c.deref-table.ensures.value) (λ yes.
     let first = subst P (sym c.requires.none) (AreReplayed-none network sources table c.args.waiting.now.waiting) in
     let begun = AreReplayed-sown network sources table by_none by_none _ _ _ _ _ first c.sow_all.ensures.offers in
     let followed = c.replay.ensures.replayed c.if-not-replay.false sources table begun in
-    let again = AreReplayed-sown network sources table had met _ _ _ _ _ followed c.sow_all-2.ensures.offers in
+    let raised = c.raise.ensures.raised c.if-not-raise.false network sources table notes followed in
+    let again = AreReplayed-sown network sources table had met _ _ _ _ _ raised.0 c.sow_all-2.ensures.offers in
     let settled = c.settle.ensures.settled c.if-not-settle.false in
-    let settled_by = AreMended-replayed network answers _ c.keeps_limits.ensures c.requires.classes fifo table had met (rw (← c.deref-table.ensures.value, ← c.deref.ensures.value) at c.requires.had) (rw (← c.deref-table.ensures.value, ← c.deref.ensures.value) at c.requires.met) sources c.sow_all-2.new.links c.settle.new.links waiting c.settle.ensures.places again settled in
+    let settled_by = AreMended-replayed network answers _ c.keeps_limits.ensures c.requires.classes fifo table had met (rw (← c.deref-table.ensures.value, ← c.as_slice.ensures) at c.requires.had) (rw (← c.deref-table.ensures.value, ← c.as_slice.ensures) at c.requires.met) sources c.sow_all-2.new.links c.settle.new.links waiting c.settle.ensures.places again settled in
     let mended = c.mend_waiting.ensures.mended sources settled_by in
     let nobody = c.mend_waiting.ensures.nobody yes in
     let all = Settled-mended network answers sources table c.mend_waiting.new.links _ nobody mended (c.mend_waiting.ensures.ready (c.settle.ensures.ready c.if-not-settle.false) yes) in

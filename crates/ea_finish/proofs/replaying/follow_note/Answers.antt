@@ -9,7 +9,7 @@ pub returns-then-note-clause-followed : goal.returns-then-note-clause-followed
 returns-then-note-clause-followed c = λ yes.
     let tail : (0 < c.args.note.from) × (c.in-Some.from ≡ c.args.note.from - 1) × (c.in-Some.from < length c.args.links.now) = c.in-Some.ensures in
     let new = link_of-read c.args.note c.args.links.now c.in-Some.from c.saturating_add-level.result c.args.note.place tail.0 tail.1 tail.2 c.saturating_add-level.ensures refl in
-    let P : Link → Type 0 = λ l. IsReachedAgain c.args.network.now c.args.note.node l c.args.links.now c.args.waiting.now.waiting c.args.ties.now.items c.tie.new.links c.tie.new.waiting.waiting c.tie.new.ties.items in
+    let P : Link → Type 0 = λ l. IsReachedAgain c.args.network.now c.args.note.node l c.args.links.now c.args.waiting.now.waiting c.args.ties.now.list.items c.tie.new.links c.tie.new.waiting.waiting c.tie.new.ties.list.items in
     record {
       fell = λ falls. absurd (false≢true (sym falls ∙ c.if-note.true));
       again = λ again. subst P new (rw c.link_by.ensures at (c.tie.ensures.reached yes));

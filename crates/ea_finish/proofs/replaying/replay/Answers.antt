@@ -2,7 +2,7 @@ use Rattle.std.proofs.Common.{◌≡◌, ℕ, ◌+◌, List, [], ◌∷◌, ◌+
 use Rattle.std.proofs.lemmas.List.{map_more, take_all}
 use Rattle.ea_finish.specs.declared.notes.Note.{Note}
 use Rattle.ea_finish.specs.Notes.{by_none, had_after, met_after, note_in, notes_in}
-use Rattle.ea_finish.specs.Replayed.{AreReplayed, AreTied}
+use Rattle.ea_finish.specs.Replayed.{AreAfter, AreReplayed, AreTied}
 use Rattle.ea_finish.proofs.Replayings.{AreTied-none, AreTied-more, AreReplayed-more}
 use Rattle.ea_finish.proofs.replaying.replay.Goals as goal
 
@@ -10,7 +10,7 @@ pub loop-word-init : goal.loop-word-init
 loop-word-init c = record {
   places = refl;
   nodes = refl;
-  tied = AreTied-none c.args.links.now c.clear.new.self.items;
+  tied = AreTied-none c.args.links.now c.clear.new.self.list.items;
   replayed = λ sources table begun. begun;
 }
 
@@ -29,7 +29,7 @@ loop-word-preserved c =
     let before = c.loop-word.invariant in
     let followed = rw c.note_in.ensures at (c.follow_note.ensures.followed c.if-not-follow_note.false) in
     let more : notes_in (take (place + 1) words) ≡ notes ++ note ∷ [] = map_more note_in words place 0 c.loop-word-test.true in
-    let P : List Note → Type 0 = λ xs. AreTied (had_after xs by_none) c.follow_note.new.links c.follow_note.new.ties.items in
+    let P : List Note → Type 0 = λ xs. AreTied (had_after xs by_none) c.follow_note.new.links c.follow_note.new.ties.list.items in
     record {
       places = c.follow_note.ensures.places ∙ before.places;
       nodes = c.follow_note.ensures.nodes ∙ before.nodes;
@@ -43,5 +43,5 @@ pub returns-clause-replayed : goal.returns-clause-replayed
 returns-clause-replayed c = λ yes sources table begun.
     let words = c.args.notes.now in
     let all : take c.loop-word.word-index words ≡ words = take_all c.loop-word.word-index words (omega arith) in
-    let Q : List ℕ → Type 0 = λ xs. AreReplayed c.args.network.now sources table (had_after (notes_in xs) by_none) (met_after (notes_in xs) by_none) c.loop-word.links c.loop-word.waiting.waiting in
-    subst Q all (c.loop-word.invariant.replayed sources table begun)
+    let Q : List ℕ → Type 0 = λ xs. AreAfter c.args.network.now sources table (notes_in xs) c.loop-word.links c.loop-word.waiting.waiting c.loop-word.ties.list.items in
+    subst Q all (c.loop-word.invariant.replayed sources table begun, c.loop-word.invariant.tied)

@@ -9,6 +9,6 @@ abbrev pub invariant-loop-word : goal.invariant-loop-word
 invariant-loop-word l = record {
   places : length l.links ≡ length l.initial.links;
   nodes : l.waiting.nodes ≡ l.initial.waiting.nodes;
-  tied : AreTied (had_after (notes_in (take l.word-index l.notes)) by_none) l.links l.ties.items;
+  tied : AreTied (had_after (notes_in (take l.word-index l.notes)) by_none) l.links l.ties.list.items;
   replayed : (sources : List Source) (table : List ℕ) → AreReplayed l.network sources table by_none by_none l.initial.links l.initial.waiting.waiting → AreReplayed l.network sources table (had_after (notes_in (take l.word-index l.notes)) by_none) (met_after (notes_in (take l.word-index l.notes)) by_none) l.links l.waiting.waiting;
 }

@@ -1,10 +1,9 @@
-use Rattle.std.proofs.Common.{◌≡◌, true, not, ℕ, List, [], ◌∷◌, ◌++◌, subst, Contains, ap, inl, inr, arith, sym, ◌∙◌}
-use Rattle.std.specs.Result.{is_ok}
-use Rattle.std.proofs.lemmas.List.Elements.{Contains-append_left, Contains-push}
+use Rattle.std.proofs.Common.{◌≡◌, ℕ, List, [], ◌∷◌, ◌++◌, subst, Contains, ap, inl, inr, arith, sym, ◌∙◌}
+use Rattle.std.proofs.lemmas.List.Elements.{Contains-append_left}
 use Rattle.ea_finish.specs.declared.link.Link.{Link}
-use Rattle.ea_finish.specs.Replayed.{IsReachedAgain}
+use Rattle.ea_finish.specs.Links.{link}
 use Rattle.ea_finish.proofs.Linkings.{link_read}
-use Rattle.ea_finish.proofs.Replayings.{IsReachedAgain-kept}
+use Rattle.ea_finish.proofs.Replayings.{Contains-two, IsReachedAgain-kept}
 use Rattle.ea_finish.proofs.replaying.tie.Goals as goal
 
 pub returns-then-old-eq0-clause-reached : goal.returns-then-old-eq0-clause-reached
@@ -21,15 +20,20 @@ relevel-requires-clause-same c =
     (sym (ap (λ (l : Link). l.from) read) ∙ c.if-old-new.true, sym (ap (λ (l : Link). l.arc) read) ∙ c.if-old-new-2.true)
 
 pub returns-then-old-new-2-clause-reached : goal.returns-then-old-new-2-clause-reached
-returns-then-old-new-2-clause-reached c = λ yes.
-    let P : List ℕ → Type 0 = λ ties. IsReachedAgain c.args.network.now c.args.node c.args.new c.args.links.now c.args.waiting.now.waiting ties c.relevel.new.links c.relevel.new.waiting.waiting ties in
-    subst P c.deref.ensures.value (c.relevel.ensures.reached yes c.args.network.now)
+returns-then-old-new-2-clause-reached c = λ yes. c.relevel.ensures.reached yes c.args.network.now
+
+pub choose-requires-clause-level : goal.choose-requires-clause-level
+choose-requires-clause-level c = λ none. c.if-old-eq0.false (ap (λ (l : Link). l.level) (link_read c.args.links.now c.args.node c.requires.node.0 (omega arith)) ∙ none)
 
 pub returns-clause-reached : goal.returns-clause-reached
 returns-clause-reached c = λ yes.
-    let ties = c.args.ties.now.items in
-    let good : is_ok c.push.result ≡ true = c.is_err.ensures.negation ∙ ap not c.if-is_err.false in
-    let pushed : c.push.new.self.items ≡ ties ++ c.args.node ∷ [] = rw good at c.push.ensures.items in
-    let P : List ℕ → Type 0 = λ xs. Contains xs c.args.node in
-    let Q : List ℕ → Type 0 = λ xs. (v : ℕ) → Contains ties v → Contains xs v in
-    c.choose.ensures.reached yes ties c.push.new.self.items (subst Q (sym pushed) (Contains-append_left ties (c.args.node ∷ []))) (subst P (sym pushed) (Contains-push ties c.args.node))
+    let ties = c.args.ties.now.list.items in
+    let node = c.args.node in
+    let new : ℕ × ℕ = (node, c.args.new.from) in
+    let old : Link = link c.args.links.now node in
+    let read = ap (λ (l : Link). ties ++ new ∷ (node, l.from) ∷ []) (link_read c.args.links.now node c.requires.node.0 (omega arith)) in
+    let pushed : c.tie.new.self.list.items ≡ ties ++ new ∷ (node, old.from) ∷ [] = c.tie.ensures c.if-not-tie.false ∙ read in
+    let P : List (ℕ × ℕ) → Type 0 = λ xs. (tie : ℕ × ℕ) → Contains ties tie → Contains xs tie in
+    let Q : ℕ × ℕ → List (ℕ × ℕ) → Type 0 = λ tie xs. Contains xs tie in
+    let both = Contains-two ties new (node, old.from) in
+    c.choose.ensures.reached yes ties c.tie.new.self.list.items (subst P (sym pushed) (Contains-append_left ties (new ∷ (node, old.from) ∷ []))) (subst (Q new) (sym pushed) both.0) (subst (Q (node, old.from)) (sym pushed) both.1)

@@ -1,12 +1,9 @@
-use Rattle.std.proofs.Common.{sym, subst}
-use Rattle.std.specs.Prelude.{Option}
+use Rattle.std.proofs.Common.{arith, ◌-◌, ◌<◌, length}
 use Rattle.ea_road.specs.StepLists.{steps_in}
-use Rattle.ea_road.specs.Timetables.{ClassAnswers}
-use Rattle.ea_road.specs.declared.step_table.StepTable.{StepTable}
-use Rattle.ea_road.proofs.Classes.{trips_answer}
+use Rattle.ea_road.proofs.Classes.{class_at}
 use Rattle.ea_road.proofs.timetables.arrive_in.Goals as goal
 
-pub returns-in-Some-steps : goal.returns-in-Some-steps
-returns-in-Some-steps c =
-    let answer = trips_answer c.in-Some-steps.table.list.items c.args.kind c.in-Trips.period c.in-Trips.first c.in-Trips.count c.args.weight c.args.departure c.by_trips.result c.in-Trips.is c.by_trips.ensures in
-    subst (λ (steps : Option StepTable). ClassAnswers (steps_in steps) c.args.kind c.args.weight c.args.departure c.by_trips.result) (sym c.in-Some-steps.is) answer
+pub arrive_of-requires-clause-class : goal.arrive_of-requires-clause-class
+arrive_of-requires-clause-class c =
+    let below : c.args.class - 1 < length c.args.list.now = omega (arith, c.requires.to_last, c.requires.from_one) in
+    class_at c.args.list.now (steps_in c.args.steps.now) (c.args.class - 1) _ c.requires.fit below
