@@ -1,5 +1,6 @@
 #!/bin/sh
-# Times the network's index and the engine of one thread beside searches of one thread by hand, on road-like graphs with timetables.
+# Times the engine of one thread beside searches by hand, in turns, on road-like graphs of 10^5, 10^6 and 10^7 nodes, plain and with
+# timetables; and canonical walks by hand on the first two.
 set -e
 here=$(cd "$(dirname "$0")" && pwd)
 scratch=${1:-/tmp/bench}
@@ -7,17 +8,14 @@ mkdir -p "$scratch"
 rustc --edition 2024 -O "$here/generate.rs" -o "$scratch/generate"
 rustc --edition 2024 -O -C target-cpu=x86-64-v2 "$here/hand/main.rs" -o "$scratch/hand"
 rustc --edition 2024 -O -C target-cpu=x86-64-v2 "$here/walks.rs" -o "$scratch/walks"
-printf 'p aux sp ss 1\ns 1\n' > "$scratch/one.ss"
-for arcs in 250000 2500000 10000000; do
+for arcs in 250000 2500000 25000000; do
     "$scratch/generate" "$arcs" "$scratch/road$arcs"
 done
 program=$(python3 "$here/workspace.py" alone "$scratch" -- "$scratch/road250000.gr" "$scratch/road250000.tp" | tail -1)
-for arcs in 250000 2500000 10000000; do
-    echo "== road$arcs"
-    "$program" "$scratch/road$arcs.gr" "$scratch/road$arcs.tp"
-    for method in heap radix buckets; do
-        echo "$method, by hand"
-        "$scratch/hand" run "$method" "$scratch/road$arcs.gr" "$scratch/one.ss" "$scratch/road$arcs.tp" 0 1 /dev/null
-    done
+python3 "$here/alone_rounds.py" 15 "$scratch/hand" "$program" "$scratch/road250000"
+python3 "$here/alone_rounds.py" 8 "$scratch/hand" "$program" "$scratch/road2500000"
+python3 "$here/alone_rounds.py" 3 "$scratch/hand" "$program" "$scratch/road25000000"
+for arcs in 250000 2500000; do
+    echo "walks by hand, $scratch/road$arcs"
     "$scratch/walks" "$scratch/road$arcs.gr" "$scratch/road$arcs.tp" 7
 done

@@ -6,8 +6,8 @@
 //!   hand check GR SS TP DEPART REPORT                searches again and compares
 //!   hand make_pairs GR OUT COUNT NODES
 //!
-//! TP is `-` for none. All but make_pairs print the microseconds of reading, of the index, of all searches and of writing, and the
-//! sum of the arrivals. One file: `rustc -O main.rs`.
+//! TP is `-` for none. All but make_pairs print the microseconds of reading, of the index, of all searches, of the quickest search of
+//! `run` and of writing, and the sum of the arrivals. One file: `rustc -O main.rs`.
 mod alone;
 mod multiqueue;
 mod network;
@@ -51,13 +51,20 @@ struct Took {
     read: u128,
     index: u128,
     solve: u128,
+    least: u128,
     write: u128,
     sum: u64,
 }
 
 impl Took {
     fn print(&self) {
-        println!("read_us {} index_us {} solve_us {} write_us {} sum {}", self.read, self.index, self.solve, self.write, self.sum);
+        let Took { read, index, solve, least, write, sum } = self;
+        println!("read_us {read} index_us {index} solve_us {solve} least_us {least} write_us {write} sum {sum}");
+    }
+
+    fn searched(&mut self, micros: u128) {
+        self.least = if self.solve == 0 { micros } else { self.least.min(micros) };
+        self.solve += micros;
     }
 }
 
@@ -66,7 +73,7 @@ fn run(method: &str, network: &Network, sources: &[u32], departure: u64, workers
     for source in sources {
         let begun = Instant::now();
         let labels = solve(method, network, *source, departure, workers);
-        took.solve += begun.elapsed().as_micros();
+        took.searched(begun.elapsed().as_micros());
         took.sum = took.sum.wrapping_add(sum(&labels));
         let begun = Instant::now();
         report::of_problem(*source, departure, &labels, |text| file.write_all(text).expect("room for the report"));

@@ -405,19 +405,17 @@ module _ (roads : Roads) (note : Note) (notes : List Note) (links links' : List 
       ]
 
 -- so many notes were followed, and one more
-module _ (roads : Roads) (notes : List Note) (note : Note) (links links' : List Link) (waiting waiting' : List ℕ) (ties ties' : List (ℕ × ℕ)) (followed : IsFollowed roads note links waiting ties links' waiting' ties') (tied : AreTied (had_after notes by_none) links ties) where
-  pub AreTied-more : AreTied (had_after (notes ++ note ∷ []) by_none) links' ties'
-  AreTied-more v u k by = AreTied-followed roads note (had_after notes by_none) by_none links links' waiting waiting' ties ties' tied followed v u k (had-last notes note by_none v u k by)
-
-  pub AreReplayed-more : (sources : List Source) (table : List ℕ) → AreReplayed roads sources table (had_after notes by_none) (met_after notes by_none) links waiting → AreReplayed roads sources table (had_after (notes ++ note ∷ []) by_none) (met_after (notes ++ note ∷ []) by_none) links' waiting'
-  AreReplayed-more sources table before =
-      let after = AreReplayed-followed roads note (had_after notes by_none) (met_after notes by_none) links links' waiting waiting' ties ties' sources table before (omega arith) (met-had notes by_none by_none (λ v u k by. by)) tied followed in
+pub AreAfter-more : (roads : Roads) (notes : List Note) (note : Note) (links links' : List Link) (waiting waiting' : List ℕ) (ties ties' : List (ℕ × ℕ)) → IsFollowed roads note links waiting ties links' waiting' ties' → (sources : List Source) (table : List ℕ) → AreAfter roads sources table notes links waiting ties → AreAfter roads sources table (notes ++ note ∷ []) links' waiting' ties'
+AreAfter-more roads notes note links links' waiting waiting' ties ties' followed sources table before =
+    let after = AreReplayed-followed roads note (had_after notes by_none) (met_after notes by_none) links links' waiting waiting' ties ties' sources table before.0 (omega arith) (met-had notes by_none by_none (λ v u k by. by)) before.1 followed in (
       record {
         places = after.places;
         low = after.low;
         linked = λ v there. elim (after.linked v there) [ inl seed ↦ inl seed | inr by ↦ inr (had-then notes note by_none v (link links' v).from (link links' v).arc by) ];
         passed = λ v u k by. after.passed v u k (met-last notes note by_none v u k by);
-      }
+      },
+      λ v u k by. AreTied-followed roads note (had_after notes by_none) by_none links links' waiting waiting' ties ties' before.1 followed v u k (had-last notes note by_none v u k by),
+    )
 
 -- before the first note
 pub AreTied-none : (links : List Link) (ties : List (ℕ × ℕ)) → AreTied (had_after [] by_none) links ties

@@ -15,7 +15,6 @@ ghost use Rattle.ea_finish.specs.Underway.{bound_of};
 use crate::link::{Link, NO_LEVEL, NO_LINK};
 use crate::mending::mend_waiting;
 use crate::noted::Noted;
-use crate::raising::raise;
 use crate::replaying::{number_of, replay};
 use crate::ties::Ties;
 use crate::unwinding::{link_all, sow};
@@ -113,9 +112,6 @@ fn link_by_notes<T: TravelTimes>(
     let table: &[u64] = &noted.labels;
     sow_all(table, sources, links, waiting);
     if !replay(network, noted.notes.as_slice(), links, waiting, ties) {
-        return false;
-    }
-    if !raise(network, links, waiting, ties) {
         return false;
     }
     sow_all(table, sources, links, waiting);

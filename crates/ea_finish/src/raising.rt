@@ -1,4 +1,4 @@
-//! Links that lie too low after notes were followed: those by arcs from nodes whose level rose after they were used.
+//! Links that lie too low after a note was followed: those by arcs from nodes whose level rose after they were used.
 ghost use Rattle.std.specs.Prelude.{◌≡◌, length, IsTrue};
 ghost use Rattle.ea_road.specs.Roads.{IsNode};
 ghost use Rattle.ea_finish.specs.Replayed.{StayAfter};
@@ -8,9 +8,6 @@ use crate::replaying::{place_of, relevel};
 use crate::ties::Ties;
 use crate::waiting::Waiting;
 use ea_road::Network;
-
-/// Of so many nodes one is raised at most. Beyond that it may cost less to find all links anew.
-const PART: usize = 128;
 
 /// Raises a head above a node, if its link is by an arc from the node and lies no higher than the node. False where that was given
 /// up.
@@ -73,8 +70,33 @@ fn raise_heads(
     true
 }
 
+/// What `raise` does where a level rose.
+#[inline(never)]
+fn raise_all(network: &Network, links: &mut [Link], waiting: &mut Waiting, ties: &mut Ties) -> bool
+    requires places { length links.old ≡ network.now.nodes }
+    requires nodes { waiting.old.nodes ≡ network.now.nodes }
+    ensures places { length links.new ≡ length links.old }
+    ensures nodes { waiting.new.nodes ≡ waiting.old.nodes }
+    ensures raised { IsTrue result → StayAfter links.old waiting.old.waiting ties.old.list.items
+        links.new waiting.new.waiting ties.new.list.items }
+{
+    'raising: for _ in 0..links.len() {
+        let Some(node) = ties.risen.pop() else {
+            return true;
+        };
+        if node == 0 || node > network.nodes() {
+            return false;
+        }
+        if !raise_heads(network, node, links, waiting, ties) {
+            return false;
+        }
+    }
+    false
+}
+
 /// Raises nodes above those whose level rose, and what was reached by them, until none lies too low. False where that was
 /// given up; then links and nodes that wait are of no use.
+#[inline(always)]
 pub(crate) fn raise(
     network: &Network,
     links: &mut [Link],
@@ -88,16 +110,8 @@ pub(crate) fn raise(
     ensures raised { IsTrue result → StayAfter links.old waiting.old.waiting ties.old.list.items
         links.new waiting.new.waiting ties.new.list.items }
 {
-    'raising: for _ in 0..links.len() / PART + 1 {
-        let Some(node) = ties.risen.pop() else {
-            return true;
-        };
-        if node == 0 || node > network.nodes() {
-            return false;
-        }
-        if !raise_heads(network, node, links, waiting, ties) {
-            return false;
-        }
+    if ties.risen.is_empty() {
+        return true;
     }
-    false
+    raise_all(network, links, waiting, ties)
 }

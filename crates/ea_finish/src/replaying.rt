@@ -9,6 +9,7 @@ ghost use Rattle.ea_finish.specs.Scans.{IsPlaced};
 
 use crate::link::{Link, NO_LEVEL};
 use crate::notes::{Note, note_in};
+use crate::raising::raise;
 use crate::ties::Ties;
 use crate::waiting::Waiting;
 use ea_road::Network;
@@ -205,9 +206,15 @@ pub(crate) fn replay(
         → AreAfter network.now sources table (notes_in notes.now)
         links.new waiting.new.waiting ties.new.list.items }
 {
-    ties.clear();
+    ties.clear(links.len());
     for word in notes {
-        if !follow_note(network, note_in(*word), links, waiting, ties) {
+        let note = note_in(*word);
+        if !follow_note(network, note, links, waiting, ties) {
+            return false;
+        }
+        // At once: so what later notes build on the heads is right, and only what was built already is raised.
+        // At once, so that what later notes build on the raised nodes is right.
+        if !raise(network, links, waiting, ties) {
             return false;
         }
     }

@@ -14,7 +14,7 @@ sow_all-requires-clause-sources g c = rw c.requires.nodes c.requires.sources
 
 pub sow_all-requires-2-clause-sources : goal.sow_all-requires-2-clause-sources
 sow_all-requires-2-clause-sources g c =
-    rw (c.raise.ensures.nodes ∙ c.replay.ensures.nodes ∙ c.sow_all.ensures.nodes ∙ c.requires.nodes) c.requires.sources
+    rw (c.replay.ensures.nodes ∙ c.sow_all.ensures.nodes ∙ c.requires.nodes) c.requires.sources
 
 pub returns-clause-links : goal.returns-clause-links
 returns-clause-links g c = rw (← c.deref-table.ensures.value) (λ yes.
@@ -31,8 +31,7 @@ returns-clause-links g c = rw (← c.deref-table.ensures.value) (λ yes.
     let first = subst P (sym c.requires.none) (AreReplayed-none network sources table c.args.waiting.now.waiting) in
     let begun = AreReplayed-sown network sources table by_none by_none _ _ _ _ _ first c.sow_all.ensures.offers in
     let followed = c.replay.ensures.replayed c.if-not-replay.false sources table begun in
-    let raised = c.raise.ensures.raised c.if-not-raise.false network sources table notes followed in
-    let again = AreReplayed-sown network sources table had met _ _ _ _ _ raised.0 c.sow_all-2.ensures.offers in
+    let again = AreReplayed-sown network sources table had met _ _ _ _ _ followed.0 c.sow_all-2.ensures.offers in
     let settled = c.settle.ensures.settled c.if-not-settle.false in
     let settled_by = AreMended-replayed network answers _ c.keeps_limits.ensures c.requires.classes fifo table had met (rw (← c.deref-table.ensures.value, ← c.as_slice.ensures) at c.requires.had) (rw (← c.deref-table.ensures.value, ← c.as_slice.ensures) at c.requires.met) sources c.sow_all-2.new.links c.settle.new.links waiting c.settle.ensures.places again settled in
     let mended = c.mend_waiting.ensures.mended sources settled_by in

@@ -1,7 +1,7 @@
 use Rattle.std.proofs.Common.{◌≡◌, ℕ, List, length, take}
 use Rattle.ea_road.specs.declared.source.Source.{Source}
-use Rattle.ea_finish.specs.Notes.{by_none, had_after, met_after, notes_in}
-use Rattle.ea_finish.specs.Replayed.{AreReplayed, AreTied}
+use Rattle.ea_finish.specs.Notes.{by_none, notes_in}
+use Rattle.ea_finish.specs.Replayed.{AreAfter, AreReplayed}
 use Rattle.ea_finish.proofs.replaying.replay.Given as goal
 
 -- the notes so far were followed
@@ -9,6 +9,5 @@ abbrev pub invariant-loop-word : goal.invariant-loop-word
 invariant-loop-word l = record {
   places : length l.links ≡ length l.initial.links;
   nodes : l.waiting.nodes ≡ l.initial.waiting.nodes;
-  tied : AreTied (had_after (notes_in (take l.word-index l.notes)) by_none) l.links l.ties.list.items;
-  replayed : (sources : List Source) (table : List ℕ) → AreReplayed l.network sources table by_none by_none l.initial.links l.initial.waiting.waiting → AreReplayed l.network sources table (had_after (notes_in (take l.word-index l.notes)) by_none) (met_after (notes_in (take l.word-index l.notes)) by_none) l.links l.waiting.waiting;
+  after : (sources : List Source) (table : List ℕ) → AreReplayed l.network sources table by_none by_none l.initial.links l.initial.waiting.waiting → AreAfter l.network sources table (notes_in (take l.word-index l.notes)) l.links l.waiting.waiting l.ties.list.items;
 }

@@ -1,5 +1,5 @@
 use Rattle.std.proofs.Common.{◌∙◌}
-use Rattle.ea_finish.proofs.raising.raise.Goals as goal
+use Rattle.ea_finish.proofs.raising.raise_all.Goals as goal
 
 pub raising-preserved : goal.raising-preserved
 raising-preserved c = record {

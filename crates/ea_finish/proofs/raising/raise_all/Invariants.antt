@@ -1,6 +1,6 @@
 use Rattle.std.proofs.Common.{◌≡◌, length}
 use Rattle.ea_finish.specs.Replayed.{StayAfter}
-use Rattle.ea_finish.proofs.raising.raise.Given as goal
+use Rattle.ea_finish.proofs.raising.raise_all.Given as goal
 
 -- what was raised so far
 abbrev pub invariant-raising : goal.invariant-raising
