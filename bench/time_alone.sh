@@ -1,13 +1,12 @@
 #!/bin/sh
 # Times the engine of one thread beside searches by hand, in turns, on road-like graphs of 10^5, 10^6 and 10^7 nodes, plain and with
-# timetables; and canonical walks by hand on the first two.
+# timetables.
 set -e
 here=$(cd "$(dirname "$0")" && pwd)
 scratch=${1:-/tmp/bench}
 mkdir -p "$scratch"
 rustc --edition 2024 -O "$here/generate.rs" -o "$scratch/generate"
 rustc --edition 2024 -O -C target-cpu=x86-64-v2 "$here/hand/main.rs" -o "$scratch/hand"
-rustc --edition 2024 -O -C target-cpu=x86-64-v2 "$here/walks.rs" -o "$scratch/walks"
 for arcs in 250000 2500000 25000000; do
     "$scratch/generate" "$arcs" "$scratch/road$arcs"
 done
@@ -15,7 +14,3 @@ program=$(python3 "$here/workspace.py" alone "$scratch" -- "$scratch/road250000.
 python3 "$here/alone_rounds.py" 15 "$scratch/hand" "$program" "$scratch/road250000"
 python3 "$here/alone_rounds.py" 8 "$scratch/hand" "$program" "$scratch/road2500000"
 python3 "$here/alone_rounds.py" 3 "$scratch/hand" "$program" "$scratch/road25000000"
-for arcs in 250000 2500000; do
-    echo "walks by hand, $scratch/road$arcs"
-    "$scratch/walks" "$scratch/road$arcs.gr" "$scratch/road$arcs.tp" 7
-done

@@ -4,20 +4,22 @@
 //!   hand several METHOD GR SS TP DEPART THREADS OUT  so many sources at once, each by one thread
 //!   hand pairs GR P2P TP DEPART OUT
 //!   hand check GR SS TP DEPART REPORT                searches again and compares
+//!   hand walks GR TP NODE ROUNDS                     canonical walks from a node, in turns with a heap without walks
 //!   hand make_pairs GR OUT COUNT NODES
 //!
-//! TP is `-` for none. All but make_pairs print the microseconds of reading, of the index, of all searches, of the quickest search of
-//! `run` and of writing, and the sum of the arrivals. One file: `rustc -O main.rs`.
+//! TP is `-` for none. All but walks and make_pairs print the microseconds of reading, of the index, of all searches, of the quickest
+//! search of `run` and of writing, and the sum of the arrivals. One file: `rustc -O main.rs`.
 mod alone;
 mod multiqueue;
 mod network;
 mod pairs;
 mod queues;
 mod report;
+mod walks;
 
 use alone::{buckets, dijkstra};
 use multiqueue::{Settings, search};
-use network::{NONE, Network, pairs_of, sources_of};
+use network::{NONE, Network, numbers_of, pairs_of, sources_of};
 use queues::{Buckets, Entry, RadixHeap};
 use std::cmp::Reverse;
 use std::collections::BinaryHeap;
@@ -143,6 +145,9 @@ fn main() {
     let command = word(0);
     if command == "make_pairs" {
         return pairs::make(&Network::read(word(1), "-").0, word(2), number(3) as usize, number(4) as usize);
+    }
+    if command == "walks" {
+        return walks::compare(&Network::read(word(1), word(2)).0, numbers_of(word(1)), number(3) as u32, number(4) as usize);
     }
     let at = if command == "pairs" || command == "check" { 1 } else { 2 };
     let (network, read, index) = Network::read(word(at), word(at + 2));
