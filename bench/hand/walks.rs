@@ -114,12 +114,12 @@ struct Roads<'a> {
 }
 
 /// What is listed while notes are followed: nodes with several arcs at their labels, each with the tail of such an arc; nodes whose
-/// level rose, so that their heads may lie too low; nodes that offer links by all their arcs once more; and how many looks at ties
-/// were spent.
+/// level changed, so that their heads may lie too low or too high; nodes that offer links by all their arcs once more; and how many
+/// looks at ties were spent.
 #[derive(Default)]
 struct Listed {
     ties: Vec<(u32, u32)>,
-    risen: Vec<u32>,
+    changed: Vec<u32>,
     waiting: VecDeque<u32>,
     looks: usize,
 }
@@ -146,7 +146,7 @@ impl Roads<'_> {
                 links[note.node as usize] = new;
             } else {
                 listed.meet(self, &mut links, note.node, new);
-                if !listed.raise(self.network, &mut links) {
+                if !listed.pass_on(self.network, &mut links) {
                     return None;
                 }
             }
@@ -195,12 +195,19 @@ impl Listed {
         let level = links[node as usize].level;
         links[node as usize] = new;
         if new.level < level {
-            self.waiting.push_back(node);
+            self.fall(node);
         } else if level < new.level {
-            self.risen.push(node);
-            self.looks += self.ties.len() + 2048;
+            self.changed.push(node);
+            self.looks += self.ties.len() + 256;
             self.waiting.extend(self.ties.iter().filter(|tie| tie.0 == node).map(|tie| tie.1));
         }
+    }
+
+    /// A node's level fell.
+    fn fall(&mut self, node: u32) {
+        self.waiting.push_back(node);
+        self.changed.push(node);
+        self.looks += 256;
     }
 
     /// A node was reached again.
@@ -216,21 +223,21 @@ impl Listed {
         if (new.level, roads.number(new.from, new.arc)) < (old.level, roads.number(old.from, old.arc)) {
             links[node as usize] = new;
             if new.level < old.level {
-                self.waiting.push_back(node);
+                self.fall(node);
             }
         }
     }
 
-    /// Raises heads above the nodes by whose arcs they have their links. False where too many looks are spent.
-    fn raise(&mut self, network: &Network, links: &mut [Link]) -> bool {
-        while let Some(node) = self.risen.pop() {
+    /// Passes levels that changed on to the nodes that have their links by arcs from there. False where too many looks are spent.
+    fn pass_on(&mut self, network: &Network, links: &mut [Link]) -> bool {
+        while let Some(node) = self.changed.pop() {
             if self.looks > 16 * links.len() + 65_536 {
                 return false;
             }
             let level = links[node as usize].level;
             for arc in network.leaving(node) {
                 let old = links[arc.head as usize];
-                if old.from == node && 0 < old.level && old.level <= level {
+                if old.from == node && 0 < old.level && old.level < NO_LEVEL && level < NO_LEVEL {
                     self.relevel(links, arc.head, Link { level: level + 1, ..old });
                 }
             }

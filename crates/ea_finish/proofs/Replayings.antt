@@ -364,7 +364,7 @@ module _ (roads : Roads) (note : Note) (had met : ℕ → ℕ → ℕ → Type 0
         subst (AreTied (and_had note had) links') (sym fell.1.1) (AreTied-fell tied falls fell.0))
   ]
 
--- a node was raised: it was reached once more by the arc of its link
+-- a level was passed on: the node was reached once more by the arc of its link
 module _ (roads : Roads) (note : Note) (notes : List Note) (links links' : List Link) (waiting waiting' : List ℕ) (ties ties' : List (ℕ × ℕ)) (again : note.again ≡ true) (same : HaveOneArc (link links note.node) (link_of note links)) (begun : (link links note.node).level ≢ 0) (linked : (link links note.node).level < NO_LEVEL) (reached : IsReachedAgain roads note.node (link_of note links) links waiting ties links' waiting' ties') where
   abbrev had : ℕ → ℕ → ℕ → Type 0
   had = had_after notes by_none
@@ -375,8 +375,8 @@ module _ (roads : Roads) (note : Note) (notes : List Note) (links links' : List 
   never : {v : ℕ} → note.again ≡ false → v ≢ note.node
   never falls = absurd (false≢true (sym falls ∙ again))
 
-  pub AreAfter-raised : (sources : List Source) (table : List ℕ) → AreAfter roads sources table notes links waiting ties → AreAfter roads sources table notes links' waiting' ties'
-  AreAfter-raised sources table before = (
+  pub AreAfter-passed : (sources : List Source) (table : List ℕ) → AreAfter roads sources table notes links waiting ties → AreAfter roads sources table notes links' waiting' ties'
+  AreAfter-passed sources table before = (
     record {
       places = after.places;
       low = after.low;

@@ -15,7 +15,7 @@ mod noted;
 mod notes;
 mod open;
 mod opens;
-mod raising;
+mod passing;
 mod replaying;
 mod search;
 mod searching;

@@ -9,7 +9,7 @@ ghost use Rattle.ea_finish.specs.Scans.{IsPlaced};
 
 use crate::link::{Link, NO_LEVEL};
 use crate::notes::{Note, note_in};
-use crate::raising::raise;
+use crate::passing::pass_on;
 use crate::ties::Ties;
 use crate::waiting::Waiting;
 use ea_road::Network;
@@ -60,36 +60,41 @@ pub(crate) fn relevel(
     }
     if new.level < level {
         waiting.add(node);
+        return ties.fall(node);
     }
     true
 }
 
 /// Offers a node, which is tied, a link by an arc that its own link does not have. It keeps the one of fewer arcs, and of
-/// these the one by the lower number. False where the arcs have no numbers.
+/// these the one by the lower number. False where that was given up.
 fn choose(
     network: &Network,
     node: u32,
     new: Link,
     links: &mut [Link],
     waiting: &mut Waiting,
+    ties: &mut Ties,
 ) -> bool
     requires node { (0 < node) × (node ≤ waiting.old.nodes) }
     requires places { length links.old ≡ waiting.old.nodes }
     requires level { (link links.old node).level ≢ 0 }
     ensures places { length links.new ≡ length links.old }
     ensures nodes { waiting.new.nodes ≡ waiting.old.nodes }
-    ensures reached { IsTrue result → (ties ties' : List (ℕ × ℕ))
-        → ((tie : ℕ × ℕ) → Contains ties tie → Contains ties' tie)
-        → Contains ties' (node, new.from) → Contains ties' (node, (link links.old node).from)
-        → IsReachedAgain network.now node new links.old waiting.old.waiting ties
-        links.new waiting.new.waiting ties' }
+    ensures list { ties.new.list.items ≡ ties.old.list.items }
+    ensures reached { IsTrue result → (before after : List (ℕ × ℕ))
+        → ((tie : ℕ × ℕ) → Contains before tie → Contains after tie)
+        → Contains after (node, new.from) → Contains after (node, (link links.old node).from)
+        → IsReachedAgain network.now node new links.old waiting.old.waiting before
+        links.new waiting.new.waiting after }
 {
     let place = node as usize - 1;
     let old = links[place];
     if new.level < old.level {
         links[place] = new;
         waiting.add(node);
-    } else if new.level == old.level && new.level < NO_LEVEL {
+        return ties.fall(node);
+    }
+    if new.level == old.level && new.level < NO_LEVEL {
         let Some(number) = number_of(network, new.from, new.arc) else {
             return false;
         };
@@ -133,7 +138,7 @@ fn tie(
     if !ties.tie(node, new.from, old.from) {
         return false;
     }
-    choose(network, node, new, links, waiting)
+    choose(network, node, new, links, waiting, ties)
 }
 
 /// The link by the arc of a note, to a level.
@@ -212,9 +217,8 @@ pub(crate) fn replay(
         if !follow_note(network, note, links, waiting, ties) {
             return false;
         }
-        // At once: so what later notes build on the heads is right, and only what was built already is raised.
-        // At once, so that what later notes build on the raised nodes is right.
-        if !raise(network, links, waiting, ties) {
+        // At once, so that what later notes build on the heads is right.
+        if !pass_on(network, links, waiting, ties) {
             return false;
         }
     }

@@ -1,4 +1,4 @@
-//! What is listed while notes are followed: nodes with several arcs at their labels, and nodes whose level rose.
+//! What is listed while notes are followed: nodes with several arcs at their labels, and nodes whose level changed.
 ghost use Rattle.std.specs.Prelude.{◌≡◌, ℕ, ◌∷◌, ◌++◌, [], length, Contains, IsTrue};
 ghost use Rattle.ea_finish.specs.Replayed.{AreWoken};
 
@@ -11,16 +11,17 @@ const FOR_EACH: usize = 16;
 
 const IN_ANY_CASE: usize = 65_536;
 
-/// A level that rises counts as so many looks, and one for each entry.
-const RISE: usize = 2_048;
+/// A level that changes counts as so many looks, and one that rises as one more for each entry.
+const CHANGE: usize = 256;
 
-/// Nodes with several arcs at their labels, and nodes whose level rose.
+/// Nodes with several arcs at their labels, and nodes whose level changed.
 #[derive(Drop)]
 pub(crate) struct Ties {
     /// Nodes that have or had several arcs at their labels, each with the tail of such an arc.
     pub list: Vec<(u32, u32)>,
-    /// Nodes whose level rose, so that their heads may lie too low. No answer rests on it, since levels are looked at afterwards.
-    pub risen: Vec<u32>,
+    /// Nodes whose level changed, so that their heads may lie too low or too high. No answer rests on it, since levels are looked at
+    /// afterwards.
+    pub changed: Vec<u32>,
     /// How many looks may still be spent.
     left: usize,
 }
@@ -30,7 +31,7 @@ impl Ties {
     pub(crate) fn none(alloc: Global) -> Ties {
         Ties {
             list: Vec::new(alloc),
-            risen: Vec::new(alloc),
+            changed: Vec::new(alloc),
             left: 0,
         }
     }
@@ -40,7 +41,7 @@ impl Ties {
         ensures { self.new.list.items ≡ [] }
     {
         self.list.clear();
-        self.risen.clear();
+        self.changed.clear();
         self.left = nodes.saturating_mul(FOR_EACH).saturating_add(IN_ANY_CASE);
     }
 
@@ -52,6 +53,26 @@ impl Ties {
         self.list.push((node, from)).is_ok() && self.list.push((node, other)).is_ok()
     }
 
+    /// Lists a node whose level changed, for so many looks and those of a change. False where memory was refused or too many would be
+    /// spent.
+    fn change(&mut self, node: u32, looks: usize) -> bool
+        ensures { self.new.list.items ≡ self.old.list.items }
+    {
+        let looks = looks.saturating_add(CHANGE);
+        if self.left < looks {
+            return false;
+        }
+        self.left -= looks;
+        self.changed.push(node).is_ok()
+    }
+
+    /// A node's level fell. False where memory was refused or too many looks would be spent.
+    pub(crate) fn fall(&mut self, node: u32) -> bool
+        ensures { self.new.list.items ≡ self.old.list.items }
+    {
+        self.change(node, 0)
+    }
+
     /// A node's level rose, so that another of its arcs may be better: the tails with which it is listed wait, to offer theirs again.
     /// False where memory was refused, a tail is no node or too many looks would be spent.
     pub(crate) fn rise(&mut self, node: u32, waiting: &mut Waiting) -> bool
@@ -60,11 +81,6 @@ impl Ties {
         ensures kept { (v : ℕ) → Contains waiting.old.waiting v → Contains waiting.new.waiting v }
         ensures woken { IsTrue result → AreWoken self.old.list.items node waiting.new.waiting }
     {
-        let looks = self.list.len().saturating_add(RISE);
-        if self.left < looks {
-            return false;
-        }
-        self.left -= looks;
         for tie in &self.list {
             if tie.0 == node {
                 if !waiting.wake(tie.1) {
@@ -72,6 +88,7 @@ impl Ties {
                 }
             }
         }
-        self.risen.push(node).is_ok()
+        let looks = self.list.len();
+        self.change(node, looks)
     }
 }

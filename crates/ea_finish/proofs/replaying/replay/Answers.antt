@@ -30,11 +30,11 @@ loop-word-preserved c =
     let more : notes_in (take (place + 1) words) ≡ notes ++ note ∷ [] = map_more note_in words place 0 c.loop-word-test.true in
     let more_after = AreAfter-more c.args.network.now notes note _ _ _ _ _ _ followed in
     record {
-      places = c.raise.ensures.places ∙ c.follow_note.ensures.places ∙ before.places;
-      nodes = c.raise.ensures.nodes ∙ c.follow_note.ensures.nodes ∙ before.nodes;
+      places = c.pass_on.ensures.places ∙ c.follow_note.ensures.places ∙ before.places;
+      nodes = c.pass_on.ensures.nodes ∙ c.follow_note.ensures.nodes ∙ before.nodes;
       after = λ sources table begun. (
-          let P : List Note → Type 0 = λ xs. AreAfter c.args.network.now sources table xs c.raise.new.links c.raise.new.waiting.waiting c.raise.new.ties.list.items in
-          subst P (sym more) (c.raise.ensures.raised c.if-not-raise.false c.args.network.now sources table (notes ++ note ∷ []) (more_after sources table (before.after sources table begun))));
+          let P : List Note → Type 0 = λ xs. AreAfter c.args.network.now sources table xs c.pass_on.new.links c.pass_on.new.waiting.waiting c.pass_on.new.ties.list.items in
+          subst P (sym more) (c.pass_on.ensures.stay c.if-not-pass_on.false c.args.network.now sources table (notes ++ note ∷ []) (more_after sources table (before.after sources table begun))));
     }
 
 pub returns-clause-replayed : goal.returns-clause-replayed

@@ -2,6 +2,7 @@ use Rattle.std.proofs.Common.{◌≡◌, ℕ, List, [], ◌∷◌, ◌++◌, sub
 use Rattle.std.proofs.lemmas.List.Elements.{Contains-append_left}
 use Rattle.ea_finish.specs.declared.link.Link.{Link}
 use Rattle.ea_finish.specs.Links.{link}
+use Rattle.ea_finish.specs.Replayed.{IsReachedAgain}
 use Rattle.ea_finish.proofs.Linkings.{link_read}
 use Rattle.ea_finish.proofs.Replayings.{Contains-two, IsReachedAgain-kept}
 use Rattle.ea_finish.proofs.replaying.tie.Goals as goal
@@ -36,4 +37,5 @@ returns-clause-reached c = λ yes.
     let P : List (ℕ × ℕ) → Type 0 = λ xs. (tie : ℕ × ℕ) → Contains ties tie → Contains xs tie in
     let Q : ℕ × ℕ → List (ℕ × ℕ) → Type 0 = λ tie xs. Contains xs tie in
     let both = Contains-two ties new (node, old.from) in
-    c.choose.ensures.reached yes ties c.tie.new.self.list.items (subst P (sym pushed) (Contains-append_left ties (new ∷ (node, old.from) ∷ []))) (subst (Q new) (sym pushed) both.0) (subst (Q (node, old.from)) (sym pushed) both.1)
+    let R : List (ℕ × ℕ) → Type 0 = λ xs. IsReachedAgain c.args.network.now node c.args.new c.args.links.now c.args.waiting.now.waiting ties c.choose.new.links c.choose.new.waiting.waiting xs in
+    subst R (sym c.choose.ensures.list) (c.choose.ensures.reached yes ties c.tie.new.self.list.items (subst P (sym pushed) (Contains-append_left ties (new ∷ (node, old.from) ∷ []))) (subst (Q new) (sym pushed) both.0) (subst (Q (node, old.from)) (sym pushed) both.1))

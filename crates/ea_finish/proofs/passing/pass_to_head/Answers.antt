@@ -4,8 +4,8 @@ use Rattle.ea_finish.specs.declared.notes.Note.{Note}
 use Rattle.ea_finish.specs.Links.{link}
 use Rattle.ea_finish.specs.Replayed.{HaveOneArc, IsReachedAgain, link_of}
 use Rattle.ea_finish.proofs.Linkings.{link_read}
-use Rattle.ea_finish.proofs.Replayings.{AreAfter-raised, link_of-read}
-use Rattle.ea_finish.proofs.raising.raise_head.Goals as goal
+use Rattle.ea_finish.proofs.Replayings.{AreAfter-passed, link_of-read}
+use Rattle.ea_finish.proofs.passing.pass_to_head.Goals as goal
 
 abbrev empty : Link
 empty = record { level = 0; arc = 0; from = 0 }
@@ -31,8 +31,8 @@ relevel-requires-clause-same c =
     let old = sym (read links c.args.head c.in-Some-place_of.at 0 (length links) c.in-Some-place_of.ensures refl) in
     (ap (λ (l : Link). l.from) old ∙ c.if-old-node.false, ap (λ (l : Link). l.arc) old)
 
-pub returns-clause-raised : goal.returns-clause-raised
-returns-clause-raised c = λ yes roads sources table notes before.
+pub returns-clause-stay : goal.returns-clause-stay
+returns-clause-stay c = λ yes roads sources table notes before.
     let links = c.args.links.now in
     let tail : (0 < c.args.node) × (c.in-Some.from ≡ c.args.node - 1) × (c.in-Some.from < length links) = c.in-Some.ensures in
     let old = read links c.args.head c.in-Some-place_of.at 0 (length links) c.in-Some-place_of.ensures refl in
@@ -44,4 +44,4 @@ returns-clause-raised c = λ yes roads sources table notes before.
     let same : HaveOneArc (link links c.args.head) (link_of note links) = (ap (λ (l : Link). l.from) (sym old) ∙ c.if-old-node.false, ap (λ (l : Link). l.arc) (sym old)) in
     let P : Link → Type 0 = λ l. IsReachedAgain roads c.args.head l links c.args.waiting.now.waiting c.args.ties.now.list.items c.relevel.new.links c.relevel.new.waiting.waiting c.relevel.new.ties.list.items in
     let reached = subst P new (c.relevel.ensures.reached yes roads) in
-    AreAfter-raised roads note notes links c.relevel.new.links _ _ _ _ refl same (λ none. c.if-old-eq0.false (level ∙ none)) (omega (arith, level, c.if-old-level.false, c.if-level-ge-NO_LEVEL.false)) reached sources table before
+    AreAfter-passed roads note notes links c.relevel.new.links _ _ _ _ refl same (λ none. c.if-old-eq0.false (level ∙ none)) (omega (arith, level, c.if-old-ge-NO_LEVEL.false)) reached sources table before

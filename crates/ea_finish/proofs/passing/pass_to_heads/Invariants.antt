@@ -1,11 +1,11 @@
 use Rattle.std.proofs.Common.{◌≡◌, length}
 use Rattle.ea_finish.specs.Replayed.{StayAfter}
-use Rattle.ea_finish.proofs.raising.raise_heads.Given as goal
+use Rattle.ea_finish.proofs.passing.pass_to_heads.Given as goal
 
--- what was raised so far
+-- what was passed on so far
 abbrev pub invariant-loop-arc : goal.invariant-loop-arc
 invariant-loop-arc l = record {
   places : length l.links ≡ length l.initial.links;
   nodes : l.waiting.nodes ≡ l.initial.waiting.nodes;
-  raised : StayAfter l.initial.links l.initial.waiting.waiting l.initial.ties.list.items l.links l.waiting.waiting l.ties.list.items;
+  stay : StayAfter l.initial.links l.initial.waiting.waiting l.initial.ties.list.items l.links l.waiting.waiting l.ties.list.items;
 }

@@ -1,4 +1,4 @@
-//! Links that lie too low after a note was followed: those by arcs from nodes whose level rose after they were used.
+//! Levels that change as notes are followed, passed on to the nodes that have their links by arcs from there.
 ghost use Rattle.std.specs.Prelude.{◌≡◌, length, IsTrue};
 ghost use Rattle.ea_road.specs.Roads.{IsNode};
 ghost use Rattle.ea_finish.specs.Replayed.{StayAfter};
@@ -9,9 +9,8 @@ use crate::ties::Ties;
 use crate::waiting::Waiting;
 use ea_road::Network;
 
-/// Raises a head above a node, if its link is by an arc from the node and lies no higher than the node. False where that was given
-/// up.
-fn raise_head(
+/// Passes a node's level on to a head whose link is by an arc from the node. False where that was given up.
+fn pass_to_head(
     node: u32,
     head: u32,
     links: &mut [Link],
@@ -21,7 +20,7 @@ fn raise_head(
     requires places { length links.old ≡ waiting.old.nodes }
     ensures places { length links.new ≡ length links.old }
     ensures nodes { waiting.new.nodes ≡ waiting.old.nodes }
-    ensures raised { IsTrue result → StayAfter links.old waiting.old.waiting ties.old.list.items
+    ensures stay { IsTrue result → StayAfter links.old waiting.old.waiting ties.old.list.items
         links.new waiting.new.waiting ties.new.list.items }
 {
     let Some(from) = place_of(node, links.len()) else {
@@ -35,7 +34,7 @@ fn raise_head(
     if old.from != node || old.level == 0 {
         return true;
     }
-    if old.level > level || level >= NO_LEVEL {
+    if old.level >= NO_LEVEL || level >= NO_LEVEL {
         return true;
     }
     let new = Link {
@@ -46,8 +45,8 @@ fn raise_head(
     relevel(head, new, links, waiting, ties)
 }
 
-/// Raises the heads of a node that lie no higher than it by their links. False where that was given up.
-fn raise_heads(
+/// Passes a node's level on to the heads that have their links by its arcs. False where that was given up.
+fn pass_to_heads(
     network: &Network,
     node: u32,
     links: &mut [Link],
@@ -58,46 +57,21 @@ fn raise_heads(
     requires places { length links.old ≡ waiting.old.nodes }
     ensures places { length links.new ≡ length links.old }
     ensures nodes { waiting.new.nodes ≡ waiting.old.nodes }
-    ensures raised { IsTrue result → StayAfter links.old waiting.old.waiting ties.old.list.items
+    ensures stay { IsTrue result → StayAfter links.old waiting.old.waiting ties.old.list.items
         links.new waiting.new.waiting ties.new.list.items }
 {
     let arcs = network.leaving(node).arcs;
     for arc in arcs {
-        if !raise_head(node, arc.head, links, waiting, ties) {
+        if !pass_to_head(node, arc.head, links, waiting, ties) {
             return false;
         }
     }
     true
 }
 
-/// What `raise` does where a level rose.
+/// What `pass_on` does where a level changed.
 #[inline(never)]
-fn raise_all(network: &Network, links: &mut [Link], waiting: &mut Waiting, ties: &mut Ties) -> bool
-    requires places { length links.old ≡ network.now.nodes }
-    requires nodes { waiting.old.nodes ≡ network.now.nodes }
-    ensures places { length links.new ≡ length links.old }
-    ensures nodes { waiting.new.nodes ≡ waiting.old.nodes }
-    ensures raised { IsTrue result → StayAfter links.old waiting.old.waiting ties.old.list.items
-        links.new waiting.new.waiting ties.new.list.items }
-{
-    'raising: for _ in 0..links.len() {
-        let Some(node) = ties.risen.pop() else {
-            return true;
-        };
-        if node == 0 || node > network.nodes() {
-            return false;
-        }
-        if !raise_heads(network, node, links, waiting, ties) {
-            return false;
-        }
-    }
-    false
-}
-
-/// Raises nodes above those whose level rose, and what was reached by them, until none lies too low. False where that was
-/// given up; then links and nodes that wait are of no use.
-#[inline(always)]
-pub(crate) fn raise(
+fn pass_on_all(
     network: &Network,
     links: &mut [Link],
     waiting: &mut Waiting,
@@ -107,11 +81,41 @@ pub(crate) fn raise(
     requires nodes { waiting.old.nodes ≡ network.now.nodes }
     ensures places { length links.new ≡ length links.old }
     ensures nodes { waiting.new.nodes ≡ waiting.old.nodes }
-    ensures raised { IsTrue result → StayAfter links.old waiting.old.waiting ties.old.list.items
+    ensures stay { IsTrue result → StayAfter links.old waiting.old.waiting ties.old.list.items
         links.new waiting.new.waiting ties.new.list.items }
 {
-    if ties.risen.is_empty() {
+    'passing: for _ in 0..links.len() {
+        let Some(node) = ties.changed.pop() else {
+            return true;
+        };
+        if node == 0 || node > network.nodes() {
+            return false;
+        }
+        if !pass_to_heads(network, node, links, waiting, ties) {
+            return false;
+        }
+    }
+    false
+}
+
+/// Passes levels that changed on to the nodes that have their links by arcs from there, and so on, until none is left. False where
+/// that was given up; then links and nodes that wait are of no use.
+#[inline(always)]
+pub(crate) fn pass_on(
+    network: &Network,
+    links: &mut [Link],
+    waiting: &mut Waiting,
+    ties: &mut Ties,
+) -> bool
+    requires places { length links.old ≡ network.now.nodes }
+    requires nodes { waiting.old.nodes ≡ network.now.nodes }
+    ensures places { length links.new ≡ length links.old }
+    ensures nodes { waiting.new.nodes ≡ waiting.old.nodes }
+    ensures stay { IsTrue result → StayAfter links.old waiting.old.waiting ties.old.list.items
+        links.new waiting.new.waiting ties.new.list.items }
+{
+    if ties.changed.is_empty() {
         return true;
     }
-    raise_all(network, links, waiting, ties)
+    pass_on_all(network, links, waiting, ties)
 }
