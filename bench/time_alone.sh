@@ -11,6 +11,6 @@ for arcs in 250000 2500000 25000000; do
     "$scratch/generate" "$arcs" "$scratch/road$arcs"
 done
 program=$(python3 "$here/workspace.py" alone "$scratch" -- "$scratch/road250000.gr" "$scratch/road250000.tp" | tail -1)
-python3 "$here/alone_rounds.py" 15 "$scratch/hand" "$program" "$scratch/road250000"
+python3 "$here/alone_rounds.py" 40 "$scratch/hand" "$program" "$scratch/road250000"
 python3 "$here/alone_rounds.py" 8 "$scratch/hand" "$program" "$scratch/road2500000"
 python3 "$here/alone_rounds.py" 3 "$scratch/hand" "$program" "$scratch/road25000000"
