@@ -289,3 +289,19 @@ fn a_pair_ends_at_its_target(rt: HostRuntime) -> Result<(), Fail> {
     assert_that(&rt, "to node 50", far == Some(50));
     Ok(())
 }
+
+/// How often a search for a pair offers where two ways to its target take as long.
+fn offers_of_two_ways(alloc: Global) -> Result<Option<u64>, AllocError> {
+    let rows = [(1, 2, 10, 0), (1, 3, 10, 0), (2, 4, 10, 0), (3, 4, 10, 0)];
+    pair_offers(alloc, 4, &rows, 4)
+}
+
+#[test]
+fn an_arrival_that_is_no_earlier_is_an_offer(rt: HostRuntime) -> Result<(), Fail> {
+    assert_that(
+        &rt,
+        "each arc offers",
+        offers_of_two_ways(rt.alloc())? == Some(4),
+    );
+    Ok(())
+}
