@@ -297,7 +297,7 @@ fn offers_of_two_ways(alloc: Global) -> Result<Option<u64>, AllocError> {
 }
 
 #[test]
-fn an_arrival_that_is_no_earlier_is_an_offer(rt: HostRuntime) -> Result<(), Fail> {
+fn an_arrival_at_the_label_is_an_offer(rt: HostRuntime) -> Result<(), Fail> {
     assert_that(
         &rt,
         "each arc offers",
