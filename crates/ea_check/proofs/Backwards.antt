@@ -5,12 +5,12 @@ use Rattle.std.specs.Prelude.{◌↔◌}
 use Rattle.ea_road.specs.declared.source.Source.{Source}
 use Rattle.ea_road.specs.Roads.{Roads, IsNode, IsNetwork}
 use Rattle.ea_road.proofs.Canonical.{same_level}
-use Rattle.ea_finish.specs.declared.link.Link.{Link}
-use Rattle.ea_finish.specs.declared.link.TheConstants.{NO_LEVEL}
-use Rattle.ea_finish.specs.Links.{AreLinks, link, linked_walk, walk_along}
-use Rattle.ea_finish.specs.Stored.{AreFollowable}
-use Rattle.ea_finish.proofs.Followed.{linked-walk, linked_length}
-use Rattle.ea_finish.proofs.Linkings.{link-node}
+use Rattle.ea_search.specs.declared.link.Link.{Link}
+use Rattle.ea_search.specs.declared.link.TheConstants.{NO_LEVEL}
+use Rattle.ea_search.specs.Links.{AreLinks, link, linked_walk, walk_along}
+use Rattle.ea_paths.specs.Stored.{AreFollowable}
+use Rattle.ea_paths.proofs.Followed.{linked-walk, linked_length}
+use Rattle.ea_paths.proofs.Linkings.{link-node}
 
 -- one link more
 along_more : (links : List Link) (count node : ℕ) → 0 < count → walk_along links count node ≡ walk_along links (count - 1) (link links node).from ++ (link links node).arc ∷ []

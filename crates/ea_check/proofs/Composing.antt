@@ -2,13 +2,13 @@
 use Rattle.std.proofs.Common.{Bool, true, false, ◌≡◌, ◌∙◌, refl, ℕ, zero, suc, ◌+◌, ◌^◌, ◌<◌, ◌≤◌, List, [], ◌∷◌, ◌++◌, length, drop, get_or, arith, ap, sym, subst, append_assoc}
 use Rattle.std.proofs.Math.Seq.{drop-cons}
 use Rattle.std.specs.Prelude.{if◌then◌else◌, Option, Some, None, Result, Ok, Err}
-use Rattle.ea_text.specs.Text.{is_silent}
+use Rattle.ea_bytes.specs.Text.{is_silent}
 use Rattle.ea_road.specs.declared.source.Source.{Source}
 use Rattle.std.specs.List.{IsAmong}
-use Rattle.ea_limits.specs.declared.TheConstants.{HORIZON}
+use Rattle.ea_base.specs.declared.limits.TheConstants.{HORIZON}
 use Rattle.ea_road.specs.Queries.{Asking, IsProblem}
 use Rattle.ea_road.specs.Roads.{Roads, IsNode}
-use Rattle.ea_check.specs.declared.line.SpokenLine.{SpokenLine}
+use Rattle.ea_check.specs.declared.form.line.SpokenLine.{SpokenLine}
 use Rattle.ea_check.specs.declared.fault.CheckFault.{CheckFault}
 use Rattle.ea_check.specs.declared.fault.CheckFault.TheVariants.{BadLine, NotAttained, NotLeast, OutOfMemory, NotCanonical}
 use Rattle.ea_check.specs.Verdicts.{Said, IsFaultless, IsRight, IsVerdict, IsWellFormed}

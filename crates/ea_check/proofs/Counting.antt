@@ -10,8 +10,8 @@ use Rattle.std.specs.List.{slice_split, onto_first}
 use Rattle.std.specs.Char.{is_ascii_digit}
 use Rattle.std.specs.Str.{all_ascii_digits}
 use Rattle.std.specs.Str.Parse.{digits_value}
-use Rattle.ea_text.specs.Text.{is_blank, fields_of, number_of}
-use Rattle.ea_text.proofs.Numbers.{and_left, and_right}
+use Rattle.ea_bytes.specs.Text.{is_blank, fields_of, number_of}
+use Rattle.ea_bytes.proofs.Numbers.{and_left, and_right}
 use Rattle.ea_check.specs.Counted.{ends_blank, has_other, starts}
 use Rattle.ea_check.specs.Form.{arc_found, arcs_of, AreArcNumbers}
 

@@ -9,8 +9,8 @@ use Rattle.std.proofs.lemmas.Str.Parse.{numerals_by_value, tells_all_ascii_digit
 use Rattle.std.specs.List.{slice_split, onto_first, flat_map}
 use Rattle.std.specs.Str.{all_ascii_digits}
 use Rattle.std.specs.Char.{is_ascii_digit}
-use Rattle.ea_text.specs.Text.{is_blank, fields_of}
-use Rattle.ea_text.proofs.Numbers.{and_left, and_right}
+use Rattle.ea_bytes.specs.Text.{is_blank, fields_of}
+use Rattle.ea_bytes.proofs.Numbers.{and_left, and_right}
 use Rattle.ea_road.specs.declared.source.Source.{Source}
 use Rattle.ea_road.specs.Levels.{IsCanonical, at_source, by_arc}
 use Rattle.ea_road.specs.Roads.{Roads, IsNetwork}

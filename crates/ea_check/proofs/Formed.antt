@@ -1,7 +1,7 @@
 -- What lines of right form say is well formed.
 use Rattle.std.proofs.Common.{◌≡◌, refl, ℕ, zero, suc, ◌-◌, ◌<◌, ◌≤◌, List, [], ◌∷◌, ◌++◌, ◌⊎◌, inl, inr, arith, ap, sym, subst}
 use Rattle.std.specs.Prelude.{◌≢◌, Option, Some, None, slice_get}
-use Rattle.ea_limits.specs.declared.TheConstants.{HORIZON}
+use Rattle.ea_base.specs.declared.limits.TheConstants.{HORIZON}
 use Rattle.ea_road.specs.declared.TheConstants.{NONE}
 use Rattle.ea_road.specs.declared.source.Source.{Source}
 use Rattle.ea_check.specs.Verdicts.{WrittenWalk, Said, IsLineOf, time_line, walk_line, IsWellFormed}

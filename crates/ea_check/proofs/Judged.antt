@@ -5,22 +5,22 @@ use Rattle.std.proofs.lemmas.List.{get_or_default}
 use Rattle.std.specs.Prelude.{◌≢◌, Option, Some, None, MatchOption, Ok, Err}
 use Rattle.std.specs.Option.{option_or}
 use Rattle.std.specs.List.{IsAmong}
-use Rattle.ea_limits.specs.declared.TheConstants.{HORIZON}
+use Rattle.ea_base.specs.declared.limits.TheConstants.{HORIZON}
 use Rattle.ea_road.specs.declared.TheConstants.{NONE}
 use Rattle.ea_road.specs.declared.arc.Arc.{Arc}
 use Rattle.ea_road.specs.declared.source.Source.{Source}
 use Rattle.ea_road.specs.Roads.{Roads, IsArc, IsNode}
-use Rattle.ea_road.specs.Answers.{IsFifo, IsQuestion}
+use Rattle.ea_travel_times.specs.Answers.{IsFifo, IsQuestion}
 use Rattle.ea_road.specs.Arrivals.{Attains}
 use Rattle.ea_road.specs.Levels.{HasChain, IsCanonical}
 use Rattle.ea_road.proofs.Arcs.{is_question, one_arc}
 use Rattle.ea_road.proofs.Canonical.{canonical_attains, one_canonical}
 use Rattle.ea_road.proofs.Walked.{labels_are_times}
 use Rattle.ea_road.proofs.WalkLaws.{same_answer}
-use Rattle.ea_finish.specs.declared.link.Link.{Link}
-use Rattle.ea_finish.specs.declared.link.TheConstants.{NO_LEVEL}
-use Rattle.ea_finish.specs.Links.{AreLinks, link, linked_walk}
-use Rattle.ea_finish.proofs.Linkings.{link_read}
+use Rattle.ea_search.specs.declared.link.Link.{Link}
+use Rattle.ea_search.specs.declared.link.TheConstants.{NO_LEVEL}
+use Rattle.ea_search.specs.Links.{AreLinks, link, linked_walk}
+use Rattle.ea_paths.proofs.Linkings.{link_read}
 use Rattle.ea_check.specs.Verdicts.{WrittenWalk, Said, IsSaid, reported_time, IsReported, Improves, by_source, by_arc, IsNotAttained, no_level, astray, IsNotCanonical, other_walk, IsNotLeast, improved, IsAttained, IsCanonicalAt, IsWellFormed, IsFirst, IsTask, AreUnimproved, AreAttained, AreCanonical}
 use Rattle.ea_check.specs.Form.{AreShort}
 use Rattle.ea_check.proofs.Fields.{short_canonical}

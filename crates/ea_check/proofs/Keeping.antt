@@ -1,7 +1,7 @@
 -- What is kept of lines that are read, as more are read.
 use Rattle.std.proofs.Common.{◌≡◌, ◌∙◌, refl, ℕ, suc, ◌+◌, ◌-◌, ◌≤◌, List, [], ◌∷◌, ◌++◌, length, map, arith, ap, sym, subst, append_assoc}
 use Rattle.std.proofs.lemmas.List.{map-append, append-nil}
-use Rattle.ea_check.specs.declared.reported.SaidLine.{SaidLine}
+use Rattle.ea_check.specs.declared.form.reported.SaidLine.{SaidLine}
 use Rattle.ea_check.specs.Verdicts.{Said}
 use Rattle.ea_check.specs.Views.{said_of, IsKept}
 use Rattle.ea_check.specs.Form.{Line}

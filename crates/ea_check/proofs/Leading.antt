@@ -8,9 +8,9 @@ use Rattle.std.proofs.Math.Numerals.{add-one}
 use Rattle.std.proofs.lemmas.Bool.{lt-ltb}
 use Rattle.std.proofs.lemmas.List.{append-nil}
 use Rattle.std.proofs.lemmas.Grind.{common_steps}
-use Rattle.ea_text.specs.Text.{is_blank}
-use Rattle.ea_text.proofs.Cutting.{field_at}
-use Rattle.ea_text.proofs.Numbers.{and_left, and_right}
+use Rattle.ea_bytes.specs.Text.{is_blank}
+use Rattle.ea_bytes.proofs.Cutting.{field_at}
+use Rattle.ea_bytes.proofs.Numbers.{and_left, and_right}
 use Rattle.ea_check.specs.Form.{arc_found, arc_number, arc_of, arcs_of}
 use Rattle.ea_check.specs.Reads.{BeginsWithArc}
 use Rattle.ea_check.proofs.Counting.{digits_are_number}

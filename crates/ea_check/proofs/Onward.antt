@@ -4,7 +4,7 @@ use Rattle.std.specs.Prelude.{Result, Ok, Err, None, Option, MatchResult}
 use Rattle.ea_road.specs.declared.source.Source.{Source}
 use Rattle.ea_road.specs.Roads.{Roads}
 use Rattle.ea_check.specs.declared.fault.CheckFault.{CheckFault}
-use Rattle.ea_check.specs.declared.line.SpokenLine.{SpokenLine}
+use Rattle.ea_check.specs.declared.form.line.SpokenLine.{SpokenLine}
 use Rattle.ea_check.specs.Verdicts.{Said, IsFaultless, IsRight, IsVerdict}
 use Rattle.ea_check.specs.Checked.{IsChecked}
 use Rattle.ea_check.specs.Form.{Line}

@@ -3,8 +3,8 @@ use Rattle.std.proofs.Common.{◌≡◌, ◌≢◌, refl, ℕ, ◌<◌, List, []
 use Rattle.std.proofs.Math.Seq.{drop-cons}
 use Rattle.std.specs.Prelude.{Option, Some, None}
 use Rattle.ea_road.specs.declared.source.Source.{Source}
-use Rattle.ea_check.specs.declared.line.SpokenLine.{SpokenLine}
-use Rattle.ea_text.specs.Text.{fields_of}
+use Rattle.ea_check.specs.declared.form.line.SpokenLine.{SpokenLine}
+use Rattle.ea_bytes.specs.Text.{fields_of}
 use Rattle.ea_road.specs.declared.TheConstants.{NONE}
 use Rattle.ea_check.specs.declared.fault.CheckFault.{CheckFault}
 use Rattle.ea_check.specs.declared.fault.CheckFault.TheVariants.{BadLine, NotAttained, NotLeast, OutOfMemory, NotCanonical}

@@ -3,10 +3,10 @@ use Rattle.std.proofs.Common.{◌≡◌, ◌∙◌, refl, ℕ, zero, suc, ◌-�
 use Rattle.std.proofs.lemmas.Bool.Decides.{eqb_tells, leb_tells}
 use Rattle.std.specs.Prelude.{◌≢◌, ◌==◌, Some, None, slice_get}
 use Rattle.std.specs.List.{IsAmong}
-use Rattle.ea_limits.specs.declared.TheConstants.{HORIZON}
+use Rattle.ea_base.specs.declared.limits.TheConstants.{HORIZON}
 use Rattle.ea_road.specs.declared.TheConstants.{NONE}
 use Rattle.ea_road.specs.declared.source.Source.{Source}
-use Rattle.ea_road.specs.Answers.{IsFifo}
+use Rattle.ea_travel_times.specs.Answers.{IsFifo}
 use Rattle.ea_road.specs.Roads.{Roads, IsNode, IsNetwork}
 use Rattle.ea_road.specs.Queries.{Asking, IsProblem}
 use Rattle.ea_road.specs.Arrivals.{Reaches, IsLeast, IsLeastAt}

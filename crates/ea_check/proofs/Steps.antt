@@ -1,7 +1,7 @@
 -- What remains after one more line.
 use Rattle.std.proofs.Common.{◌≡◌, ◌∙◌, ℕ, suc, ◌+◌, List, [], ◌∷◌, inl, inr, arith, ap, sym}
 use Rattle.std.specs.Prelude.{◌≢◌, Some, None, codes}
-use Rattle.ea_text.specs.Text.{number_of}
+use Rattle.ea_bytes.specs.Text.{number_of}
 use Rattle.ea_road.specs.declared.TheConstants.{NONE}
 use Rattle.ea_road.specs.declared.source.Source.{Source}
 use Rattle.ea_check.specs.Form.{Line, IsWalkLine, SaysSource, SaysTime, SaysWalk}

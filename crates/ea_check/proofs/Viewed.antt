@@ -2,9 +2,9 @@
 use Rattle.std.proofs.Common.{◌≡◌, ◌∙◌, refl, ℕ, zero, suc, ◌-◌, ◌<◌, ◌≤◌, List, [], ◌∷◌, length, map, get_or, arith, ap, sym, subst}
 use Rattle.std.proofs.lemmas.List.{length-map}
 use Rattle.std.specs.Prelude.{Some, slice_get}
-use Rattle.ea_text.specs.Text.{fields_of}
-use Rattle.ea_check.specs.declared.reported.SaidLine.{SaidLine}
-use Rattle.ea_check.specs.declared.reported.WalkLine.{WalkLine}
+use Rattle.ea_bytes.specs.Text.{fields_of}
+use Rattle.ea_check.specs.declared.form.reported.SaidLine.{SaidLine}
+use Rattle.ea_check.specs.declared.form.reported.WalkLine.{WalkLine}
 use Rattle.ea_check.specs.Form.{arcs_of}
 use Rattle.ea_check.specs.Verdicts.{Said, IsSaid, times_of}
 use Rattle.ea_check.specs.Views.{walk_of, said_of, IsKept}

@@ -2,10 +2,10 @@
 use Rattle.std.proofs.Common.{◌≡◌, ◌∙◌, refl, ℕ, ◌<◌, ◌≤◌, List, [], ◌∷◌, ◌++◌, length, get_or, inl, inr, ◌⊎◌, arith, ap, sym, subst, length-append}
 use Rattle.std.proofs.lemmas.List.{get_or_default}
 use Rattle.std.specs.List.{IsAmong}
-use Rattle.ea_limits.specs.declared.TheConstants.{HORIZON}
+use Rattle.ea_base.specs.declared.limits.TheConstants.{HORIZON}
 use Rattle.ea_road.specs.declared.arc.Arc.{Arc}
 use Rattle.ea_road.specs.declared.source.Source.{Source}
-use Rattle.ea_road.specs.Answers.{IsFifo}
+use Rattle.ea_travel_times.specs.Answers.{IsFifo}
 use Rattle.ea_road.specs.Arrivals.{Arrives, stays, goes, Attains}
 use Rattle.ea_road.specs.Roads.{Roads, IsArc, IsNetwork, top_class}
 use Rattle.ea_road.proofs.Arcs.{is_question}

@@ -3,7 +3,7 @@ use Rattle.std.proofs.Common.{◌≡◌, ◌∙◌, refl, ℕ, suc, List, [], �
 use Rattle.std.specs.Prelude.{◌≢◌, None, Result, Ok, Err}
 use Rattle.std.specs.List.{IsAmong}
 use Rattle.ea_road.specs.declared.source.Source.{Source}
-use Rattle.ea_road.specs.Answers.{IsFifo}
+use Rattle.ea_travel_times.specs.Answers.{IsFifo}
 use Rattle.ea_road.specs.Queries.{Asking, IsProblem}
 use Rattle.ea_road.specs.Roads.{Roads, IsNetwork}
 use Rattle.ea_check.specs.declared.fault.CheckFault.{CheckFault}

@@ -5,9 +5,9 @@ use Rattle.std.proofs.lemmas.List.{append-nil}
 use Rattle.std.specs.Prelude.{Some, None, codes, decimal, if◌then◌else◌, slice_get, Ok}
 use Rattle.std.specs.List.{onto_first, flat_map}
 use Rattle.std.specs.Str.Lines.{strip_carriage_return}
-use Rattle.ea_text.specs.Text.{lines_of, is_blank, fields_of, field_lines, is_comment}
-use Rattle.ea_text.specs.Text.{number_of}
-use Rattle.ea_limits.specs.declared.TheConstants.{HORIZON}
+use Rattle.ea_bytes.specs.Text.{lines_of, is_blank, fields_of, field_lines, is_comment}
+use Rattle.ea_bytes.specs.Text.{number_of}
+use Rattle.ea_base.specs.declared.limits.TheConstants.{HORIZON}
 use Rattle.ea_road.specs.declared.TheConstants.{NONE}
 use Rattle.ea_road.specs.declared.source.Source.{Source}
 use Rattle.ea_road.specs.Labels.{label_of}
@@ -16,8 +16,8 @@ use Rattle.ea_road.specs.Levels.{IsCanonical}
 use Rattle.ea_road.specs.Arrivals.{IsLeast, IsLeastAt}
 use Rattle.ea_road.specs.Queries.{IsProblem}
 use Rattle.ea_road.specs.Roads.{Roads, IsNode, IsNetwork}
-use Rattle.ea_finish.specs.Answers.{Answered, HasArrivals, walk_of}
-use Rattle.ea_finish.specs.Links.{linked_walk}
+use Rattle.ea_search.specs.Answers.{Answered, HasArrivals, walk_of}
+use Rattle.ea_search.specs.Links.{linked_walk}
 use Rattle.ea_report.specs.Report.{spaced, line, source_line, arrival_line, walk_line, walk_text, node_text, each_node}
 use Rattle.ea_check.specs.Form.{Line, spoken_from, lines_of_report, AreShort, SaysProblems, no_problem, next_problem}
 use Rattle.ea_check.specs.Checked.{IsChecked}

@@ -1,7 +1,7 @@
 -- How many fields a text has, byte by byte.
 use Rattle.std.specs.Prelude.{ℕ, ◌+◌, Bool, false, not, ◌||◌, ◌&&◌, List, [], ◌∷◌, if◌then◌else◌}
 use Rattle.std.specs.Char.{is_ascii_digit}
-use Rattle.ea_text.specs.Text.{is_blank}
+use Rattle.ea_bytes.specs.Text.{is_blank}
 
 -- How many fields begin, where the byte before is a blank or not: each of them at a byte behind a blank.
 abbrev pub starts : Bool → List ℕ → ℕ

@@ -1,10 +1,10 @@
 -- What lines that are still ahead give, place by place, and where they go wrong.
 use Rattle.std.specs.Prelude.{◌≡◌, ◌≢◌, ◌⊎◌, ℕ, suc, ◌+◌, List, [], ◌∷◌, length, Option, Some, None}
-use Rattle.ea_text.specs.Text.{field_lines, fields_of}
+use Rattle.ea_bytes.specs.Text.{field_lines, fields_of}
 use Rattle.ea_road.specs.declared.TheConstants.{NONE}
 use Rattle.ea_road.specs.declared.source.Source.{Source}
-use Rattle.ea_check.specs.declared.line.Ahead.{Ahead}
-use Rattle.ea_check.specs.declared.line.SpokenLine.{SpokenLine}
+use Rattle.ea_check.specs.declared.form.line.Ahead.{Ahead}
+use Rattle.ea_check.specs.declared.form.line.SpokenLine.{SpokenLine}
 use Rattle.ea_check.specs.declared.fault.CheckFault.{CheckFault}
 use Rattle.ea_check.specs.declared.fault.CheckFault.TheVariants.{BadLine, NotAttained, NotLeast, OutOfMemory, NotCanonical}
 use Rattle.ea_check.specs.Verdicts.{WrittenWalk, Said}

@@ -1,8 +1,8 @@
 -- What contracts see of a report's lines that are read.
 use Rattle.std.specs.Prelude.{◌≡◌, ℕ, List, map, Option, Some, None}
-use Rattle.ea_text.specs.Text.{fields_of}
-use Rattle.ea_check.specs.declared.reported.SaidLine.{SaidLine}
-use Rattle.ea_check.specs.declared.reported.WalkLine.{WalkLine}
+use Rattle.ea_bytes.specs.Text.{fields_of}
+use Rattle.ea_check.specs.declared.form.reported.SaidLine.{SaidLine}
+use Rattle.ea_check.specs.declared.form.reported.WalkLine.{WalkLine}
 use Rattle.ea_check.specs.Form.{arcs_of}
 use Rattle.ea_check.specs.Verdicts.{WrittenWalk, Said}
 

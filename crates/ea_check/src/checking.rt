@@ -7,14 +7,16 @@ ghost use Rattle.ea_check.specs.Form.{lines_of_report};
 ghost use Rattle.ea_check.specs.Verdicts.{IsTask, IsVerdict, IsWellFormed};
 
 use crate::fault::CheckFault;
-use crate::line::look_ahead;
-use crate::problem::read_problem;
-use crate::reported::Reported;
-use crate::starts::ordered_sources;
-use crate::verdict::judge;
-use ea_finish::{Open, find_links};
-use ea_road::{Network, Query, TravelTimes, is_problem};
-use ea_watch::{Silent, Watch};
+use crate::form::line::look_ahead;
+use crate::form::problem::read_problem;
+use crate::form::reported::Reported;
+use crate::judge::walk_sources::ordered_sources;
+use crate::judge::verdict::judge;
+use ea_paths::find_links;
+use ea_search::Open;
+use ea_road::{Network, Query, is_problem};
+use ea_travel_times::TravelTimes;
+use ea_base::{Silent, Watch};
 use std::alloc::Global;
 
 /// What is wrong with what a report says of a problem.

@@ -1,6 +1,6 @@
 //! Laws of reports, as functions that do nothing.
 ghost use Rattle.std.specs.Prelude.{◌≡◌, ◌≢◌, ◌<◌, ◌^◌, ◌∷◌, [], ℕ, List, Result, Err, Ok, None, Some, length, true, false};
-ghost use Rattle.ea_finish.specs.Answers.{Answered, HasArrivals, IsAnswer, walk_of};
+ghost use Rattle.ea_search.specs.Answers.{Answered, HasArrivals, IsAnswer, walk_of};
 ghost use Rattle.ea_report.specs.Report.{problem_text};
 ghost use Rattle.std.specs.List.{IsAmong};
 ghost use Rattle.ea_road.specs.Queries.{Asking, IsProblem};
@@ -11,7 +11,9 @@ ghost use Rattle.ea_check.specs.declared.fault.CheckFault.TheVariants.{OutOfMemo
 ghost use Rattle.ea_check.specs.Form.{AreInOrder, Line, SaysProblem, lines_of_report};
 ghost use Rattle.ea_check.specs.Verdicts.{IsFaultless, IsRight, IsVerdict, IsWellFormed, Said};
 
-use ea_road::{Network, Query, TravelTimes};
+use ea_road::{Network, Query};
+
+use ea_travel_times::TravelTimes;
 
 /// A report of one problem without a fault is right, and a right one has no fault.
 pub fn faultless_reports_are_right<T: TravelTimes>(network: &Network, times: &T, query: &Query)

@@ -3,11 +3,11 @@ use Rattle.std.proofs.Common.{◌≡◌, ℕ, ◌+◌, ◌^◌, ◌<◌, ◌≤�
 use Rattle.std.proofs.Math.Seq.{get_or-append_seam}
 use Rattle.std.proofs.lemmas.List.{get_or_append_left}
 use Rattle.std.proofs.lemmas.List.Sums.{count_by-le-length, fold-append}
-use Rattle.ea_engine.specs.declared.turn.TurnKind.{TurnKind}
-use Rattle.ea_engine.specs.declared.turn.TurnKind.TheVariants.{Empty, Busy, Stale, Scanned, Refused, Cut}
-use Rattle.ea_engine.specs.declared.counters.Counters.{Counters}
-use Rattle.ea_engine.specs.declared.turn.TurnEnd.{TurnEnd}
-use Rattle.ea_engine.specs.declared.turn.Flow.{Flow}
+use Rattle.ea_engine.specs.declared.worker.turn.TurnKind.{TurnKind}
+use Rattle.ea_engine.specs.declared.worker.turn.TurnKind.TheVariants.{Empty, Busy, Stale, Scanned, Refused, Cut}
+use Rattle.ea_engine.specs.declared.worker.counters.Counters.{Counters}
+use Rattle.ea_engine.specs.declared.worker.turn.TurnEnd.{TurnEnd}
+use Rattle.ea_engine.specs.declared.worker.turn.Flow.{Flow}
 use Rattle.ea_engine.specs.Turns.{Told, AreTurnCounts, AreCounters, counted, counted_as, closed_by, count_kind, lowered_in_all, visited_as, visited_in, visited_count, is_empty, is_busy, is_stale, is_scanned, is_refused, is_cut, IsRoomy}
 
 -- what holds of each element by its place, after one more

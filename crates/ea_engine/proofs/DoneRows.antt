@@ -3,21 +3,21 @@ use Rattle.std.proofs.Common.{◌≡◌, ℕ, zero, suc, ◌+◌, ◌<◌, ◌�
 use Rattle.std.specs.Prelude.{sum_by}
 use Rattle.rand_core.specs.Stream.{Stream}
 use Rattle.ea_engine.specs.Problems.{Problem}
-use Rattle.ea_engine.specs.declared.row.Place.{Place}
-use Rattle.ea_engine.specs.declared.row.Place.TheVariants as place
-use Rattle.ea_engine.specs.declared.means.Seats.{Seats}
+use Rattle.ea_engine.specs.declared.run.row.Place.{Place}
+use Rattle.ea_engine.specs.declared.run.row.Place.TheVariants as place
+use Rattle.ea_engine.specs.declared.worker.means.Seats.{Seats}
 use Rattle.ea_engine.specs.Seated.{Tables, AreSeatsOf}
-use Rattle.ea_engine.specs.declared.turn.Flow.{Flow}
+use Rattle.ea_engine.specs.declared.worker.turn.Flow.{Flow}
 use Rattle.ea_engine.specs.declared.settings.Pace.{Pace}
-use Rattle.ea_engine.specs.declared.turn.Turn.{Turn}
-use Rattle.ea_engine.specs.declared.work_loop.WorkerEnd.{WorkerEnd}
+use Rattle.ea_engine.specs.declared.worker.turn.Turn.{Turn}
+use Rattle.ea_engine.specs.declared.worker.work_loop.WorkerEnd.{WorkerEnd}
 use Rattle.ea_engine.specs.Ends.{AreFresh, IsEndPlace}
 use Rattle.ea_engine.specs.Reports.{IsReport, AreReports}
 use Rattle.ea_engine.specs.Rowed.{all_done, IsFirstEnd, IsSeeded, AreSeated, IsDoneRow}
 use Rattle.ea_engine.specs.Rows.{MayStart, IsReadyRow, IsRun, IsRunRow, IsSeatedRow}
-use Rattle.ea_limits.specs.declared.TheConstants.{SHARES}
+use Rattle.ea_base.specs.declared.limits.TheConstants.{SHARES}
 use Rattle.ea_engine.specs.Tallies.{busy_by_all, empty_by_all}
-use Rattle.ea_limits.specs.declared.TheConstants.{MOST_BATCH}
+use Rattle.ea_base.specs.declared.limits.TheConstants.{MOST_BATCH}
 use Rattle.ea_engine.specs.Worked.{Kit}
 use Rattle.ea_engine.proofs.AccountLemmas.{closed_worked}
 use Rattle.ea_engine.proofs.Multisets.{same_length}

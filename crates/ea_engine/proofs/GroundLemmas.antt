@@ -6,13 +6,13 @@ use Rattle.ea_road.specs.declared.source.Source.{Source}
 use Rattle.ea_road.specs.Labels.{label_of}
 use Rattle.ea_road.specs.Queries.{Asking, IsProblem}
 use Rattle.ea_road.specs.Roads.{Roads, IsNetwork, IsNode, top_class}
-use Rattle.ea_finish.specs.Underway.{IsUnderway}
+use Rattle.ea_search.specs.Underway.{IsUnderway}
 use Rattle.ea_road.proofs.Reached.{reaches_node}
 use Rattle.rand_core.specs.Stream.{Stream}
-use Rattle.ea_engine.specs.declared.counters.Counters.{Counters}
+use Rattle.ea_engine.specs.declared.worker.counters.Counters.{Counters}
 use Rattle.ea_engine.specs.declared.settings.Pace.{Pace}
-use Rattle.ea_engine.specs.declared.turn.Flow.{Flow}
-use Rattle.ea_engine.specs.declared.turn.Turn.{Turn}
+use Rattle.ea_engine.specs.declared.worker.turn.Flow.{Flow}
+use Rattle.ea_engine.specs.declared.worker.turn.Turn.{Turn}
 use Rattle.ea_engine.specs.Problems.{Problem, AreReached, IsPosed, IsNamed}
 use Rattle.ea_engine.specs.Reports.{AreReports}
 use Rattle.ea_engine.specs.Turns.{visited_in_all}

@@ -3,15 +3,15 @@ use Rattle.std.proofs.Common.{◌≡◌, ℕ, zero, suc, ◌<◌, ◌≤◌, Lis
 use Rattle.std.specs.Prelude.{reverse}
 use Rattle.rand_core.specs.Stream.{Stream, next_u64}
 use Rattle.arrayvec.specs.ArrayVec.{ArrayVec, array_vec_len}
-use Rattle.ea_lists.specs.Totals.{total}
-use Rattle.ea_lists.proofs.Totals.{total-append}
+use Rattle.ea_machine.specs.Totals.{total}
+use Rattle.ea_machine.proofs.Totals.{total-append}
 use Rattle.ea_labels.specs.declared.record.SeatRecord.{SeatRecord}
 use Rattle.ea_road.specs.Roads.{IsNode}
-use Rattle.ea_road.proofs.Lists.{any_default}
-use Rattle.ea_pool.specs.declared.entry.Entry.{Entry}
-use Rattle.ea_pool.specs.declared.account.Account.{Account}
-use Rattle.ea_pool.specs.declared.reply.PushAllRefused.{PushAllRefused}
-use Rattle.ea_pool.specs.declared.reply.PushAllRefused.TheVariants as refused
+use Rattle.ea_travel_times.proofs.Lists.{any_default}
+use Rattle.ea_pool.specs.declared.heap.entry.Entry.{Entry}
+use Rattle.ea_pool.specs.declared.shared.account.Account.{Account}
+use Rattle.ea_pool.specs.declared.shared.reply.PushAllRefused.{PushAllRefused}
+use Rattle.ea_pool.specs.declared.shared.reply.PushAllRefused.TheVariants as refused
 use Rattle.ea_pool.specs.Batches.{MatchPushed, PushesFrom}
 use Rattle.ea_pool.specs.Entries.{only, times, AreKnown}
 use Rattle.ea_pool.specs.Pools.{PushesAll, SameBooks}

@@ -5,10 +5,10 @@ use Rattle.std.specs.Option.{option_to_list}
 use Rattle.std.proofs.lemmas.List.Elements.{Contains-append_cases, Contains-append_left, Contains-append_right}
 use Rattle.ea_labels.specs.declared.record.SeatRecord.{SeatRecord}
 use Rattle.ea_labels.specs.Core.{joined}
-use Rattle.ea_pool.specs.declared.account.Account.{Account}
-use Rattle.ea_pool.specs.declared.entry.Entry.{Entry}
+use Rattle.ea_pool.specs.declared.shared.account.Account.{Account}
+use Rattle.ea_pool.specs.declared.heap.entry.Entry.{Entry}
 use Rattle.ea_engine.specs.Problems.{Problem}
-use Rattle.ea_engine.specs.declared.turn.Hand.{Hand}
+use Rattle.ea_engine.specs.declared.worker.turn.Hand.{Hand}
 use Rattle.ea_engine.specs.Closed.{IsClosedAccount}
 use Rattle.ea_engine.specs.Gathered.{IsGathered}
 use Rattle.ea_engine.proofs.AccountLemmas.{closed_joined}

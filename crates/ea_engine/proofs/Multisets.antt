@@ -3,8 +3,8 @@ use Rattle.std.proofs.Common.{◌≡◌, zero, suc, ◌<◌, List, [], ◌∷◌
 use Rattle.std.specs.Prelude.{Contains}
 use mathlib.Core.Logic.{dite}
 use native.Mathlib.Decide.{dec_lt}
-use Rattle.ea_pool.specs.declared.entry.Entry.{Entry}
-use Rattle.ea_lists.specs.Totals.{total}
+use Rattle.ea_pool.specs.declared.heap.entry.Entry.{Entry}
+use Rattle.ea_machine.specs.Totals.{total}
 use Rattle.ea_pool.specs.Entries.{only, times, SameEntries}
 use Rattle.ea_pool.proofs.Weights.{only-same, only-one}
 

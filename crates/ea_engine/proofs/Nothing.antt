@@ -6,11 +6,11 @@ use Rattle.ea_road.specs.declared.TheConstants.{NONE}
 use Rattle.ea_road.specs.Roads.{IsNode}
 use Rattle.ea_road.specs.Arrivals.{Reaches}
 use Rattle.ea_road.specs.Labels.{label_of, limit, Satisfies}
-use Rattle.ea_finish.specs.Underway.{IsUnderway}
+use Rattle.ea_search.specs.Underway.{IsUnderway}
 use Rattle.ea_labels.specs.declared.record.Bound.{Bound}
 use Rattle.ea_labels.specs.declared.record.SeatRecord.{SeatRecord}
-use Rattle.ea_pool.specs.declared.entry.Entry.{Entry}
-use Rattle.ea_pool.specs.declared.account.Account.{Account}
+use Rattle.ea_pool.specs.declared.heap.entry.Entry.{Entry}
+use Rattle.ea_pool.specs.declared.shared.account.Account.{Account}
 use Rattle.ea_engine.specs.Problems.{Problem}
 use Rattle.ea_engine.specs.Closed.{entry_at, entry_of, IsReachedBy, IsReachedBefore, IsCut}
 use Rattle.ea_engine.specs.Opened.{AreJoinedAndClosed, AreOffered}

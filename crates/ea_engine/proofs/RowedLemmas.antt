@@ -5,13 +5,13 @@ use Rattle.std.proofs.lemmas.List.{map-append, append-nil, append_assoc}
 use Rattle.std.proofs.lemmas.List.Folds.{fold-map}
 use Rattle.std.proofs.lemmas.List.Sums.{fold-append}
 use Rattle.std.proofs.lemmas.List.Elements.{All-head}
-use Rattle.ea_limits.specs.declared.TheConstants.{MOST_BATCH}
+use Rattle.ea_base.specs.declared.limits.TheConstants.{MOST_BATCH}
 use Rattle.ea_engine.specs.Problems.{Problem}
-use Rattle.ea_engine.specs.declared.counters.Counters.{Counters}
-use Rattle.ea_engine.specs.declared.gathering.Gathering.{Gathering}
-use Rattle.ea_engine.specs.declared.row.Place.{Place}
-use Rattle.ea_engine.specs.declared.row.Place.TheVariants as place
-use Rattle.ea_engine.specs.declared.work_loop.WorkerEnd.{WorkerEnd}
+use Rattle.ea_engine.specs.declared.worker.counters.Counters.{Counters}
+use Rattle.ea_engine.specs.declared.run.gathering.Gathering.{Gathering}
+use Rattle.ea_engine.specs.declared.run.row.Place.{Place}
+use Rattle.ea_engine.specs.declared.run.row.Place.TheVariants as place
+use Rattle.ea_engine.specs.declared.worker.work_loop.WorkerEnd.{WorkerEnd}
 use Rattle.ea_engine.specs.Ends.{IsEnd, IsEndPlace}
 use Rattle.ea_engine.specs.Gathered.{IsGathered}
 use Rattle.ea_engine.specs.Grown.{AddsEnd, Joins}

@@ -2,16 +2,16 @@
 use Rattle.std.proofs.Common.{◌≡◌, ℕ, ◌+◌, ◌*◌, ◌<◌, ◌≤◌, List, length, sym, ◌∙◌, ap, arith, subst, ◌-◌}
 use Rattle.std.proofs.lemmas.List.{length-map}
 use Rattle.rand_core.specs.Stream.{Stream}
-use Rattle.ea_limits.specs.declared.TheConstants.{MOST_BATCH}
+use Rattle.ea_base.specs.declared.limits.TheConstants.{MOST_BATCH}
 use Rattle.ea_road.specs.Queries.{Asking}
 use Rattle.ea_road.specs.Roads.{Roads}
-use Rattle.ea_engine.specs.declared.counters.Counters.{Counters}
-use Rattle.ea_engine.specs.declared.crew.Crew.{Crew}
-use Rattle.ea_engine.specs.declared.ran.Ran.{Ran}
-use Rattle.ea_engine.specs.declared.row.Place.{Place}
+use Rattle.ea_engine.specs.declared.worker.counters.Counters.{Counters}
+use Rattle.ea_engine.specs.declared.run.crew.Crew.{Crew}
+use Rattle.ea_engine.specs.declared.run.ran.Ran.{Ran}
+use Rattle.ea_engine.specs.declared.run.row.Place.{Place}
 use Rattle.ea_engine.specs.declared.settings.Pace.{Pace}
-use Rattle.ea_engine.specs.declared.turn.Flow.{Flow}
-use Rattle.ea_engine.specs.declared.turn.Turn.{Turn}
+use Rattle.ea_engine.specs.declared.worker.turn.Flow.{Flow}
+use Rattle.ea_engine.specs.declared.worker.turn.Turn.{Turn}
 use Rattle.ea_engine.specs.Limits.{pace_of}
 use Rattle.ea_engine.specs.Problems.{Problem, IsNamed}
 use Rattle.ea_engine.specs.Rowed.{HaveWorked, IsDoneRow, IsSettledRow}

@@ -4,8 +4,8 @@ use Rattle.std.specs.Prelude.{All, Any}
 use Rattle.std.proofs.Math.Seq.{take-suc}
 use Rattle.std.proofs.lemmas.List.{get_or-take, length-take}
 use Rattle.std.proofs.lemmas.List.Elements.{All-nil, All-cons, All-weaker, All-contains}
-use Rattle.ea_limits.specs.declared.TheConstants.{SHARES}
-use Rattle.ea_lists.proofs.Places.{Any_left, Any_right, Any_head}
+use Rattle.ea_base.specs.declared.limits.TheConstants.{SHARES}
+use Rattle.ea_machine.proofs.Places.{Any_left, Any_right, Any_head}
 use Rattle.ea_road.specs.declared.source.Source.{Source}
 use Rattle.ea_labels.specs.declared.record.Lowering.{Lowering}
 use Rattle.ea_labels.specs.declared.record.SeatRecord.{SeatRecord}

@@ -6,13 +6,13 @@ use Rattle.std.proofs.lemmas.List.Elements.{All-head, All-tail, Contains-append_
 use Rattle.ea_labels.specs.declared.record.Lowering.{Lowering}
 use Rattle.ea_labels.specs.declared.record.SeatRecord.{SeatRecord}
 use Rattle.ea_labels.specs.Core.{IsLawfulLowering, IsLawfulSeat, first_record}
-use Rattle.ea_pool.specs.declared.entry.Entry.{Entry}
-use Rattle.ea_pool.specs.declared.account.Account.{Account}
+use Rattle.ea_pool.specs.declared.heap.entry.Entry.{Entry}
+use Rattle.ea_pool.specs.declared.shared.account.Account.{Account}
 use Rattle.ea_engine.specs.Problems.{Problem}
 use Rattle.ea_engine.specs.Closed.{entry_of}
 use Rattle.ea_engine.specs.Opened.{AreJoinedAndClosed}
 use Rattle.ea_engine.specs.Gathered.{IsGathered}
-use Rattle.ea_engine.specs.declared.means.Seats.{Seats}
+use Rattle.ea_engine.specs.declared.worker.means.Seats.{Seats}
 use Rattle.ea_engine.specs.Seeds.{HasPushed}
 use Rattle.ea_engine.proofs.Multisets.{Contains-same}
 

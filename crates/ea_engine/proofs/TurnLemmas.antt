@@ -7,28 +7,28 @@ use Rattle.std.proofs.lemmas.List.Elements.{All-nil, All-cons}
 use Rattle.std.proofs.lemmas.List.{reverse-reverse, reverse-append, length-reverse}
 use Rattle.rand_core.specs.Stream.{Stream, next_u64}
 use Rattle.ea_road.specs.Arrivals.{Reaches}
-use Rattle.ea_pool.specs.declared.entry.Entry.{Entry}
+use Rattle.ea_pool.specs.declared.heap.entry.Entry.{Entry}
 use Rattle.arrayvec.specs.ArrayVec.{ArrayVec}
 use Rattle.ea_pool.specs.Batches.{IsLowest, MatchSome, PopsSome}
-use Rattle.ea_pool.specs.declared.account.LastTake.{LastTake}
-use Rattle.ea_pool.specs.declared.reply.PoppedSome.TheVariants as reply
+use Rattle.ea_pool.specs.declared.shared.account.LastTake.{LastTake}
+use Rattle.ea_pool.specs.declared.shared.reply.PoppedSome.TheVariants as reply
 use Rattle.ea_pool.specs.Entries.{times, IsAscending, IsLeastOf, face}
 use Rattle.ea_pool.specs.Kinds.{HeapKind, Least, Buckets, Gives}
 use Rattle.ea_pool.proofs.Weights.{only-same}
 use Rattle.ea_engine.specs.Problems.{Problem}
-use Rattle.ea_engine.specs.declared.turn.TurnEnd.{TurnEnd}
-use Rattle.ea_engine.specs.declared.turn.TurnKind.{TurnKind}
-use Rattle.ea_engine.specs.declared.turn.TurnKind.TheVariants.{Empty, Busy, Stale, Scanned, Refused, Cut}
+use Rattle.ea_engine.specs.declared.worker.turn.TurnEnd.{TurnEnd}
+use Rattle.ea_engine.specs.declared.worker.turn.TurnKind.{TurnKind}
+use Rattle.ea_engine.specs.declared.worker.turn.TurnKind.TheVariants.{Empty, Busy, Stale, Scanned, Refused, Cut}
 use Rattle.ea_engine.specs.Looks.{word_after, first_heap, second_heap, SawAs}
-use Rattle.ea_pool.specs.declared.reply.PoppedSome.{PoppedSome}
-use Rattle.ea_pool.specs.declared.words.TheConstants.{EMPTY}
+use Rattle.ea_pool.specs.declared.shared.reply.PoppedSome.{PoppedSome}
+use Rattle.ea_pool.specs.declared.shared.words.TheConstants.{EMPTY}
 use Rattle.ea_pool.specs.Draws.{first_draw, second_draw}
 use Rattle.ea_pool.specs.Tries.{LookedAt, TookLesser, WasBusy}
 use Rattle.ea_engine.specs.Words.{after_words}
 use Rattle.ea_labels.specs.declared.record.Bound.{Bound}
 use Rattle.ea_labels.specs.declared.record.SeatRecord.{SeatRecord}
-use Rattle.ea_pool.specs.declared.account.Account.{Account}
-use Rattle.ea_limits.specs.declared.TheConstants.{SHARES}
+use Rattle.ea_pool.specs.declared.shared.account.Account.{Account}
+use Rattle.ea_base.specs.declared.limits.TheConstants.{SHARES}
 use Rattle.ea_pool.specs.Pools.{SameBooks}
 use Rattle.ea_engine.specs.Turns.{is_busy, is_idle, is_refused, IsShaped, visited_as}
 use Rattle.ea_engine.specs.Closed.{entry_at, IsClosedAs, IsFreshAs}

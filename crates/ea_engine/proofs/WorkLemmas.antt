@@ -12,24 +12,24 @@ use Rattle.std.proofs.lemmas.Fn.{FoldsTo-push}
 use Rattle.std.specs.Prelude.{if◌then◌else◌}
 use Rattle.arrayvec.specs.ArrayVec.{array_vec_len}
 use Rattle.ea_road.specs.Roads.{IsNode}
-use Rattle.ea_pool.specs.declared.entry.Entry.{Entry}
+use Rattle.ea_pool.specs.declared.heap.entry.Entry.{Entry}
 use Rattle.ea_road.specs.Arrivals.{Reaches}
 use Rattle.ea_engine.specs.Problems.{Problem, AreReachedOf}
 use Rattle.ea_engine.specs.declared.settings.Pace.{Pace}
-use Rattle.ea_engine.specs.declared.turn.Turn.{Turn}
-use Rattle.ea_engine.specs.declared.turn.TurnEnd.{TurnEnd}
-use Rattle.ea_engine.specs.declared.turn.Hand.{Hand}
-use Rattle.ea_engine.specs.declared.turn.Flow.{Flow}
-use Rattle.ea_engine.specs.declared.turn.TurnKind.{TurnKind}
-use Rattle.ea_engine.specs.declared.turn.TurnKind.TheVariants.{Empty, Busy, Stale, Scanned, Refused, Cut}
-use Rattle.ea_engine.specs.declared.counters.Counters.{Counters}
+use Rattle.ea_engine.specs.declared.worker.turn.Turn.{Turn}
+use Rattle.ea_engine.specs.declared.worker.turn.TurnEnd.{TurnEnd}
+use Rattle.ea_engine.specs.declared.worker.turn.Hand.{Hand}
+use Rattle.ea_engine.specs.declared.worker.turn.Flow.{Flow}
+use Rattle.ea_engine.specs.declared.worker.turn.TurnKind.{TurnKind}
+use Rattle.ea_engine.specs.declared.worker.turn.TurnKind.TheVariants.{Empty, Busy, Stale, Scanned, Refused, Cut}
+use Rattle.ea_engine.specs.declared.worker.counters.Counters.{Counters}
 use Rattle.ea_labels.specs.declared.record.Bound.{Bound}
-use Rattle.ea_lists.specs.Totals.{total}
-use Rattle.ea_lists.proofs.Totals.{total-append}
+use Rattle.ea_machine.specs.Totals.{total}
+use Rattle.ea_machine.proofs.Totals.{total-append}
 use Rattle.rand_core.specs.Stream.{Stream}
 use Rattle.ea_labels.specs.declared.record.SeatRecord.{SeatRecord}
-use Rattle.ea_pool.specs.declared.account.Account.{Account}
-use Rattle.ea_limits.specs.declared.TheConstants.{SHARES}
+use Rattle.ea_pool.specs.declared.shared.account.Account.{Account}
+use Rattle.ea_base.specs.declared.limits.TheConstants.{SHARES}
 use Rattle.ea_pool.specs.Entries.{only}
 use Rattle.ea_pool.specs.Kinds.{HeapKind, Least, Buckets}
 use Rattle.ea_pool.specs.Pools.{NothingLeft, IsLeft}

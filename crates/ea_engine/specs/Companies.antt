@@ -1,11 +1,11 @@
 -- When a worker leaves its company.
 use Rattle.std.specs.Prelude.{◌≡◌, ℕ, ◌+◌, ◌%◌, ◌<◌, ◌≤◌, ◌⊎◌, List, [], ◌∷◌, if◌then◌else◌}
-use Rattle.ea_engine.specs.declared.company.Member.{Member}
-use Rattle.ea_engine.specs.declared.company.TheConstants.{NO_LIMIT}
-use Rattle.ea_engine.specs.declared.turn.Flow.{Flow}
-use Rattle.ea_engine.specs.declared.turn.Flow.TheVariants.{Go, Leave}
-use Rattle.ea_engine.specs.declared.turn.TurnKind.{TurnKind}
-use Rattle.ea_engine.specs.declared.turn.TurnKind.TheVariants.{Empty, Busy, Stale, Scanned, Refused, Cut}
+use Rattle.ea_engine.specs.declared.worker.company.Member.{Member}
+use Rattle.ea_engine.specs.declared.worker.company.TheConstants.{NO_LIMIT}
+use Rattle.ea_engine.specs.declared.worker.turn.Flow.{Flow}
+use Rattle.ea_engine.specs.declared.worker.turn.Flow.TheVariants.{Go, Leave}
+use Rattle.ea_engine.specs.declared.worker.turn.TurnKind.{TurnKind}
+use Rattle.ea_engine.specs.declared.worker.turn.TurnKind.TheVariants.{Empty, Busy, Stale, Scanned, Refused, Cut}
 use Rattle.ea_engine.specs.Turns.{Told, is_idle}
 
 -- A worker looks at the others at every 64th turn, from turn 256 on.

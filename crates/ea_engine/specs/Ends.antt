@@ -1,10 +1,10 @@
 -- Seats that were just split off, and what a worker leaves that began with such seats.
 use Rattle.std.specs.Prelude.{◌≡◌, ◌*◌, ◌<◌, ◌≤◌, ◌^◌, [], length}
-use Rattle.ea_limits.specs.declared.TheConstants.{MOST_BATCH}
-use Rattle.ea_engine.specs.declared.row.Place.{Place}
-use Rattle.ea_engine.specs.declared.row.Place.TheVariants as place
-use Rattle.ea_engine.specs.declared.means.Seats.{Seats}
-use Rattle.ea_engine.specs.declared.work_loop.WorkerEnd.{WorkerEnd}
+use Rattle.ea_base.specs.declared.limits.TheConstants.{MOST_BATCH}
+use Rattle.ea_engine.specs.declared.run.row.Place.{Place}
+use Rattle.ea_engine.specs.declared.run.row.Place.TheVariants as place
+use Rattle.ea_engine.specs.declared.worker.means.Seats.{Seats}
+use Rattle.ea_engine.specs.declared.worker.work_loop.WorkerEnd.{WorkerEnd}
 use Rattle.ea_engine.specs.Closed.{IsClosedAccount}
 use Rattle.ea_engine.specs.Problems.{Problem}
 use Rattle.ea_engine.specs.Seated.{Tables, AreSeatsOf}

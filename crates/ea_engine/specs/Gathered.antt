@@ -1,9 +1,9 @@
 -- What is known of seats while a run goes on, where the node of each entry that was handed back waits.
 use Rattle.std.specs.Prelude.{ℕ, List, ◌++◌, Contains}
 use Rattle.ea_labels.specs.declared.record.SeatRecord.{SeatRecord}
-use Rattle.ea_pool.specs.declared.entry.Entry.{Entry}
-use Rattle.ea_pool.specs.declared.account.Account.{Account}
-use Rattle.ea_engine.specs.declared.turn.Hand.{Hand}
+use Rattle.ea_pool.specs.declared.heap.entry.Entry.{Entry}
+use Rattle.ea_pool.specs.declared.shared.account.Account.{Account}
+use Rattle.ea_engine.specs.declared.worker.turn.Hand.{Hand}
 use Rattle.ea_engine.specs.Problems.{Problem}
 use Rattle.ea_engine.specs.Closed.{IsClosedAccount}
 use Rattle.ea_engine.specs.Worked.{back_of}

@@ -1,8 +1,8 @@
 -- What a worker reads, and when it is that of a problem.
 use Rattle.std.specs.Prelude.{◌≡◌, ℕ, ◌≤◌}
-use Rattle.ea_road.specs.Answers.{IsFifo}
+use Rattle.ea_travel_times.specs.Answers.{IsFifo}
 use Rattle.ea_road.specs.Roads.{top_class}
-use Rattle.ea_engine.specs.declared.ground.Ground.{Ground}
+use Rattle.ea_engine.specs.declared.run.ground.Ground.{Ground}
 use Rattle.ea_engine.specs.Problems.{Problem, IsPosed, IsNamed}
 use Rattle.ea_engine.specs.Seated.{Tables, tables}
 

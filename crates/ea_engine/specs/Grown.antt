@@ -2,9 +2,9 @@
 use Rattle.std.specs.Prelude.{◌≡◌, ◌+◌, ◌<◌, ◌≤◌, [], ◌∷◌, ◌++◌, Contains, length, vec_len}
 use Rattle.std.specs.Vec.{vec_capacity}
 use Rattle.ea_labels.specs.declared.record.Bound.{Bound}
-use Rattle.ea_engine.specs.declared.gathering.Gathering.{Gathering}
-use Rattle.ea_engine.specs.declared.ran.Results.{Results}
-use Rattle.ea_engine.specs.declared.work_loop.WorkerEnd.{WorkerEnd}
+use Rattle.ea_engine.specs.declared.run.gathering.Gathering.{Gathering}
+use Rattle.ea_engine.specs.declared.run.ran.Results.{Results}
+use Rattle.ea_engine.specs.declared.worker.work_loop.WorkerEnd.{WorkerEnd}
 
 -- There is room for one more.
 pub record HasRoom {R F : Type 0} (results : Results R F) : Type 0 where

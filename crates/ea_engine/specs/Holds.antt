@@ -1,16 +1,16 @@
 -- What a worker holds: what a pop brought, and what a visit of the next entry comes to.
 use Rattle.std.specs.Prelude.{◌≡◌, ℕ, ◌^◌, ◌<◌, ◌≤◌, List, [], ◌∷◌, ◌++◌, length, reverse, Contains, IfSome}
 use Rattle.std.specs.Option.{option_to_list}
-use Rattle.ea_limits.specs.declared.TheConstants.{SHARES}
+use Rattle.ea_base.specs.declared.limits.TheConstants.{SHARES}
 use Rattle.ea_road.specs.Arrivals.{Reaches}
 use Rattle.ea_road.specs.Roads.{IsNode}
-use Rattle.ea_pool.specs.declared.entry.Entry.{Entry}
-use Rattle.ea_pool.specs.declared.account.Account.{Account}
+use Rattle.ea_pool.specs.declared.heap.entry.Entry.{Entry}
+use Rattle.ea_pool.specs.declared.shared.account.Account.{Account}
 use Rattle.ea_pool.specs.Batches.{IsLowest}
 use Rattle.ea_pool.specs.Entries.{AreKnown, IsAscending}
 use Rattle.ea_pool.specs.Kinds.{HeapKind, Least, Buckets}
 use Rattle.ea_pool.specs.Pools.{AreLeft, PopsAll}
-use Rattle.ea_engine.specs.declared.turn.TurnEnd.{TurnEnd}
+use Rattle.ea_engine.specs.declared.worker.turn.TurnEnd.{TurnEnd}
 use Rattle.ea_engine.specs.Problems.{Problem}
 use Rattle.ea_engine.specs.Closed.{IsClosedTurn, IsFreshTurn}
 use Rattle.ea_engine.specs.Turns.{IsShaped, visited_in}

@@ -1,6 +1,6 @@
 -- Words that keep a worker mostly at its own heaps.
 use Rattle.std.specs.Prelude.{◌≡◌, ℕ, ◌+◌, ◌-◌, ◌*◌, ◌%◌, ◌^◌, ◌<◌, ◌==◌, nat_lt, List, slice_index, if◌then◌else◌}
-use Rattle.ea_engine.specs.declared.homing.Homing.{Homing}
+use Rattle.ea_engine.specs.declared.worker.home_heaps.Homing.{Homing}
 
 -- the next of the worker's own words; where the word of the generator below is below 2^61, with so many times all heaps more as its last 28 bits say
 unfoldable pub homing_step : {R : Type 0} → (R → ℕ × R) → Homing R → ℕ × Homing R

@@ -1,6 +1,6 @@
 -- The limits of settings.
 use Rattle.std.specs.Prelude.{◌≤◌}
-use Rattle.ea_limits.specs.declared.TheConstants.{LEAST_HEAPS, MOST_BATCH, MOST_HEAPS, MOST_PATIENCE, MOST_TURNS, MOST_WORKERS}
+use Rattle.ea_base.specs.declared.limits.TheConstants.{LEAST_HEAPS, MOST_BATCH, MOST_HEAPS, MOST_PATIENCE, MOST_TURNS, MOST_WORKERS}
 use Rattle.ea_engine.specs.declared.settings.Pace.{Pace}
 use Rattle.ea_engine.specs.declared.settings.Settings.{Settings}
 

@@ -1,11 +1,11 @@
 -- What a turn that popped nothing tells of the heaps that its words drew.
 use Rattle.std.specs.Prelude.{ℕ, List}
 use Rattle.rand_core.specs.Stream.{Stream, next_u64}
-use Rattle.ea_pool.specs.declared.words.TheConstants.{EMPTY}
+use Rattle.ea_pool.specs.declared.shared.words.TheConstants.{EMPTY}
 use Rattle.ea_pool.specs.Draws.{first_draw, second_draw}
 use Rattle.ea_pool.specs.Tries.{LookedAt, WasBusy}
-use Rattle.ea_engine.specs.declared.turn.TurnKind.{TurnKind}
-use Rattle.ea_engine.specs.declared.turn.TurnKind.TheVariants as kind
+use Rattle.ea_engine.specs.declared.worker.turn.TurnKind.{TurnKind}
+use Rattle.ea_engine.specs.declared.worker.turn.TurnKind.TheVariants as kind
 use Rattle.ea_engine.specs.Words.{after_words}
 
 -- the word that a generator answers after so many words

@@ -1,12 +1,12 @@
 -- The problem of a run, and the tables and seats of its workers.
 use Rattle.std.specs.Prelude.{◌≡◌, ℕ, ◌≤◌, ◌↔◌, List, [], None, All, IfSome}
 use Rattle.std.specs.List.{IsAmong}
-use Rattle.ea_limits.specs.declared.TheConstants.{HORIZON}
+use Rattle.ea_base.specs.declared.limits.TheConstants.{HORIZON}
 use Rattle.ea_road.specs.declared.source.Source.{Source}
 use Rattle.ea_road.specs.Arrivals.{Reaches}
 use Rattle.ea_road.specs.Queries.{Asking}
 use Rattle.ea_road.specs.Roads.{Roads, IsNode, IsNetwork}
-use Rattle.ea_pool.specs.declared.entry.Entry.{Entry}
+use Rattle.ea_pool.specs.declared.heap.entry.Entry.{Entry}
 
 -- A network, what its travel times answer for a class, a weight and a departure, and a query.
 pub record Problem : Type 1 where

@@ -5,9 +5,9 @@ use Rattle.rand_core.specs.Stream.{Stream}
 use Rattle.ea_road.specs.declared.source.Source.{Source}
 use Rattle.ea_road.specs.Roads.{Roads}
 use Rattle.ea_engine.specs.declared.settings.Pace.{Pace}
-use Rattle.ea_engine.specs.declared.turn.Turn.{Turn}
-use Rattle.ea_engine.specs.declared.turn.Flow.{Flow}
-use Rattle.ea_engine.specs.declared.counters.Counters.{Counters}
+use Rattle.ea_engine.specs.declared.worker.turn.Turn.{Turn}
+use Rattle.ea_engine.specs.declared.worker.turn.Flow.{Flow}
+use Rattle.ea_engine.specs.declared.worker.counters.Counters.{Counters}
 use Rattle.ea_engine.specs.Words.{after_words}
 use Rattle.ea_engine.specs.Problems.{AreReached}
 use Rattle.ea_engine.specs.Turns.{Told, IsTurnList, AreCounters, visited_in_all}

@@ -2,13 +2,13 @@
 use Rattle.std.specs.Prelude.{◌≡◌, ℕ, ◌≤◌, [], Bool}
 use Rattle.std.specs.Vec.{vec_capacity}
 use Rattle.ea_labels.specs.Core.{first_record}
-use Rattle.ea_limits.specs.declared.TheConstants.{SHARES}
+use Rattle.ea_base.specs.declared.limits.TheConstants.{SHARES}
 use Rattle.ea_pool.specs.Pools.{Opened}
 use Rattle.ea_pool.specs.Seats.{heaps_of}
-use Rattle.ea_engine.specs.declared.arrays.Arrays.{Arrays}
-use Rattle.ea_engine.specs.declared.arrays.Rooms.{Rooms}
-use Rattle.ea_engine.specs.declared.means.Seats.{Seats}
-use Rattle.ea_engine.specs.declared.ran.Results.{Results}
+use Rattle.ea_engine.specs.declared.run.arrays.Arrays.{Arrays}
+use Rattle.ea_engine.specs.declared.run.arrays.Rooms.{Rooms}
+use Rattle.ea_engine.specs.declared.worker.means.Seats.{Seats}
+use Rattle.ea_engine.specs.declared.run.ran.Results.{Results}
 use Rattle.ea_engine.specs.Seated.{Tables, tables, AreSeatsOf}
 
 -- Nothing is left yet, and there is room for what so many workers leave.

@@ -1,16 +1,16 @@
 -- What the places of a row leave, and what is gathered of the first of them.
 use Rattle.std.specs.Prelude.{◌≡◌, ℕ, ◌+◌, ◌*◌, ◌^◌, ◌<◌, ◌≤◌, List, [], ◌∷◌, map, length, All, sum_by}
 use Rattle.rand_core.specs.Stream.{Stream}
-use Rattle.ea_limits.specs.declared.TheConstants.{MOST_BATCH}
-use Rattle.ea_engine.specs.declared.gathering.Gathering.{Gathering}
-use Rattle.ea_engine.specs.declared.means.Seats.{Seats}
-use Rattle.ea_engine.specs.declared.ran.Ran.{Ran}
-use Rattle.ea_engine.specs.declared.row.Place.{Place}
-use Rattle.ea_engine.specs.declared.row.Place.TheVariants as place
+use Rattle.ea_base.specs.declared.limits.TheConstants.{MOST_BATCH}
+use Rattle.ea_engine.specs.declared.run.gathering.Gathering.{Gathering}
+use Rattle.ea_engine.specs.declared.worker.means.Seats.{Seats}
+use Rattle.ea_engine.specs.declared.run.ran.Ran.{Ran}
+use Rattle.ea_engine.specs.declared.run.row.Place.{Place}
+use Rattle.ea_engine.specs.declared.run.row.Place.TheVariants as place
 use Rattle.ea_engine.specs.declared.settings.Pace.{Pace}
-use Rattle.ea_engine.specs.declared.turn.Flow.{Flow}
-use Rattle.ea_engine.specs.declared.turn.Turn.{Turn}
-use Rattle.ea_engine.specs.declared.work_loop.WorkerEnd.{WorkerEnd}
+use Rattle.ea_engine.specs.declared.worker.turn.Flow.{Flow}
+use Rattle.ea_engine.specs.declared.worker.turn.Turn.{Turn}
+use Rattle.ea_engine.specs.declared.worker.work_loop.WorkerEnd.{WorkerEnd}
 use Rattle.ea_engine.specs.Ends.{AreFresh, IsEndPlace}
 use Rattle.ea_engine.specs.Gathered.{IsGathered, IsHanded}
 use Rattle.ea_engine.specs.Opened.{AreOffered}

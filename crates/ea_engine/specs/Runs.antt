@@ -3,11 +3,11 @@ use Rattle.std.specs.Prelude.{◌≡◌, ℕ, ◌+◌, ◌-◌, ◌*◌, All, le
 use Rattle.rand_core.specs.Stream.{Stream}
 use Rattle.ea_road.specs.Queries.{Asking}
 use Rattle.ea_road.specs.Roads.{Roads}
-use Rattle.ea_engine.specs.declared.crew.Crew.{Crew}
-use Rattle.ea_engine.specs.declared.ran.Ran.{Ran}
-use Rattle.ea_engine.specs.declared.solved.Solved.{Solved}
-use Rattle.ea_engine.specs.declared.turn.Flow.{Flow}
-use Rattle.ea_engine.specs.declared.turn.Turn.{Turn}
+use Rattle.ea_engine.specs.declared.run.crew.Crew.{Crew}
+use Rattle.ea_engine.specs.declared.run.ran.Ran.{Ran}
+use Rattle.ea_engine.specs.declared.run.solved.Solved.{Solved}
+use Rattle.ea_engine.specs.declared.worker.turn.Flow.{Flow}
+use Rattle.ea_engine.specs.declared.worker.turn.Turn.{Turn}
 use Rattle.ea_engine.specs.Limits.{AreSettings, pace_of}
 use Rattle.ea_engine.specs.Reports.{AreReports}
 use Rattle.ea_engine.specs.Seeds.{AreSeeds}

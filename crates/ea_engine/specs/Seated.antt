@@ -3,10 +3,10 @@ use Rattle.std.specs.Prelude.{◌≡◌, List}
 use Rattle.rand_core.specs.Stream.{Stream}
 use Rattle.ea_labels.specs.Core as labels
 use Rattle.ea_pool.specs.Seats as pools
-use Rattle.ea_pool.specs.declared.entry.Entry.{Entry}
-use Rattle.ea_engine.specs.declared.means.Means.{Means}
-use Rattle.ea_engine.specs.declared.turn.Lists.{Lists}
-use Rattle.ea_engine.specs.declared.work_loop.WorkerEnd.{WorkerEnd}
+use Rattle.ea_pool.specs.declared.heap.entry.Entry.{Entry}
+use Rattle.ea_engine.specs.declared.worker.means.Means.{Means}
+use Rattle.ea_engine.specs.declared.worker.turn.Lists.{Lists}
+use Rattle.ea_engine.specs.declared.worker.work_loop.WorkerEnd.{WorkerEnd}
 use Rattle.ea_engine.specs.Worked.{Kit, kit}
 
 -- the label table and the pool

@@ -1,14 +1,14 @@
 -- Which sources lower a label, how many of their entries the pool took, and how many it handed back.
 use Rattle.std.specs.Prelude.{◌≡◌, ℕ, ◌+◌, ◌≤◌, List, [], ◌∷◌, ◌++◌, length, Any}
-use Rattle.ea_limits.specs.declared.TheConstants.{SHARES}
+use Rattle.ea_base.specs.declared.limits.TheConstants.{SHARES}
 use Rattle.ea_road.specs.declared.source.Source.{Source}
 use Rattle.ea_labels.specs.declared.record.SeatRecord.{SeatRecord}
 use Rattle.ea_labels.specs.Core.{lowered, lowering}
-use Rattle.ea_pool.specs.declared.account.Account.{Account}
+use Rattle.ea_pool.specs.declared.shared.account.Account.{Account}
 use Rattle.ea_engine.specs.Closed.{IsReachedBy}
-use Rattle.ea_engine.specs.declared.means.Seats.{Seats}
-use Rattle.ea_engine.specs.declared.seeds.Seeded.{Seeded}
-use Rattle.ea_engine.specs.declared.seeds.Seeded.TheVariants.{Kept, Pushed, HandedBack}
+use Rattle.ea_engine.specs.declared.worker.means.Seats.{Seats}
+use Rattle.ea_engine.specs.declared.run.seeds.Seeded.{Seeded}
+use Rattle.ea_engine.specs.declared.run.seeds.Seeded.TheVariants.{Kept, Pushed, HandedBack}
 
 abbrev pub seeded_by : Seeded → ℕ
 seeded_by Kept = 0

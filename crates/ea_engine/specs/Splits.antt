@@ -1,6 +1,6 @@
 -- What becomes of seats that give shares away.
 use Rattle.std.specs.Prelude.{◌≡◌, ℕ, ◌+◌}
-use Rattle.ea_engine.specs.declared.means.Seats.{Seats}
+use Rattle.ea_engine.specs.declared.worker.means.Seats.{Seats}
 
 -- So many shares of each were given, and nothing else has changed.
 pub record HasGiven {K E : Type 0} (count : ℕ) (before after : Seats K E) : Type 0 where

@@ -1,6 +1,6 @@
 -- The counts of a run.
 use Rattle.std.specs.Prelude.{◌≡◌, ℕ, ◌+◌, ◌-◌, ◌<◌, ◌≤◌, List, length, sum_by}
-use Rattle.ea_engine.specs.declared.counters.Counters.{Counters}
+use Rattle.ea_engine.specs.declared.worker.counters.Counters.{Counters}
 
 abbrev pub pushed_by_all : List Counters → ℕ
 pushed_by_all counters = sum_by (λ c. c.pushed) counters

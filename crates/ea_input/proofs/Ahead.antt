@@ -9,9 +9,9 @@ use Rattle.ea_input.proofs.Said.{same_word}
 use Rattle.std.specs.Str.Lines.{strip_carriage_return}
 use Rattle.std.proofs.lemmas.List.Splits.{slice_split-cons_yes, slice_split-cons_no}
 use Rattle.std.proofs.lemmas.Bool.{lt-ltb}
-use Rattle.ea_text.specs.Text.{lines_of, fields_of, is_blank, number_of}
+use Rattle.ea_bytes.specs.Text.{lines_of, fields_of, is_blank, number_of}
 use Rattle.ea_input.specs.Ahead.{ArcThen, NumberThen, PairThen, TwoThen}
-use Rattle.ea_text.proofs.Numbers.{and_left, and_right}
+use Rattle.ea_bytes.proofs.Numbers.{and_left, and_right}
 
 digit_no_blank : (b : ℕ) → is_ascii_digit b ≡ true → is_blank b ≡ false
 digit_no_blank b e = grind (arith, tests)

@@ -2,16 +2,17 @@
 use Rattle.std.proofs.Common.{◌≡◌, ◌⊎◌, inl, inr, ℕ, ◌+◌, ◌<◌, ◌≤◌, ◌^◌, Bool, true, false, cond, refl, ap, sym, ◌∙◌, subst, arith, List, [], ◌∷◌, ◌++◌, length, ltb, append-nil, append_assoc, length-append}
 use Rattle.std.specs.Prelude.{Option, Some, None, Result, Ok, Err, not}
 use Rattle.std.proofs.lemmas.Bool.{ltb-false, le-ltb}
-use Rattle.ea_text.specs.Text.{is_silent, speaking}
-use Rattle.ea_input.specs.Fault.{◌>>=◌}
+use Rattle.ea_bytes.specs.Text.{is_silent, speaking}
+use Rattle.ea_blocks.specs.Fault.{◌>>=◌}
 use Rattle.ea_input.specs.Graph.{Graph, IsProblemLine, IsArcLine, AreArcLines, DenotesGraph, GraphRead, with_line, after_said, graph_step, graph_line, graph_end, graph_of}
-use Rattle.ea_input.specs.Reading.{text_after}
+use Rattle.ea_blocks.specs.Reading.{text_after}
+use Rattle.ea_blocks.proofs.Cuts.{two_ways}
 use Rattle.ea_input.proofs.Numbered.{bind_ok}
 use Rattle.ea_input.proofs.OneByOne.{rest_of, one_line, next_line, no_line, at_end}
 use Rattle.ea_input.proofs.Said.{Says, graph_line_says, silent_line, problem_line_of, arc_line_of}
-use Rattle.ea_input.specs.declared.fault.FaultKind.TheVariants.{TooFewLines}
-use Rattle.ea_input.specs.declared.fault.InputFault.{InputFault}
-use Rattle.ea_raw.specs.declared.graph.RawArc.{RawArc}
+use Rattle.ea_blocks.specs.declared.fault.FaultKind.TheVariants.{TooFewLines}
+use Rattle.ea_blocks.specs.declared.fault.InputFault.{InputFault}
+use Rattle.ea_base.specs.declared.graph.RawArc.{RawArc}
 use Rattle.ea_input.specs.declared.graph.GraphSize.{GraphSize}
 use Rattle.ea_input.specs.declared.graph.GraphLine.{GraphLine}
 use Rattle.ea_input.specs.declared.graph.GraphLine.TheVariants.{Silent, Problem, Arc}
@@ -138,10 +139,6 @@ unfolding text_after
 denoted lines g e = after_none lines 0 g e
 
 -- ---- and back
-
-pub two_ways : (b : Bool) → (b ≡ true) ⊎ (b ≡ false)
-two_ways true = inl refl
-two_ways false = inr refl
 
 end_of : (n : ℕ) (size : GraphSize) (arcs more : List RawArc) → length (arcs ++ more) ≡ size.arcs → AreArcLines size.nodes [] more → rest n (reader (Some size) arcs) [] ≡ Ok (record { nodes = size.nodes; arcs = arcs ++ more })
 unfolding graph_end

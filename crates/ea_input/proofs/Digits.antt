@@ -11,7 +11,7 @@ use Rattle.std.proofs.Math.Seq.{drop-cons}
 use Rattle.std.proofs.lemmas.Bool.{lt-ltb}
 use Rattle.std.proofs.lemmas.List.{length-take-le, take-append-drop, take-take as take-take-le}
 use Rattle.std.proofs.lemmas.Str.Parse.{digits_value_short, numerals_by_value, tells_all_ascii_digits}
-use Rattle.ea_text.specs.Text.{number_of}
+use Rattle.ea_bytes.specs.Text.{number_of}
 use Rattle.ea_input.specs.Ahead.{AreLeading, NumberThen}
 use Rattle.core.proofs.dec2flt.DigitsLemmas.{digits_len_short}
 

@@ -1,12 +1,12 @@
 -- What reading a text line by line comes to is what its checks say.
 use Rattle.std.proofs.Common.{◌≡◌, ◌⊎◌, inl, inr, ℕ, ◌+◌, refl, ap, ap₂, sym, ◌∙◌, subst, arith, List, [], ◌∷◌, ◌++◌, length, append-nil, append_assoc, length-append}
 use Rattle.std.specs.Prelude.{Option, Some, None, Result, Ok, Err, MatchResult}
-use Rattle.ea_input.specs.Fault.{◌>>=◌, in_line}
-use Rattle.ea_input.specs.Reading.{lines_after, text_after}
+use Rattle.ea_blocks.specs.Fault.{◌>>=◌, in_line}
+use Rattle.ea_blocks.specs.Reading.{lines_after, text_after}
 use Rattle.ea_input.specs.Checks.{Line, Format, before_of, line_fault, end_fault, NoLineHasFault, IsLineFault, IsEndFault, IsFaultOf}
 use Rattle.ea_input.proofs.OneByOne.{rest_of, next_line}
-use Rattle.ea_input.specs.declared.fault.FaultKind.{FaultKind}
-use Rattle.ea_input.specs.declared.fault.InputFault.{InputFault}
+use Rattle.ea_blocks.specs.declared.fault.FaultKind.{FaultKind}
+use Rattle.ea_blocks.specs.declared.fault.InputFault.{InputFault}
 
 -- What the checks say, and what reading gives.
 abbrev pub Matches : {X : Type 0} → Option FaultKind → Result X FaultKind → X → Type 0

@@ -4,15 +4,15 @@ use Rattle.std.specs.List.{list_all}
 use Rattle.std.specs.Prelude.{Option, Some, None, Result, Ok, Err, is_some, unwrap_or}
 use Rattle.std.specs.Option.{ok_or, option_map}
 use Rattle.std.proofs.lemmas.Bool.{leb-true}
-use Rattle.ea_text.specs.Text.{number_of}
-use Rattle.ea_input.specs.Fault.{◌>>=◌, numeral, within}
+use Rattle.ea_bytes.specs.Text.{number_of}
+use Rattle.ea_blocks.specs.Fault.{◌>>=◌, numeral, within}
 use Rattle.ea_input.specs.Checks.{is_number, value_of, lies_in}
 use Rattle.ea_input.specs.Graph.{size_read, arc_read, arc_within}
 use Rattle.ea_input.specs.Listing.{only_number}
 use Rattle.ea_input.specs.Pairs.{pair_read}
 use Rattle.ea_input.proofs.Numbered.{and_ok}
-use Rattle.ea_input.specs.declared.fault.FaultKind.{FaultKind}
-use Rattle.ea_input.specs.declared.fault.FaultKind.TheVariants.{BadNumber, OutOfRange}
+use Rattle.ea_blocks.specs.declared.fault.FaultKind.{FaultKind}
+use Rattle.ea_blocks.specs.declared.fault.FaultKind.TheVariants.{BadNumber, OutOfRange}
 
 -- What passes two tests, or the fault of the first that fails.
 abbrev pub tested : {A : Type 0} → Bool → Bool → A → Result A FaultKind

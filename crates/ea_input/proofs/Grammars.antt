@@ -1,8 +1,8 @@
 -- The laws of the four grammars, and what their readers answer.
 use Rattle.std.proofs.Common.{◌≡◌, ◌⊎◌, inl, inr, ℕ, ◌<◌, ◌^◌, refl, subst, cond, ltb, List, [], ◌∷◌, length, arith, tests}
 use Rattle.std.specs.Prelude.{false, ◌==◌, Result, Ok, Err, IfErr, IfOk, MatchResult}
-use Rattle.ea_input.specs.Fault.{◌>>=◌, Gives, out_of_memory}
-use Rattle.ea_input.specs.Reading.{text_after}
+use Rattle.ea_blocks.specs.Fault.{◌>>=◌, Gives, out_of_memory}
+use Rattle.ea_blocks.specs.Reading.{text_after}
 use Rattle.ea_input.specs.Listing.{only_number, list_end, nothing_listed}
 use Rattle.ea_input.specs.Sources.{DenotesSources, source_of, source_step}
 use Rattle.ea_input.specs.Pairs.{DenotesPairs, pair_of, pair_read, pair_step}
@@ -10,12 +10,13 @@ use Rattle.ea_input.specs.Graph.{Graph, DenotesGraph, graph_of, graph_step, grap
 use Rattle.ea_input.specs.Table.{Table, DenotesTable, table_step, table_end, no_table}
 use Rattle.ea_input.specs.Checks.{Line, Format, value_of, first_failing, IsFaultOf, IsFaultTold}
 use Rattle.ea_input.specs.Formats.{graph_format, source_format, pair_format, table_format}
-use Rattle.ea_text.specs.Device.{Seen}
-use Rattle.ea_text.specs.Text.{field_lines}
+use Rattle.ea_bytes.specs.Device.{Seen}
+use Rattle.ea_bytes.specs.Text.{field_lines}
 use Rattle.ea_input.specs.Grammar.{IsGrammar}
-use Rattle.ea_input.specs.Streams.{DenotesWhole, GivesWhole, IsStreamFault}
-use Rattle.ea_input.specs.declared.streams.StreamFault.{StreamFault}
-use Rattle.ea_input.specs.declared.streams.StreamFault.TheVariants.{Read, Input}
+use Rattle.ea_blocks.specs.Streams.{DenotesWhole, GivesWhole}
+use Rattle.ea_input.specs.StreamFaults.{IsStreamFault}
+use Rattle.ea_blocks.specs.declared.stream.StreamFault.{StreamFault}
+use Rattle.ea_blocks.specs.declared.stream.StreamFault.TheVariants.{Read, Input}
 use Rattle.ea_input.proofs.Denoted as graphs
 use Rattle.ea_input.proofs.Items as items
 use Rattle.ea_input.proofs.TableDenoted as tables
@@ -26,10 +27,10 @@ use Rattle.ea_input.proofs.Faults.{Matches, Outcome, Follows, text_outcome, one_
 use Rattle.ea_input.proofs.GraphFaults.{graph_follows}
 use Rattle.ea_input.proofs.ListFaults.{item_checks, list_follows}
 use Rattle.ea_input.proofs.TableFaults.{table_follows}
-use Rattle.ea_input.specs.declared.fault.FaultKind.{FaultKind}
-use Rattle.ea_input.specs.declared.fault.FaultKind.TheVariants.{TooManyLines}
-use Rattle.ea_input.specs.declared.fault.InputFault.{InputFault}
-use Rattle.ea_input.specs.declared.listing.ListLine.TheVariants.{Item}
+use Rattle.ea_blocks.specs.declared.fault.FaultKind.{FaultKind}
+use Rattle.ea_blocks.specs.declared.fault.FaultKind.TheVariants.{TooManyLines}
+use Rattle.ea_blocks.specs.declared.fault.InputFault.{InputFault}
+use Rattle.ea_input.specs.declared.problem_line.ListLine.TheVariants.{Item}
 
 -- A text's reading, both ways.
 pub record Grammar (X : Type 0) : Type 1 where

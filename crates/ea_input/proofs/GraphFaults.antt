@@ -3,20 +3,20 @@ use Rattle.std.proofs.Common.{◌≡◌, inl, inr, ℕ, ◌+◌, ◌<◌, ◌^�
 use Rattle.std.specs.Prelude.{Option, Some, None, Ok, Err, codes, ◌==◌, find, count_by}
 use Rattle.std.specs.Option.{option_map}
 use Rattle.std.specs.Str.{bytes_eq}
-use Rattle.ea_input.specs.Fault.{◌>>=◌}
+use Rattle.ea_blocks.specs.Fault.{◌>>=◌}
 use Rattle.ea_input.specs.Graph.{Graph, IsProblemLine, IsArcLine, GraphRead, no_graph, with_line, size_of, size_read, problem_of, problem_line, arc_of, arc_read, arc_line, graph_line, graph_step, after_said, graph_end}
 use Rattle.ea_input.specs.Checks.{Line, Before, before_of, begins_with, run_of_lines, value_of, line_fault, end_fault}
 use Rattle.ea_input.specs.StepLines.{Run, no_run}
 use Rattle.ea_input.specs.Formats.{graph_format, graph_nodes, graph_arcs}
 use Rattle.ea_input.proofs.Numbered.{bind_ok}
 use Rattle.ea_input.proofs.Said.{Says, graph_line_says, same_word, is_word}
-use Rattle.ea_input.proofs.Denoted.{two_ways}
+use Rattle.ea_blocks.proofs.Cuts.{two_ways}
 use Rattle.ea_input.proofs.Faults.{Matches, Follows}
 use Rattle.ea_input.proofs.Forms.{size_form, arc_form}
 use Rattle.ea_input.proofs.Matching.{bind_matches, kind_matches, count_matches, numbers_match, item_matches, few_matches, found_before, found_now, counted_before, counted_now, silent_word, some_is, none_mapped, some_mapped, number_is}
-use Rattle.ea_text.specs.Text.{is_comment, is_silent}
-use Rattle.ea_input.specs.declared.fault.FaultKind.TheVariants.{TooManyLines, TooFewLines}
-use Rattle.ea_raw.specs.declared.graph.RawArc.{RawArc}
+use Rattle.ea_bytes.specs.Text.{is_comment, is_silent}
+use Rattle.ea_blocks.specs.declared.fault.FaultKind.TheVariants.{TooManyLines, TooFewLines}
+use Rattle.ea_base.specs.declared.graph.RawArc.{RawArc}
 use Rattle.ea_input.specs.declared.graph.GraphSize.{GraphSize}
 use Rattle.ea_input.specs.declared.graph.GraphLine.{GraphLine}
 use Rattle.ea_input.specs.declared.graph.GraphLine.TheVariants.{Silent, Problem, Arc}

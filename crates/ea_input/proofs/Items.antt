@@ -3,20 +3,21 @@ use Rattle.std.proofs.Common.{◌≡◌, inl, inr, ℕ, ◌+◌, ◌<◌, ◌≤
 use Rattle.std.specs.Prelude.{Option, Some, None, Result, Ok, Err, IfOk, MatchResult, codes}
 use Rattle.std.specs.Str.{bytes_eq}
 use Rattle.std.proofs.lemmas.Bool.{ltb-true, lt-ltb, ltb-false, le-ltb}
-use Rattle.ea_text.specs.Text.{is_comment, is_silent, speaking}
-use Rattle.ea_input.specs.Fault.{◌>>=◌, numeral, within, Gives, out_of_memory}
+use Rattle.ea_bytes.specs.Text.{is_comment, is_silent, speaking}
+use Rattle.ea_blocks.specs.Fault.{◌>>=◌, numeral, within, Gives, out_of_memory}
 use Rattle.ea_input.specs.Range.{IsNumberIn}
-use Rattle.ea_input.specs.Reading.{text_after}
+use Rattle.ea_blocks.specs.Reading.{text_after}
 use Rattle.ea_input.specs.Listing.{IsCountLine, IsItemLine, AreItemLines, DenotesItems, after_kinds, only_number, announced, problem_line, item_line, list_line, list_step, list_end, Listed, nothing_listed, with_line}
 use Rattle.ea_input.proofs.Numbered.{bind_ok, guard_ok, number_found, numeral_of, within_of}
 use Rattle.ea_input.proofs.Said.{same_word, is_word, choice_ok}
-use Rattle.ea_input.proofs.Denoted.{speaking_silent, speaking_loud, unless_ok, two_ways}
+use Rattle.ea_input.proofs.Denoted.{speaking_silent, speaking_loud, unless_ok}
+use Rattle.ea_blocks.proofs.Cuts.{two_ways}
 use Rattle.ea_input.proofs.OneByOne.{rest_of, one_line, next_line, no_line, at_end}
-use Rattle.ea_input.specs.declared.fault.FaultKind.{FaultKind}
-use Rattle.ea_input.specs.declared.fault.FaultKind.TheVariants.{TooManyLines, TooFewLines, BadKind}
-use Rattle.ea_input.specs.declared.fault.InputFault.{InputFault}
-use Rattle.ea_input.specs.declared.listing.ListLine.{ListLine}
-use Rattle.ea_input.specs.declared.listing.ListLine.TheVariants.{Silent, Problem, Item}
+use Rattle.ea_blocks.specs.declared.fault.FaultKind.{FaultKind}
+use Rattle.ea_blocks.specs.declared.fault.FaultKind.TheVariants.{TooManyLines, TooFewLines, BadKind}
+use Rattle.ea_blocks.specs.declared.fault.InputFault.{InputFault}
+use Rattle.ea_input.specs.declared.problem_line.ListLine.{ListLine}
+use Rattle.ea_input.specs.declared.problem_line.ListLine.TheVariants.{Silent, Problem, Item}
 
 -- A sort of lines: its words, its fields by the checks and by the grammar.
 pub record Sort (A : Type 0) : Type 1 where

@@ -1,8 +1,8 @@
 -- The last kind of a timetable.
 use Rattle.std.proofs.Common.{◌≡◌, suc, ◌-◌, refl, ap, ◌∙◌, arith, List, [], ◌∷◌, ◌++◌, length, slice_index_or}
 use Rattle.ea_input.specs.Table.{last_kind}
-use Rattle.ea_raw.specs.declared.table.RawKind.{RawKind}
-use Rattle.ea_raw.specs.declared.table.RawKind.TheVariants.{Plain}
+use Rattle.ea_base.specs.declared.timetable.RawKind.{RawKind}
+use Rattle.ea_base.specs.declared.timetable.RawKind.TheVariants.{Plain}
 
 pub last_read : (kinds : List RawKind) → slice_index_or kinds (length kinds - 1) Plain ≡ last_kind kinds
 last_read [] = refl

@@ -1,7 +1,6 @@
 pub mod Numbered
 pub mod Said
 pub mod Denoted
-pub mod Steps
 pub mod OneByOne
 pub mod Items
 pub mod Sorts
@@ -19,9 +18,5 @@ pub mod ListFaults
 pub mod TableFaults
 pub mod Grammars
 pub mod QuickEntry
-pub mod Cuts
 pub mod Piecewise
-pub mod Joined
-pub mod Fed
-pub mod Underway
 pub mod Digits

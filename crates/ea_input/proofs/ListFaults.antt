@@ -5,23 +5,23 @@ use Rattle.std.specs.Option.{option_map}
 use Rattle.std.specs.List.{list_all}
 use Rattle.std.specs.Str.{bytes_eq}
 use Rattle.std.proofs.lemmas.Bool.{false≢true}
-use Rattle.ea_text.specs.Text.{is_comment, is_silent}
-use Rattle.ea_input.specs.Fault.{◌>>=◌}
+use Rattle.ea_bytes.specs.Text.{is_comment, is_silent}
+use Rattle.ea_blocks.specs.Fault.{◌>>=◌}
 use Rattle.ea_input.specs.Listing.{IsCountLine, IsItemLine, after_kinds, only_number, announced, problem_line, item_line, list_line, list_step, list_end, Listed, nothing_listed, with_line}
 use Rattle.ea_input.specs.Checks.{Line, Format, Before, before_of, begins_with, run_of_lines, is_number, lies_in, line_fault, end_fault, first_failing}
 use Rattle.ea_input.specs.StepLines.{Run, no_run}
 use Rattle.ea_input.specs.Formats.{list_format, list_count}
 use Rattle.ea_input.proofs.Numbered.{bind_ok}
 use Rattle.ea_input.proofs.Said.{same_word, is_word}
-use Rattle.ea_input.proofs.Denoted.{two_ways}
+use Rattle.ea_blocks.proofs.Cuts.{two_ways}
 use Rattle.ea_input.proofs.Items.{Sort, Says, line_says}
 use Rattle.ea_input.proofs.Faults.{Matches, Follows}
 use Rattle.ea_input.proofs.Forms.{one_form}
 use Rattle.ea_input.proofs.Matching.{bind_matches, count_matches, numbers_match, few_matches, found_before, found_now, counted_before, counted_now, silent_word, none_mapped, number_is}
-use Rattle.ea_input.specs.declared.fault.FaultKind.{FaultKind}
-use Rattle.ea_input.specs.declared.fault.FaultKind.TheVariants.{FieldCount, BadNumber, OutOfRange, TooManyLines, TooFewLines, BadKind}
-use Rattle.ea_input.specs.declared.listing.ListLine.{ListLine}
-use Rattle.ea_input.specs.declared.listing.ListLine.TheVariants.{Silent, Problem, Item}
+use Rattle.ea_blocks.specs.declared.fault.FaultKind.{FaultKind}
+use Rattle.ea_blocks.specs.declared.fault.FaultKind.TheVariants.{FieldCount, BadNumber, OutOfRange, TooManyLines, TooFewLines, BadKind}
+use Rattle.ea_input.specs.declared.problem_line.ListLine.{ListLine}
+use Rattle.ea_input.specs.declared.problem_line.ListLine.TheVariants.{Silent, Problem, Item}
 
 -- The checks of an item's line from the number of its fields on.
 abbrev pub item_checks : ℕ → ℕ → Line → ℕ → ℕ → List (Bool × FaultKind)

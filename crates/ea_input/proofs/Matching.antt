@@ -2,19 +2,19 @@
 use Rattle.std.proofs.Common.{◌≡◌, inl, inr, ℕ, ◌+◌, ◌&&◌, ◌||◌, Bool, true, false, cond, refl, ap, sym, ◌∙◌, subst, List, [], ◌∷◌, ◌++◌, leb, ltb, add-zero, arith, tests}
 use Rattle.std.specs.Prelude.{Option, Some, None, Result, Ok, Err, not, find, count_by, unwrap_or}
 use Rattle.std.proofs.lemmas.List.Sums.{sum_by-append}
-use Rattle.ea_input.specs.Fault.{◌>>=◌}
+use Rattle.ea_blocks.specs.Fault.{◌>>=◌}
 use Rattle.std.specs.Option.{option_map}
 use Rattle.std.specs.Str.{bytes_eq}
 use Rattle.std.proofs.lemmas.Bool.{false≢true}
-use Rattle.ea_text.specs.Text.{is_comment, is_silent}
+use Rattle.ea_bytes.specs.Text.{is_comment, is_silent}
 use Rattle.ea_input.specs.Range.{IsNumberIn}
 use Rattle.ea_input.specs.Checks.{Line, begins_with, value_of, first_failing}
 use Rattle.ea_input.proofs.Faults.{Matches}
 use Rattle.ea_input.proofs.Forms.{tested}
 use Rattle.ea_input.proofs.Said.{choice_ok, same_word}
-use Rattle.ea_input.proofs.Denoted.{two_ways}
-use Rattle.ea_input.specs.declared.fault.FaultKind.{FaultKind}
-use Rattle.ea_input.specs.declared.fault.FaultKind.TheVariants.{FieldCount, BadNumber, OutOfRange, TooManyLines, TooFewLines, BadKind}
+use Rattle.ea_blocks.proofs.Cuts.{two_ways}
+use Rattle.ea_blocks.specs.declared.fault.FaultKind.{FaultKind}
+use Rattle.ea_blocks.specs.declared.fault.FaultKind.TheVariants.{FieldCount, BadNumber, OutOfRange, TooManyLines, TooFewLines, BadKind}
 
 -- What is made of what was read.
 pub bind_matches : {X Y : Type 0} (f : Option FaultKind) (r : Result X FaultKind) (x : X) (g : X → Y) → Matches f r x → Matches f (r >>= λ y. Ok (g y)) (g x)

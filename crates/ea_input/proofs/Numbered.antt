@@ -3,10 +3,10 @@ use Rattle.std.proofs.Common.{◌≡◌, ℕ, ◌<◌, ◌≤◌, ◌^◌, ◌&&
 use Rattle.std.specs.Prelude.{Option, Some, None, Result, Ok, Err}
 use Rattle.std.specs.Option.{ok_or, option_map}
 use Rattle.std.proofs.lemmas.Bool.{leb-true, le-leb}
-use Rattle.ea_text.specs.Text.{number_of}
-use Rattle.ea_input.specs.Fault.{◌>>=◌, numeral, within}
+use Rattle.ea_bytes.specs.Text.{number_of}
+use Rattle.ea_blocks.specs.Fault.{◌>>=◌, numeral, within}
 use Rattle.ea_input.specs.Range.{IsNumberIn}
-use Rattle.ea_input.specs.declared.fault.FaultKind.TheVariants.{BadNumber, OutOfRange}
+use Rattle.ea_blocks.specs.declared.fault.FaultKind.TheVariants.{BadNumber, OutOfRange}
 
 -- A step that gave something, and what it was.
 pub bind_ok : {A B E : Type 0} (r : Result A E) (f : A → Result B E) (y : B) → (r >>= f) ≡ Ok y → (x : A) × (r ≡ Ok x) × (f x ≡ Ok y)

@@ -1,11 +1,11 @@
 -- Lines of a text that is read whole, one by one.
 use Rattle.std.proofs.Common.{◌≡◌, ℕ, ◌+◌, List, [], ◌∷◌, ap, ◌∙◌}
 use Rattle.std.specs.Prelude.{Result, Ok, Err}
-use Rattle.ea_input.specs.Fault.{◌>>=◌, in_line}
-use Rattle.ea_input.specs.Reading.{lines_after}
+use Rattle.ea_blocks.specs.Fault.{◌>>=◌, in_line}
+use Rattle.ea_blocks.specs.Reading.{lines_after}
 use Rattle.ea_input.proofs.Numbered.{bind_ok}
-use Rattle.ea_input.specs.declared.fault.FaultKind.{FaultKind}
-use Rattle.ea_input.specs.declared.fault.InputFault.{InputFault}
+use Rattle.ea_blocks.specs.declared.fault.FaultKind.{FaultKind}
+use Rattle.ea_blocks.specs.declared.fault.InputFault.{InputFault}
 
 pub in_line_ok : {X : Type 0} (line : ℕ) (r : Result X FaultKind) (x : X) → in_line line r ≡ Ok x → r ≡ Ok x
 in_line_ok line (Ok y) x e = let same : y ≡ x = cc in ap (λ z. Ok z) same

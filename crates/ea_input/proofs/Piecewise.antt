@@ -1,16 +1,18 @@
 -- The text of a graph, read in pieces.
 use Rattle.std.proofs.Common.{◌≡◌, ℕ, ◌+◌, ◌<◌, ◌≤◌, ◌^◌, Bool, true, false, ap, sym, ◌∙◌, subst, inl, inr, List, [], ◌∷◌, ◌++◌, length, length-append, append-nil, append_assoc, arith}
 use Rattle.std.specs.Prelude.{Some, Ok}
-use Rattle.ea_text.specs.Text.{is_silent, speaking}
-use Rattle.ea_input.specs.Fault.{◌>>=◌, in_line}
+use Rattle.ea_bytes.specs.Text.{is_silent, speaking}
+use Rattle.ea_blocks.specs.Fault.{◌>>=◌, in_line}
 use Rattle.ea_input.specs.Graph.{IsArcLine, AreArcLines, GraphRead, with_line, after_said, graph_step, graph_line}
-use Rattle.ea_input.specs.Pieces.{BeginsAside, IsAppended, IsTakenUp}
-use Rattle.ea_input.specs.Reading.{lines_after}
-use Rattle.ea_input.proofs.Denoted.{speaking_loud, speaking_silent, two_ways}
+use Rattle.ea_input.specs.GraphPieces.{BeginsAside, IsAppended}
+use Rattle.ea_blocks.specs.Pieces.{IsTakenUp}
+use Rattle.ea_blocks.specs.Reading.{lines_after}
+use Rattle.ea_input.proofs.Denoted.{speaking_loud, speaking_silent}
+use Rattle.ea_blocks.proofs.Cuts.{two_ways}
 use Rattle.ea_input.proofs.Numbered.{bind_ok}
 use Rattle.ea_input.proofs.OneByOne.{in_line_ok}
 use Rattle.ea_input.proofs.Said.{Says, arc_line_of, graph_line_says, silent_line}
-use Rattle.ea_raw.specs.declared.graph.RawArc.{RawArc}
+use Rattle.ea_base.specs.declared.graph.RawArc.{RawArc}
 use Rattle.ea_input.specs.declared.graph.GraphSize.{GraphSize}
 use Rattle.ea_input.specs.declared.graph.GraphLine.{GraphLine}
 use Rattle.ea_input.specs.declared.graph.GraphLine.TheVariants.{Silent, Problem, Arc}

@@ -4,13 +4,13 @@ use Rattle.std.specs.Prelude.{Option, Some, None, Ok, Err, codes}
 use Rattle.std.specs.Option.{ok_or, option_map}
 use Rattle.std.specs.Borrow.{Bor}
 use Rattle.std.specs.Str.Lines.{strip_carriage_return}
-use Rattle.ea_text.specs.Text.{number_of, fields_of}
-use Rattle.ea_input.specs.Fault.{numeral}
+use Rattle.ea_bytes.specs.Text.{number_of, fields_of}
+use Rattle.ea_blocks.specs.Fault.{numeral}
 use Rattle.ea_input.specs.Ahead.{ArcThen}
 use Rattle.ea_input.specs.Graph.{GraphRead, arc_read, arc_of, arc_line, graph_line, numbers_line, after_said, graph_step}
-use Rattle.ea_input.specs.Reading.{ReadsFront}
-use Rattle.ea_input.specs.declared.fault.FaultKind.{FaultKind}
-use Rattle.ea_input.specs.declared.fault.FaultKind.TheVariants.{BadNumber, OutOfMemory}
+use Rattle.ea_blocks.specs.Reading.{ReadsFront}
+use Rattle.ea_blocks.specs.declared.fault.FaultKind.{FaultKind}
+use Rattle.ea_blocks.specs.declared.fault.FaultKind.TheVariants.{BadNumber, OutOfMemory}
 use Rattle.ea_input.specs.declared.graph.GraphSize.{GraphSize}
 
 pub numeral_is : (field : List ℕ) (n : ℕ) → number_of field ≡ Some n → n < 2 ^ 64 → numeral field ≡ Ok n

@@ -3,16 +3,16 @@ use Rattle.std.proofs.Common.{◌≡◌, ℕ, ◌<◌, refl, ap, sym, subst, ◌
 use Rattle.std.specs.Prelude.{Option, Some, None, Result, Ok, Err, IfOk, codes}
 use Rattle.std.specs.Borrow.{Bor}
 use Rattle.std.specs.Str.Lines.{strip_carriage_return}
-use Rattle.ea_text.specs.Text.{fields_of, lines_of}
-use Rattle.ea_input.specs.Fault.{numeral}
+use Rattle.ea_bytes.specs.Text.{fields_of, lines_of}
+use Rattle.ea_blocks.specs.Fault.{numeral}
 use Rattle.ea_input.specs.Ahead.{PairThen}
 use Rattle.ea_input.specs.StepLines.{Run, step_of, step_read}
 use Rattle.ea_input.specs.Table.{TableRead, run_in, due_in, two_read, assigned_of, assigned_line, step_line, table_line, numbers_line, step_numbers_line, after_said, table_step}
-use Rattle.ea_input.specs.Reading.{GivesLine, ReadsFront}
+use Rattle.ea_blocks.specs.Reading.{GivesLine, ReadsFront}
 use Rattle.ea_input.proofs.Quick.{numeral_is}
-use Rattle.ea_input.specs.declared.fault.FaultKind.{FaultKind}
-use Rattle.ea_input.specs.declared.table.TableLine.{TableLine}
-use Rattle.ea_input.specs.declared.table.TableSize.{TableSize}
+use Rattle.ea_blocks.specs.declared.fault.FaultKind.{FaultKind}
+use Rattle.ea_input.specs.declared.timetable.TableLine.{TableLine}
+use Rattle.ea_input.specs.declared.timetable.TableSize.{TableSize}
 
 entry_line_is : (arcs : ℕ) (size : Option TableSize) (due count : ℕ) (e j : List ℕ) (arc class : ℕ) → numeral e ≡ Ok arc → numeral j ≡ Ok class → assigned_line arcs size due count (e ∷ j ∷ []) ≡ numbers_line arcs size due count (arc, class)
 unfolding assigned_line assigned_of two_read numbers_line

@@ -2,20 +2,21 @@
 use Rattle.std.proofs.Common.{◌≡◌, inl, inr, ℕ, ◌+◌, ◌<◌, ◌≤◌, ◌^◌, Bool, true, false, cond, refl, ap, ap₂, sym, ◌∙◌, subst, arith, List, [], ◌∷◌, length, ltb, length-append}
 use Rattle.std.specs.Prelude.{Option, Some, None, Result, Ok, Err, IfOk, MatchResult}
 use Rattle.std.proofs.lemmas.Bool.{ltb-false, le-ltb}
-use Rattle.ea_text.specs.Text.{is_silent, speaking}
-use Rattle.ea_input.specs.Fault.{◌>>=◌, Gives, out_of_memory}
-use Rattle.ea_input.specs.Reading.{text_after}
+use Rattle.ea_bytes.specs.Text.{is_silent, speaking}
+use Rattle.ea_blocks.specs.Fault.{◌>>=◌, Gives, out_of_memory}
+use Rattle.ea_blocks.specs.Reading.{text_after}
 use Rattle.ea_input.specs.Table.{Table, IsTableProblem, IsAssignedLine, IsTableAfter, AreTableLines, DenotesTable, nothing, with_kind, with_entry, with_step, run_in, TableRead, with_line, table_line, table_step, table_end, table_of, after_said}
 use Rattle.ea_input.proofs.Numbered.{bind_ok}
-use Rattle.ea_input.proofs.Denoted.{speaking_silent, speaking_loud, two_ways}
+use Rattle.ea_input.proofs.Denoted.{speaking_silent, speaking_loud}
+use Rattle.ea_blocks.proofs.Cuts.{two_ways}
 use Rattle.ea_input.proofs.OneByOne.{rest_of, one_line, next_line, no_line, at_end}
 use Rattle.ea_input.proofs.TableSaid.{Says, line_says, silent_line, problem_line_of, kind_line_of, assigned_line_of, step_line_of}
 use Rattle.ea_input.specs.StepLines.{due}
-use Rattle.ea_input.specs.declared.fault.FaultKind.TheVariants.{TooFewLines}
-use Rattle.ea_input.specs.declared.fault.InputFault.{InputFault}
-use Rattle.ea_input.specs.declared.table.TableSize.{TableSize}
-use Rattle.ea_input.specs.declared.table.TableLine.{TableLine}
-use Rattle.ea_input.specs.declared.table.TableLine.TheVariants.{Silent, Problem, Kind, Assigned, Step}
+use Rattle.ea_blocks.specs.declared.fault.FaultKind.TheVariants.{TooFewLines}
+use Rattle.ea_blocks.specs.declared.fault.InputFault.{InputFault}
+use Rattle.ea_input.specs.declared.timetable.TableSize.{TableSize}
+use Rattle.ea_input.specs.declared.timetable.TableLine.{TableLine}
+use Rattle.ea_input.specs.declared.timetable.TableLine.TheVariants.{Silent, Problem, Kind, Assigned, Step}
 
 abbrev reader : ℕ → Option TableSize → Table → TableRead
 reader arcs size table = record { arcs = arcs; size = size; table = table }

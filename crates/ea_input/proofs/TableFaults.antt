@@ -3,8 +3,8 @@ use Rattle.std.proofs.Common.{◌≡◌, inl, inr, ℕ, ◌+◌, ◌<◌, ◌≤
 use Rattle.std.specs.Prelude.{Option, Some, None, Result, Ok, Err, codes, ◌==◌, not, find, count_by}
 use Rattle.std.specs.Option.{option_map}
 use Rattle.std.specs.Str.{bytes_eq}
-use Rattle.ea_text.specs.Text.{is_comment, is_silent}
-use Rattle.ea_input.specs.Fault.{◌>>=◌}
+use Rattle.ea_bytes.specs.Text.{is_comment, is_silent}
+use Rattle.ea_blocks.specs.Fault.{◌>>=◌}
 use Rattle.ea_input.specs.Listing.{after_kinds}
 use Rattle.ea_input.specs.Table.{Table, IsTableProblem, IsKindLine, IsAssignedLine, TableRead, no_table, with_line, size_read, size_of, problem_line, plain_of, every_of, every_read, closed_of, closed_read, rush_of, rush_read, speeds_of, speeds_read, trips_of, trips_read, kind_of, kind_line, assigned_of, assigned_line, step_line, table_line, table_step, table_end, after_said, IsKind, class_of, steps_from, last_kind, run_in, due_in}
 use Rattle.ea_input.specs.StepLines as step_lines
@@ -13,7 +13,7 @@ use Rattle.ea_input.specs.Checks.{Line, Before, before_of, begins_with, value_of
 use Rattle.ea_input.specs.Formats.{table_format, table_kinds, table_assigned}
 use Rattle.ea_input.proofs.Numbered.{bind_ok}
 use Rattle.ea_input.proofs.Said.{same_word, is_word}
-use Rattle.ea_input.proofs.Denoted.{two_ways}
+use Rattle.ea_blocks.proofs.Cuts.{two_ways}
 use Rattle.ea_input.proofs.TableSaid.{Says, line_says}
 use Rattle.ea_input.proofs.Faults.{Matches, Follows}
 use Rattle.ea_input.proofs.TableForms.{size_form, plain_form, every_form, closed_form, rush_form, speeds_form, trips_form, step_form, assigned_form}
@@ -22,13 +22,13 @@ use Rattle.std.proofs.lemmas.Bool.{le-ltb}
 use Rattle.std.proofs.lemmas.List.{drop_all, drop-append-le}
 use Rattle.ea_input.proofs.ListFaults.{one_kind_matches}
 use Rattle.ea_input.proofs.Matching.{bind_matches, count_matches, numbers_match, item_matches, full, found_before, found_now, counted_before, counted_now, silent_word, some_is, none_mapped, some_mapped, number_is}
-use Rattle.ea_input.specs.declared.fault.FaultKind.{FaultKind}
-use Rattle.ea_input.specs.declared.fault.FaultKind.TheVariants.{TooManyLines, TooFewLines}
-use Rattle.ea_raw.specs.declared.table.RawKind.{RawKind}
-use Rattle.ea_raw.specs.declared.table.RawKind.TheVariants.{Plain, Every, Closed, Rush, Speeds, Trips}
-use Rattle.ea_input.specs.declared.table.TableSize.{TableSize}
-use Rattle.ea_input.specs.declared.table.TableLine.{TableLine}
-use Rattle.ea_input.specs.declared.table.TableLine.TheVariants.{Silent, Problem, Kind, Assigned, Step}
+use Rattle.ea_blocks.specs.declared.fault.FaultKind.{FaultKind}
+use Rattle.ea_blocks.specs.declared.fault.FaultKind.TheVariants.{TooManyLines, TooFewLines}
+use Rattle.ea_base.specs.declared.timetable.RawKind.{RawKind}
+use Rattle.ea_base.specs.declared.timetable.RawKind.TheVariants.{Plain, Every, Closed, Rush, Speeds, Trips}
+use Rattle.ea_input.specs.declared.timetable.TableSize.{TableSize}
+use Rattle.ea_input.specs.declared.timetable.TableLine.{TableLine}
+use Rattle.ea_input.specs.declared.timetable.TableLine.TheVariants.{Silent, Problem, Kind, Assigned, Step}
 
 abbrev size_said : Line → TableSize
 size_said line = record { kinds = table_kinds line; assigned = table_assigned line }

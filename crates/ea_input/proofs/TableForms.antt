@@ -2,16 +2,16 @@
 use Rattle.std.proofs.Common.{◌≡◌, ℕ, ◌+◌, ◌-◌, ◌<◌, ◌^◌, ◌&&◌, min, Bool, true, cond, refl, ◌∙◌, arith, List, [], ◌∷◌, leb, lit<}
 use Rattle.std.specs.List.{list_all}
 use Rattle.std.specs.Prelude.{Result, Ok, Err, codes}
-use Rattle.ea_input.specs.Fault.{◌>>=◌, numeral, within}
+use Rattle.ea_blocks.specs.Fault.{◌>>=◌, numeral, within}
 use Rattle.ea_input.specs.Checks.{is_number, value_of, lies_in}
 use Rattle.ea_input.specs.Formats.{interval_ranges, step_ranges}
 use Rattle.ea_input.specs.Table.{size_read, two_read, interval_within, numbered, plain_of, every_within, every_read, closed_within, closed_read, rush_within, rush_read, speeds_within, speeds_read, trips_within, trips_read, assigned_within, assigned_of}
 use Rattle.ea_input.specs.StepLines.{Run, least_time, most_time, least_value, most_value, step_within, step_read}
 use Rattle.ea_input.proofs.TableSaid.{time_small, value_small}
 use Rattle.ea_input.proofs.Forms.{tested, number_then, within_then, within_last}
-use Rattle.ea_input.specs.declared.fault.FaultKind.{FaultKind}
-use Rattle.ea_input.specs.declared.fault.FaultKind.TheVariants.{BadNumber, OutOfRange}
-use Rattle.ea_raw.specs.declared.table.RawKind.TheVariants.{Plain, Every, Closed, Rush, Speeds, Trips}
+use Rattle.ea_blocks.specs.declared.fault.FaultKind.{FaultKind}
+use Rattle.ea_blocks.specs.declared.fault.FaultKind.TheVariants.{BadNumber, OutOfRange}
+use Rattle.ea_base.specs.declared.timetable.RawKind.TheVariants.{Plain, Every, Closed, Rush, Speeds, Trips}
 
 bind_assoc : {A B C : Type 0} (r : Result A FaultKind) (f : A → Result B FaultKind) (g : B → Result C FaultKind) → ((r >>= f) >>= g) ≡ (r >>= λ x. f x >>= g)
 bind_assoc (Ok x) f g = refl

@@ -3,8 +3,8 @@ use Rattle.std.proofs.Common.{◌≡◌, inl, inr, ℕ, ◌+◌, ◌-◌, ◌<�
 use Rattle.std.specs.Prelude.{Option, Some, None, Result, Ok, Err, codes, ◌==◌}
 use Rattle.std.specs.Str.{bytes_eq}
 use Rattle.std.proofs.lemmas.Bool.{ltb-true, ltb-false, lt-ltb, le-ltb}
-use Rattle.ea_text.specs.Text.{is_comment, is_silent}
-use Rattle.ea_input.specs.Fault.{◌>>=◌, numeral, within}
+use Rattle.ea_bytes.specs.Text.{is_comment, is_silent}
+use Rattle.ea_blocks.specs.Fault.{◌>>=◌, numeral, within}
 use Rattle.ea_input.specs.Range.{IsNumberIn}
 use Rattle.ea_input.specs.Listing.{after_kinds}
 use Rattle.ea_input.specs.Table.{Table, IsTableProblem, IsKind, IsKindLine, IsAssignedLine, TableRead, size_read, size_of, problem_line, two_read, interval_within, numbered, plain_of, every_within, every_read, every_of, closed_within, closed_read, closed_of, rush_within, rush_read, rush_of, speeds_within, speeds_read, speeds_of, trips_within, trips_read, trips_of, kind_of, kind_line, assigned_within, assigned_of, assigned_line, step_line, run_in, due_in, table_line}
@@ -12,13 +12,13 @@ use Rattle.ea_input.specs.StepLines.{Run, due, has_steps, is_last, first_step, a
 use Rattle.ea_input.proofs.Numbered.{bind_ok, guard_ok, number_found, numeral_of, within_of}
 use Rattle.ea_input.proofs.Said.{same_word, choice_ok}
 use Rattle.ea_input.proofs.Items.{after_kinds_ok, after_kinds_of}
-use Rattle.ea_input.specs.declared.fault.FaultKind.{FaultKind}
-use Rattle.ea_input.specs.declared.fault.FaultKind.TheVariants.{TooFewLines, TooManyLines}
-use Rattle.ea_raw.specs.declared.table.RawKind.{RawKind}
-use Rattle.ea_raw.specs.declared.table.RawKind.TheVariants.{Plain, Every, Closed, Rush, Speeds, Trips}
-use Rattle.ea_input.specs.declared.table.TableSize.{TableSize}
-use Rattle.ea_input.specs.declared.table.TableLine.{TableLine}
-use Rattle.ea_input.specs.declared.table.TableLine.TheVariants.{Silent, Problem, Kind, Assigned, Step}
+use Rattle.ea_blocks.specs.declared.fault.FaultKind.{FaultKind}
+use Rattle.ea_blocks.specs.declared.fault.FaultKind.TheVariants.{TooFewLines, TooManyLines}
+use Rattle.ea_base.specs.declared.timetable.RawKind.{RawKind}
+use Rattle.ea_base.specs.declared.timetable.RawKind.TheVariants.{Plain, Every, Closed, Rush, Speeds, Trips}
+use Rattle.ea_input.specs.declared.timetable.TableSize.{TableSize}
+use Rattle.ea_input.specs.declared.timetable.TableLine.{TableLine}
+use Rattle.ea_input.specs.declared.timetable.TableLine.TheVariants.{Silent, Problem, Kind, Assigned, Step}
 
 -- ---- numbers
 

@@ -4,7 +4,7 @@ use Rattle.std.specs.Float.Numeral.{digits_len}
 use Rattle.std.specs.Str.{all_ascii_digits}
 use Rattle.std.specs.Str.Lines.{strip_carriage_return}
 use Rattle.std.specs.Str.Parse.{digits_value}
-use Rattle.ea_text.specs.Text.{number_of, lines_of, fields_of}
+use Rattle.ea_bytes.specs.Text.{number_of, lines_of, fields_of}
 
 -- So many digits stand at the front of a text, and this is their value, wrapped to 64 bits.
 pub record AreLeading (text : List ℕ) (end value : ℕ) : Type 0 where

@@ -3,12 +3,12 @@ use Rattle.std.specs.Prelude.{◌≡◌, ◌⊎◌, ℕ, ◌+◌, ◌&&◌, ◌|
 use Rattle.std.specs.Option.{option_map_or}
 use Rattle.std.specs.List.{list_all, list_any}
 use Rattle.std.specs.Str.{bytes_eq}
-use Rattle.ea_text.specs.Text.{number_of, is_silent}
-use Rattle.ea_input.specs.Fault.{out_of_memory}
+use Rattle.ea_bytes.specs.Text.{number_of, is_silent}
+use Rattle.ea_blocks.specs.Fault.{out_of_memory}
 use Rattle.ea_input.specs.StepLines.{Run, no_run, with_step}
-use Rattle.ea_input.specs.declared.fault.FaultKind.{FaultKind}
-use Rattle.ea_input.specs.declared.fault.FaultKind.TheVariants.{NoProblemLine, SecondProblemLine, UnknownLine, FieldCount, BadNumber, OutOfRange, TooManyLines, TooFewLines, BadKind}
-use Rattle.ea_input.specs.declared.fault.InputFault.{InputFault}
+use Rattle.ea_blocks.specs.declared.fault.FaultKind.{FaultKind}
+use Rattle.ea_blocks.specs.declared.fault.FaultKind.TheVariants.{NoProblemLine, SecondProblemLine, UnknownLine, FieldCount, BadNumber, OutOfRange, TooManyLines, TooFewLines, BadKind}
+use Rattle.ea_blocks.specs.declared.fault.InputFault.{InputFault}
 
 -- A line is the list of its fields.
 abbrev pub Line : Type 0

@@ -3,7 +3,7 @@ use Rattle.std.specs.Prelude.{ℕ, ◌+◌, ◌-◌, ◌||◌, not, Bool, true, 
 use Rattle.std.specs.Option.{option_map_or}
 use Rattle.std.specs.List.{list_any}
 use Rattle.std.specs.Str.{bytes_eq}
-use Rattle.ea_limits.specs.declared.TheConstants.{HORIZON, MOST_ARCS, MOST_CLASSES, MOST_NODES, MOST_PERIOD, MOST_STARTS, MOST_STEPS}
+use Rattle.ea_base.specs.declared.limits.TheConstants.{HORIZON, MOST_ARCS, MOST_CLASSES, MOST_NODES, MOST_PERIOD, MOST_STARTS, MOST_STEPS}
 use Rattle.ea_input.specs.Checks.{Line, Format, begins_with, value_of, lies_in, words_fit}
 use Rattle.ea_input.specs.StepLines.{Run, due, least_time, most_time, least_value, most_value}
 

@@ -1,7 +1,7 @@
 -- What it is for texts to denote values or to have faults.
 use Rattle.std.specs.Prelude.{◌≡◌, ◌⊎◌, List}
 use Rattle.ea_input.specs.Checks.{Line, Format, IsFaultOf}
-use Rattle.ea_input.specs.declared.fault.InputFault.{InputFault}
+use Rattle.ea_blocks.specs.declared.fault.InputFault.{InputFault}
 
 -- Lines denote at most one value and have at most one fault, and exactly one of the two.
 pub record IsGrammar {X : Type 0} (Denotes : List Line → X → Type 0) (format : Format) : Type 0 where

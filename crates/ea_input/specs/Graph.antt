@@ -2,15 +2,15 @@
 use Rattle.std.specs.Prelude.{◌≡◌, ℕ, List, [], ◌∷◌, ◌++◌, length, codes, nat_lt, if◌then◌else◌, Option, Some, None, Result, Ok, Err}
 use Rattle.std.specs.Str.{bytes_eq}
 use Rattle.std.specs.Option.{ok_or}
-use Rattle.ea_limits.specs.declared.TheConstants.{MOST_ARCS, MOST_NODES}
-use Rattle.ea_text.specs.Text.{is_comment, speaking}
+use Rattle.ea_base.specs.declared.limits.TheConstants.{MOST_ARCS, MOST_NODES}
+use Rattle.ea_bytes.specs.Text.{is_comment, speaking}
 use Rattle.ea_input.specs.Range.{IsNumberIn}
-use Rattle.ea_input.specs.Fault.{◌>>=◌, numeral, within}
-use Rattle.ea_input.specs.Reading.{text_after}
-use Rattle.ea_input.specs.declared.fault.FaultKind.{FaultKind}
-use Rattle.ea_input.specs.declared.fault.FaultKind.TheVariants.{NoProblemLine, SecondProblemLine, UnknownLine, FieldCount, TooManyLines, TooFewLines, BadKind}
-use Rattle.ea_input.specs.declared.fault.InputFault.{InputFault}
-use Rattle.ea_raw.specs.declared.graph.RawArc.{RawArc}
+use Rattle.ea_blocks.specs.Fault.{◌>>=◌, numeral, within}
+use Rattle.ea_blocks.specs.Reading.{text_after}
+use Rattle.ea_blocks.specs.declared.fault.FaultKind.{FaultKind}
+use Rattle.ea_blocks.specs.declared.fault.FaultKind.TheVariants.{NoProblemLine, SecondProblemLine, UnknownLine, FieldCount, TooManyLines, TooFewLines, BadKind}
+use Rattle.ea_blocks.specs.declared.fault.InputFault.{InputFault}
+use Rattle.ea_base.specs.declared.graph.RawArc.{RawArc}
 use Rattle.ea_input.specs.declared.graph.GraphSize.{GraphSize}
 use Rattle.ea_input.specs.declared.graph.GraphLine.{GraphLine}
 use Rattle.ea_input.specs.declared.graph.GraphLine.TheVariants.{Silent, Problem, Arc}

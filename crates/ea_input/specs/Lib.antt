@@ -1,11 +1,8 @@
 pub mod Range
-pub mod Fault
-pub mod Reading
 pub mod Graph
-pub mod Pieces
+pub mod GraphPieces
 pub mod GraphFronts
 pub mod Views
-pub mod Borrowed
 pub mod Listing
 pub mod Sources
 pub mod Pairs
@@ -18,5 +15,4 @@ pub mod Ahead
 pub mod Checks
 pub mod Formats
 pub mod Grammar
-pub mod FaultNames
-pub mod Streams
+pub mod StreamFaults

@@ -2,14 +2,14 @@
 use Rattle.std.specs.Prelude.{◌≡◌, ℕ, List, [], ◌∷◌, ◌++◌, length, codes, nat_lt, if◌then◌else◌, Option, Some, None, Result, Ok, Err}
 use Rattle.std.specs.Str.{bytes_eq}
 use Rattle.std.specs.Option.{ok_or}
-use Rattle.ea_limits.specs.declared.TheConstants.{MOST_STARTS}
-use Rattle.ea_text.specs.Text.{is_comment, speaking}
-use Rattle.ea_input.specs.Fault.{◌>>=◌, numeral, within}
+use Rattle.ea_base.specs.declared.limits.TheConstants.{MOST_STARTS}
+use Rattle.ea_bytes.specs.Text.{is_comment, speaking}
+use Rattle.ea_blocks.specs.Fault.{◌>>=◌, numeral, within}
 use Rattle.ea_input.specs.Range.{IsNumberIn}
-use Rattle.ea_input.specs.declared.fault.FaultKind.{FaultKind}
-use Rattle.ea_input.specs.declared.fault.FaultKind.TheVariants.{NoProblemLine, SecondProblemLine, UnknownLine, FieldCount, TooManyLines, TooFewLines, BadKind}
-use Rattle.ea_input.specs.declared.listing.ListLine.{ListLine}
-use Rattle.ea_input.specs.declared.listing.ListLine.TheVariants.{Silent, Problem, Item}
+use Rattle.ea_blocks.specs.declared.fault.FaultKind.{FaultKind}
+use Rattle.ea_blocks.specs.declared.fault.FaultKind.TheVariants.{NoProblemLine, SecondProblemLine, UnknownLine, FieldCount, TooManyLines, TooFewLines, BadKind}
+use Rattle.ea_input.specs.declared.problem_line.ListLine.{ListLine}
+use Rattle.ea_input.specs.declared.problem_line.ListLine.TheVariants.{Silent, Problem, Item}
 
 -- WHAT A TEXT DENOTES
 

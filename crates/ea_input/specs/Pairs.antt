@@ -1,12 +1,12 @@
 -- The text of pairs.
 use Rattle.std.specs.Prelude.{ℕ, List, [], ◌∷◌, codes, Result, Ok, Err}
 use Rattle.ea_input.specs.Range.{IsNumberIn}
-use Rattle.ea_input.specs.Fault.{◌>>=◌, numeral, within}
-use Rattle.ea_input.specs.Reading.{text_after}
+use Rattle.ea_blocks.specs.Fault.{◌>>=◌, numeral, within}
+use Rattle.ea_blocks.specs.Reading.{text_after}
 use Rattle.ea_input.specs.Listing.{DenotesItems, Listed, nothing_listed, list_step, list_end}
-use Rattle.ea_input.specs.declared.fault.FaultKind.{FaultKind}
-use Rattle.ea_input.specs.declared.fault.FaultKind.TheVariants.{FieldCount}
-use Rattle.ea_input.specs.declared.fault.InputFault.{InputFault}
+use Rattle.ea_blocks.specs.declared.fault.FaultKind.{FaultKind}
+use Rattle.ea_blocks.specs.declared.fault.FaultKind.TheVariants.{FieldCount}
+use Rattle.ea_blocks.specs.declared.fault.InputFault.{InputFault}
 
 -- The two fields behind `q` are the numbers of two nodes.
 abbrev pub IsPair : ℕ → List (List ℕ) → ℕ × ℕ → Type 0

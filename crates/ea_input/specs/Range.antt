@@ -1,6 +1,6 @@
 -- Numbers in their ranges.
 use Rattle.std.specs.Prelude.{◌≡◌, ℕ, ◌≤◌, List, Some}
-use Rattle.ea_text.specs.Text.{number_of}
+use Rattle.ea_bytes.specs.Text.{number_of}
 
 -- A field is this number, and the number is in its range.
 abbrev pub IsNumberIn : ℕ → ℕ → List ℕ → ℕ → Type 0

@@ -1,10 +1,10 @@
 -- The text of sources.
 use Rattle.std.specs.Prelude.{ℕ, List, [], ◌∷◌, codes, Result}
 use Rattle.ea_input.specs.Range.{IsNumberIn}
-use Rattle.ea_input.specs.Reading.{text_after}
+use Rattle.ea_blocks.specs.Reading.{text_after}
 use Rattle.ea_input.specs.Listing.{DenotesItems, Listed, nothing_listed, list_step, list_end, only_number}
-use Rattle.ea_input.specs.declared.fault.FaultKind.{FaultKind}
-use Rattle.ea_input.specs.declared.fault.InputFault.{InputFault}
+use Rattle.ea_blocks.specs.declared.fault.FaultKind.{FaultKind}
+use Rattle.ea_blocks.specs.declared.fault.InputFault.{InputFault}
 
 -- The one field behind `s` is a node's number.
 abbrev pub IsSource : ℕ → List (List ℕ) → ℕ → Type 0

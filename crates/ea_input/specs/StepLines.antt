@@ -1,11 +1,11 @@
 -- Lines `v T X`: the steps of a class of speeds or of trips, one after the other.
 use Rattle.std.specs.Prelude.{◌≡◌, ℕ, ◌+◌, ◌-◌, ◌&&◌, ◌==◌, Bool, false, List, [], ◌∷◌, ◌++◌, length, min, codes, nat_lt, slice_index_or, if◌then◌else◌, Result, Ok, Err}
 use Rattle.std.specs.List.{list_all}
-use Rattle.ea_limits.specs.declared.TheConstants.{HORIZON, MOST_PERIOD, MOST_SPEED}
-use Rattle.ea_input.specs.Fault.{◌>>=◌, numeral, within}
+use Rattle.ea_base.specs.declared.limits.TheConstants.{HORIZON, MOST_PERIOD, MOST_SPEED}
+use Rattle.ea_blocks.specs.Fault.{◌>>=◌, numeral, within}
 use Rattle.ea_input.specs.Range.{IsNumberIn}
-use Rattle.ea_input.specs.declared.fault.FaultKind.{FaultKind}
-use Rattle.ea_input.specs.declared.fault.FaultKind.TheVariants.{FieldCount}
+use Rattle.ea_blocks.specs.declared.fault.FaultKind.{FaultKind}
+use Rattle.ea_blocks.specs.declared.fault.FaultKind.TheVariants.{FieldCount}
 use Rattle.ea_input.specs.declared.step_lines.StepClass.{StepClass}
 
 -- A class whose steps are told line by line, and those that were told so far: each a time and a value.

@@ -2,22 +2,22 @@
 use Rattle.std.specs.Prelude.{false, true, ◌≡◌, ◌⊎◌, ℕ, ◌+◌, ◌-◌, List, [], ◌∷◌, ◌++◌, length, drop, ◌<◌, codes, nat_lt, if◌then◌else◌, Option, Some, None, Result, Ok, Err}
 use Rattle.std.specs.Str.{bytes_eq}
 use Rattle.std.specs.Option.{ok_or}
-use Rattle.ea_limits.specs.declared.TheConstants.{HORIZON, MOST_ARCS, MOST_CLASSES, MOST_PERIOD, MOST_STEPS}
-use Rattle.ea_text.specs.Text.{is_comment, speaking}
-use Rattle.ea_input.specs.Fault.{◌>>=◌, numeral, within}
+use Rattle.ea_base.specs.declared.limits.TheConstants.{HORIZON, MOST_ARCS, MOST_CLASSES, MOST_PERIOD, MOST_STEPS}
+use Rattle.ea_bytes.specs.Text.{is_comment, speaking}
+use Rattle.ea_blocks.specs.Fault.{◌>>=◌, numeral, within}
 use Rattle.ea_input.specs.Range.{IsNumberIn}
-use Rattle.ea_input.specs.Reading.{text_after}
+use Rattle.ea_blocks.specs.Reading.{text_after}
 use Rattle.ea_input.specs.Listing.{after_kinds}
 use Rattle.ea_input.specs.StepLines.{Run, no_run, due, IsStepLine, step_within, step_of}
 use Rattle.ea_input.specs.declared.step_lines.StepClass.{StepClass}
-use Rattle.ea_input.specs.declared.fault.FaultKind.{FaultKind}
-use Rattle.ea_input.specs.declared.fault.FaultKind.TheVariants.{NoProblemLine, SecondProblemLine, UnknownLine, FieldCount, TooManyLines, TooFewLines, BadKind}
-use Rattle.ea_input.specs.declared.fault.InputFault.{InputFault}
-use Rattle.ea_raw.specs.declared.table.RawKind.{RawKind}
-use Rattle.ea_raw.specs.declared.table.RawKind.TheVariants.{Plain, Every, Closed, Rush, Speeds, Trips}
-use Rattle.ea_input.specs.declared.table.TableSize.{TableSize}
-use Rattle.ea_input.specs.declared.table.TableLine.{TableLine}
-use Rattle.ea_input.specs.declared.table.TableLine.TheVariants.{Silent, Problem, Kind, Assigned, Step}
+use Rattle.ea_blocks.specs.declared.fault.FaultKind.{FaultKind}
+use Rattle.ea_blocks.specs.declared.fault.FaultKind.TheVariants.{NoProblemLine, SecondProblemLine, UnknownLine, FieldCount, TooManyLines, TooFewLines, BadKind}
+use Rattle.ea_blocks.specs.declared.fault.InputFault.{InputFault}
+use Rattle.ea_base.specs.declared.timetable.RawKind.{RawKind}
+use Rattle.ea_base.specs.declared.timetable.RawKind.TheVariants.{Plain, Every, Closed, Rush, Speeds, Trips}
+use Rattle.ea_input.specs.declared.timetable.TableSize.{TableSize}
+use Rattle.ea_input.specs.declared.timetable.TableLine.{TableLine}
+use Rattle.ea_input.specs.declared.timetable.TableLine.TheVariants.{Silent, Problem, Kind, Assigned, Step}
 
 -- A timetable without where it lies in memory: its kinds, numbered from 1 on, which arcs have which, in the order of the lines,
 -- and the steps of all kinds that have some, in one list.

@@ -2,13 +2,13 @@
 use Rattle.std.specs.Prelude.{◌≡◌, ℕ, ◌+◌, List, [], ◌∷◌, take, length, refl, codes, Option, Some, None, Ok, Err}
 use Rattle.std.proofs.Common.{Bool, true, false, cond}
 use Rattle.std.specs.Str.{bytes_eq}
-use Rattle.ea_input.specs.Fault.{◌>>=◌}
+use Rattle.ea_blocks.specs.Fault.{◌>>=◌}
 use Rattle.ea_input.specs.Listing.{after_kinds}
 use Rattle.ea_input.specs.Table.{TableRead, size_of, problem_line, plain_of, every_of, closed_of, rush_of, speeds_of, trips_of, kind_of, kind_line, assigned_of, assigned_line, step_line, due_in, run_in, table_line, table_step, after_said}
 use Rattle.ea_input.specs.StepLines.{Run, step_of}
-use Rattle.ea_input.specs.declared.fault.FaultKind.TheVariants.{BadKind}
-use Rattle.ea_input.specs.declared.table.TableSize.{TableSize}
-use Rattle.ea_input.specs.declared.table.TableLine.TheVariants.{Problem}
+use Rattle.ea_blocks.specs.declared.fault.FaultKind.TheVariants.{BadKind}
+use Rattle.ea_input.specs.declared.timetable.TableSize.{TableSize}
+use Rattle.ea_input.specs.declared.timetable.TableLine.TheVariants.{Problem}
 
 size_of-front : (fields : List (List ℕ)) → size_of (take 5 fields) ≡ size_of fields
 unfolding size_of

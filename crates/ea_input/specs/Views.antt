@@ -1,6 +1,6 @@
 -- What a proof sees of a reader and of what it gives.
 use Rattle.ea_input.specs.Graph.{Graph, GraphRead}
-use Rattle.ea_raw.specs.declared.graph.RawGraph.{RawGraph}
+use Rattle.ea_base.specs.declared.graph.RawGraph.{RawGraph}
 use Rattle.ea_input.specs.declared.graph.GraphReader.{GraphReader}
 
 abbrev pub graph : RawGraph → Graph

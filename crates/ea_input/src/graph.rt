@@ -1,29 +1,30 @@
 //! The text of a graph.
 ghost use Rattle.std.specs.Prelude.{◌≡◌, ◌<◌, ◌≤◌, IfErr, IfOk, MatchResult, ◌⊎◌, map, length};
 ghost use Rattle.ea_input.specs.Checks.{IsFaultOf, IsFaultTold};
-ghost use Rattle.ea_input.specs.Fault.{Gives, out_of_memory};
+ghost use Rattle.ea_blocks.specs.Fault.{Gives, out_of_memory};
 ghost use Rattle.ea_input.specs.Formats.{graph_format};
 ghost use Rattle.ea_input.specs.Grammar.{IsGrammar};
-ghost use Rattle.ea_input.specs.declared.fault.InputFault.{InputFault as FaultType};
+ghost use Rattle.ea_blocks.specs.declared.fault.InputFault.{InputFault as FaultType};
 ghost use Rattle.ea_input.specs.Graph as spec;
 ghost use Rattle.ea_input.specs.Graph.{DenotesGraph, Graph, GraphRead, graph_of};
 ghost use Rattle.ea_input.specs.GraphFronts.{graph_step-front};
-ghost use Rattle.ea_input.specs.Reading.{GivesLine};
+ghost use Rattle.ea_blocks.specs.Reading.{GivesLine};
 ghost use Rattle.ea_input.specs.Views.{graph, read_of};
-ghost use Rattle.ea_text.specs.Text.{field_lines};
-ghost use Rattle.ea_input.specs.Borrowed.{texts_now};
-ghost use Rattle.ea_input.specs.Streams.{DenotesWhole, GivesWhole, IsStreamFault};
+ghost use Rattle.ea_bytes.specs.Text.{field_lines};
+ghost use Rattle.ea_blocks.specs.Borrowed.{texts_now};
+ghost use Rattle.ea_blocks.specs.Streams.{DenotesWhole, GivesWhole};
+ghost use Rattle.ea_input.specs.StreamFaults.{IsStreamFault};
 
-use crate::fault::{FaultKind, InputFault};
-use crate::plain::{ArcNumbers, leading_arc};
-use crate::range::{numeral, within};
-use crate::reading::{LineReader, read_text};
-use crate::streams::{StreamFault, read_device};
-use crate::way::{Way, way_of};
-use ea_limits::{MOST_ARCS, MOST_NODES};
-use ea_raw::{RawArc, RawGraph};
-use ea_text as text;
-use ea_text::ByteIn;
+use ea_blocks::{FaultKind, InputFault};
+use crate::plain_lines::{ArcNumbers, leading_arc};
+use crate::number_ranges::{numeral, within};
+use ea_blocks::{LineReader, read_text};
+use ea_blocks::{StreamFault, read_device};
+use ea_blocks::{Way, way_of};
+use ea_base::{MOST_ARCS, MOST_NODES};
+use ea_base::{RawArc, RawGraph};
+use ea_bytes as text;
+use ea_bytes::ByteIn;
 use std::alloc::Global;
 use std::thread::Threads;
 

@@ -1,10 +1,10 @@
 //! Arcs of a graph's text that are read aside, behind the problem line, and put behind those before them.
 ghost use Rattle.std.specs.Prelude.{◌≡◌};
-ghost use Rattle.ea_input.specs.Pieces.{BeginsAside, IsAppended};
+ghost use Rattle.ea_input.specs.GraphPieces.{BeginsAside, IsAppended};
 ghost use Rattle.ea_input.specs.Views.{read_of};
 
 use crate::graph::GraphReader;
-use crate::pieces::BlockReader;
+use ea_blocks::BlockReader;
 use std::alloc::Global;
 use std::mem;
 

@@ -1,30 +1,23 @@
 //! The texts of graphs, sources, pairs and timetables, read exactly or refused exactly.
 #![tactic(auto)]
 
-mod fault;
 mod graph;
 mod graph_pieces;
-mod kinds;
-mod listing;
+mod kind_lines;
+mod number_ranges;
 mod pairs;
-mod pieces;
-mod plain;
-mod range;
-mod reading;
+mod plain_lines;
+mod problem_line;
 mod sources;
 mod step_lines;
-mod streams;
-mod table;
-mod way;
+mod timetable;
 
-pub use ea_raw::{RawArc, RawGraph, RawKind, RawTable};
-pub use ea_text::{
+pub use ea_base::{RawArc, RawGraph, RawKind, RawTable};
+pub use ea_blocks::{FaultKind, InputFault, StreamFault, Way};
+pub use ea_bytes::{
     ByteIn, ByteOut, Device, DeviceFault, ReadFault, StdIn, StdOut, number, read_all,
 };
-pub use fault::{FaultKind, InputFault};
 pub use graph::{graph_law, read_gr, read_gr_by, read_gr_from};
 pub use pairs::{pair_law, read_p2p, read_p2p_from};
 pub use sources::{read_ss, read_ss_from, source_law};
-pub use streams::StreamFault;
-pub use table::{read_tp, read_tp_from, table_law};
-pub use way::Way;
+pub use timetable::{read_tp, read_tp_from, table_law};

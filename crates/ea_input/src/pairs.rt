@@ -1,28 +1,29 @@
 //! The text of pairs.
 ghost use Rattle.std.specs.Prelude.{◌≡◌, ◌<◌, ◌≤◌, ℕ, List, IfErr, IfOk, MatchResult, ◌⊎◌, map, length, codes};
 ghost use Rattle.ea_input.specs.Checks.{IsFaultOf, IsFaultTold};
-ghost use Rattle.ea_input.specs.Fault.{Gives, out_of_memory};
+ghost use Rattle.ea_blocks.specs.Fault.{Gives, out_of_memory};
 ghost use Rattle.ea_input.specs.Formats.{pair_format};
 ghost use Rattle.ea_input.specs.Grammar.{IsGrammar};
-ghost use Rattle.ea_input.specs.declared.fault.InputFault.{InputFault as FaultType};
+ghost use Rattle.ea_blocks.specs.declared.fault.InputFault.{InputFault as FaultType};
 ghost use Rattle.ea_input.specs.Fronts.{pair_step-front};
 ghost use Rattle.ea_input.specs.Listing as spec;
 ghost use Rattle.ea_input.specs.Listing.{Listed, list_end, nothing_listed};
 ghost use Rattle.ea_input.specs.Pairs.{DenotesPairs, pair_step, pairs_of};
-ghost use Rattle.ea_text.specs.Text.{field_lines};
-ghost use Rattle.ea_input.specs.Reading.{GivesLine};
-ghost use Rattle.ea_input.specs.Borrowed.{texts_now};
-ghost use Rattle.ea_input.specs.Streams.{DenotesWhole, GivesWhole, IsStreamFault};
+ghost use Rattle.ea_bytes.specs.Text.{field_lines};
+ghost use Rattle.ea_blocks.specs.Reading.{GivesLine};
+ghost use Rattle.ea_blocks.specs.Borrowed.{texts_now};
+ghost use Rattle.ea_blocks.specs.Streams.{DenotesWhole, GivesWhole};
+ghost use Rattle.ea_input.specs.StreamFaults.{IsStreamFault};
 
-use crate::fault::{FaultKind, InputFault};
-use crate::listing::{ListLine, problem_line};
-use crate::pieces::BlockReader;
-use crate::range::{numeral, within};
-use crate::reading::{LineReader, read_text};
-use crate::streams::{StreamFault, read_device};
-use crate::way::way_of;
-use ea_text as text;
-use ea_text::ByteIn;
+use ea_blocks::{FaultKind, InputFault};
+use crate::problem_line::{ListLine, problem_line};
+use ea_blocks::BlockReader;
+use crate::number_ranges::{numeral, within};
+use ea_blocks::{LineReader, read_text};
+use ea_blocks::{StreamFault, read_device};
+use ea_blocks::way_of;
+use ea_bytes as text;
+use ea_bytes::ByteIn;
 use std::alloc::Global;
 use std::thread::Threads;
 

@@ -1,13 +1,13 @@
 //! Lines of steps: the speeds and the trips of a class, one after the other.
 ghost use Rattle.std.specs.Prelude.{◌≡◌, ◌≤◌, ◌==◌, ◌+◌, ◌-◌, IfOk, length, min, slice_index_or};
 ghost use Rattle.std.specs.List.{list_all};
-ghost use Rattle.ea_input.specs.Borrowed.{texts_now};
-ghost use Rattle.ea_input.specs.Fault.{within};
+ghost use Rattle.ea_blocks.specs.Borrowed.{texts_now};
+ghost use Rattle.ea_blocks.specs.Fault.{within};
 ghost use Rattle.ea_input.specs.StepLines as spec;
 
-use crate::fault::FaultKind;
-use crate::range::numeral;
-use ea_limits::{HORIZON, MOST_PERIOD, MOST_SPEED};
+use ea_blocks::FaultKind;
+use crate::number_ranges::numeral;
+use ea_base::{HORIZON, MOST_PERIOD, MOST_SPEED};
 
 /// A class that has steps: whether they are trips, or else speeds; its period; and how many steps there are.
 #[derive(Clone, Copy)]
@@ -18,7 +18,7 @@ pub struct StepClass {
 }
 
 /// A number in a range that may begin beyond 64 bits.
-#[tactic(auto, unfolding(crate::specs::Fault::within))]
+#[tactic(auto, unfolding(ea_blocks::specs::Fault::within))]
 fn within_from(low: u128, high: u64, n: u128) -> Result<u64, FaultKind>
     ensures is { result ≡ within low high n }
     ensures range { IfOk result (λ n. n ≤ high) }

@@ -6,19 +6,19 @@ use mathlib.Core.Logic.{dite}
 use native.Mathlib.Decide.{ℕ_discrete}
 use lib.ListN.{get_elem?}
 use Rattle.atomic_table.proofs.Lists.{set_here, set_else}
-use Rattle.ea_lists.specs.Totals.{total}
+use Rattle.ea_machine.specs.Totals.{total}
 use Rattle.std.proofs.lemmas.List.Elements.{All-nil, All-cons, All-set, All-append, All-push, All-weaker}
 use Rattle.std.proofs.lemmas.Bool.Decides.{nat_tests}
 use Rattle.ea_road.specs.declared.TheConstants.{NONE}
-use Rattle.ea_limits.specs.declared.TheConstants.{SHARES}
+use Rattle.ea_base.specs.declared.limits.TheConstants.{SHARES}
 use Rattle.ea_labels.specs.declared.record.Bound.{Bound}
 use Rattle.ea_labels.specs.declared.record.Lowering.{Lowering}
 use Rattle.ea_labels.specs.declared.record.SeatRecord.{SeatRecord}
 use Rattle.ea_road.specs.Roads.{IsNode}
 use Rattle.ea_road.specs.Labels.{label_of}
 use Rattle.ea_labels.specs.Core.{bound, lowering, IsNoneOrKnown, IsAtMostBounds, seen, lowered, with_one_share_less, with_one_share, joined, spent, IsLoweredTo, IsNoneOrLoweredTo, begins_at, count_from, IsLawfulBound, IsLawfulLowering, IsLawfulSeat, IsLawful}
-use Rattle.ea_lists.proofs.Places.{inside, same_at, All_at, Any_at, at_Any, Any_head, Any_tail, Any_left, Any_right, Any_set}
-use Rattle.ea_lists.proofs.Totals.{total-set, total-append, term_le, terms_le, some_weighs}
+use Rattle.ea_machine.proofs.Places.{inside, same_at, All_at, Any_at, at_Any, Any_head, Any_tail, Any_left, Any_right, Any_set}
+use Rattle.ea_machine.proofs.Totals.{total-set, total-append, term_le, terms_le, some_weighs}
 
 abbrev pub is_to : ℕ → ℕ → Lowering → Type 0
 is_to node time l = (l.node ≡ node) × (l.to ≡ time)

@@ -9,9 +9,9 @@ use native.Mathlib.Decide.{dec_lt}
 use lib.ListN.{get_elem?}
 use Rattle.atomic_table.specs.Table.{State, Me, step, keeps, Allows, Splits, Joins, Final, Seen, opening as opening_table}
 use Rattle.atomic_table.proofs.Lists.{set_again, set_else}
-use Rattle.ea_lists.proofs.Places.{value_at, contains_at}
+use Rattle.ea_machine.proofs.Places.{value_at, contains_at}
 use Rattle.ea_road.specs.declared.TheConstants.{NONE}
-use Rattle.ea_limits.specs.declared.TheConstants.{SHARES}
+use Rattle.ea_base.specs.declared.limits.TheConstants.{SHARES}
 use Rattle.ea_labels.specs.declared.record.SeatRecord.{SeatRecord}
 use Rattle.ea_road.specs.Roads.{IsNode}
 use Rattle.ea_road.specs.Labels.{label_of}

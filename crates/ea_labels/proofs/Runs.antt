@@ -6,8 +6,8 @@ use Rattle.std.proofs.lemmas.Bool.Decides.{nat_tests}
 use Rattle.std.proofs.lemmas.Grind.{common_steps}
 use Rattle.atomic_table.proofs.Lists.{set_else}
 use Rattle.std.proofs.lemmas.List.Elements.{All-nil, All-cons}
-use Rattle.ea_lists.proofs.Places.{at_weighed}
-use Rattle.ea_lists.proofs.Runs as runs
+use Rattle.ea_machine.proofs.Places.{at_weighed}
+use Rattle.ea_machine.proofs.Runs as runs
 use Rattle.ea_road.specs.declared.TheConstants.{NONE}
 use Rattle.ea_labels.specs.declared.record.SeatRecord.{SeatRecord}
 use Rattle.ea_road.specs.Labels.{label_of}

@@ -1,6 +1,6 @@
 -- The label table as a state machine: each atomic step is one event of one seat, and leaves the state lawful.
 use Rattle.std.specs.Prelude.{◌≡◌, ◌≢◌, ℕ, ◌-◌, ◌≤◌, List, [], ◌∷◌, ◌++◌, if◌then◌else◌, nat_lt, replicate, slice_set, slice_index_or, Contains}
-use Rattle.ea_lists.specs.Runs as runs
+use Rattle.ea_machine.specs.Runs as runs
 use Rattle.ea_road.specs.declared.TheConstants.{NONE}
 use Rattle.ea_labels.specs.declared.record.SeatRecord.{SeatRecord}
 use Rattle.ea_road.specs.Roads.{IsNode}

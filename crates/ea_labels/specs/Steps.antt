@@ -1,7 +1,7 @@
 -- The label table as an `atomic_table`, and what its steps tell.
 use Rattle.std.specs.Prelude.{◌≡◌, ℕ, ◌<◌, ◌≤◌, ◌⊎◌, ◌∷◌}
 use Rattle.atomic_table.specs.Table.{State, Me, Step}
-use Rattle.ea_limits.specs.declared.TheConstants.{SHARES}
+use Rattle.ea_base.specs.declared.limits.TheConstants.{SHARES}
 use Rattle.ea_road.specs.declared.TheConstants.{NONE}
 use Rattle.ea_labels.specs.declared.record.SeatRecord.{SeatRecord}
 use Rattle.ea_labels.specs.Core.{IsNoneOrKnown, HasLowered, IsAtMostBounds, seen, lowered}

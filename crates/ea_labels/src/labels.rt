@@ -9,7 +9,7 @@ ghost use Rattle.ea_labels.specs.Offers.{IfKept, IfLowered, Keeps, LowersWord};
 
 use crate::offered::Offered;
 use crate::record::SeatRecord;
-use crate::rule::{AllShares, CountsShares, LabelRule, Loads, Lowers, OneShare};
+use crate::rules::{AllShares, CountsShares, LabelRule, Loads, Lowers, OneShare};
 use crate::seat::LabelSeat;
 use crate::{OutOfMemory, SHARES};
 use atomic_table::Table;

@@ -2,15 +2,15 @@
 #![tactic(auto)]
 
 mod labels;
-mod law;
+mod laws;
 mod offered;
 mod record;
-mod rule;
+mod rules;
 mod seat;
 
-pub use ea_limits::SHARES;
+pub use ea_base::SHARES;
 pub use labels::Labels;
-pub use law::{every_run_is_lawful, no_label_is_the_last_number};
+pub use laws::{every_run_is_lawful, no_label_is_the_last_number};
 pub use offered::Offered;
 pub use record::{Bound, Lowering, SeatRecord};
 pub use seat::LabelSeat;

@@ -15,7 +15,7 @@ pub struct LabelSeat<K> {
 
 impl<K> Model for LabelSeat<K> {
     ghost use Rattle.std.specs.Prelude.{◌≡◌, ◌≤◌, []};
-    ghost use Rattle.ea_limits.specs.declared.TheConstants.{SHARES};
+    ghost use Rattle.ea_base.specs.declared.limits.TheConstants.{SHARES};
     ghost use Rattle.ea_labels.specs.Core.{SeatView};
 
     ghost Value = { SeatView };

@@ -3,19 +3,19 @@ use Rattle.std.proofs.Common.{◌≡◌, ◌≢◌, ℕ, suc, ◌+◌, ◌<◌, 
 use Rattle.std.specs.List.{AllByRecursion}
 use mathlib.Core.Logic.{dite}
 use native.Mathlib.Decide.{ℕ_discrete, dec_lt}
-use Rattle.ea_pool.specs.declared.entry.Entry.{Entry}
-use Rattle.ea_pool.specs.declared.account.SeatMemory.{SeatMemory}
-use Rattle.ea_pool.specs.declared.reply.Popped.{Popped}
-use Rattle.ea_pool.specs.declared.reply.Popped.TheVariants as reply
-use Rattle.ea_lists.specs.Totals.{total}
-use Rattle.ea_limits.specs.declared.TheConstants.{HORIZON}
-use Rattle.ea_pool.specs.declared.words.TheConstants.{EMPTY}
-use Rattle.ea_pool.specs.declared.account.LastTake.{LastTake}
+use Rattle.ea_pool.specs.declared.heap.entry.Entry.{Entry}
+use Rattle.ea_pool.specs.declared.shared.account.SeatMemory.{SeatMemory}
+use Rattle.ea_pool.specs.declared.shared.reply.Popped.{Popped}
+use Rattle.ea_pool.specs.declared.shared.reply.Popped.TheVariants as reply
+use Rattle.ea_machine.specs.Totals.{total}
+use Rattle.ea_base.specs.declared.limits.TheConstants.{HORIZON}
+use Rattle.ea_pool.specs.declared.shared.words.TheConstants.{EMPTY}
+use Rattle.ea_pool.specs.declared.shared.account.LastTake.{LastTake}
 use Rattle.ea_pool.specs.Entries.{only, times, IsKnown, AreKnown, face}
 use Rattle.ea_pool.specs.Kinds.{HeapKind, Shows, IsBelow}
 use Rattle.ea_pool.specs.States.{saw}
 use Rattle.ea_pool.specs.Plays.{Surveys}
-use Rattle.ea_limits.specs.declared.TheConstants.{SHARES}
+use Rattle.ea_base.specs.declared.limits.TheConstants.{SHARES}
 use Rattle.ea_pool.specs.Pools.{books, SameBooks, Pops, PopsAll, NothingLeft, IsLeft, AreLeft, IsLeastLeft}
 use Rattle.ea_pool.specs.Replies.{MatchPopped}
 use Rattle.ea_pool.specs.Solos.{lesser}

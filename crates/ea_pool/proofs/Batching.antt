@@ -3,12 +3,12 @@ use Rattle.std.proofs.Common.{Bool, true, false, ◌≡◌, ℕ, ◌<◌, ◌≤
 use mathlib.Core.Logic.{dite}
 use native.Mathlib.Decide.{dec_lt}
 use Rattle.std.specs.List.{AllByRecursion}
-use Rattle.ea_lists.specs.Totals.{total}
-use Rattle.ea_lists.proofs.Totals.{total-append}
-use Rattle.ea_pool.specs.declared.entry.Entry.{Entry}
-use Rattle.ea_pool.specs.declared.account.LastTake.{LastTake}
-use Rattle.ea_limits.specs.declared.TheConstants.{HORIZON}
-use Rattle.ea_pool.specs.declared.words.TheConstants.{EMPTY}
+use Rattle.ea_machine.specs.Totals.{total}
+use Rattle.ea_machine.proofs.Totals.{total-append}
+use Rattle.ea_pool.specs.declared.heap.entry.Entry.{Entry}
+use Rattle.ea_pool.specs.declared.shared.account.LastTake.{LastTake}
+use Rattle.ea_base.specs.declared.limits.TheConstants.{HORIZON}
+use Rattle.ea_pool.specs.declared.shared.words.TheConstants.{EMPTY}
 use Rattle.ea_pool.specs.Entries.{only, times, SameEntries, ComesFirst, IsLeastOf, IsAscending, AreTakenOut, face}
 use Rattle.ea_pool.specs.Kinds.{HeapKind, Least, Buckets, Shows, Gives, GivesOne, IsEnough, IsSpentAs, IsBelow}
 use Rattle.ea_pool.specs.States.{take_at}

@@ -1,9 +1,9 @@
 -- The entries of many heaps.
 use Rattle.std.proofs.Common.{◌≡◌, ℕ, ◌+◌, List, [], ◌∷◌, ◌++◌, refl, ap, arith}
-use Rattle.ea_pool.specs.declared.entry.Entry.{Entry}
-use Rattle.ea_lists.specs.Totals.{total}
+use Rattle.ea_pool.specs.declared.heap.entry.Entry.{Entry}
+use Rattle.ea_machine.specs.Totals.{total}
 use Rattle.ea_pool.specs.Entries.{gathered}
-use Rattle.ea_lists.proofs.Totals.{total-append}
+use Rattle.ea_machine.proofs.Totals.{total-append}
 
 pub total_gathered : (f : Entry → ℕ) (all : List (List Entry)) → total f (gathered all) ≡ total (total f) all
 total_gathered f [] = refl

@@ -7,11 +7,11 @@ use Rattle.std.specs.List.Sorted.{IsPermutation}
 use Rattle.std.specs.Prelude.{nat_lt, nat_eq}
 use Rattle.std.proofs.lemmas.Map.Keys.{ge_from_not_lt}
 use Rattle.std.specs.Ordering.{is_lt, nat_cmp, ordering_then}
-use Rattle.ea_pool.specs.declared.entry.Entry.{Entry}
-use Rattle.ea_limits.specs.declared.TheConstants.{HORIZON}
-use Rattle.ea_pool.specs.declared.words.TheConstants.{EMPTY}
+use Rattle.ea_pool.specs.declared.heap.entry.Entry.{Entry}
+use Rattle.ea_base.specs.declared.limits.TheConstants.{HORIZON}
+use Rattle.ea_pool.specs.declared.shared.words.TheConstants.{EMPTY}
 use Rattle.ea_pool.specs.Entries.{only, times, SameEntries, ComesFirst, IsLeastOf, entry_order, face, lower, least_key}
-use Rattle.ea_lists.proofs.Totals.{total_permuted}
+use Rattle.ea_machine.proofs.Totals.{total_permuted}
 use Rattle.ea_pool.proofs.Weights.{only-same, only-one}
 
 not_less : (a b c d : ℕ) → a < b → is_lt (ordering_then (nat_cmp a b) (nat_cmp c d)) ≡ false → ⊥

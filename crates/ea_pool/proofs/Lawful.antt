@@ -8,14 +8,14 @@ use mathlib.Core.Option as maybe
 use mathlib.Core.Option.{some-injective, some-ne-none}
 use lib.ListN.{get_elem?}
 use Rattle.atomic_table.proofs.Lists.{at_set, at_snoc}
-use Rattle.ea_lists.specs.Totals.{total}
-use Rattle.ea_lists.proofs.Places.{inside}
-use Rattle.ea_lists.proofs.Totals.{total-map, total-append, total-set, term_le, terms_le, total_alone}
-use Rattle.ea_pool.specs.declared.entry.Entry.{Entry}
-use Rattle.ea_pool.specs.declared.account.Held.{Held}
-use Rattle.ea_pool.specs.declared.account.SeatMemory.{SeatMemory}
-use Rattle.ea_limits.specs.declared.TheConstants.{SHARES}
-use Rattle.ea_pool.specs.declared.words.TheConstants.{OUT, EMPTY}
+use Rattle.ea_machine.specs.Totals.{total}
+use Rattle.ea_machine.proofs.Places.{inside}
+use Rattle.ea_machine.proofs.Totals.{total-map, total-append, total-set, term_le, terms_le, total_alone}
+use Rattle.ea_pool.specs.declared.heap.entry.Entry.{Entry}
+use Rattle.ea_pool.specs.declared.shared.account.Held.{Held}
+use Rattle.ea_pool.specs.declared.shared.account.SeatMemory.{SeatMemory}
+use Rattle.ea_base.specs.declared.limits.TheConstants.{SHARES}
+use Rattle.ea_pool.specs.declared.shared.words.TheConstants.{OUT, EMPTY}
 use Rattle.ea_pool.specs.Entries.{only, times, SameEntries, IsKnown, AreKnown}
 use Rattle.ea_pool.specs.Kinds.{HeapKind, Shows}
 use Rattle.ea_pool.specs.States.{seat_state, first_state, nobody, content_of, count_of, holds_heap, held_at, IsInside, saw, forgot, took, gave, pushed, popped, left_of, newcomer, joined}

@@ -4,10 +4,10 @@ use Rattle.std.proofs.lemmas.List.{length-take-le, set-get_or, take_all, take_mo
 use mathlib.Core.Option.{some}
 use Rattle.std.specs.Prelude.{IfSome}
 use Rattle.std.specs.List.{AllByRecursion}
-use Rattle.ea_lists.specs.Totals.{total}
-use Rattle.ea_lists.proofs.Totals.{total-set}
-use Rattle.ea_lists.proofs.Places.{at_value}
-use Rattle.ea_pool.specs.declared.entry.Entry.{Entry}
+use Rattle.ea_machine.specs.Totals.{total}
+use Rattle.ea_machine.proofs.Totals.{total-set}
+use Rattle.ea_machine.proofs.Places.{at_value}
+use Rattle.ea_pool.specs.declared.heap.entry.Entry.{Entry}
 use Rattle.ea_pool.specs.Entries.{only, times, SameEntries, IsLeastOf, HasLeastKey, gathered, least_key}
 use Rattle.ea_pool.specs.Solos.{content}
 use Rattle.ea_pool.specs.Left.{better, IsBestIn, IsBestOf}

@@ -10,14 +10,14 @@ use lib.ListN.{get_elem?}
 use prog.Atomic.{either}
 use Rattle.atomic_table.specs.Table.{State, step, Act, keeps, takes, gives, Valid, stepped, carried_after, rest, Allows, Splits, Joins, Final, Seen, opening as opening_table}
 use Rattle.atomic_table.proofs.Lists.{set_else, exchanged}
-use Rattle.ea_lists.specs.Totals.{total}
-use Rattle.ea_lists.proofs.Totals.{term_le, total-append, total-map}
-use Rattle.ea_lists.proofs.Places.{value_at, contains_at}
-use Rattle.ea_pool.specs.declared.entry.Entry.{Entry}
-use Rattle.ea_pool.specs.declared.account.Held.{Held}
-use Rattle.ea_pool.specs.declared.account.SeatMemory.{SeatMemory}
-use Rattle.ea_limits.specs.declared.TheConstants.{SHARES}
-use Rattle.ea_pool.specs.declared.words.TheConstants.{OUT, EMPTY, WORDS_APART}
+use Rattle.ea_machine.specs.Totals.{total}
+use Rattle.ea_machine.proofs.Totals.{term_le, total-append, total-map}
+use Rattle.ea_machine.proofs.Places.{value_at, contains_at}
+use Rattle.ea_pool.specs.declared.heap.entry.Entry.{Entry}
+use Rattle.ea_pool.specs.declared.shared.account.Held.{Held}
+use Rattle.ea_pool.specs.declared.shared.account.SeatMemory.{SeatMemory}
+use Rattle.ea_base.specs.declared.limits.TheConstants.{SHARES}
+use Rattle.ea_pool.specs.declared.shared.words.TheConstants.{OUT, EMPTY, WORDS_APART}
 use Rattle.ea_pool.specs.Entries.{only, times, SameEntries, InSomeOrder, IsKnown, AreKnown, gathered}
 use Rattle.ea_pool.specs.Kinds.{HeapKind, Shows}
 use Rattle.ea_pool.specs.States.{first_state, nobody, content_of, held_at, IfHeld, saw, forgot, took, gave, pushed, popped, left_of, newcomer, joined}

@@ -2,8 +2,8 @@
 use Rattle.std.proofs.Common.{◌≡◌, ◌≢◌, ℕ, zero, suc, ◌+◌, ◌<◌, ◌≤◌, List, [], ◌∷◌, length, sym, refl, ap, ◌∙◌, arith, Option, Some, None, MatchOption, ltb, eqb, lt-ltb, le-ltb, eq-eqb, ne_eqb, cond, Bool, true, false, min}
 use mathlib.Core.Logic.{dite}
 use native.Mathlib.Decide.{dec_le, dec_lt, ℕ_discrete}
-use Rattle.ea_pool.specs.declared.entry.Entry.{Entry}
-use Rattle.ea_lists.specs.Totals.{total}
+use Rattle.ea_pool.specs.declared.heap.entry.Entry.{Entry}
+use Rattle.ea_machine.specs.Totals.{total}
 use Rattle.ea_pool.specs.Entries.{times, only, lower, least_key}
 use Rattle.std.specs.Prelude.{IfSome}
 use Rattle.ea_pool.specs.Solos.{content, lesser, lesser_heap, TakesFrom, rank_error, RankIsBounded}

@@ -4,12 +4,12 @@ use Rattle.std.specs.Prelude.{slice_index}
 use mathlib.Core.Option as maybe
 use lib.ListN.{get_elem?}
 use Rattle.atomic_table.proofs.Lists.{set_else}
-use Rattle.ea_lists.proofs.Places.{value_at, at_weighed}
-use Rattle.ea_lists.proofs.Runs as runs
-use Rattle.ea_pool.specs.declared.entry.Entry.{Entry}
-use Rattle.ea_pool.specs.declared.account.Held.{Held}
-use Rattle.ea_pool.specs.declared.account.SeatMemory.{SeatMemory}
-use Rattle.ea_pool.specs.declared.words.TheConstants.{OUT}
+use Rattle.ea_machine.proofs.Places.{value_at, at_weighed}
+use Rattle.ea_machine.proofs.Runs as runs
+use Rattle.ea_pool.specs.declared.heap.entry.Entry.{Entry}
+use Rattle.ea_pool.specs.declared.shared.account.Held.{Held}
+use Rattle.ea_pool.specs.declared.shared.account.SeatMemory.{SeatMemory}
+use Rattle.ea_pool.specs.declared.shared.words.TheConstants.{OUT}
 use Rattle.ea_pool.specs.Entries.{SameEntries, AreKnown}
 use Rattle.ea_pool.specs.Kinds.{HeapKind, Shows}
 use Rattle.ea_pool.specs.States.{nobody, content_of, IfHeld, forgot, pushed, popped, gave, joined}

@@ -1,11 +1,11 @@
 -- A pop from the better of two heaps.
 use Rattle.std.proofs.Common.{◌≡◌, ℕ, zero, suc, ◌+◌, ◌<◌, List, [], ◌∷◌, length, get_or, set, sym, refl, ap, ◌∙◌, arith, subst, Option, Some, None, MatchOption, ltb, eqb, cond, Bool, true, false, min, ◌⊎◌, inl, inr, ⊎_elim, take, ◌++◌}
 use Rattle.std.proofs.lemmas.List.{set-get_or, take_more}
-use Rattle.ea_lists.proofs.Totals.{total-append}
+use Rattle.ea_machine.proofs.Totals.{total-append}
 use mathlib.Core.Logic.{dite}
 use native.Mathlib.Decide.{dec_le}
-use Rattle.ea_pool.specs.declared.entry.Entry.{Entry}
-use Rattle.ea_lists.specs.Totals.{total}
+use Rattle.ea_pool.specs.declared.heap.entry.Entry.{Entry}
+use Rattle.ea_machine.specs.Totals.{total}
 use Rattle.ea_pool.specs.Entries.{SameEntries, IsLeastOf, lower, least_key}
 use Rattle.ea_pool.specs.Solos.{content, lesser, lesser_heap, TakesFrom}
 

@@ -4,13 +4,13 @@ use Rattle.std.specs.Prelude.{Result, Ok, MatchOption, MatchResult}
 use Rattle.std.specs.List.{AllByRecursion}
 use mathlib.Core.Logic.{dite}
 use native.Mathlib.Decide.{dec_lt}
-use Rattle.ea_pool.specs.declared.entry.Entry.{Entry}
-use Rattle.ea_pool.specs.declared.account.SeatMemory.{SeatMemory}
-use Rattle.ea_limits.specs.declared.TheConstants.{SHARES}
-use Rattle.ea_limits.specs.declared.TheConstants.{HORIZON}
-use Rattle.ea_pool.specs.declared.words.TheConstants.{EMPTY, OUT}
-use Rattle.ea_lists.specs.Totals.{total}
-use Rattle.ea_lists.proofs.Totals.{total-append}
+use Rattle.ea_pool.specs.declared.heap.entry.Entry.{Entry}
+use Rattle.ea_pool.specs.declared.shared.account.SeatMemory.{SeatMemory}
+use Rattle.ea_base.specs.declared.limits.TheConstants.{SHARES}
+use Rattle.ea_base.specs.declared.limits.TheConstants.{HORIZON}
+use Rattle.ea_pool.specs.declared.shared.words.TheConstants.{EMPTY, OUT}
+use Rattle.ea_machine.specs.Totals.{total}
+use Rattle.ea_machine.proofs.Totals.{total-append}
 use Rattle.ea_pool.specs.Entries.{only, times, SameEntries, InSomeOrder, HasMore, IsLeastOf, IsKnown, AreKnown}
 use Rattle.ea_pool.specs.Kinds.{HeapKind, Least, Shows}
 use Rattle.ea_pool.specs.States.{take_at, saw, took, pushed, popped}

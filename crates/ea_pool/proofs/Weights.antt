@@ -2,8 +2,8 @@
 use Rattle.std.proofs.Common.{◌≡◌, ◌<◌, ℕ, List, [], ◌∷◌, ◌++◌, refl, sym, ap, ◌∙◌, subst, arith, eqb, eq-eqb, ne_eqb, cond, ◌&&◌}
 use mathlib.Core.Logic.{dite}
 use native.Mathlib.Decide.{ℕ_discrete}
-use Rattle.ea_pool.specs.declared.entry.Entry.{Entry}
-use Rattle.ea_lists.proofs.Totals.{total-append}
+use Rattle.ea_pool.specs.declared.heap.entry.Entry.{Entry}
+use Rattle.ea_machine.proofs.Totals.{total-append}
 use Rattle.ea_pool.specs.Entries.{only, SameEntries, IsKnown, AreKnown}
 
 pub only-same : (e : Entry) → only e e ≡ 1

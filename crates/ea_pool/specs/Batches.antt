@@ -1,13 +1,13 @@
 -- Several entries at once, and what calls with a batch of them do.
 use Rattle.std.specs.Prelude.{◌≡◌, ◌⊎◌, ℕ, ◌<◌, ◌≤◌, List, ◌++◌, length, Option, Result, Ok, Err}
-use Rattle.ea_pool.specs.declared.entry.Entry.{Entry}
-use Rattle.ea_pool.specs.declared.account.Account.{Account}
-use Rattle.ea_pool.specs.declared.account.LastTake.{LastTake}
-use Rattle.ea_pool.specs.declared.reply.PushAllRefused.{PushAllRefused}
-use Rattle.ea_pool.specs.declared.reply.PushAllRefused.TheVariants as refused
-use Rattle.ea_pool.specs.declared.reply.PoppedSome.{PoppedSome}
-use Rattle.ea_pool.specs.declared.reply.PoppedSome.TheVariants as reply
-use Rattle.ea_limits.specs.declared.TheConstants.{SHARES}
+use Rattle.ea_pool.specs.declared.heap.entry.Entry.{Entry}
+use Rattle.ea_pool.specs.declared.shared.account.Account.{Account}
+use Rattle.ea_pool.specs.declared.shared.account.LastTake.{LastTake}
+use Rattle.ea_pool.specs.declared.shared.reply.PushAllRefused.{PushAllRefused}
+use Rattle.ea_pool.specs.declared.shared.reply.PushAllRefused.TheVariants as refused
+use Rattle.ea_pool.specs.declared.shared.reply.PoppedSome.{PoppedSome}
+use Rattle.ea_pool.specs.declared.shared.reply.PoppedSome.TheVariants as reply
+use Rattle.ea_base.specs.declared.limits.TheConstants.{SHARES}
 use Rattle.ea_pool.specs.Entries.{SameEntries, AreKnown}
 use Rattle.ea_pool.specs.Kinds.{HeapKind, Least, Buckets, Gives, IsEnough, IsBelow}
 use Rattle.ea_pool.specs.Pools.{PushesAll, PopsAll, IsLeft, AreLeft}

@@ -3,11 +3,11 @@ use Rattle.std.specs.Prelude.{◌≡◌, ℕ, ◌+◌, ◌<◌, List, [], length
 use Rattle.std.specs.List.{AllByRecursion}
 use mathlib.Core.Option as maybe
 use lib.ListN.{get_elem?}
-use Rattle.ea_lists.specs.Totals.{total}
-use Rattle.ea_pool.specs.declared.entry.Entry.{Entry}
-use Rattle.ea_pool.specs.declared.account.SeatMemory.{SeatMemory}
-use Rattle.ea_limits.specs.declared.TheConstants.{SHARES}
-use Rattle.ea_pool.specs.declared.words.TheConstants.{OUT}
+use Rattle.ea_machine.specs.Totals.{total}
+use Rattle.ea_pool.specs.declared.heap.entry.Entry.{Entry}
+use Rattle.ea_pool.specs.declared.shared.account.SeatMemory.{SeatMemory}
+use Rattle.ea_base.specs.declared.limits.TheConstants.{SHARES}
+use Rattle.ea_pool.specs.declared.shared.words.TheConstants.{OUT}
 use Rattle.ea_pool.specs.Entries.{times, IsKnown}
 use Rattle.ea_pool.specs.Kinds.{HeapKind, Shows}
 use Rattle.ea_pool.specs.States.{nobody, content_of, holds_heap, IsInside}

@@ -1,11 +1,11 @@
 -- The pool as a state machine: each atomic step is one event of one seat, and leaves the state lawful.
 use Rattle.std.specs.Prelude.{◌≡◌, ◌≢◌, ℕ, ◌<◌, ◌≤◌, ◌==◌, List, [], ◌∷◌, ◌++◌, if◌then◌else◌, length, replicate, slice_index, slice_set, slice_index_or, Option, Some, None}
 use mathlib.Core.Option as maybe
-use Rattle.ea_lists.specs.Runs as runs
-use Rattle.ea_pool.specs.declared.entry.Entry.{Entry}
-use Rattle.ea_pool.specs.declared.account.Held.{Held}
-use Rattle.ea_pool.specs.declared.account.SeatMemory.{SeatMemory}
-use Rattle.ea_pool.specs.declared.words.TheConstants.{EMPTY, OUT}
+use Rattle.ea_machine.specs.Runs as runs
+use Rattle.ea_pool.specs.declared.heap.entry.Entry.{Entry}
+use Rattle.ea_pool.specs.declared.shared.account.Held.{Held}
+use Rattle.ea_pool.specs.declared.shared.account.SeatMemory.{SeatMemory}
+use Rattle.ea_pool.specs.declared.shared.words.TheConstants.{EMPTY, OUT}
 use Rattle.ea_pool.specs.Entries.{SameEntries, AreKnown}
 use Rattle.ea_pool.specs.Kinds.{HeapKind, Shows}
 use Rattle.ea_pool.specs.States.{first_state, nobody, content_of, IfHeld, saw, forgot, took, pushed, popped, gave, left_of, newcomer, joined}

@@ -1,7 +1,7 @@
 -- The two kinds of heap, and what each promises of its words and of the entries that it gives.
 use Rattle.std.specs.Prelude.{◌≡◌, ℕ, ◌≤◌, List, [], ◌∷◌, ◌++◌, length, ◌<◌, ◌⊎◌, Bool, false}
-use Rattle.ea_pool.specs.declared.entry.Entry.{Entry}
-use Rattle.ea_pool.specs.declared.words.TheConstants.{EMPTY}
+use Rattle.ea_pool.specs.declared.heap.entry.Entry.{Entry}
+use Rattle.ea_pool.specs.declared.shared.words.TheConstants.{EMPTY}
 use Rattle.ea_pool.specs.Entries.{SameEntries, IsLeastOf, AreTakenOut, face}
 
 -- Least gives the least entry first. Buckets gives about the least, in no promised order

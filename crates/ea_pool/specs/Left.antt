@@ -1,7 +1,7 @@
 -- What is left in a closed pool, heap by heap.
 use Rattle.std.specs.Prelude.{◌≡◌, ℕ, ◌<◌, ◌≤◌, List, [], length, Option, Some, None, MatchOption, if◌then◌else◌, nat_lt, take}
 use Rattle.std.specs.List.{AllByRecursion}
-use Rattle.ea_pool.specs.declared.entry.Entry.{Entry}
+use Rattle.ea_pool.specs.declared.heap.entry.Entry.{Entry}
 use Rattle.ea_pool.specs.Entries.{gathered, least_key}
 use Rattle.ea_pool.specs.Solos.{content}
 

@@ -1,10 +1,10 @@
 -- What contracts say of a seat's account, and of a seat within a call.
 use Rattle.std.specs.Prelude.{◌≡◌, ℕ, ◌+◌, ◌<◌, ◌≤◌, List, [], ◌∷◌, ◌++◌, map, Some, None, Contains}
 use mathlib.Core.Option as maybe
-use Rattle.ea_limits.specs.declared.TheConstants.{HORIZON}
-use Rattle.ea_pool.specs.declared.entry.Entry.{Entry}
-use Rattle.ea_pool.specs.declared.account.Account.{Account}
-use Rattle.ea_pool.specs.declared.account.SeatMemory.{SeatMemory}
+use Rattle.ea_base.specs.declared.limits.TheConstants.{HORIZON}
+use Rattle.ea_pool.specs.declared.heap.entry.Entry.{Entry}
+use Rattle.ea_pool.specs.declared.shared.account.Account.{Account}
+use Rattle.ea_pool.specs.declared.shared.account.SeatMemory.{SeatMemory}
 use Rattle.ea_pool.specs.Entries.{times, SameEntries, gathered}
 use Rattle.ea_pool.specs.Kinds.{HeapKind}
 use Rattle.ea_pool.specs.States.{held_at}

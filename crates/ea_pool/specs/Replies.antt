@@ -1,10 +1,10 @@
 -- Words on what a push and a pop answer.
 use Rattle.std.specs.Prelude.{Bool, true, false, Result, Ok, Err}
-use Rattle.ea_pool.specs.declared.entry.Entry.{Entry}
-use Rattle.ea_pool.specs.declared.reply.PushRefused.{PushRefused}
-use Rattle.ea_pool.specs.declared.reply.PushRefused.TheVariants.{Busy, OutOfMemory}
-use Rattle.ea_pool.specs.declared.reply.Popped.{Popped}
-use Rattle.ea_pool.specs.declared.reply.Popped.TheVariants as popped
+use Rattle.ea_pool.specs.declared.heap.entry.Entry.{Entry}
+use Rattle.ea_pool.specs.declared.shared.reply.PushRefused.{PushRefused}
+use Rattle.ea_pool.specs.declared.shared.reply.PushRefused.TheVariants.{Busy, OutOfMemory}
+use Rattle.ea_pool.specs.declared.shared.reply.Popped.{Popped}
+use Rattle.ea_pool.specs.declared.shared.reply.Popped.TheVariants as popped
 
 -- the entry that comes back
 abbrev pub handed_back : PushRefused → Entry

@@ -1,8 +1,8 @@
 -- A pool and its seats, as a contract sees them.
 use Rattle.std.specs.Prelude.{◌≡◌, ℕ, List, Option}
 use Rattle.atomic_table.specs.Seated.{TableId}
-use Rattle.ea_pool.specs.declared.account.Account.{Account}
-use Rattle.ea_pool.specs.declared.account.LastTake.{LastTake}
+use Rattle.ea_pool.specs.declared.shared.account.Account.{Account}
+use Rattle.ea_pool.specs.declared.shared.account.LastTake.{LastTake}
 
 -- which table the pool is, and its number of heaps
 pub record PoolView : Type 0 where

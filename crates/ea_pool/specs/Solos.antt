@@ -1,7 +1,7 @@
 -- What the calls on heaps of one thread do. The heaps are the list of their contents.
 use Rattle.std.specs.Prelude.{◌≡◌, ◌≢◌, ◌+◌, ◌<◌, ◌≤◌, length, ℕ, List, [], ◌∷◌, Option, Some, None, cond, nat_lt, min, ◌==◌, slice_index_or, slice_set}
-use Rattle.ea_pool.specs.declared.entry.Entry.{Entry}
-use Rattle.ea_lists.specs.Totals.{total}
+use Rattle.ea_pool.specs.declared.heap.entry.Entry.{Entry}
+use Rattle.ea_machine.specs.Totals.{total}
 use Rattle.ea_pool.specs.Entries.{SameEntries, IsLeastOf, least_key}
 
 abbrev pub content : List (List Entry) → ℕ → List Entry

@@ -1,10 +1,10 @@
 -- What a seat knows, and what each kind of step makes of it. Each step but a load forgets what was seen, and a take keeps it with the heap.
 use Rattle.std.specs.Prelude.{ℕ, ◌+◌, ◌-◌, ◌<◌, ◌==◌, cond, List, [], ◌∷◌, ◌++◌, Option, Some, None}
-use Rattle.ea_pool.specs.declared.entry.Entry.{Entry}
-use Rattle.ea_pool.specs.declared.account.Held.{Held}
-use Rattle.ea_pool.specs.declared.account.LastTake.{LastTake}
-use Rattle.ea_pool.specs.declared.account.SeatMemory.{SeatMemory}
-use Rattle.ea_limits.specs.declared.TheConstants.{SHARES}
+use Rattle.ea_pool.specs.declared.heap.entry.Entry.{Entry}
+use Rattle.ea_pool.specs.declared.shared.account.Held.{Held}
+use Rattle.ea_pool.specs.declared.shared.account.LastTake.{LastTake}
+use Rattle.ea_pool.specs.declared.shared.account.SeatMemory.{SeatMemory}
+use Rattle.ea_base.specs.declared.limits.TheConstants.{SHARES}
 
 abbrev pub seat_state : ℕ → List Entry → List Entry → Option Held → List (ℕ × ℕ) → Option LastTake → SeatMemory
 seat_state shares pushed popped held seen last_take = record { shares = shares; pushed = pushed; popped = popped; held = held; seen = seen; last_take = last_take }

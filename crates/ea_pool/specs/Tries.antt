@@ -1,8 +1,8 @@
 -- What calls that found no entry or no room looked at, in order. Words that were seen stand with their heaps, the newest first.
 use Rattle.std.specs.Prelude.{◌≡◌, ℕ, ◌*◌, ◌<◌, zero, suc, ◌⊎◌, List, [], ◌∷◌, Option, Some, None, min}
-use Rattle.ea_pool.specs.declared.entry.Entry.{Entry}
-use Rattle.ea_pool.specs.declared.account.LastTake.{LastTake}
-use Rattle.ea_pool.specs.declared.words.TheConstants.{OUT}
+use Rattle.ea_pool.specs.declared.heap.entry.Entry.{Entry}
+use Rattle.ea_pool.specs.declared.shared.account.LastTake.{LastTake}
+use Rattle.ea_pool.specs.declared.shared.words.TheConstants.{OUT}
 use Rattle.ea_pool.specs.Draws.{try_draw}
 use Rattle.ea_pool.specs.Entries.{SameEntries}
 use Rattle.ea_pool.specs.Kinds.{HeapKind, Shows, Gives}

@@ -3,8 +3,8 @@ ghost use Rattle.std.specs.Prelude.{◌≡◌, ◌≢◌, ◌*◌, ◌<◌, ◌�
 ghost use Rattle.ea_pool.specs.Draws.{first_draw, second_draw, try_draw};
 ghost use Rattle.ea_pool.specs.Solos.{lesser};
 
-use crate::words::MOST_IN_POOL;
-use ea_limits::LEAST_HEAPS;
+use crate::shared::words::MOST_IN_POOL;
+use ea_base::LEAST_HEAPS;
 
 pub fn draw_first(heaps: usize, first: u64) -> usize
     requires { (LEAST_HEAPS ≤ heaps) × (heaps ≤ MOST_IN_POOL) }

@@ -1,16 +1,16 @@
 //! Heaps for one thread.
 ghost use Rattle.std.specs.Prelude.{◌≡◌, ◌+◌, ◌≤◌, [], length, replicate, IfOk, IfErr, IfSome, OnOk, MatchOption};
 ghost use Rattle.ea_pool.specs.Draws.{first_draw, second_draw};
-ghost use Rattle.ea_lists.specs.Totals.{total};
+ghost use Rattle.ea_machine.specs.Totals.{total};
 ghost use Rattle.ea_pool.specs.Solos.{content, lesser, lesser_heap, AddsTo, TakesFrom, rank_error, RankIsBounded};
 
 use crate::OutOfMemory;
 use crate::draws::{draw_first, draw_second};
-use crate::entry::Entry;
-use crate::least::LeastHeap;
-use crate::opening::empty_heaps;
-use crate::words::MOST_IN_POOL;
-use ea_limits::LEAST_HEAPS;
+use crate::heap::entry::Entry;
+use crate::heap::least_heap::LeastHeap;
+use crate::shared::opening::empty_heaps;
+use crate::shared::words::MOST_IN_POOL;
+use ea_base::LEAST_HEAPS;
 use std::alloc::{Allocator, Global};
 use std::marker::Model;
 
@@ -22,9 +22,9 @@ pub struct Solo<A: Allocator = Global> {
 
 impl<A: Allocator> Model for Solo<A> {
     ghost use Rattle.std.specs.Prelude.{◌≤◌, List, length};
-    ghost use Rattle.ea_limits.specs.declared.TheConstants.{LEAST_HEAPS};
-    ghost use Rattle.ea_pool.specs.declared.entry.Entry.{Entry};
-    ghost use Rattle.ea_pool.specs.declared.words.TheConstants.{MOST_IN_POOL};
+    ghost use Rattle.ea_base.specs.declared.limits.TheConstants.{LEAST_HEAPS};
+    ghost use Rattle.ea_pool.specs.declared.heap.entry.Entry.{Entry};
+    ghost use Rattle.ea_pool.specs.declared.shared.words.TheConstants.{MOST_IN_POOL};
 
     ghost Value = { List (List Entry) };
 

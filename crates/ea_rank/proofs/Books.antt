@@ -3,9 +3,9 @@ use Rattle.std.proofs.Common.{◌≡◌, ◌≢◌, ℕ, zero, suc, ◌+◌, ◌
 use Rattle.std.proofs.lemmas.List.{length-set}
 use Rattle.std.proofs.lemmas.Bool.{cases_lt}
 use Rattle.std.proofs.Math.Nat.{mod-eq_of_lt, add-mod_left}
-use Rattle.ea_pool.specs.declared.entry.Entry.{Entry}
+use Rattle.ea_pool.specs.declared.heap.entry.Entry.{Entry}
 use Rattle.ea_pool.specs.Draws.{first_draw, second_draw}
-use Rattle.ea_lists.specs.Totals.{total}
+use Rattle.ea_machine.specs.Totals.{total}
 use Rattle.ea_pool.specs.Solos.{content, lesser_heap, rank_error, AddsTo, TakesFrom}
 use Rattle.ea_pool.proofs.Ranks.{rank_bounded}
 use Rattle.ea_rank.specs.Runs.{weighs, BothEmpty}

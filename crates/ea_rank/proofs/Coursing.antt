@@ -1,12 +1,12 @@
 -- The next step of a course, by what the calls on the generator tell.
 use Rattle.std.proofs.Common.{◌≡◌, ℕ, ◌<◌, ◌≤◌, List, [], ◌∷◌, ◌++◌, sym, subst}
 use Rattle.rand_core.specs.Stream.{Stream, next_u64}
-use Rattle.ea_limits.specs.declared.TheConstants.{HORIZON}
+use Rattle.ea_base.specs.declared.limits.TheConstants.{HORIZON}
 use Rattle.ea_road.specs.declared.arc.Arc.{Arc}
 use Rattle.ea_road.specs.declared.source.Source.{Source}
 use Rattle.ea_road.specs.Labels.{label_of}
 use Rattle.ea_road.specs.Roads.{Roads, IsArc, leaving}
-use Rattle.ea_pool.specs.declared.entry.Entry.{Entry}
+use Rattle.ea_pool.specs.declared.heap.entry.Entry.{Entry}
 use Rattle.ea_rank.specs.Runs.{State, PopsFound}
 use Rattle.ea_rank.specs.Courses.{LowersBy, Scans, Turns, Begun}
 use Rattle.ea_rank.specs.Courses as course

@@ -1,7 +1,7 @@
 -- What stays of the keys of a record.
 use Rattle.std.proofs.Common.{◌≡◌, ℕ, suc, ◌+◌, ◌<◌, List, [], ◌∷◌, length, Option, Some, None, Result, Ok, Err, refl, sym, ap, ◌∙◌, arith, inl, inr}
 use Rattle.std.proofs.lemmas.Bool.{cases_lt}
-use Rattle.ea_lists.specs.Totals.{total}
+use Rattle.ea_machine.specs.Totals.{total}
 use Rattle.ea_rank.specs.declared.event.Event.{Event}
 use Rattle.ea_rank.specs.declared.event.Event.TheVariants.{Push, Pop}
 use Rattle.ea_rank.specs.QueueLaws.{pushed_keys, CountSmallerKeys, TellMissingKeys, KeepKeys}

@@ -1,10 +1,10 @@
 -- How often a time stands among the labels and among the keys that were popped.
 use Rattle.std.proofs.Common.{◌≡◌, ℕ, suc, ◌+◌, ◌-◌, ◌<◌, ◌≤◌, eqb, leb, cond, ◌&&◌, List, [], ◌∷◌, length, map, get_or, refl, ap, ◌∙◌, arith, subst, inl, inr}
 use Rattle.std.proofs.lemmas.Bool.Decides.{eqb_tells, nat_tests}
-use Rattle.ea_pool.specs.declared.entry.Entry.{Entry}
-use Rattle.ea_lists.specs.Totals.{total}
+use Rattle.ea_pool.specs.declared.heap.entry.Entry.{Entry}
+use Rattle.ea_machine.specs.Totals.{total}
 use Rattle.ea_pool.specs.Entries.{times}
-use Rattle.ea_lists.proofs.Totals.{total-map}
+use Rattle.ea_machine.proofs.Totals.{total-map}
 use Rattle.ea_rank.specs.Records.{occurrences}
 use Rattle.ea_rank.specs.Runs.{entry_of}
 

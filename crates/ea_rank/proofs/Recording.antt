@@ -1,8 +1,8 @@
 -- What a record says after one more event.
 use Rattle.std.proofs.Common.{◌≡◌, ℕ, suc, ◌+◌, ◌<◌, List, [], ◌∷◌, ◌++◌, length, map, Option, Some, None, Result, Ok, Err, refl, sym, ap, ◌∙◌, arith}
 use Rattle.std.specs.List.{AllByRecursion}
-use Rattle.ea_pool.specs.declared.entry.Entry.{Entry}
-use Rattle.ea_lists.specs.Totals.{total}
+use Rattle.ea_pool.specs.declared.heap.entry.Entry.{Entry}
+use Rattle.ea_machine.specs.Totals.{total}
 use Rattle.ea_rank.specs.declared.event.Event.{Event}
 use Rattle.ea_rank.specs.declared.event.Event.TheVariants.{Push, Pop}
 use Rattle.ea_rank.specs.Ranks.{with_key, without_key, rank_error, ranked, after_ranks, errors_from, rank_errors, queue_after, popped_keys}

@@ -3,21 +3,21 @@ use Rattle.std.proofs.Common.{◌≡◌, ◌≢◌, ℕ, zero, suc, ◌+◌, ◌
 use Rattle.std.specs.List.{IsAmong}
 use Rattle.std.proofs.lemmas.Bool.{cases_eq, cases_lt}
 use Rattle.std.proofs.lemmas.List.{get_or_default, get_or-set_same, get_or-set_other, length-set}
-use Rattle.ea_limits.specs.declared.TheConstants.{HORIZON}
+use Rattle.ea_base.specs.declared.limits.TheConstants.{HORIZON}
 use Rattle.ea_road.specs.declared.TheConstants.{NONE}
 use Rattle.ea_road.specs.declared.arc.Arc.{Arc}
 use Rattle.ea_road.specs.declared.source.Source.{Source}
-use Rattle.ea_road.specs.Answers.{IsFifo}
+use Rattle.ea_travel_times.specs.Answers.{IsFifo}
 use Rattle.ea_road.specs.Roads.{Roads, IsArc, IsNode, IsNetwork, top_class}
 use Rattle.ea_road.proofs.Arcs.{is_question, one_arc}
 use Rattle.ea_road.proofs.Reached.{reaches_more}
 use Rattle.ea_road.proofs.Same.{one_answer}
 use Rattle.ea_road.specs.Arrivals.{Reaches}
 use Rattle.ea_road.specs.Labels.{label_of, IsFixed}
-use Rattle.ea_pool.specs.declared.entry.Entry.{Entry}
-use Rattle.ea_lists.specs.Totals.{total}
+use Rattle.ea_pool.specs.declared.heap.entry.Entry.{Entry}
+use Rattle.ea_machine.specs.Totals.{total}
 use Rattle.ea_pool.specs.Entries.{times, only}
-use Rattle.ea_lists.proofs.Totals.{total-append}
+use Rattle.ea_machine.proofs.Totals.{total-append}
 use Rattle.ea_pool.proofs.Weights.{only-same, only-one}
 use Rattle.ea_rank.specs.Runs.{State, LowersNode, PopsFound, IsUnderway, weighs, entry_of}
 use Rattle.ea_rank.specs.Tallies.{added}

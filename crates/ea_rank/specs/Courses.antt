@@ -1,14 +1,14 @@
 -- The course of a run of one thread: what it does in turn, by the words of its generator.
 use Rattle.std.specs.Prelude.{◌≡◌, ℕ, ◌+◌, ◌<◌, ◌≤◌, ◌⊎◌, List, [], ◌∷◌, ◌++◌, length, replicate}
 use Rattle.rand_core.specs.Stream.{Stream, next_u64}
-use Rattle.ea_lists.specs.Totals.{total}
-use Rattle.ea_limits.specs.declared.TheConstants.{HORIZON}
+use Rattle.ea_machine.specs.Totals.{total}
+use Rattle.ea_base.specs.declared.limits.TheConstants.{HORIZON}
 use Rattle.ea_road.specs.declared.TheConstants.{NONE}
 use Rattle.ea_road.specs.declared.arc.Arc.{Arc}
 use Rattle.ea_road.specs.declared.source.Source.{Source}
 use Rattle.ea_road.specs.Labels.{label_of}
 use Rattle.ea_road.specs.Roads.{Roads, IsArc, leaving}
-use Rattle.ea_pool.specs.declared.entry.Entry.{Entry}
+use Rattle.ea_pool.specs.declared.heap.entry.Entry.{Entry}
 use Rattle.ea_pool.specs.Draws.{first_draw}
 use Rattle.ea_pool.specs.Solos.{AddsTo}
 use Rattle.ea_rank.specs.declared.event.Event.{Event}

@@ -1,6 +1,6 @@
 -- The rank errors of a record in other words.
 use Rattle.std.specs.Prelude.{◌≡◌, ℕ, ◌+◌, ◌<◌, nat_lt, if◌then◌else◌, List, [], ◌∷◌, length, Some, None, Ok}
-use Rattle.ea_lists.specs.Totals.{total}
+use Rattle.ea_machine.specs.Totals.{total}
 use Rattle.ea_rank.specs.declared.event.Event.{Event}
 use Rattle.ea_rank.specs.declared.event.Event.TheVariants.{Push, Pop}
 use Rattle.ea_rank.specs.Ranks.{popped_keys, queue_after, rank_error, rank_errors}

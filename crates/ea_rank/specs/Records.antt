@@ -1,8 +1,8 @@
 -- What is said of the record of a run.
 use Rattle.std.specs.Prelude.{◌≡◌, ℕ, ◌≤◌, ◌==◌, if◌then◌else◌, List, length, Ok}
 use Rattle.std.specs.List.{AllByRecursion}
-use Rattle.ea_lists.specs.Totals.{total}
-use Rattle.ea_limits.specs.declared.TheConstants.{HORIZON}
+use Rattle.ea_machine.specs.Totals.{total}
+use Rattle.ea_base.specs.declared.limits.TheConstants.{HORIZON}
 use Rattle.ea_road.specs.declared.source.Source.{Source}
 use Rattle.ea_road.specs.Arrivals.{IsLeast}
 use Rattle.ea_road.specs.Labels.{label_of, time_of}

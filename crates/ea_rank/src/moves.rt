@@ -1,9 +1,9 @@
 //! The moves of a run of one thread.
 ghost use Rattle.std.specs.Prelude.{◌≡◌, ◌<◌, ◌≤◌, ◌-◌, [], length, replicate, slice_index, IfOk, MatchOption};
-ghost use Rattle.ea_limits.specs.declared.TheConstants.{LEAST_HEAPS};
-ghost use Rattle.ea_pool.specs.declared.words.TheConstants.{MOST_IN_POOL};
+ghost use Rattle.ea_base.specs.declared.limits.TheConstants.{LEAST_HEAPS};
+ghost use Rattle.ea_pool.specs.declared.shared.words.TheConstants.{MOST_IN_POOL};
 ghost use Rattle.ea_road.specs.declared.TheConstants.{NONE};
-ghost use Rattle.ea_lists.specs.Totals.{total};
+ghost use Rattle.ea_machine.specs.Totals.{total};
 ghost use Rattle.ea_rank.specs.Courses.{LowersBy};
 ghost use Rattle.ea_rank.specs.Runs.{Finds, PopsFound};
 ghost use Rattle.ea_rank.specs.States.{state_of};

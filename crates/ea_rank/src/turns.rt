@@ -1,8 +1,8 @@
 //! A recorded run of one thread.
 ghost use Rattle.std.specs.Prelude.{◌≡◌, ◌+◌, ◌<◌, ◌≤◌, [], None, length, IfOk, ℕ};
-ghost use Rattle.ea_limits.specs.declared.TheConstants.{HORIZON, LEAST_HEAPS};
-ghost use Rattle.ea_pool.specs.declared.words.TheConstants.{MOST_IN_POOL};
-ghost use Rattle.ea_road.specs.Answers.{IsFifoFunction};
+ghost use Rattle.ea_base.specs.declared.limits.TheConstants.{HORIZON, LEAST_HEAPS};
+ghost use Rattle.ea_pool.specs.declared.shared.words.TheConstants.{MOST_IN_POOL};
+ghost use Rattle.ea_travel_times.specs.Answers.{IsFifoFunction};
 ghost use Rattle.ea_road.specs.Labels.{label_of};
 ghost use Rattle.ea_road.specs.Queries.{IsProblem};
 ghost use Rattle.ea_road.specs.Roads.{leaving, IsNode};
@@ -17,7 +17,9 @@ use crate::event::Record;
 use crate::run::Run;
 use ea_pool::OutOfMemory;
 use ea_road::laws::fixed_labels_are_least;
-use ea_road::{ArrivalFunction, HORIZON, Network, Profiles, Query, TravelTimes};
+use ea_base::HORIZON;
+use ea_road::{Network, Query};
+use ea_travel_times::{ArrivalFunction, Profiles, TravelTimes};
 use rand_core::Rng;
 use std::alloc::Global;
 

@@ -4,12 +4,12 @@ use Rattle.std.specs.Prelude.{decimal, slice_index, Bool, true, false, ◌==◌,
 use Rattle.std.proofs.lemmas.Bool.{cases_eq}
 use Rattle.std.proofs.lemmas.List.{length-set, length-append, length-take-le, take-set, take-take, take_all, take-append-le, get_or_append_left, get_or-append_right, get_or-take, get_or-set_same, get_or-set_other}
 use Rattle.ea_road.specs.Roads.{IsNode}
-use Rattle.ea_finish.specs.declared.link.Link.{Link}
-use Rattle.ea_finish.specs.declared.link.TheConstants.{NO_LEVEL}
-use Rattle.ea_finish.specs.Links.{link, linked_walk, walk_along}
-use Rattle.ea_finish.specs.Stored.{AreFollowable}
-use Rattle.ea_finish.proofs.Followed.{along-zero, along-back, linked-walk}
-use Rattle.ea_finish.specs.Answers.{Answered, walk_of}
+use Rattle.ea_search.specs.declared.link.Link.{Link}
+use Rattle.ea_search.specs.declared.link.TheConstants.{NO_LEVEL}
+use Rattle.ea_search.specs.Links.{link, linked_walk, walk_along}
+use Rattle.ea_paths.specs.Stored.{AreFollowable}
+use Rattle.ea_paths.proofs.Followed.{along-zero, along-back, linked-walk}
+use Rattle.ea_search.specs.Answers.{Answered, walk_of}
 use Rattle.ea_road.specs.declared.TheConstants.{NONE}
 use Rattle.ea_road.specs.Labels.{label_of}
 use Rattle.ea_report.specs.Report.{spaced, walk_line, walk_text}

@@ -7,7 +7,7 @@ use Rattle.std.specs.Prelude.{Option, Result, Ok, Err, IfErr, OnOk}
 use Rattle.std.specs.List.{flat_map}
 use Rattle.std.specs.Io.KnownBytes.{Appends}
 use Rattle.std.proofs.KnownBytes.{Appends-trans, Appends-nil}
-use Rattle.ea_text.specs.Device.{Seen, one_more, GivesUp, HasGivenUp}
+use Rattle.ea_bytes.specs.Device.{Seen, one_more, GivesUp, HasGivenUp}
 use Rattle.ea_report.specs.Delivery.{Delivery, all_sent, with_more}
 use Rattle.ea_report.specs.Sent.{AreCounted, HasBorne, IsNotLess, IsCutAt, IsCutBy, IsReason, Delivers, IsWhole, Adds, Cuts, Stops}
 use Rattle.ea_report.specs.declared.report.WriteFault.{WriteFault}

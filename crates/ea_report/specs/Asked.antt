@@ -2,7 +2,7 @@
 use Rattle.std.specs.Prelude.{◌≡◌, ℕ, Some}
 use Rattle.ea_road.specs.Roads.{Roads, IsNode}
 use Rattle.ea_road.specs.Queries.{Asking}
-use Rattle.ea_finish.specs.Answers.{Answered}
+use Rattle.ea_search.specs.Answers.{Answered}
 
 -- The answer tells the arrivals at the network's nodes that the query asks for.
 pub record IsOf (roads : Roads) (query : Asking) (answer : Answered) : Type 0 where

@@ -1,7 +1,7 @@
 -- What contracts see of what sends a text.
 use Rattle.ea_report.specs.Delivery.{Delivery, all_sent}
-use Rattle.ea_report.specs.declared.direct.Direct.{Direct}
-use Rattle.ea_report.specs.declared.pending.Pending.{Pending}
+use Rattle.ea_report.specs.declared.direct_text.Direct.{Direct}
+use Rattle.ea_report.specs.declared.pending_text.Pending.{Pending}
 
 -- A text that is sent in large pieces.
 abbrev pub delivery_of : Pending → Delivery

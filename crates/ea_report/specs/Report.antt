@@ -3,7 +3,7 @@ use Rattle.std.specs.Prelude.{ℕ, zero, suc, Bool, List, [], ◌∷◌, ◌++�
 use Rattle.std.specs.List.{flat_map}
 use Rattle.ea_road.specs.declared.source.Source.{Source}
 use Rattle.ea_road.specs.Queries.{Asking}
-use Rattle.ea_finish.specs.Answers.{Answered, arrival_of, walk_of}
+use Rattle.ea_search.specs.Answers.{Answered, arrival_of, walk_of}
 
 -- A field after a space.
 abbrev pub spaced : List ℕ → List ℕ

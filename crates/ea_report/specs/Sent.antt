@@ -1,7 +1,7 @@
 -- What a device was sent.
 use Rattle.std.specs.Prelude.{◌≡◌, ◌⊎◌, ℕ, ◌+◌, ◌-◌, ◌^◌, ◌≤◌, List, ◌++◌, Option, length, take}
 use Rattle.std.specs.Io.KnownBytes.{Appends}
-use Rattle.ea_text.specs.Device.{Seen, BearsOn, GivesUp}
+use Rattle.ea_bytes.specs.Device.{Seen, BearsOn, GivesUp}
 use Rattle.ea_report.specs.Delivery.{Delivery}
 use Rattle.ea_report.specs.declared.report.WriteFault.{WriteFault}
 use Rattle.ea_report.specs.declared.report.WriteFaultKind.{WriteFaultKind}

@@ -2,8 +2,8 @@
 use Rattle.std.specs.Prelude.{◌≡◌, ℕ, ◌-◌, ◌<◌, ◌≤◌, List, decimal, map, take, length, slice_index}
 use Rattle.std.specs.List.{flat_map}
 use Rattle.ea_road.specs.Roads.{IsNode}
-use Rattle.ea_finish.specs.declared.link.Link.{Link}
-use Rattle.ea_finish.specs.Links.{link, linked_walk}
+use Rattle.ea_search.specs.declared.link.Link.{Link}
+use Rattle.ea_search.specs.Links.{link, linked_walk}
 use Rattle.ea_report.specs.Report.{spaced}
 
 -- The numbers of arcs, each after a space.

@@ -1,18 +1,18 @@
 //! Reports as text.
 #![tactic(auto)]
 
-mod direct;
+mod direct_text;
 mod lines;
-mod pending;
+mod pending_text;
 mod report;
-mod sending;
+mod sender;
 mod stats;
-mod walks;
-mod writing;
+mod walk_texts;
+mod pieces;
 
-pub use direct::Direct;
+pub use direct_text::Direct;
 pub use lines::push_node;
 pub use report::{ReportOptions, WriteFault, WriteFaultKind, write_problem};
 pub use stats::{Totals, write_stats};
-pub use walks::ArcTexts;
-pub use writing::write_pieces;
+pub use walk_texts::ArcTexts;
+pub use pieces::write_pieces;

@@ -3,11 +3,11 @@ ghost use Rattle.std.specs.Prelude.{◌≡◌, ◌≤◌, ◌+◌, ◌++◌, ℕ
 ghost use Rattle.ea_report.specs.Report.{spaced, source_line, arrival_line, walk_line, pair_line, walk_text, node_text};
 ghost use Rattle.ea_road.specs.Queries.{IsAskedBy};
 ghost use Rattle.ea_road.specs.Roads.{IsNode};
-ghost use Rattle.ea_finish.specs.Answers.{walk_of};
+ghost use Rattle.ea_search.specs.Answers.{walk_of};
 ghost use Rattle.ea_report.specs.Walks.{arcs_text};
 
-use crate::walks::ArcTexts;
-use ea_finish::Answer;
+use crate::walk_texts::ArcTexts;
+use ea_paths::Answer;
 use ea_road::Source;
 use itoa::{Buffer, write_digits};
 use std::alloc::AllocError;

@@ -8,17 +8,17 @@ ghost use Rattle.ea_report.specs.Sent.{Adds, Cuts, GoesOn, IsCutBy, IsWhole, Sto
 ghost use Rattle.ea_report.specs.Asked.{IsOf};
 ghost use Rattle.ea_report.specs.FaultNumbers.{kind_number};
 ghost use Rattle.ea_report.specs.declared.report.TheConstants.{PIECE};
-ghost use Rattle.ea_text.specs.Device.{HasGivenUp};
+ghost use Rattle.ea_bytes.specs.Device.{HasGivenUp};
 ghost use Rattle.ea_road.specs.Queries.{IsAskedBy};
 ghost use Rattle.ea_road.specs.Roads.{IsNode};
 
 use crate::lines::{push_node, push_pair, push_source};
-use crate::pending::Pending;
-use crate::sending::send;
-use crate::walks::ArcTexts;
-use ea_finish::Answer;
+use crate::pending_text::Pending;
+use crate::sender::send;
+use crate::walk_texts::ArcTexts;
+use ea_paths::Answer;
 use ea_road::{Network, Query, Source};
-use ea_text::ByteOut;
+use ea_bytes::ByteOut;
 use std::alloc::Global;
 use thiserror::Error;
 

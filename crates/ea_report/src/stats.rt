@@ -3,13 +3,13 @@ ghost use Rattle.std.specs.Prelude.{◌≡◌, ◌<◌, ◌≤◌, ◌+◌, ◌^
 ghost use Rattle.std.specs.List.{flat_map};
 ghost use Rattle.ea_report.specs.Stats.{total_line, number_end, stats_text};
 ghost use Rattle.ea_report.specs.Report.{spaced};
-ghost use Rattle.ea_text.specs.Device.{HasGivenUp};
+ghost use Rattle.ea_bytes.specs.Device.{HasGivenUp};
 ghost use Rattle.ea_report.specs.Deliverers.{direct_delivery};
 ghost use Rattle.ea_report.specs.Sent.{IsCutBy, IsWhole, Adds, Stops};
 
-use crate::direct::Direct;
+use crate::direct_text::Direct;
 use crate::report::{WriteFault, WriteFaultKind};
-use ea_text::ByteOut;
+use ea_bytes::ByteOut;
 use itoa::Buffer;
 
 /// Totals over all problems and workers of a run.

@@ -2,9 +2,9 @@
 use Rattle.std.proofs.Common.{◌≡◌, ℕ, zero, suc, ◌+◌, ◌-◌, ◌<◌, ◌≤◌, List, [], ◌∷◌, length, get_or, arith, subst}
 use Rattle.std.specs.Prelude.{Some, slice_get}
 use Rattle.std.proofs.lemmas.Option.{slice_get-get_or, get_or_from_slice_get}
-use Rattle.ea_limits.specs.declared.TheConstants.{HORIZON}
+use Rattle.ea_base.specs.declared.limits.TheConstants.{HORIZON}
 use Rattle.ea_road.specs.declared.arc.Arc.{Arc}
-use Rattle.ea_road.specs.Answers.{IsQuestion}
+use Rattle.ea_travel_times.specs.Answers.{IsQuestion}
 use Rattle.ea_road.specs.Roads.{Roads, IsArc, IsNetwork, FitsNodes, top_class}
 
 pub arc_inside : (arcs : List Arc) (place : ℕ) (arc : Arc) → slice_get arcs place ≡ Some arc → place < length arcs

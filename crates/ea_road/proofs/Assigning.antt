@@ -1,7 +1,7 @@
 -- One assignment more changes the class of its arc alone.
 use Rattle.std.proofs.Common.{◌≡◌, ◌≢◌, ◌∙◌, refl, ℕ, ◌+◌, Bool, true, false, List, [], ◌∷◌, ◌++◌, length, arith, eq-eqb, eqb-true}
 use Rattle.std.specs.Prelude.{◌==◌, if◌then◌else◌}
-use Rattle.ea_raw.specs.declared.graph.RawArc.{RawArc}
+use Rattle.ea_base.specs.declared.graph.RawArc.{RawArc}
 use Rattle.ea_road.specs.Assigned.{arcs_from, class_after, class_of}
 
 choose_same : (number place class other : ℕ) → number ≡ place → (if number == place then class else other) ≡ class

@@ -1,5 +1,4 @@
 pub mod Arcs
-pub mod Lists
 pub mod ByTail
 pub mod Reached
 pub mod Same
@@ -18,14 +17,6 @@ pub mod Agree
 pub mod Fixed
 pub mod Rooted
 pub mod Walked
-pub mod BoxLaws
 pub mod Assigning
 pub mod ArcLists
-pub mod Speeding
-pub mod Periods
-pub mod TripSteps
-pub mod RunSums
-pub mod Classes
-pub mod FoundFit
 pub mod Numbering
-pub mod Turns

@@ -2,7 +2,7 @@
 use Rattle.std.proofs.Common.{◌≡◌, ℕ, ◌≤◌, List, arith, subst}
 use Rattle.std.specs.Prelude.{Option, Some, None}
 use Rattle.ea_road.specs.declared.source.Source.{Source}
-use Rattle.ea_road.specs.Answers.{IsFifo, IsQuestion, IsWithin}
+use Rattle.ea_travel_times.specs.Answers.{IsFifo, IsQuestion, IsWithin}
 use Rattle.ea_road.specs.Roads.{Roads, IsNetwork, top_class}
 use Rattle.ea_road.specs.Arrivals.{Arrives, stays, goes, Reaches, IsLeast}
 use Rattle.ea_road.proofs.Arcs.{is_question}

@@ -2,9 +2,9 @@
 use Rattle.std.proofs.Common.{◌≡◌, ◌∙◌, refl, ℕ, zero, suc, ◌+◌, ◌<◌, ◌≤◌, List, [], ◌∷◌, ◌++◌, take, length, get_or, inl, inr, arith, ap, subst, sym, length-append}
 use Rattle.std.proofs.lemmas.Bool.Decides.{leb_tells}
 use Rattle.std.proofs.lemmas.List.{same_from_push, take-append-le, take_all, take_more}
-use Rattle.ea_limits.specs.declared.TheConstants.{HORIZON}
+use Rattle.ea_base.specs.declared.limits.TheConstants.{HORIZON}
 use Rattle.ea_road.specs.declared.arc.Arc.{Arc}
-use Rattle.ea_road.specs.Answers.{IsFifo}
+use Rattle.ea_travel_times.specs.Answers.{IsFifo}
 use Rattle.ea_road.specs.Roads.{Roads, IsArc, IsNetwork, top_class}
 use Rattle.ea_road.specs.Arrivals.{Arrives, stays, goes, GoesOn}
 use Rattle.ea_road.proofs.Arcs.{is_question, one_arc}

@@ -1,6 +1,6 @@
 -- Up to the target's label, nodes with a least arrival have levels and one canonical walk.
 use Rattle.std.proofs.Common.{◌∙◌, sym, ℕ, ◌≤◌, List, arith}
-use Rattle.ea_road.specs.Answers.{IsFifo}
+use Rattle.ea_travel_times.specs.Answers.{IsFifo}
 use Rattle.ea_road.specs.Roads.{Roads, IsNode, IsNetwork}
 use Rattle.ea_road.specs.Queries.{Asking, IsProblem}
 use Rattle.ea_road.specs.Arrivals.{Attains, IsLeastAt}

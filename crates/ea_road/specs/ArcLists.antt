@@ -1,6 +1,6 @@
 -- Arcs as they lie in memory: those of a text, and their classes in a list of their own.
 use Rattle.std.specs.Prelude.{ℕ, ◌+◌, List, [], ◌∷◌, slice_index}
-use Rattle.ea_raw.specs.declared.graph.RawArc.{RawArc}
+use Rattle.ea_base.specs.declared.graph.RawArc.{RawArc}
 use Rattle.ea_road.specs.declared.arc.Arc.{Arc}
 use Rattle.ea_road.specs.Assigned.{classed_arc}
 

@@ -2,8 +2,8 @@
 use Rattle.std.specs.Prelude.{ℕ, ◌+◌, ◌<◌, ◌≤◌, ◌==◌, List, [], ◌∷◌, Option, Some, None, if◌then◌else◌}
 use Rattle.std.specs.List.{IsAmong}
 use Rattle.std.specs.Borrow.{Bor}
-use Rattle.ea_raw.specs.declared.graph.RawArc.{RawArc}
-use Rattle.ea_raw.specs.declared.table.RawTable.{RawTable}
+use Rattle.ea_base.specs.declared.graph.RawArc.{RawArc}
+use Rattle.ea_base.specs.declared.timetable.RawTable.{RawTable}
 use Rattle.ea_road.specs.declared.arc.Arc.{Arc}
 
 -- An arc of a text, with a class.

@@ -1,7 +1,7 @@
 -- Tables of labels: a time for each node, or NONE.
 use Rattle.std.specs.Prelude.{◌≡◌, ◌≢◌, ℕ, ◌≤◌, ◌==◌, ◌-◌, slice_index, Option, Some, None, List, if◌then◌else◌}
 use Rattle.std.specs.List.{IsAmong}
-use Rattle.ea_limits.specs.declared.TheConstants.{HORIZON}
+use Rattle.ea_base.specs.declared.limits.TheConstants.{HORIZON}
 use Rattle.ea_road.specs.declared.TheConstants.{NONE}
 use Rattle.ea_road.specs.declared.arc.Arc.{Arc}
 use Rattle.ea_road.specs.declared.source.Source.{Source}

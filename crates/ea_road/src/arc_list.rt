@@ -3,8 +3,8 @@ ghost use Rattle.std.specs.Prelude.{◌≡◌, ◌<◌, IfOk, Some, length, slic
 ghost use Rattle.ea_road.specs.Assigned.{AreAssigned, arcs_with};
 
 use crate::arc::Arc;
-use crate::graph_arcs::{class_at, classed_arc, classes_of};
-use ea_raw::{RawArc, RawTable};
+use crate::arcs_of_graph::{class_at, classed_arc, classes_of};
+use ea_base::{RawArc, RawTable};
 use std::alloc::{AllocError, Global};
 use std::marker::Model;
 

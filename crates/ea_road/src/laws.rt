@@ -1,27 +1,18 @@
 //! Laws of networks, travel times and walks, as functions that do nothing.
 ghost use Rattle.std.specs.Prelude.{◌≡◌, ◌<◌, ◌≤◌, ◌+◌, ◌-◌, ◌^◌, ◌↔◌, ◌∷◌, ◌++◌, [], ℕ};
 ghost use Rattle.std.specs.Prelude.{Contains, List, Option, length, slice_index};
-ghost use Rattle.ea_limits.specs.declared.TheConstants.{HORIZON};
-ghost use Rattle.ea_road.specs.Answers.{IsFifo};
+ghost use Rattle.ea_base.specs.declared.limits.TheConstants.{HORIZON};
 ghost use Rattle.ea_road.specs.Arrivals.{Attains, IsLeast, IsLeastAt};
 ghost use Rattle.ea_road.specs.Labels.{IsFixed, label_of, limit, time_of};
 ghost use Rattle.ea_road.specs.Levels.{IsCanonical, IsLevel, IsTight};
 ghost use Rattle.ea_road.specs.Queries.{IsAsked, IsProblem};
 ghost use Rattle.ea_road.specs.Roads.{IsArc, IsNode, leaving};
-ghost use Rattle.ea_road.specs.Speeds.{IsArrivalBySpeeds, speed_sum};
-ghost use Rattle.ea_road.specs.StepLists.{steps_in};
-ghost use Rattle.ea_road.specs.TimetableLists.{TimetablesAnswer};
-ghost use Rattle.ea_road.specs.Timetables.{KindAnswers};
-ghost use Rattle.ea_road.specs.Trips.{AreTrips, IsArrivalByTrips};
 
 use crate::arc::Arc;
 use crate::known::{AnyPair, Known};
 use crate::network::Network;
-use crate::profile::Profile;
 use crate::query::Query;
-use crate::timetable::Timetable;
-use crate::timetables::Timetables;
-use crate::travel_times::TravelTimes;
+use ea_travel_times::TravelTimes;
 
 /// The numbers of the arcs that leave a node are those of all arcs with that tail, and no others, and they ascend.
 pub fn leaving_arcs_ascend(network: &Network)
@@ -133,44 +124,4 @@ pub fn last_arcs_are_lowest<T: TravelTimes>(network: &Network, times: &T, query:
 /// `AnyPair` knows each node at each time within the horizon, and nothing else.
 pub fn any_pair_is_within_the_horizon()
     ensures { (node time : ℕ) → ⟦<AnyPair as Known>⟧.is_known node time ↔ (time ≤ HORIZON) }
-{}
-
-/// One timetable by itself, or one profile, serves every class that an arc can have: the greatest is 2^32 - 1.
-pub fn one_for_all_classes(table: &Timetable, profile: &Profile)
-    ensures timetable { ⟦<Timetable as TravelTimes>⟧.classes table.now ≡ 2 ^ 32 - 1 }
-    ensures profile { ⟦<Profile as TravelTimes>⟧.classes profile.now ≡ 2 ^ 32 - 1 }
-{}
-
-/// Travel times by one timetable, of whichever kind, are first in, first out.
-pub fn timetable_is_fifo(table: &Timetable)
-    ensures { (classes : ℕ) → IsFifo
-        (λ class weight departure arrival. KindAnswers table.now.kind weight departure arrival)
-        classes }
-{}
-
-/// Travel times by a list of timetables, of whichever kinds, are first in, first out.
-pub fn timetables_are_fifo(times: &Timetables)
-    ensures { (classes : ℕ) → IsFifo
-        (TimetablesAnswer times.now.list.items (steps_in times.now.steps)) classes }
-{}
-
-/// Travel times by speeds are first in, first out, whatever the speeds of the times are.
-pub fn speeds_are_fifo()
-    ensures { (speed : ℕ → ℕ) (classes : ℕ) → IsFifo
-        (λ class weight departure arrival. IsArrivalBySpeeds speed weight departure arrival)
-        classes }
-{}
-
-/// Travel times by trips of which none overtakes another are first in, first out.
-pub fn trips_are_fifo()
-    ensures { (period : ℕ) (steps : List (ℕ × ℕ)) (classes : ℕ) → AreTrips period steps → IsFifo
-        (λ class weight departure arrival. IsArrivalByTrips period steps weight departure arrival)
-        classes }
-{}
-
-/// The sum of the speeds of times is that of a part of them and of the rest.
-pub fn sums_of_speeds_add()
-    ensures { (speed : ℕ → ℕ) (first middle last : ℕ) → first ≤ middle → middle ≤ last
-        → speed_sum speed first (last - first)
-        ≡ speed_sum speed first (middle - first) + speed_sum speed middle (last - middle) }
 {}

@@ -1,11 +1,11 @@
 ghost use Rattle.std.specs.Prelude.{◌≡◌, ◌≤◌, ◌<◌, ℕ, MatchOption};
 ghost use Rattle.ea_road.specs.Arrivals.{Arrives, GoesOn};
 ghost use Rattle.ea_road.specs.Roads.{IsArc, IsNetwork, IsNode, top_class};
-ghost use Rattle.ea_limits.specs.declared.TheConstants.{HORIZON};
+ghost use Rattle.ea_base.specs.declared.limits.TheConstants.{HORIZON};
 
 use crate::HORIZON;
 use crate::network::Network;
-use crate::travel_times::TravelTimes;
+use ea_travel_times::TravelTimes;
 
 /// Where and when a walk ends that leaves a node at a departure; none where a number is no arc's, the arcs do not join,
 /// or the horizon is passed.

@@ -2,13 +2,13 @@
 use Rattle.std.proofs.Common.{◌≡◌, ℕ, List, ◌++◌, refl, ap, subst}
 use Rattle.std.specs.Prelude.{Option, Some, None, option_map}
 use Rattle.std.specs.Io.KnownBytes.{Appends}
-use Rattle.ea_text.specs.Text.{field_lines}
+use Rattle.ea_bytes.specs.Text.{field_lines}
 use Rattle.ea_input.specs.Sources.{DenotesSources}
 use Rattle.ea_input.specs.Pairs.{DenotesPairs}
-use Rattle.ea_files.specs.Files.{IsAllIfThere}
-use Rattle.ea_files.specs.Given.{AreGiven, Denotes, Given}
+use Rattle.ea_load.specs.Files.{IsAllIfThere}
+use Rattle.ea_load.specs.Given.{AreGiven, Denotes, Given}
 use Rattle.earliest.specs.Fronts.{totals_text}
-use Rattle.ea_asked.specs.Asked.{Files, tp_had}
+use Rattle.ea_load.specs.Asked.{Files, tp_had}
 use Rattle.earliest.specs.SameBytes.{AnsweredPairsAgree, AnsweredRunsAgree, Answering, AnswersPairs, AnswersRun, HadTexts, IsPairReport, IsRunReport}
 use Rattle.earliest.proofs.OneReport.{pairs_have_one_report, runs_have_one_report}
 

@@ -3,7 +3,7 @@ use Rattle.std.proofs.Common.{◌≡◌, ◌==◌, ℕ, zero, suc, ◌<◌, Bool
 use Rattle.std.specs.Prelude.{All, Option, Some, None, unwrap_or, if◌then◌else◌}
 use Rattle.std.specs.List.{flat_map}
 use Rattle.std.proofs.lemmas.Option.{none-some}
-use Rattle.ea_text.specs.Text.{field_lines}
+use Rattle.ea_bytes.specs.Text.{field_lines}
 use Rattle.ea_road.specs.declared.TheConstants.{NONE}
 use Rattle.ea_road.specs.Roads.{Roads, IsNode}
 use Rattle.ea_road.specs.Queries.{Asking, IsAskedBy}
@@ -11,10 +11,10 @@ use Rattle.ea_road.specs.Arrivals.{IsLeastAt}
 use Rattle.ea_road.specs.Labels.{time_of, label_of}
 use Rattle.ea_road.proofs.Fixed.{one_least}
 use Rattle.ea_road.proofs.Canonical.{one_canonical}
-use Rattle.ea_finish.specs.Answers.{Answered, HasArrivals, IsAnswer, arrival_of, walk_of}
-use Rattle.ea_finish.specs.Links.{linked_walk}
+use Rattle.ea_search.specs.Answers.{Answered, HasArrivals, IsAnswer, arrival_of, walk_of}
+use Rattle.ea_search.specs.Links.{linked_walk}
 use Rattle.ea_report.specs.Report.{source_line, pair_line, arrival_line, walk_text, node_text, each_node, problem_text}
-use Rattle.ea_drafts.specs.Reported.{IsReportOf, AreReported}
+use Rattle.ea_batch.specs.Reported.{IsReportOf, AreReported}
 use Rattle.ea_report.proofs.Problems.{all_text, target_text}
 use Rattle.ea_input.specs.Graph.{Graph, DenotesGraph}
 use Rattle.ea_input.specs.Table.{Table}
@@ -22,10 +22,10 @@ use Rattle.ea_input.specs.Sources.{DenotesSources}
 use Rattle.ea_input.specs.Pairs.{DenotesPairs}
 use Rattle.ea_input.proofs.Grammars.{grammar_law, graph_grammar, source_grammar, pair_grammar, table_grammar}
 use Rattle.ea_road.specs.declared.source.Source.{Source}
-use Rattle.ea_files.specs.Given.{Given, Denotes, IsTableOf, no_table, roads_of, times_of}
-use Rattle.ea_files.specs.Starts.{asks_all, sources_from, run_problems, pair_problems}
-use Rattle.ea_files.proofs.Denoting.{denoting_is_sound, few_arcs, pairs_are_nodes}
-use Rattle.ea_files.proofs.Departing.{each_pair}
+use Rattle.ea_load.specs.Given.{Given, Denotes, IsTableOf, no_table, roads_of, times_of}
+use Rattle.ea_load.specs.Starts.{asks_all, sources_from, run_problems, pair_problems}
+use Rattle.ea_load.proofs.Denoting.{denoting_is_sound, few_arcs, pairs_are_nodes}
+use Rattle.ea_load.proofs.Departing.{each_pair}
 use Rattle.earliest.specs.SameBytes.{RunsHaveOneReport, PairsHaveOneReport}
 
 -- A walk is there just where an arrival is.

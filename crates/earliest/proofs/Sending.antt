@@ -2,20 +2,20 @@
 use Rattle.std.proofs.Common.{◌≡◌, ℕ, ◌+◌, true, List, refl, sym, ◌∙◌, arith, subst}
 use Rattle.std.specs.Io.KnownBytes.{Appends}
 use Rattle.std.proofs.KnownBytes.{Appends-trans}
-use Rattle.ea_text.specs.Device.{Seen, BearsOn, GivesUp}
+use Rattle.ea_bytes.specs.Device.{Seen, BearsOn, GivesUp}
 use Rattle.ea_road.specs.Roads.{Roads}
 use Rattle.ea_road.specs.Queries.{Asking}
 use Rattle.ea_report.specs.Sent.{IsCutAt}
 use Rattle.ea_report.specs.declared.stats.Totals.{Totals}
 use Rattle.ea_report.specs.Stats.{stats_text}
-use Rattle.ea_drafts.specs.Sent.{AreSent, IsStoppedBy}
+use Rattle.ea_batch.specs.Sent.{AreSent, IsStoppedBy}
 use Rattle.earliest.specs.Fronts.{in_problem, in_totals, IsCutShort, IsWritten, totals_text}
-use Rattle.ea_words.specs.declared.options.RunOptions.{RunOptions}
+use Rattle.ea_options.specs.declared.options.RunOptions.{RunOptions}
 use Rattle.earliest.specs.Counted.{AreBalanced, AreTotals}
 use Rattle.earliest.specs.Workers.{settings_by}
-use Rattle.ea_asked.proofs.Outcomes.{IsCutting}
-use Rattle.ea_asked.specs.declared.fault.AnswerFault.{AnswerFault}
-use Rattle.ea_asked.specs.declared.fault.AnswerFault.TheVariants.{Read, Input, BadOption, Write, OutOfMemory}
+use Rattle.ea_load.proofs.Outcomes.{IsCutting}
+use Rattle.ea_load.specs.declared.answer_fault.AnswerFault.{AnswerFault}
+use Rattle.ea_load.specs.declared.answer_fault.AnswerFault.TheVariants.{Read, Input, BadOption, Write, OutOfMemory}
 
 -- The totals after all reports.
 module _ (options : RunOptions) (roads : Roads) (answers : ℕ → ℕ → ℕ → ℕ → Type 0)

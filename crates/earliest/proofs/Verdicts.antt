@@ -2,19 +2,19 @@
 use Rattle.std.proofs.Common.{◌≡◌, ℕ, List, refl, subst, inl}
 use Rattle.std.specs.Prelude.{Result}
 use Rattle.ea_road.specs.Queries.{Asking}
-use Rattle.ea_files.specs.declared.road.Road.{Road}
-use Rattle.ea_files.specs.declared.fault.FileFault.{FileFault}
-use Rattle.ea_files.specs.declared.fault.FileFault.TheVariants as file
-use Rattle.ea_files.specs.Files.{Reading}
-use Rattle.ea_files.specs.Given.{Given, IsRoadOf}
+use Rattle.ea_load.specs.declared.road.Road.{Road}
+use Rattle.ea_load.specs.declared.file_fault.FileFault.{FileFault}
+use Rattle.ea_load.specs.declared.file_fault.FileFault.TheVariants as file
+use Rattle.ea_load.specs.Files.{Reading}
+use Rattle.ea_load.specs.Given.{Given, IsRoadOf}
 use Rattle.ea_check.specs.Checked.{IsChecked, sources_of}
 use Rattle.ea_check.specs.Form.{lines_of_report}
 use Rattle.ea_check.specs.declared.fault.CheckFault.{CheckFault}
-use Rattle.ea_asked.specs.Asked.{AreSound, Files}
-use Rattle.ea_asked.specs.Faults.{answer_fault}
-use Rattle.ea_asked.specs.Posed.{times_on}
-use Rattle.ea_asked.proofs.Outcomes.{asked}
-use Rattle.ea_words.specs.declared.options.RunOptions.{RunOptions}
+use Rattle.ea_load.specs.Asked.{AreSound, Files}
+use Rattle.ea_load.specs.Faults.{answer_fault}
+use Rattle.ea_load.specs.Posed.{times_on}
+use Rattle.ea_load.proofs.Outcomes.{asked}
+use Rattle.ea_options.specs.declared.options.RunOptions.{RunOptions}
 use Rattle.earliest.specs.Checks.{IsReadWhole, IsFirstAtFault, IsJudged, IsUnjudged}
 use Rattle.earliest.specs.Runs.{run_asks}
 

@@ -1,18 +1,18 @@
 -- What a checked report comes to, with the network and the sources that its files denote.
 use Rattle.std.specs.Prelude.{◌≡◌, ◌⊎◌, ℕ, List, Result}
 use Rattle.std.specs.Io.KnownBytes.{IsAtEnd}
-use Rattle.ea_files.specs.declared.fault.FileWord.TheVariants.{Report}
-use Rattle.ea_files.specs.declared.fault.FileFault.{FileFault}
-use Rattle.ea_files.specs.declared.fault.FileFault.TheVariants as file
-use Rattle.ea_files.specs.Files.{IsBorne, IsFileText, IsUnreadBy, Reading}
-use Rattle.ea_files.specs.Given.{Given}
+use Rattle.ea_load.specs.declared.file_fault.FileWord.TheVariants.{Report}
+use Rattle.ea_load.specs.declared.file_fault.FileFault.{FileFault}
+use Rattle.ea_load.specs.declared.file_fault.FileFault.TheVariants as file
+use Rattle.ea_load.specs.Files.{IsBorne, IsFileText, IsUnreadBy, Reading}
+use Rattle.ea_load.specs.Given.{Given}
 use Rattle.ea_check.specs.Checked.{IsChecked, sources_of}
 use Rattle.ea_check.specs.Form.{lines_of_report}
 use Rattle.ea_check.specs.declared.fault.CheckFault.{CheckFault}
-use Rattle.ea_asked.specs.Asked.{AreAsked, AreRead, AreSound, Files, HasLateStart, IsFault}
-use Rattle.ea_asked.specs.declared.fault.AnswerFault.{AnswerFault}
-use Rattle.ea_asked.specs.declared.fault.AnswerFault.TheVariants.{Read, Input, BadOption, Write, OutOfMemory}
-use Rattle.ea_words.specs.declared.options.RunOptions.{RunOptions}
+use Rattle.ea_load.specs.Asked.{AreAsked, AreRead, AreSound, Files, HasLateStart, IsFault}
+use Rattle.ea_load.specs.declared.answer_fault.AnswerFault.{AnswerFault}
+use Rattle.ea_load.specs.declared.answer_fault.AnswerFault.TheVariants.{Read, Input, BadOption, Write, OutOfMemory}
+use Rattle.ea_options.specs.declared.options.RunOptions.{RunOptions}
 use Rattle.earliest.specs.Runs.{run_asks}
 
 -- A report was read as a file is, and no byte of it is left.

@@ -2,11 +2,11 @@
 use Rattle.std.specs.Prelude.{◌≡◌, ℕ, ◌+◌, ◌*◌, ◌^◌, ◌≤◌, List, [], ◌∷◌, All, length, sum_by}
 use Rattle.std.specs.List.{FoldsTo}
 use Rattle.ea_road.specs.Queries.{Asking}
-use Rattle.ea_engine.specs.declared.counters.Counters.{Counters}
+use Rattle.ea_engine.specs.declared.worker.counters.Counters.{Counters}
 use Rattle.ea_engine.specs.declared.settings.Settings.{Settings}
-use Rattle.ea_engine.specs.declared.turn.Flow.{Flow}
-use Rattle.ea_engine.specs.declared.turn.Flow.TheVariants.{Go}
-use Rattle.ea_engine.specs.declared.turn.Turn.{Turn}
+use Rattle.ea_engine.specs.declared.worker.turn.Flow.{Flow}
+use Rattle.ea_engine.specs.declared.worker.turn.Flow.TheVariants.{Go}
+use Rattle.ea_engine.specs.declared.worker.turn.Turn.{Turn}
 use Rattle.ea_engine.specs.Companies.{StaysOn}
 use Rattle.ea_engine.specs.Limits.{pace_of}
 use Rattle.ea_engine.specs.Tallies.{IsTally, IsLoneTally, pushed_by_all, popped_by_all}

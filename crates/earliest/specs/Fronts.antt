@@ -1,20 +1,20 @@
 -- What went out of a report, whole or cut short.
 use Rattle.std.specs.Prelude.{◌≡◌, ℕ, ◌+◌, ◌*◌, ◌≤◌, true, List, [], ◌++◌, if◌then◌else◌, length}
 use Rattle.std.specs.Io.KnownBytes.{Appends}
-use Rattle.ea_text.specs.Device.{GivesUp, Seen}
-use Rattle.ea_limits.specs.declared.TheConstants.{MOST_INTERRUPTIONS}
+use Rattle.ea_bytes.specs.Device.{GivesUp, Seen}
+use Rattle.ea_base.specs.declared.limits.TheConstants.{MOST_INTERRUPTIONS}
 use Rattle.ea_road.specs.Roads.{Roads}
 use Rattle.ea_road.specs.Queries.{Asking}
 use Rattle.ea_report.specs.declared.stats.Totals.{Totals}
 use Rattle.ea_report.specs.Sent.{IsCutAt}
 use Rattle.ea_report.specs.Stats.{stats_text}
-use Rattle.ea_words.specs.declared.options.RunOptions.{RunOptions}
+use Rattle.ea_options.specs.declared.options.RunOptions.{RunOptions}
 use Rattle.earliest.specs.Counted.{AreBalanced, AreTotals}
-use Rattle.ea_drafts.specs.Reported.{AreReported}
-use Rattle.ea_drafts.specs.Sent.{AreCutShort, AreSent}
+use Rattle.ea_batch.specs.Reported.{AreReported}
+use Rattle.ea_batch.specs.Sent.{AreCutShort, AreSent}
 use Rattle.earliest.specs.Workers.{settings_by}
-use Rattle.ea_asked.specs.declared.fault.AnswerFault.{AnswerFault}
-use Rattle.ea_asked.specs.declared.fault.AnswerFault.TheVariants.{Write}
+use Rattle.ea_load.specs.declared.answer_fault.AnswerFault.{AnswerFault}
+use Rattle.ea_load.specs.declared.answer_fault.AnswerFault.TheVariants.{Write}
 
 -- With statistics the totals stand after the reports.
 abbrev pub totals_text : RunOptions → Totals → List ℕ

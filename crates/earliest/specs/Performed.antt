@@ -1,19 +1,19 @@
 -- What each command does with its files.
 use Rattle.std.specs.Prelude.{◌≡◌, Option, Some, None, Result, Ok, Err, option_map}
-use Rattle.ea_text.specs.Device.{Seen}
-use Rattle.ea_files.specs.Files.{Reading, reading}
-use Rattle.ea_asked.specs.Asked.{Files, files_of, IsAnswered, IsFailed}
-use Rattle.ea_asked.specs.declared.fault.AnswerFault.{AnswerFault}
-use Rattle.ea_outcomes.specs.declared.opened.Opened.{Opened}
-use Rattle.ea_outcomes.specs.declared.saying.Outcome.{Outcome}
-use Rattle.ea_outcomes.specs.declared.saying.Outcome.TheVariants.{Accepted, Answer, Check as Refused}
-use Rattle.ea_ranking.specs.Ranks.{rank_asks}
-use Rattle.ea_words.specs.declared.options.Command.{Command}
-use Rattle.ea_words.specs.declared.options.Command.TheVariants.{Run, Pairs, Rank, Check}
+use Rattle.ea_bytes.specs.Device.{Seen}
+use Rattle.ea_load.specs.Files.{Reading, reading}
+use Rattle.ea_load.specs.Asked.{Files, files_of, IsAnswered, IsFailed}
+use Rattle.ea_load.specs.declared.answer_fault.AnswerFault.{AnswerFault}
+use Rattle.ea_messages.specs.declared.opened.Opened.{Opened}
+use Rattle.ea_messages.specs.declared.outcome_lines.Outcome.{Outcome}
+use Rattle.ea_messages.specs.declared.outcome_lines.Outcome.TheVariants.{Accepted, Answer, Check as Refused}
+use Rattle.ea_rank_command.specs.Ranks.{rank_asks}
+use Rattle.ea_options.specs.declared.options.Command.{Command}
+use Rattle.ea_options.specs.declared.options.Command.TheVariants.{Run, Pairs, Rank, Check}
 use Rattle.earliest.specs.Checks.{IsJudged, IsUnjudged}
 use Rattle.earliest.specs.Runs.{run_asks, pair_asks}
-use Rattle.earliest.specs.declared.performing.Performed.{Performed}
-use Rattle.earliest.specs.declared.performing.Performed.TheVariants.{Reported, Ranked, Checked}
+use Rattle.earliest.specs.declared.commands.Performed.{Performed}
+use Rattle.earliest.specs.declared.commands.Performed.TheVariants.{Reported, Ranked, Checked}
 
 -- The files of a command, and a report's reader before and after, where there is one.
 pub record PerformedOn : Type 0 where

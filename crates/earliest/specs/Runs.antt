@@ -3,11 +3,11 @@ use Rattle.std.specs.Prelude.{ℕ, List, length}
 use Rattle.ea_input.specs.Formats.{source_format, pair_format}
 use Rattle.ea_input.specs.Sources.{DenotesSources}
 use Rattle.ea_input.specs.Pairs.{DenotesPairs}
-use Rattle.ea_files.specs.declared.fault.FileWord.TheVariants.{Ss, P2p}
-use Rattle.ea_files.specs.Starts.{AreWithin, run_problems, pair_problems}
-use Rattle.ea_asked.specs.Asked.{Asks}
+use Rattle.ea_load.specs.declared.file_fault.FileWord.TheVariants.{Ss, P2p}
+use Rattle.ea_load.specs.Starts.{AreWithin, run_problems, pair_problems}
+use Rattle.ea_load.specs.Asked.{Asks}
 use Rattle.ea_report.specs.declared.stats.Totals.{Totals}
-use Rattle.ea_words.specs.declared.options.RunOptions.{RunOptions}
+use Rattle.ea_options.specs.declared.options.RunOptions.{RunOptions}
 use Rattle.earliest.specs.Fronts.{IsCutShort, IsWritten}
 
 -- A run asks each source by itself, or all together: the report of its problems, and with statistics the totals.

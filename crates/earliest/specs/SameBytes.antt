@@ -1,17 +1,17 @@
-use Rattle.ea_text.specs.Device.{Seen}
+use Rattle.ea_bytes.specs.Device.{Seen}
 -- The report of a run, or of pairs, as a fact about its texts and options alone.
 use Rattle.std.specs.Prelude.{◌≡◌, ℕ, Bool, List, ◌++◌, Option, Some, option_map}
 use Rattle.std.specs.Io.KnownBytes.{Appends}
-use Rattle.ea_text.specs.Text.{field_lines}
+use Rattle.ea_bytes.specs.Text.{field_lines}
 use Rattle.ea_input.specs.Sources.{DenotesSources}
 use Rattle.ea_input.specs.Pairs.{DenotesPairs}
-use Rattle.ea_files.specs.Given.{Given, Denotes, roads_of, times_of}
-use Rattle.ea_files.specs.Starts.{run_problems, pair_problems}
+use Rattle.ea_load.specs.Given.{Given, Denotes, roads_of, times_of}
+use Rattle.ea_load.specs.Starts.{run_problems, pair_problems}
 use Rattle.ea_report.specs.declared.stats.Totals.{Totals}
-use Rattle.ea_words.specs.declared.options.RunOptions.{RunOptions}
+use Rattle.ea_options.specs.declared.options.RunOptions.{RunOptions}
 use Rattle.earliest.specs.Fronts.{totals_text}
-use Rattle.ea_drafts.specs.Reported.{AreReported}
-use Rattle.ea_asked.specs.Asked.{Files, IsAnswered, tp_had}
+use Rattle.ea_batch.specs.Reported.{AreReported}
+use Rattle.ea_load.specs.Asked.{Files, IsAnswered, tp_had}
 use Rattle.earliest.specs.Runs.{run_asks, pair_asks}
 
 -- The report of a run of these texts, from these departures on. No word of workers, heaps, turns or seed occurs here.

@@ -1,6 +1,6 @@
 -- What all workers of a problem did together.
 use Rattle.std.specs.Prelude.{◌+◌, ◌^◌, ◌<◌, ◌≤◌}
-use Rattle.ea_engine.specs.declared.counters.Counters.{Counters}
+use Rattle.ea_engine.specs.declared.worker.counters.Counters.{Counters}
 use Rattle.earliest.specs.declared.totals.Work.{Work}
 
 -- What a worker did besides.

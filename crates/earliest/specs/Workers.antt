@@ -1,11 +1,11 @@
 -- How options set up the workers of a run.
 use Rattle.std.specs.Prelude.{ℕ, ◌<◌, ◌==◌, List, if◌then◌else◌, length, slice_index_or, unwrap_or}
-use Rattle.ea_engine.specs.declared.homing.Homing.{Homing}
+use Rattle.ea_engine.specs.declared.worker.home_heaps.Homing.{Homing}
 use Rattle.ea_engine.specs.declared.settings.Settings.{Settings}
 use Rattle.ea_engine.specs.Homes.{IsAtHome}
-use Rattle.ea_ranking.specs.Generators.{generator_from, seed_of_worker}
-use Rattle.ea_words.specs.Limits.{counted_workers}
-use Rattle.ea_words.specs.declared.options.RunOptions.{RunOptions}
+use Rattle.ea_rank_command.specs.Generators.{generator_from, seed_of_worker}
+use Rattle.ea_options.specs.Limits.{counted_workers}
+use Rattle.ea_options.specs.declared.options.RunOptions.{RunOptions}
 
 -- How many entries a worker of so many takes from a heap, or gives to one, at once, where that isn't asked for.
 abbrev pub batch_of : ℕ → ℕ

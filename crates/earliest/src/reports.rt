@@ -1,30 +1,30 @@
 //! Reports of problems, written one after the other, and their totals.
 ghost use Rattle.std.specs.Prelude.{◌≡◌, ◌≤◌, ◌<◌, ◌+◌, ◌*◌, ◌^◌, ℕ, [], IfOk, IfErr, IfSome, None, OnOk, if◌then◌else◌, length, true};
 ghost use Rattle.std.specs.Io.KnownBytes.{Appends};
-ghost use Rattle.ea_text.specs.Device.{BearsOn, GivesUp};
-ghost use Rattle.ea_limits.specs.declared.TheConstants.{MOST_NODES, MOST_STARTS};
+ghost use Rattle.ea_bytes.specs.Device.{BearsOn, GivesUp};
+ghost use Rattle.ea_base.specs.declared.limits.TheConstants.{MOST_NODES, MOST_STARTS};
 ghost use Rattle.ea_road.specs.Queries.{IsProblem};
 ghost use Rattle.ea_report.specs.Sent.{IsCutAt};
 ghost use Rattle.ea_report.specs.Stats.{stats_text};
 ghost use Rattle.ea_report.specs.declared.stats.Totals.{Totals};
-ghost use Rattle.ea_words.specs.Limits.{AreOptions};
-ghost use Rattle.ea_asked.specs.Posed.{AreProblems, times_on};
-ghost use Rattle.ea_drafts.specs.Sent.{AreSent, IsSent, IsStoppedBy};
-ghost use Rattle.ea_drafts.specs.Solved.{AnswersOn, ArrivesOn, Serves};
+ghost use Rattle.ea_options.specs.Limits.{AreOptions};
+ghost use Rattle.ea_load.specs.Posed.{AreProblems, times_on};
+ghost use Rattle.ea_batch.specs.Sent.{AreSent, IsSent, IsStoppedBy};
+ghost use Rattle.ea_batch.specs.Solved.{AnswersOn, ArrivesOn, Serves};
 ghost use Rattle.earliest.specs.Counted.{AreBalanced, AreSmall, AreTotals, IsTotal, plus, totals_of};
 ghost use Rattle.earliest.specs.Fronts.{IsCutShort, IsWritten};
 ghost use Rattle.earliest.specs.Workers.{settings_by};
 
-use crate::finding::{Found, find, threads_at_once, workers_of};
+use crate::solver_choice::{Found, find, threads_at_once, workers_of};
 use crate::totals::{add_totals, no_totals};
-use ea_asked::AnswerFault;
-use ea_drafts::{Progress, Watched, report_ahead};
-use ea_files::Road;
-use ea_input::ByteOut;
+use ea_load::AnswerFault;
+use ea_batch::{Progress, Watched, report_ahead};
+use ea_load::Road;
+use ea_bytes::ByteOut;
 use ea_report::{Totals, write_stats};
 use ea_road::Query;
-use ea_watch::Watch;
-use ea_words::RunOptions;
+use ea_base::Watch;
+use ea_options::RunOptions;
 use std::alloc::Global;
 use std::thread::Threads;
 

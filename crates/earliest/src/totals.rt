@@ -1,8 +1,8 @@
 //! The totals of problems.
 ghost use Rattle.std.specs.Prelude.{◌≡◌, ◌+◌, ◌*◌, ◌^◌, ◌≤◌, ◌<◌, ℕ, [], length, sum_by};
-ghost use Rattle.ea_limits.specs.declared.TheConstants.{MOST_STARTS};
+ghost use Rattle.ea_base.specs.declared.limits.TheConstants.{MOST_STARTS};
 ghost use Rattle.ea_engine.specs.Tallies.{pushed_by_all, popped_by_all, returned_by_all};
-ghost use Rattle.ea_engine.specs.declared.counters.Counters.{Counters as Counted};
+ghost use Rattle.ea_engine.specs.declared.worker.counters.Counters.{Counters as Counted};
 ghost use Rattle.earliest.specs.Counted.{AreBalanced, AreSmall, plus, totals_of};
 ghost use Rattle.earliest.specs.Worked.{AreNarrow, HasRoom, IsLittle, work_with};
 

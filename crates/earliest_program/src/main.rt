@@ -4,8 +4,8 @@
 mod runs;
 mod stored;
 
-use crate::runs::carry_out;
-use ea_terminal::{refuse, tell, words_of};
+use crate::command_runs::carry_out;
+use ea_cli::{refuse, tell, words_of};
 use earliest::{Outcome, RunOptions, asks_to_explain};
 use std::io::IsTerminal;
 use std::process::ExitCode;

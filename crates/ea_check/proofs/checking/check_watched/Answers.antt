@@ -1,7 +1,7 @@
 use Rattle.std.proofs.Common.{◌≡◌, ◌+◌, List, drop, refl, sym, subst, arith}
 use Rattle.std.proofs.lemmas.Result.{err_from_is_err_and}
 use Rattle.ea_road.specs.declared.source.Source.{Source}
-use Rattle.ea_text.specs.Text.{field_lines}
+use Rattle.ea_bytes.specs.Text.{field_lines}
 use Rattle.ea_check.specs.declared.fault.CheckFault.TheVariants.{BadLine}
 use Rattle.ea_check.specs.Checked.{IsChecked, sources_of}
 use Rattle.ea_check.specs.Form.{Line, AreInOrder, lines_of_report}

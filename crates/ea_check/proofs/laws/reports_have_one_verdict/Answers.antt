@@ -1,5 +1,5 @@
 use Rattle.std.proofs.Common.{arith}
-use Rattle.ea_text.specs.Text.{field_lines}
+use Rattle.ea_bytes.specs.Text.{field_lines}
 use Rattle.ea_check.specs.Checked.{sources_of}
 use Rattle.ea_check.specs.Form.{lines_of_report}
 use Rattle.ea_check.proofs.Composing.{spoken_in_order}

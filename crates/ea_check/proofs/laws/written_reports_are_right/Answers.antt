@@ -1,7 +1,7 @@
 use Rattle.std.proofs.Common.{◌≡◌, [], ◌∷◌, false, true, ap, sym, subst}
 use Rattle.std.specs.Prelude.{None, Ok}
 use Rattle.ea_road.specs.Queries.{Asking, IsProblem}
-use Rattle.ea_finish.specs.Answers.{HasArrivals, IsAnswer}
+use Rattle.ea_search.specs.Answers.{HasArrivals, IsAnswer}
 use Rattle.ea_report.specs.Report.{problem_text}
 use Rattle.ea_check.specs.Checked.{IsChecked}
 use Rattle.ea_check.specs.Form.{lines_of_report}

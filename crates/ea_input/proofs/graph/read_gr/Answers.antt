@@ -1,4 +1,4 @@
-use Rattle.ea_text.specs.Text.{field_lines}
+use Rattle.ea_bytes.specs.Text.{field_lines}
 use Rattle.ea_input.specs.Views.{graph}
 use Rattle.ea_input.proofs.Grammars.{graph_grammar, gives_denoted, gives_fault, gives_only, gives_that_fault}
 use Rattle.ea_input.proofs.graph.read_gr.Goals as goal

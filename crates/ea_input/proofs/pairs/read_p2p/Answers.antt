@@ -1,5 +1,5 @@
 use Rattle.std.proofs.Common.{arith}
-use Rattle.ea_text.specs.Text.{field_lines}
+use Rattle.ea_bytes.specs.Text.{field_lines}
 use Rattle.ea_input.proofs.Grammars.{pair_grammar, gives_fault, gives_that_fault}
 use Rattle.ea_input.proofs.Items.{gives_denoted, gives_only}
 use Rattle.ea_input.proofs.Sorts.{of_pairs}

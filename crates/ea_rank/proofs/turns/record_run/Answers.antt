@@ -5,8 +5,8 @@ use Rattle.ea_road.specs.Labels.{label_of}
 use Rattle.ea_road.specs.Queries.{IsAskedBy}
 use Rattle.ea_road.specs.Roads.{leaving}
 use Rattle.ea_road.proofs.ByTail.{leaving_has}
-use Rattle.ea_pool.specs.declared.entry.Entry.{Entry}
-use Rattle.ea_lists.specs.Totals.{total}
+use Rattle.ea_pool.specs.declared.heap.entry.Entry.{Entry}
+use Rattle.ea_machine.specs.Totals.{total}
 use Rattle.ea_pool.specs.Entries.{times}
 use Rattle.ea_rank.specs.declared.event.Event.{Event}
 use Rattle.ea_rank.specs.Ranks.{rank_errors, queue_after}

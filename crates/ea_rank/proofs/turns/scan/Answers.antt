@@ -1,6 +1,6 @@
 use Rattle.std.proofs.Common.{◌<◌, ◌≤◌, ◌+◌, ◌⊎◌, length, get_or, drop, take, refl, ◌∙◌, arith, inl, inr, subst}
 use Rattle.std.proofs.lemmas.List.{drop_more, take_more, drop_all, take_all}
-use Rattle.ea_limits.specs.declared.TheConstants.{HORIZON}
+use Rattle.ea_base.specs.declared.limits.TheConstants.{HORIZON}
 use Rattle.ea_road.specs.declared.leaving_arc.LeavingArc.{LeavingArc}
 use Rattle.ea_road.specs.Labels.{label_of}
 use Rattle.ea_road.specs.Roads.{leaving, with_tail}

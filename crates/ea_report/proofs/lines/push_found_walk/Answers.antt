@@ -4,12 +4,12 @@ use Rattle.std.specs.Prelude.{Option, Result, Ok, Err, OnOk}
 use Rattle.std.specs.Option.{is_some}
 use Rattle.ea_road.specs.declared.TheConstants.{NONE}
 use Rattle.ea_road.specs.Labels.{label_of, time_of}
-use Rattle.ea_finish.specs.declared.link.Link.{Link}
-use Rattle.ea_finish.specs.declared.link.TheConstants.{NO_LEVEL}
-use Rattle.ea_finish.specs.Links.{link, linked_walk}
-use Rattle.ea_finish.specs.Stored.{AreFollowable}
-use Rattle.ea_finish.proofs.Followed.{linked_length}
-use Rattle.ea_finish.proofs.Linkings.{link_read}
+use Rattle.ea_search.specs.declared.link.Link.{Link}
+use Rattle.ea_search.specs.declared.link.TheConstants.{NO_LEVEL}
+use Rattle.ea_search.specs.Links.{link, linked_walk}
+use Rattle.ea_paths.specs.Stored.{AreFollowable}
+use Rattle.ea_paths.proofs.Followed.{linked_length}
+use Rattle.ea_paths.proofs.Linkings.{link_read}
 use Rattle.ea_report.specs.Walks.{arcs_text}
 use Rattle.ea_report.proofs.Following.{walk_text_of}
 use Rattle.ea_report.proofs.lines.push_found_walk.Goals as goal

@@ -1,4 +1,4 @@
-use Rattle.ea_asked.specs.Posed.{times_on}
+use Rattle.ea_load.specs.Posed.{times_on}
 use Rattle.earliest.proofs.Sending.{totals_cut, all_written}
 use Rattle.earliest.proofs.reports.report_all.Goals as goal
 

@@ -1,12 +1,12 @@
 use Rattle.std.proofs.Common.{[], length, refl, sym, subst, arith}
 use Rattle.std.proofs.lemmas.Result.{err_from_is_err_and}
-use Rattle.ea_asked.specs.Posed.{times_on}
+use Rattle.ea_load.specs.Posed.{times_on}
 use Rattle.earliest.specs.Workers.{settings_by}
 use Rattle.earliest.proofs.Counting.{totals_next}
-use Rattle.ea_drafts.proofs.Sent.{stops, sent_next, sent_none}
+use Rattle.ea_batch.proofs.Sent.{stops, sent_next, sent_none}
 use Rattle.std.proofs.lemmas.List.{take_all}
 use Rattle.ea_road.specs.Queries.{Asking, IsProblem}
-use Rattle.ea_drafts.specs.Sent.{AreSent}
+use Rattle.ea_batch.specs.Sent.{AreSent}
 use Rattle.earliest.specs.Fronts.{in_problem}
 use Rattle.earliest.proofs.reports.report_each.Goals as goal
 

@@ -1,8 +1,8 @@
 use Rattle.std.proofs.Common.{◌≡◌, ◌≤◌, ◌<◌, ◌*◌, true, ◌^◌, take, IfSome}
 use Rattle.earliest.specs.Counted.{AreBalanced, AreSmall, AreTotals}
-use Rattle.ea_asked.specs.Posed.{times_on}
-use Rattle.ea_drafts.specs.Sent.{AreSent}
-use Rattle.ea_drafts.specs.Solved.{Serves}
+use Rattle.ea_load.specs.Posed.{times_on}
+use Rattle.ea_batch.specs.Sent.{AreSent}
+use Rattle.ea_batch.specs.Solved.{Serves}
 use Rattle.earliest.specs.Workers.{settings_by}
 use Rattle.earliest.proofs.reports.report_each.Given as goal
 

@@ -1,6 +1,6 @@
 use Rattle.std.proofs.Common.{[], arith, ap}
 use Rattle.std.proofs.lemmas.List.Sums.{sum_by_more}
-use Rattle.ea_engine.specs.declared.counters.Counters.{Counters}
+use Rattle.ea_engine.specs.declared.worker.counters.Counters.{Counters}
 use Rattle.earliest.specs.declared.totals.Work.{Work}
 use Rattle.ea_engine.specs.Turns.{counters_of}
 use Rattle.earliest.proofs.totals.work_of.Goals as goal

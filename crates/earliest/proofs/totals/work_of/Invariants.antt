@@ -1,6 +1,6 @@
 use Rattle.std.proofs.Common.{◌≡◌, ◌*◌, ◌^◌, ◌≤◌, ℕ, List, take}
 use Rattle.std.specs.Prelude.{sum_by}
-use Rattle.ea_engine.specs.declared.counters.Counters.{Counters}
+use Rattle.ea_engine.specs.declared.worker.counters.Counters.{Counters}
 use Rattle.earliest.proofs.totals.work_of.Given as goal
 
 -- Sums so far.

@@ -2,7 +2,7 @@ use Rattle.std.proofs.Common.{◌≡◌, ◌⊎◌, ◌∙◌, sym, ap, subst}
 use Rattle.std.specs.Prelude.{Err}
 use Rattle.ea_input.specs.Graph.{after_said, numbers_line}
 use Rattle.ea_input.specs.Views.{read_of}
-use Rattle.ea_input.specs.declared.fault.FaultKind.TheVariants.{OutOfMemory}
+use Rattle.ea_blocks.specs.declared.fault.FaultKind.TheVariants.{OutOfMemory}
 use Rattle.ea_input.proofs.Quick.{reads_front, refuses_front}
 use Rattle.ea_input.proofs.graph.GraphReaderLineReader.read_plain.Goals as goal
 

@@ -1,5 +1,5 @@
 use Rattle.std.proofs.Common.{◌≡◌, ◌≤◌, ◌*◌, length, take}
-use Rattle.ea_lists.specs.Totals.{total}
+use Rattle.ea_machine.specs.Totals.{total}
 use Rattle.ea_pool.proofs.solo.Solo.len.Given as goal
 
 abbrev pub invariant-loop-heap : goal.invariant-loop-heap

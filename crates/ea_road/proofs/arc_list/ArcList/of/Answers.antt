@@ -2,7 +2,7 @@ use Rattle.std.proofs.Common.{◌≡◌, ◌∙◌, map, take, arith, ap}
 use Rattle.std.proofs.lemmas.List.{get_or-map, take_all}
 use Rattle.ea_road.specs.declared.arc.Arc.{Arc}
 use Rattle.ea_road.proofs.ArcLists.{all_of, class_in, without_class}
-use Rattle.ea_road.proofs.Lists.{more_mapped, room_for_more}
+use Rattle.ea_travel_times.proofs.Lists.{more_mapped, room_for_more}
 use Rattle.ea_road.proofs.arc_list.ArcList.of.Goals as goal
 
 abbrev none : Arc

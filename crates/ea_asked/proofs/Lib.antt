@@ -1,3 +1,0 @@
-pub mod Posing
-pub mod Asking
-pub mod Outcomes

@@ -1,0 +1,12 @@
+use Rattle.std.proofs.Common.{◌≡◌, ◌+◌, IfSome, length}
+use Rattle.ea_batch.specs.Drafts.{AreDraftsAt}
+use Rattle.ea_batch.specs.Solved.{Serves}
+use Rattle.ea_batch.proofs.draft.make_drafts.Given as goal
+
+abbrev pub invariant-loop-at : goal.invariant-loop-at
+invariant-loop-at l = record {
+  count : l.span.from + length l.made.drafts.items ≡ l.at;
+  from : l.made.from ≡ l.span.from;
+  drafts : AreDraftsAt l.job.plan.walks l.job.road.now l.job.queries.now l.made.from l.made.drafts.items;
+  search : IfSome l.last (Serves l.job.road.now.network l.job.plan.walks);
+}

@@ -1,0 +1,71 @@
+use Rattle.std.proofs.Common.{◌≡◌, ◌+◌, ◌<◌, arith, length, refl, sym, subst, take}
+use Rattle.std.proofs.lemmas.Result.{err_from_is_err_and}
+use Rattle.ea_load.specs.Posed.{times_on}
+use Rattle.ea_batch.specs.Sent.{AreSent}
+use Rattle.ea_batch.proofs.Sent.{sent_next, stops}
+use Rattle.std.proofs.lemmas.Option.{slice_get_read}
+use Rattle.ea_road.specs.Queries.{Asking, IsProblem}
+use Rattle.ea_batch.specs.Drafts.{GoesOn}
+use Rattle.ea_batch.proofs.Going.{goes_nowhere}
+use Rattle.ea_batch.proofs.parallel_reports.send_part.Goals as goal
+
+pub returns-in_err-send_draft-clause-err : goal.returns-in_err-send_draft-clause-err
+returns-in_err-send_draft-clause-err g c =
+    let p = err_from_is_err_and c.from_residual.result c.from_residual.ensures.1 in
+    let i = c.args.span.from + c.loop-k.k in
+    let inside : i < length c.args.job.queries.now = omega (arith, c.loop-k-test.true, c.loop-k.auto.k-end, c.requires.span.0, c.requires.span.1) in
+    rw (p.1, p.2) (record { cut = λ first fits before. stops c.args.job.options.now.walks c.args.job.road.now.network (times_on c.args.job.road.now) c.args.job.queries.now i c.index-queries-span.result inside c.index-queries-span.is first _ _ _ (c.loop-k.invariant.sent.sent first fits before) _ c.in_err-send_draft.ensures.err })
+
+pub loop-k-preserved : goal.loop-k-preserved
+loop-k-preserved g c =
+    let i = c.args.span.from + c.loop-k.k in
+    let k = c.loop-k.k in
+    let inv = c.loop-k.invariant in
+    let options = c.args.job.options.now in
+    let network = c.args.job.road.now.network in
+    let times = times_on c.args.job.road.now in
+    let all = c.args.job.queries.now in
+    let now = g.W.Device.seen c.send_draft.new.out in
+    let inside : i < length all = omega (arith, c.loop-k-test.true, c.loop-k.auto.k-end, c.requires.span.0, c.requires.span.1) in
+    let more : i + 1 ≡ c.args.span.from + (k + 1) = omega arith in
+    record {
+      sent = record { sent = λ first fits before. subst (λ n. AreSent options.walks network times (take n all) first now c.send_draft.new.self.written) more (sent_next options.walks network times all i c.index-queries-span.result inside c.index-queries-span.is first _ now _ c.send_draft.new.self.written fits (inv.sent.sent first fits before) c.in_ok-send_draft.ensures.ok) };
+      bound = omega (arith, c.in_ok-send_draft.ensures.bound, inv.bound);
+      search = c.send_draft.ensures.search;
+      left = c.take_draft-draft.ensures.left;
+    }
+
+pub loop-k-init : goal.loop-k-init
+loop-k-init g c =
+    let now = g.W.Device.seen c.args.out.now in
+    let from = c.args.span.from in
+    let written = c.args.progress.now.written in
+    let start : from ≡ from + 0 = omega arith in
+    record {
+      sent = subst (λ n. GoesOn c.args.job from n now written now written) start (goes_nowhere c.args.job from now written);
+      bound = omega (arith, c.requires.room);
+      search = c.requires.search;
+      left = λ j d low inside. c.requires.drafts j d inside;
+    }
+
+pub returns-clause-ok : goal.returns-clause-ok
+returns-clause-ok g c =
+    let end : c.args.span.from + c.loop-k.k ≡ c.args.span.to = omega (arith, c.loop-k-test.false, c.loop-k.auto.k-end, c.requires.span.0) in
+    subst (λ n. GoesOn c.args.job c.args.span.from n (g.W.Device.seen c.args.out.now) c.args.progress.now.written (g.W.Device.seen c.loop-k.out) c.loop-k.progress.written) end c.loop-k.invariant.sent
+
+pub returns-clause-bound : goal.returns-clause-bound
+returns-clause-bound g c = omega (arith, c.loop-k.invariant.bound, c.loop-k-test.false, c.loop-k.auto.k-end, c.requires.span.0)
+
+pub send_draft-requires-clause-draft : goal.send_draft-requires-clause-draft
+send_draft-requires-clause-draft g c =
+    let all = c.args.job.queries.now in
+    let i = c.args.span.from + c.loop-k.k in
+    let inside : i < length all = omega (arith, c.loop-k-test.true, c.loop-k.auto.k-end, c.requires.span.0, c.requires.span.1) in
+    c.take_draft-draft.ensures.draft c.index-queries-span.result (slice_get_read all (length all) i c.index-queries-span.result refl inside c.index-queries-span.is)
+
+pub send_draft-requires-clause-problem : goal.send_draft-requires-clause-problem
+send_draft-requires-clause-problem g c =
+    let i = c.args.span.from + c.loop-k.k in
+    let road = c.args.job.road.now in
+    let inside : i < length c.args.job.queries.now = omega (arith, c.loop-k-test.true, c.loop-k.auto.k-end, c.requires.span.0, c.requires.span.1) in
+    subst (λ (query : Asking). IsProblem road.network (length road.times.list.items) query) (sym c.index-queries-span.is) (c.requires.job.problems i c.index-queries-span.result inside).0

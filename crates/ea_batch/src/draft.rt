@@ -1,0 +1,180 @@
+//! Reports of problems that are made before their turn, by several threads.
+ghost use Rattle.std.specs.Prelude.{◌≡◌, ◌≤◌, ◌<◌, [], IfSome, Some, length, slice_get};
+ghost use Rattle.ea_base.specs.declared.limits.TheConstants.{MOST_NODES, MOST_STARTS};
+ghost use Rattle.ea_road.specs.Queries.{Asking, IsProblem};
+ghost use Rattle.ea_batch.specs.Drafts.{AreDraftsAt, IsDraftOf, IsJob};
+ghost use Rattle.ea_batch.specs.Solved.{Serves};
+
+use crate::one_search::search;
+use crate::sheet::Sheet;
+use crossbeam_deque::{Steal, Stealer, Worker};
+use ea_load::Road;
+use ea_paths::Search;
+use ea_report::{ReportOptions, write_problem};
+use ea_road::Query;
+use ea_options::RunOptions;
+use std::alloc::{AllocError, Global};
+
+/// What was made of a problem.
+#[derive(Drop)]
+pub(crate) enum Draft {
+    /// Nothing: there is no such problem, memory was refused, or the problem before was too long.
+    Nothing,
+    /// The text of its report.
+    Text(Vec<u8>),
+    /// The search that has its answer: the text is too long to be kept.
+    Answer(Search),
+}
+
+/// How drafts are made.
+#[derive(Clone, Copy)]
+pub(crate) struct Plan {
+    /// Whether reports show walks.
+    pub walks: bool,
+    /// How many problems a thread takes at once.
+    pub part: usize,
+    /// How many problems are taken before those before them are sent, at most.
+    pub ahead: usize,
+    /// For how many bytes of a report it takes memory at first.
+    pub room: usize,
+    /// How many bytes of a report it keeps at most.
+    pub most: usize,
+}
+
+/// Problems on a road, and how their drafts are made.
+#[derive(Clone, Copy)]
+pub(crate) struct Job<'a> {
+    pub alloc: Global,
+    pub road: &'a Road,
+    pub queries: &'a [Query],
+    pub options: &'a RunOptions,
+    pub plan: Plan,
+    /// Where memory of texts that were sent is found.
+    pub spare: &'a Stealer<Vec<u8>>,
+}
+
+/// Where memory of texts that were sent is left, and where others find it. An error comes only where memory is refused.
+pub(crate) fn memory_of_texts(
+    alloc: Global,
+) -> Result<(Worker<Vec<u8>>, Stealer<Vec<u8>>), AllocError> {
+    let used = Worker::new_lifo(alloc, 16)?;
+    let spare = used.stealer()?;
+    Ok((used, spare))
+}
+
+/// Memory for a text: that of one that was sent, else new memory for so many bytes, or none yet where that is refused.
+fn take_memory(job: Job<'_>) -> Vec<u8> {
+    match job.spare.steal() {
+        Steal::Success(memory) => memory,
+        _ => match Vec::with_capacity(job.alloc, job.plan.room) {
+            Ok(memory) => memory,
+            Err(_) => Vec::new(job.alloc),
+        },
+    }
+}
+
+/// Makes the draft of a problem, on the arrays of the last search where there are some. They are left there where they aren't
+/// the draft. A text is written into the memory of an earlier one.
+fn make_draft(job: Job<'_>, query: &Query, last: &mut Option<Search>) -> Draft
+    requires problem { IsProblem job.road.now.network
+        (length job.road.now.times.list.items) query.now }
+    requires few { (length query.now.sources ≤ MOST_STARTS)
+        × (job.road.now.network.nodes ≤ MOST_NODES) }
+    requires search { IfSome last.old (Serves job.road.now.network job.plan.walks) }
+    ensures draft { IsDraftOf job.entry.plan.walks job.entry.road.now query.now result }
+    ensures search { IfSome last.new (Serves job.entry.road.now.network job.entry.plan.walks) }
+{
+    let Job {
+        alloc,
+        road,
+        plan,
+        ..
+    } = job;
+    let found = match search(alloc, road, query, plan.walks, last.take()) {
+        Ok(found) => found,
+        Err(_) => return Draft::Nothing,
+    };
+    let mut sheet = Sheet::over(take_memory(job), plan.most);
+    let options = ReportOptions { walks: plan.walks };
+    match write_problem(
+        alloc,
+        &road.network,
+        query,
+        found.answer(),
+        options,
+        &mut sheet,
+    ) {
+        Ok(_) => {
+            *last = Some(found);
+            Draft::Text(sheet.text)
+        }
+        Err(_) => Draft::Answer(found),
+    }
+}
+
+/// Makes the draft of the problem with this number, from 0, where there is one; but for the first one of a part it is made
+/// only where arrays are left.
+fn make_draft_at(job: Job<'_>, at: usize, is_first: bool, last: &mut Option<Search>) -> Draft
+    requires job { IsJob job }
+    requires search { IfSome last.old (Serves job.road.now.network job.plan.walks) }
+    ensures draft { (query : Asking) → slice_get job.entry.queries.now at ≡ Some query
+        → IsDraftOf job.entry.plan.walks job.entry.road.now query result }
+    ensures search { IfSome last.new (Serves job.entry.road.now.network job.entry.plan.walks) }
+{
+    match job.queries.get(at) {
+        Some(query) => {
+            if is_first || last.is_some() {
+                make_draft(job, query, last)
+            } else {
+                Draft::Nothing
+            }
+        }
+        None => Draft::Nothing,
+    }
+}
+
+/// Drafts of the problems from one on, counted from 0, in their order.
+#[derive(Drop)]
+pub(crate) struct Made {
+    pub from: usize,
+    pub drafts: Vec<Draft>,
+}
+
+/// Problems from one to just before another, counted from 0.
+#[derive(Clone, Copy)]
+pub(crate) struct Span {
+    pub from: usize,
+    pub to: usize,
+}
+
+/// Makes the drafts of problems in their order, on the arrays of the last search where there are some. After one that is too long
+/// to be kept no more are made; where memory for the list is refused, it ends there.
+pub(crate) fn make_drafts(job: Job<'_>, span: Span, last: &mut Option<Search>) -> Made
+    requires job { IsJob job }
+    requires search { IfSome last.old (Serves job.road.now.network job.plan.walks) }
+    ensures drafts { AreDraftsAt job.entry.plan.walks job.entry.road.now
+        job.entry.queries.now result.from result.drafts.items }
+    ensures search { IfSome last.new (Serves job.entry.road.now.network job.entry.plan.walks) }
+{
+    let mut made = Made {
+        from: span.from,
+        drafts: room_for(job, span),
+    };
+    for at in span.from..span.to {
+        let draft = make_draft_at(job, at, at == span.from, last);
+        if made.drafts.push(draft).is_err() {
+            return made;
+        }
+    }
+    made
+}
+
+/// A list with room for the drafts of problems, or with none where memory is refused.
+fn room_for(job: Job<'_>, span: Span) -> Vec<Draft>
+    ensures { result.items ≡ [] }
+{
+    match Vec::with_capacity(job.alloc, span.to.saturating_sub(span.from)) {
+        Ok(drafts) => drafts,
+        Err(_) => Vec::new(job.alloc),
+    }
+}

@@ -1,0 +1,201 @@
+//! Threads that make reports before their turn, and what they leave for the one that sends them.
+ghost use Rattle.std.specs.Prelude.{◌≡◌, [], IfOk, IfSome};
+ghost use Rattle.ea_batch.specs.Drafts.{AreDraftsAt, ArePiled, IsFor, IsJob};
+ghost use Rattle.ea_batch.specs.Solved.{Serves};
+
+use crate::draft::{Draft, Job, Made, make_drafts};
+use crate::hand_over::{Asks, Giver, Taker, get, give};
+use crate::round::Round;
+use ea_paths::Search;
+use std::alloc::{AllocError, Global};
+use std::thread::yield_now;
+
+/// How often a thread lets others run while too much is left to be sent, before it makes no more: some tenths of a second. So who
+/// writes to a slow device doesn't keep processors busy meanwhile.
+const MOST_WAITS: u32 = 524_288;
+
+/// How often the thread that sends lets others run while the next part isn't there and no other is to be made, before it begins anew
+/// without it: some seconds. Nothing is waited for longer, were a part lost for want of memory.
+const MOST_IDLE: u32 = 16_777_216;
+
+/// How many parts are taken out of the queue of one thread at once, at most.
+const MOST_TAKEN: usize = 64;
+
+/// A thread that makes reports: where it leaves what it made.
+#[derive(Drop)]
+pub(crate) struct Lane<J: Asks> {
+    pub made: Giver<J>,
+}
+
+/// Takes problems and makes their drafts, once: whether the thread goes on.
+fn make_next<J: Asks>(
+    job: Job<'_>,
+    round: &Round,
+    lane: &mut Lane<J>,
+    last: &mut Option<Search>,
+) -> bool
+    requires job { IsJob job }
+    requires named { IsFor J.fits job }
+    requires search { IfSome last.old (Serves job.road.now.network job.plan.walks) }
+    ensures search { IfSome last.new (Serves job.entry.road.now.network job.entry.plan.walks) }
+{
+    match round.take(job) {
+        Some(span) => {
+            let made = make_drafts(job, span, last);
+            give(&mut lane.made, job, made)
+        }
+        None => false,
+    }
+}
+
+/// Makes drafts until all problems are taken, or too much was left to be sent for long.
+pub(crate) fn make_in_lane<J: Asks>(job: Job<'_>, round: &Round, lane: &mut Lane<J>)
+    requires job { IsJob job }
+    requires named { IsFor J.fits job }
+{
+    let mut last = None;
+    let mut waits = 0;
+    for _ in 0..u64::MAX {
+        if make_next(job, round, lane, &mut last) {
+            waits = 0;
+        } else {
+            if round.is_over(job) || waits >= MOST_WAITS {
+                break;
+            }
+            waits += 1;
+            yield_now();
+        }
+    }
+    round.leave();
+}
+
+/// What threads left for the one that sends, in no order.
+#[derive(Drop)]
+pub(crate) struct Desk<J: Asks> {
+    pub left: Vec<Taker<J>>,
+    pub pile: Vec<Made>,
+    /// How often in a row others were let run since nothing was there.
+    idle: u32,
+}
+
+/// So many threads, how they share the problems, and the desk for what they make.
+#[derive(Drop)]
+pub(crate) struct Lanes<J: Asks> {
+    pub row: Vec<Lane<J>>,
+    pub round: Round,
+    pub desk: Desk<J>,
+}
+
+impl<J: Asks> Lanes<J> {
+    /// Nothing is made. An error comes only where memory is refused.
+    pub(crate) fn open(alloc: Global, threads: usize) -> Result<Lanes<J>, AllocError>
+        ensures { IfOk result (λ lanes. lanes.desk.pile.items ≡ []) }
+    {
+        let mut row = Vec::with_capacity(alloc, threads)?;
+        let mut left = Vec::with_capacity(alloc, threads)?;
+        for _ in 0..threads {
+            let made = Giver::<J>::fifo_as(alloc, 16)?;
+            left.push(made.stealer()?)?;
+            row.push(Lane { made })?;
+        }
+        Ok(Lanes {
+            row,
+            round: Round::new(),
+            desk: Desk {
+                left,
+                pile: Vec::with_capacity(alloc, 64)?,
+                idle: 0,
+            },
+        })
+    }
+}
+
+/// The place on a pile of drafts from this problem on; one behind the pile where there are none.
+fn place_of(pile: &[Made], from: usize) -> usize {
+    for at in 0..pile.len() {
+        if pile[at].from == from {
+            return at;
+        }
+    }
+    pile.len()
+}
+
+/// Puts what a thread left on the pile. What finds no memory there is dropped, and is made when it is its turn.
+fn collect<J: Asks>(taker: &Taker<J>, job: Job<'_>, pile: &mut Vec<Made>)
+    requires named { IsFor J.fits job }
+    requires pile { ArePiled job pile.old.items }
+    ensures pile { ArePiled job.entry pile.new.items }
+{
+    for _ in 0..MOST_TAKEN {
+        match get(taker, job) {
+            Some(made) => {
+                let _ = pile.push(made);
+            }
+            None => return,
+        }
+    }
+}
+
+impl<J: Asks> Desk<J> {
+    /// Puts what threads left on the pile.
+    fn gather(&mut self, job: Job<'_>)
+        requires named { IsFor J.fits job }
+        requires pile { ArePiled job self.old.pile.items }
+        ensures pile { ArePiled job.entry self.new.pile.items }
+    {
+        for taker in &self.left {
+            collect(taker, job, &mut self.pile);
+        }
+    }
+
+    /// The drafts of a job's problems from this one on, where they are there.
+    pub(crate) fn take(&mut self, job: Job<'_>, from: usize) -> Option<Vec<Draft>>
+        requires named { IsFor J.fits job }
+        requires pile { ArePiled job self.old.pile.items }
+        ensures drafts { IfSome result (λ drafts. AreDraftsAt job.entry.plan.walks job.entry.road.now
+            job.entry.queries.now from drafts.items) }
+        ensures pile { ArePiled job.entry self.new.pile.items }
+    {
+        self.gather(job);
+        let at = place_of(&self.pile, from);
+        if at >= self.pile.len() {
+            return None;
+        }
+        self.idle = 0;
+        let made = self.pile.swap_remove(at);
+        if made.from == from {
+            Some(made.drafts)
+        } else {
+            None
+        }
+    }
+
+    /// Makes drafts too, or lets others run: false where nobody else makes any, or nothing came for long.
+    pub(crate) fn help(&mut self, job: Job<'_>, round: &Round, last: &mut Option<Search>) -> bool
+        requires job { IsJob job }
+        requires pile { ArePiled job self.old.pile.items }
+        requires search { IfSome last.old (Serves job.road.now.network job.plan.walks) }
+        ensures pile { ArePiled job.entry self.new.pile.items }
+        ensures search { IfSome last.new (Serves job.entry.road.now.network job.entry.plan.walks) }
+    {
+        if round.is_left() {
+            return false;
+        }
+        match round.take(job) {
+            Some(span) => {
+                self.idle = 0;
+                let made = make_drafts(job, span, last);
+                let _ = self.pile.push(made);
+            }
+            None => {
+                self.idle = self.idle.saturating_add(1);
+                yield_now();
+            }
+        }
+        if self.idle < MOST_IDLE {
+            return true;
+        }
+        self.idle = 0;
+        false
+    }
+}

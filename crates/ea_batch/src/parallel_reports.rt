@@ -1,0 +1,411 @@
+//! Reports of problems that are searched at once: several threads make those of some, while those before are sent.
+ghost use Rattle.std.specs.Prelude.{◌≡◌, ◌≤◌, ◌<◌, ◌+◌, ◌-◌, ◌*◌, ◌^◌, ℕ, IfErr, IfOk, IfSome, OnOk, length};
+ghost use Rattle.ea_bytes.specs.Device.{GivesUp};
+ghost use Rattle.ea_base.specs.declared.limits.TheConstants.{MOST_AT_ONCE, MOST_NODES, MOST_STARTS};
+ghost use Rattle.ea_road.specs.Queries.{IsProblem};
+ghost use Rattle.ea_report.specs.Sent.{IsCutAt, IsWhole};
+ghost use Rattle.ea_load.specs.Posed.{AreProblems, times_on};
+ghost use Rattle.ea_batch.specs.Drafts.{AreDraftsAt, AreUnsent, CanSend, GoesOn, HaveGone, IsDraftAt, IsDraftOf, IsFor, IsJob, StopsAfter};
+ghost use Rattle.ea_batch.specs.Sent.{AreCutShort, AreSent, IsSent, IsStoppedBy};
+ghost use Rattle.ea_batch.specs.Solved.{Serves};
+
+use crate::draft::{Draft, Job, Plan, Span, memory_of_texts};
+use crate::hand_over::Asks;
+use crate::lane::{Desk, Lane, Lanes, make_in_lane};
+use crate::progress::{Progress, fault_after};
+use crate::round::Round;
+use crossbeam_deque::Worker;
+use ea_load::AnswerFault;
+use ea_load::Road;
+use ea_bytes::ByteOut;
+use ea_report::write_pieces;
+use ea_road::Query;
+use ea_fork_join::for_each_chunk_mut_beside;
+use ea_base::Watch;
+use ea_options::RunOptions;
+use std::alloc::Global;
+use std::marker::Brand;
+use std::mem;
+use std::thread::Threads;
+
+/// The options of a call, and who is told how far it is.
+pub struct Watched<'a, V: Watch> {
+    pub options: &'a RunOptions,
+    pub watch: &'a mut V,
+}
+
+/// How many bytes of reports a thread keeps before they are sent, at most.
+const KEPT: usize = 67_108_864;
+
+/// How many lines the reports have, about, that a thread makes one after the other before it leaves them to be sent.
+const LINES_IN_PART: usize = 262_144;
+
+/// How many bytes a report's line has, about.
+const LINE: usize = 16;
+
+/// How many problems a thread takes at once, at most.
+const MOST_IN_PART: usize = 256;
+
+/// How many parts are made before those before them are sent, for each thread.
+const PARTS_AHEAD: usize = 2;
+
+/// How drafts are made: each thread takes several problems at once where they are many and their reports have few lines, so
+/// that threads seldom meet. Where a text is too long to be kept, the search that has its answer is: then less is made ahead.
+fn plan_of(problems: usize, threads: usize, lines: usize, walks: bool) -> Plan
+    requires { (1 ≤ threads) × (1 ≤ lines) × (threads ≤ 16) }
+    ensures part { 0 < result.part }
+    ensures walks { result.walks ≡ walks }
+{
+    let few = (problems / (threads * 4)).min(MOST_IN_PART).max(1);
+    let part = (LINES_IN_PART / lines).max(1).min(few);
+    let most = KEPT / part;
+    let length = lines.saturating_mul(LINE);
+    let parts = if walks || length > most {
+        1
+    } else {
+        PARTS_AHEAD
+    };
+    Plan {
+        walks,
+        part,
+        ahead: part * threads * parts,
+        room: length.min(most),
+        most,
+    }
+}
+
+impl Progress {
+    /// Sends a report's text.
+    fn send_text<W: ByteOut>(&mut self, text: &[u8], out: &mut W) -> Result<(), AnswerFault>
+        requires room { self.old.written ≤ MOST_STARTS * 2 ^ 90 }
+        ensures ok { OnOk result (IsWhole (W.seen out.old) (W.seen out.new) text.now
+            (self.new.written - self.old.written) × (self.old.written ≤ self.new.written)) }
+        ensures err { IfErr result
+            (λ fault. (sent : ℕ) × (fault ≡ AnswerFault.Write (self.old.written + sent))
+            × IsCutAt (W.seen out.old).bytes (W.seen out.new).bytes text.now sent
+            × GivesUp (W.seen out.old) (W.seen out.new)) }
+        ensures bound { OnOk result (self.new.written ≤ self.old.written + 2 ^ 90) }
+        ensures search { self.new.search ≡ self.old.search }
+    {
+        match write_pieces(&[text], out) {
+            Ok(written) => {
+                self.written += written;
+                Ok(())
+            }
+            Err(fault) => Err(fault_after(self.written, fault)),
+        }
+    }
+
+    /// Leaves the memory of a text that was sent to those who make others.
+    fn keep_memory(&mut self, memory: Vec<u8>)
+        ensures written { self.new.written ≡ self.old.written }
+        ensures search { self.new.search ≡ self.old.search }
+    {
+        if let Some(used) = &mut self.used {
+            let _ = used.push(memory);
+        }
+    }
+
+    /// Sends the report of a problem by its draft; what wasn't made is made now.
+    fn send_draft<W: ByteOut>(
+        &mut self,
+        alloc: Global,
+        road: &Road,
+        query: &Query,
+        walks: bool,
+        draft: Draft,
+        out: &mut W,
+    ) -> Result<(), AnswerFault>
+        requires problem { IsProblem road.now.network (length road.now.times.list.items) query.now }
+        requires few { (length query.now.sources ≤ MOST_STARTS)
+            × (road.now.network.nodes ≤ MOST_NODES) }
+        requires room { self.old.written ≤ MOST_STARTS * 2 ^ 90 }
+        requires search { IfSome self.old.search (Serves road.now.network walks) }
+        requires draft { IsDraftOf walks road.now query.now draft }
+        ensures ok { OnOk result (IsSent walks road.now.network (times_on road.now) query.now
+            (W.seen out.old) (W.seen out.new) self.old.written self.new.written) }
+        ensures err { IfErr result (IsStoppedBy walks road.now.network (times_on road.now) query.now
+            (W.seen out.old) (W.seen out.new) self.old.written) }
+        ensures bound { OnOk result (self.new.written ≤ self.old.written + 2 ^ 90) }
+        ensures search { IfSome self.new.search (Serves road.now.network walks) }
+    {
+        match draft {
+            Draft::Nothing => self.report_alone(alloc, road, query, walks, out),
+            Draft::Text(text) => {
+                self.send_text(&text, out)?;
+                self.keep_memory(text);
+                Ok(())
+            }
+            Draft::Answer(found) => {
+                self.write(alloc, road, query, found.answer(), walks, out)?;
+                self.search = Some(found);
+                Ok(())
+            }
+        }
+    }
+}
+
+/// Takes a draft out of a list, nothing where the list is too short.
+fn take_draft(job: Job<'_>, span: Span, k: usize, ready: &mut [Draft]) -> Draft
+    requires left { AreUnsent job.options.now.walks job.road.now job.queries.now span.from k ready.old }
+    ensures draft { IsDraftAt job.entry.options.now.walks job.entry.road.now
+        job.entry.queries.now (span.from + k) result }
+    ensures left { AreUnsent job.entry.options.now.walks job.entry.road.now
+        job.entry.queries.now span.from (k + 1) ready.new }
+{
+    if k < ready.len() {
+        mem::replace(&mut ready[k], Draft::Nothing)
+    } else {
+        Draft::Nothing
+    }
+}
+
+/// Sends the reports of problems by their drafts, in their order. What isn't there is made now.
+fn send_part<W: ByteOut>(
+    progress: &mut Progress,
+    job: Job<'_>,
+    span: Span,
+    ready: &mut [Draft],
+    out: &mut W,
+) -> Result<(), AnswerFault>
+    requires job { IsJob job }
+    requires span { (span.from ≤ span.to) × (span.to ≤ length job.queries.now) }
+    requires room { progress.old.written ≤ span.from * 2 ^ 90 }
+    requires search { IfSome progress.old.search
+        (Serves job.road.now.network job.options.now.walks) }
+    requires drafts { AreDraftsAt job.options.now.walks job.road.now
+        job.queries.now span.from ready.old }
+    ensures ok { OnOk result (GoesOn job.entry span.from span.to
+        (W.seen out.old) progress.old.written (W.seen out.new) progress.new.written) }
+    ensures err { IfErr result (StopsAfter job.entry span.from
+        (W.seen out.old) progress.old.written (W.seen out.new)) }
+    ensures bound { OnOk result (progress.new.written ≤ span.to * 2 ^ 90) }
+    ensures search { OnOk result
+        (IfSome progress.new.search
+        (Serves job.entry.road.now.network job.entry.options.now.walks)) }
+{
+    let queries = job.queries;
+    for k in 0..span.to - span.from {
+        let draft = take_draft(job, span, k, ready);
+        let query = &queries[span.from + k];
+        progress.send_draft(job.alloc, job.road, query, job.options.walks, draft, out)?;
+    }
+    Ok(())
+}
+
+/// Where the part of a job's problems ends that begins with this one.
+fn end_of_part(job: Job<'_>, from: usize) -> usize
+    requires job { IsJob job }
+    requires inside { from < length job.queries.now }
+    ensures { (from < result) × (result ≤ length job.entry.queries.now) }
+{
+    from.saturating_add(job.plan.part).min(job.queries.len())
+}
+
+/// Sends the reports of the problems from one on by what is made of them, and makes some too, until all are sent or nobody makes
+/// the next. The watch is told after each part.
+fn send_round<J: Asks, W: ByteOut, V: Watch>(
+    progress: &mut Progress,
+    job: Job<'_>,
+    round: &Round,
+    desk: &mut Desk<J>,
+    from: usize,
+    out: &mut W,
+    watch: &mut V,
+) -> Result<usize, AnswerFault>
+    requires named { IsFor J.fits job }
+    requires can { CanSend job from progress.old desk.old.pile.items }
+    ensures ok { IfOk result (λ to. HaveGone job.entry from to (W.seen out.old) progress.old
+        (W.seen out.new) progress.new desk.new.pile.items) }
+    ensures err { IfErr result (StopsAfter job.entry from
+        (W.seen out.old) progress.old.written (W.seen out.new)) }
+{
+    let mut sent = from;
+    for _ in 0..u64::MAX {
+        if sent >= job.queries.len() {
+            break;
+        }
+        match desk.take(job, sent) {
+            Some(mut ready) => {
+                let span = Span {
+                    from: sent,
+                    to: end_of_part(job, sent),
+                };
+                send_part(progress, job, span, &mut ready, out)?;
+                sent = span.to;
+                round.tell_sent(sent);
+                watch.did(sent, job.queries.len());
+            }
+            None => {
+                if !desk.help(job, round, &mut progress.search) {
+                    break;
+                }
+            }
+        }
+    }
+    Ok(sent)
+}
+
+/// How many lines a report has, about.
+fn lines_of(road: &Road, query: &Query) -> usize
+    ensures { 1 ≤ result }
+{
+    match query.target() {
+        None => road.network.nodes().max(1) as usize,
+        Some(_) => 1,
+    }
+}
+
+/// Sends the reports of the problems from one on, while other threads make those of the next ones.
+fn run_round<J: Asks, H: Threads + Sync, W: ByteOut, V: Watch>(
+    progress: &mut Progress,
+    rt: &H,
+    job: Job<'_>,
+    lanes: &mut Lanes<J>,
+    from: usize,
+    out: &mut W,
+    watch: &mut V,
+) -> Result<usize, AnswerFault>
+    requires named { IsFor J.fits job }
+    requires can { CanSend job from progress.old lanes.old.desk.pile.items }
+    ensures ok { IfOk result (λ to. HaveGone job.entry from to (W.seen out.old) progress.old
+        (W.seen out.new) progress.new lanes.new.desk.pile.items) }
+    ensures err { IfErr result (StopsAfter job.entry from
+        (W.seen out.old) progress.old.written (W.seen out.new)) }
+{
+    let Lanes { row, round, desk } = lanes;
+    let round: &Round = round;
+    round.begin(row.len());
+    let mut sending = || -> Result<usize, AnswerFault>
+        requires { IsFor J.fits job × CanSend job from progress.now desk.now.pile.items }
+        ensures { IfOk result (λ to. HaveGone job.entry from to (W.seen out.entry.now)
+            progress.entry.now (W.seen out.exit.now) progress.exit.now desk.exit.now.pile.items)
+            × IfErr result (StopsAfter job.entry from (W.seen out.entry.now)
+            progress.entry.now.written (W.seen out.exit.now)) }
+    {
+        let sent = send_round(progress, job, round, desk, from, out, watch);
+        if sent.is_err() {
+            round.stop();
+        }
+        sent
+    };
+    let making = |_start: usize, part: &mut [Lane<J>]|
+        requires { IsJob job × IsFor J.fits job × (0 < length part.now) }
+    { make_in_lane(job, round, &mut part[0]) };
+    for_each_chunk_mut_beside(rt, 1, &making, row, &mut sending)
+}
+
+/// Sends the reports of all problems in their order, while other threads make those of the next ones. The watch is told after each part.
+fn send_all<J: Asks, H: Threads + Sync, W: ByteOut, V: Watch>(
+    progress: &mut Progress,
+    rt: &H,
+    job: Job<'_>,
+    lanes: &mut Lanes<J>,
+    watch: &mut V,
+    out: &mut W,
+) -> Result<(), AnswerFault>
+    requires named { IsFor J.fits job }
+    requires can { CanSend job 0 progress.old lanes.old.desk.pile.items }
+    requires none { progress.old.written ≡ 0 }
+    ensures ok { OnOk result (AreSent job.entry.options.now.walks job.entry.road.now.network
+        (times_on job.entry.road.now) job.entry.queries.now
+        (W.seen out.old) (W.seen out.new) progress.new.written) }
+    ensures err { IfErr result
+        (AreCutShort job.entry.options.now.walks job.entry.road.now.network
+        (times_on job.entry.road.now) job.entry.queries.now
+        (W.seen out.old) (W.seen out.new)) }
+    ensures bound { OnOk result (progress.new.written ≤ MOST_STARTS * 2 ^ 90) }
+{
+    // Tells that the count is one of 64 bits.
+    let _ = out.interruptions();
+    let mut sent = 0;
+    while sent < job.queries.len() {
+        let gone = run_round(progress, rt, job, lanes, sent, out, watch)?;
+        if gone > sent {
+            sent = gone;
+        } else {
+            let span = Span {
+                from: gone,
+                to: end_of_part(job, gone),
+            };
+            send_part(progress, job, span, &mut [], out)?;
+            sent = span.to;
+            lanes.round.tell_sent(sent);
+            watch.did(sent, job.queries.len());
+        }
+    }
+    Ok(())
+}
+
+/// Writes the reports of problems in their order, where so many threads search at once. The watch is told after each part.
+fn report_asked<J: Asks, H: Threads + Sync, W: ByteOut, V: Watch>(
+    rt: &H,
+    job: Job<'_>,
+    used: Worker<Vec<u8>>,
+    threads: usize,
+    watch: &mut V,
+    out: &mut W,
+) -> Result<Progress, AnswerFault>
+    requires job { IsJob job }
+    requires named { IsFor J.fits job }
+    requires some { 0 < length job.queries.now }
+    requires threads { 1 ≤ threads }
+    ensures ok { IfOk result (λ progress.
+        AreSent job.entry.options.now.walks job.entry.road.now.network
+        (times_on job.entry.road.now) job.entry.queries.now
+        (W.seen out.old) (W.seen out.new) progress.written) }
+    ensures err { IfErr result
+        (AreCutShort job.entry.options.now.walks job.entry.road.now.network
+        (times_on job.entry.road.now) job.entry.queries.now
+        (W.seen out.old) (W.seen out.new)) }
+    ensures bound { IfOk result (λ progress. progress.written ≤ MOST_STARTS * 2 ^ 90) }
+{
+    let mut lanes = match Lanes::<J>::open(job.alloc, threads - 1) {
+        Ok(lanes) => lanes,
+        Err(_) => return Err(AnswerFault::OutOfMemory { written: 0 }),
+    };
+    let mut progress = Progress::begin(Some(used));
+    match send_all(&mut progress, rt, job, &mut lanes, watch, out) {
+        Ok(()) => Ok(progress),
+        Err(fault) => Err(fault),
+    }
+}
+
+/// Writes the reports of problems in their order, where so many threads search at once. The watch is told as they are sent.
+pub fn report_ahead<H: Threads + Sync, W: ByteOut, V: Watch>(
+    alloc: Global,
+    rt: &H,
+    road: &Road,
+    queries: &[Query],
+    watched: Watched<'_, V>,
+    threads: usize,
+    out: &mut W,
+) -> Result<Progress, AnswerFault>
+    requires problems { AreProblems road.now queries.now }
+    requires few { (length queries.now ≤ MOST_STARTS) × (road.now.network.nodes ≤ MOST_NODES) }
+    requires some { 0 < length queries.now }
+    requires threads { (1 ≤ threads) × (threads ≤ MOST_AT_ONCE) }
+    ensures ok { IfOk result (λ progress.
+        AreSent watched.entry.options.now.walks road.now.network (times_on road.now) queries.now
+        (W.seen out.old) (W.seen out.new) progress.written) }
+    ensures err { IfErr result
+        (AreCutShort watched.entry.options.now.walks road.now.network (times_on road.now) queries.now
+        (W.seen out.old) (W.seen out.new)) }
+    ensures bound { IfOk result (λ progress. progress.written ≤ MOST_STARTS * 2 ^ 90) }
+{
+    let Watched { options, watch } = watched;
+    let lines = lines_of(road, &queries[0]);
+    let (used, spare) = match memory_of_texts(alloc) {
+        Ok(ends) => ends,
+        Err(_) => return Err(AnswerFault::OutOfMemory { written: 0 }),
+    };
+    let job = Job {
+        alloc,
+        road,
+        queries,
+        options,
+        plan: plan_of(queries.len(), threads, lines, options.walks),
+        spare: &spare,
+    };
+    report_asked::<Brand, H, W, V>(rt, job, used, threads, watch, out)
+}

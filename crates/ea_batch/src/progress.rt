@@ -1,0 +1,128 @@
+//! Reports of problems that are answered by one thread.
+ghost use Rattle.std.specs.Prelude.{◌≡◌, ◌≤◌, ◌<◌, ◌+◌, ◌*◌, ◌^◌, IfErr, IfSome, None, OnOk, length, true};
+ghost use Rattle.ea_base.specs.declared.limits.TheConstants.{MOST_NODES, MOST_STARTS};
+ghost use Rattle.ea_road.specs.Queries.{IsProblem};
+ghost use Rattle.ea_load.specs.Faults;
+ghost use Rattle.ea_load.specs.Posed.{times_on};
+ghost use Rattle.ea_batch.specs.Sent.{IsSent, IsStoppedBy};
+ghost use Rattle.ea_batch.specs.Solved.{AnswersOn, ArrivesOn, Serves};
+
+use crate::one_search::search;
+use crossbeam_deque::Worker;
+use ea_load::AnswerFault;
+use ea_load::Road;
+use ea_paths::{Answer, Search};
+use ea_bytes::ByteOut;
+use ea_report::{ReportOptions, WriteFault, WriteFaultKind, write_problem};
+use ea_road::Query;
+use std::alloc::Global;
+
+/// What went out so far, and the arrays of the last search by one thread.
+#[derive(Drop)]
+pub struct Progress {
+    /// How many bytes went out.
+    pub written: u128,
+    /// The last search, on whose arrays the next one is made.
+    pub search: Option<Search>,
+    /// Where memory of texts that were sent is left, if others make texts.
+    pub(crate) used: Option<Worker<Vec<u8>>>,
+}
+
+impl Progress {
+    /// Nothing went out. What is left of texts that are sent goes there, if others make texts.
+    pub fn begin(used: Option<Worker<Vec<u8>>>) -> Progress
+        ensures written { result.written ≡ 0 }
+        ensures search { result.search ≡ None }
+    {
+        Progress {
+            written: 0,
+            search: None,
+            used,
+        }
+    }
+}
+
+/// What a fault of one problem's report is, after so many bytes of those before.
+pub(crate) fn fault_after(before: u128, fault: WriteFault) -> AnswerFault
+    requires { before + fault.written < 2 ^ 128 }
+    ensures { result ≡ Faults.fault_after before fault }
+{
+    let written = before + fault.written;
+    match fault.kind {
+        WriteFaultKind::WriteFailed => AnswerFault::Write { written },
+        WriteFaultKind::OutOfMemory => AnswerFault::OutOfMemory { written },
+    }
+}
+
+impl Progress {
+    /// Writes the report of a problem that is answered.
+    pub fn write<W: ByteOut>(
+        &mut self,
+        alloc: Global,
+        road: &Road,
+        query: &Query,
+        answer: &Answer,
+        walks: bool,
+        out: &mut W,
+    ) -> Result<(), AnswerFault>
+        requires problem { IsProblem road.now.network (length road.now.times.list.items) query.now }
+        requires few { (length query.now.sources ≤ MOST_STARTS)
+            × (road.now.network.nodes ≤ MOST_NODES) }
+        requires room { self.old.written ≤ MOST_STARTS * 2 ^ 90 }
+        requires arrivals { ArrivesOn road.now query.now answer.now }
+        requires canonical { walks ≡ true → AnswersOn road.now query.now answer.now }
+        ensures ok { OnOk result (IsSent walks road.now.network (times_on road.now) query.now
+            (W.seen out.old) (W.seen out.new) self.old.written self.new.written) }
+        ensures err { IfErr result (IsStoppedBy walks road.now.network (times_on road.now) query.now
+            (W.seen out.old) (W.seen out.new) self.old.written) }
+        ensures bound { OnOk result (self.new.written ≤ self.old.written + 2 ^ 90) }
+        ensures search { self.new.search ≡ self.old.search }
+    {
+        match write_problem(
+            alloc,
+            &road.network,
+            query,
+            answer,
+            ReportOptions { walks },
+            out,
+        ) {
+            Ok(written) => {
+                self.written += written;
+                Ok(())
+            }
+            Err(fault) => Err(fault_after(self.written, fault)),
+        }
+    }
+    /// Finds the answer of a problem by one thread, on the arrays of the last search, and writes its report.
+    pub fn report_alone<W: ByteOut>(
+        &mut self,
+        alloc: Global,
+        road: &Road,
+        query: &Query,
+        walks: bool,
+        out: &mut W,
+    ) -> Result<(), AnswerFault>
+        requires problem { IsProblem road.now.network (length road.now.times.list.items) query.now }
+        requires few { (length query.now.sources ≤ MOST_STARTS)
+            × (road.now.network.nodes ≤ MOST_NODES) }
+        requires room { self.old.written ≤ MOST_STARTS * 2 ^ 90 }
+        requires search { IfSome self.old.search (Serves road.now.network walks) }
+        ensures ok { OnOk result (IsSent walks road.now.network (times_on road.now) query.now
+            (W.seen out.old) (W.seen out.new) self.old.written self.new.written) }
+        ensures err { IfErr result (IsStoppedBy walks road.now.network (times_on road.now) query.now
+            (W.seen out.old) (W.seen out.new) self.old.written) }
+        ensures bound { OnOk result (self.new.written ≤ self.old.written + 2 ^ 90) }
+        ensures search { IfSome self.new.search (Serves road.now.network walks) }
+    {
+        match search(alloc, road, query, walks, self.search.take()) {
+            Ok(search) => {
+                self.write(alloc, road, query, search.answer(), walks, out)?;
+                self.search = Some(search);
+                Ok(())
+            }
+            Err(_) => Err(AnswerFault::OutOfMemory {
+                written: self.written,
+            }),
+        }
+    }
+}

@@ -1,0 +1,5 @@
+pub mod Steps
+pub mod Cuts
+pub mod Joined
+pub mod Fed
+pub mod Underway

@@ -1,0 +1,6 @@
+pub mod Fault
+pub mod Reading
+pub mod Borrowed
+pub mod FaultNames
+pub mod Streams
+pub mod Pieces

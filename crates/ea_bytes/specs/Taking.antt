@@ -1,0 +1,50 @@
+-- Bytes that are taken from a device, block by block.
+use Rattle.std.specs.Prelude.{◌≡◌, ◌⊎◌, ℕ, ◌+◌, ◌<◌, ◌≤◌, ◌^◌, ◌-◌, List, ◌++◌, length, IfSome, vec_len}
+use Rattle.std.specs.Io.KnownBytes.{Consumes}
+use Rattle.ea_base.specs.declared.limits.TheConstants.{MOST_INTERRUPTIONS}
+use Rattle.ea_bytes.specs.Device.{Seen, TakesAtMost}
+use Rattle.ea_bytes.specs.Outcome.{FaultCounts}
+use Rattle.ea_bytes.specs.declared.blocks.Blocks.{Blocks}
+use Rattle.ea_bytes.specs.declared.blocks.ReadFault.{ReadFault}
+use Rattle.ea_bytes.specs.declared.blocks.ReadFault.TheVariants.{TooLarge}
+
+-- Bytes grow by those that were taken from a device.
+abbrev pub Takes : Seen → Seen → List ℕ → List ℕ → Type 0
+Takes old new before after = (got : List ℕ) × (after ≡ before ++ got) × Consumes old.bytes new.bytes got
+
+-- There is room for one read.
+abbrev pub HasRoom : Blocks → Type 0
+HasRoom blocks = vec_len blocks.piece ≡ 65536
+
+-- These bytes were taken of a device since it was first seen, within a limit: what is left of it, and the interruptions so far.
+pub record IsTaken (limit : ℕ) (first now : Seen) (bytes : List ℕ) (left interruptions : ℕ) : Type 0 where
+  pub all : Consumes first.bytes now.bytes bytes
+  pub within : length bytes + left ≡ limit
+  pub borne : interruptions ≤ MOST_INTERRUPTIONS
+  pub counted : (first.interrupted + interruptions ≤ now.interrupted) ⊎ (now.interrupted ≡ 2 ^ 64 - 1)
+  pub at_most : now.interrupted ≤ first.interrupted + interruptions
+  pub failed : now.failed ≡ first.failed
+
+-- The same by what reads the device block by block.
+abbrev pub IsTakenBy : Blocks → ℕ → Seen → Seen → List ℕ → Type 0
+IsTakenBy blocks limit first now bytes = IsTaken limit first now bytes blocks.left blocks.interruptions
+
+-- A block grows by bytes that are taken after those before.
+abbrev pub GoesOnTaking : Seen → Blocks → Seen → Blocks → List ℕ → List ℕ → Type 0
+GoesOnTaking old blocks new after block grown =
+    (got : List ℕ) × (grown ≡ block ++ got)
+    × ((limit : ℕ) (first : Seen) (bytes : List ℕ) → IsTakenBy blocks limit first old bytes → IsTakenBy after limit first new (bytes ++ got))
+
+-- A block is longer than before, or one more interruption was borne.
+abbrev pub IsTakenOn : Blocks → Blocks → ℕ → ℕ → Type 0
+IsTakenOn blocks after len grown = ((len < grown) × (after.interruptions ≡ blocks.interruptions)) ⊎ ((grown ≡ len) × (blocks.interruptions < MOST_INTERRUPTIONS) × (after.interruptions ≡ blocks.interruptions + 1))
+
+-- A device that isn't read on, for this reason: its counts, at most one byte beyond the limit, and for `TooLarge` more than it.
+pub record IsStopped (limit : ℕ) (first now : Seen) (fault : ReadFault) : Type 0 where
+  pub counts : FaultCounts fault first now
+  pub taken : TakesAtMost (limit + 1) first now
+  pub too_large : fault ≡ TooLarge → IfSome first.bytes (λ left. limit < length left)
+
+-- The same of one that was read before.
+abbrev pub StopsTaking : Seen → Blocks → Seen → ReadFault → Type 0
+StopsTaking old blocks new fault = (limit : ℕ) (first : Seen) (bytes : List ℕ) → IsTakenBy blocks limit first old bytes → IsStopped limit first new fault

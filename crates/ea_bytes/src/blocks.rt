@@ -1,0 +1,252 @@
+//! All bytes of a device.
+ghost use Rattle.std.specs.Prelude.{◌≡◌, ◌<◌, ◌≤◌, ◌^◌, ◌+◌, IfOk, ◌≢◌, List, [], ℕ, Option, IfErr, IfSome, IsOkAnd, OnErr, OnOk, vec_len, IsErrOf, length, true, false};
+ghost use Rattle.std.specs.Io.KnownBytes.{Consumes, IsAtEnd};
+ghost use Rattle.ea_bytes.specs.Device.{AreAlike, HasGivenUp, Seen, TakesAtMost};
+ghost use Rattle.ea_bytes.specs.Outcome.{CountsAfter, fault_name, fault_number};
+ghost use Rattle.ea_bytes.specs.Piece.{failures_with, interruptions_with};
+ghost use Rattle.ea_bytes.specs.Taking.{GoesOnTaking, HasRoom, IsTakenBy, IsTakenOn, StopsTaking, Takes};
+ghost use Rattle.ea_bytes.specs.declared.blocks.ReadFault.TheVariants.{OutOfMemory};
+
+use crate::device::{ByteIn, DeviceFault};
+use ea_base::MOST_INTERRUPTIONS;
+use std::alloc::{AllocError, Global};
+use thiserror::Error;
+
+/// Why not all bytes of a device were read.
+#[derive(Clone, Copy, Debug, PartialEq, Eq, Error)]
+pub enum ReadFault {
+    /// There are more bytes than the limit.
+    #[error("there are more bytes than are allowed (10 TooLarge)")]
+    TooLarge,
+    /// A read failed, or the interruptions were more than 1,000.
+    #[error("the input could not be read (11 ReadFailed)")]
+    ReadFailed,
+    /// Memory for the bytes was refused.
+    #[error("there is not enough memory (13 OutOfMemory)")]
+    OutOfMemory,
+}
+
+impl ReadFault {
+    /// The number by which messages name this fault.
+    pub fn number(self) -> u8
+        ensures { result ≡ fault_number self }
+    {
+        match self {
+            ReadFault::TooLarge => 10,
+            ReadFault::ReadFailed => 11,
+            ReadFault::OutOfMemory => 13,
+        }
+    }
+
+    /// The name by which messages name this fault.
+    pub fn name(self) -> &'static str
+        ensures { result.now ≡ fault_name self }
+    {
+        match self {
+            ReadFault::TooLarge => "TooLarge",
+            ReadFault::ReadFailed => "ReadFailed",
+            ReadFault::OutOfMemory => "OutOfMemory",
+        }
+    }
+}
+
+impl From<AllocError> for ReadFault {
+    ghost from_gives = { λ _ fault. fault ≡ OutOfMemory };
+
+    fn from(_refused: AllocError) -> ReadFault {
+        ReadFault::OutOfMemory
+    }
+}
+
+/// How many bytes one read asks for at most.
+const PIECE: usize = 65_536;
+
+/// Room for a piece.
+fn room(alloc: Global, len: usize) -> Result<Vec<u8>, AllocError>
+    ensures { IfOk result (λ piece. vec_len piece ≡ len) }
+{
+    vec![in alloc; 0u8; len]
+}
+
+/// Up to how many bytes a text gets room for four times as many as there are.
+const MOST_AHEAD: usize = 67_108_864;
+
+/// Makes room for so many more bytes where there is none: for four times as many as there are, so that they are seldom moved.
+/// Where that is refused or they are very many the next growth asks for less.
+fn make_room(bytes: &mut Vec<u8>, more: usize)
+    ensures { bytes.new.items ≡ bytes.old.items }
+{
+    let len = bytes.len();
+    if len <= MOST_AHEAD && bytes.capacity() - len < more {
+        let _ = bytes.reserve((len * 3).max(more));
+    }
+}
+
+/// What one read came to.
+enum Piece {
+    Some,
+    End,
+    Fault(DeviceFault),
+}
+
+/// Appends the bytes of one read.
+fn read_piece<R: ByteIn>(
+    reader: &mut R,
+    piece: &mut [u8],
+    bytes: &mut Vec<u8>,
+) -> Result<Piece, AllocError>
+    requires { 0 < length piece.old }
+    // What was taken before and what is taken now stay together what the device had.
+    ensures taken { IfOk result (λ _. (first : Option (List ℕ)) →
+        Consumes first (R.seen reader.old).bytes bytes.old.items →
+        Consumes first (R.seen reader.new).bytes bytes.new.items) }
+    ensures more { IfOk result (λ _. Takes (R.seen reader.old) (R.seen reader.new)
+        bytes.old.items bytes.new.items) }
+    ensures some { IsOkAnd result (λ p. p ≡ Piece.Some)
+        → length bytes.old.items < length bytes.new.items }
+    ensures most { length bytes.new.items ≤ length bytes.old.items + length piece.old }
+    ensures end { IsOkAnd result (λ p. p ≡ Piece.End) → IsAtEnd (R.seen reader.new).bytes }
+    ensures kept { IsOkAnd result (λ p. p ≢ Piece.Some) → bytes.new.items ≡ bytes.old.items }
+    ensures refused { OnErr result ((bytes.new.items ≡ bytes.old.items)
+        × TakesAtMost (length piece.old) (R.seen reader.old) (R.seen reader.new)) }
+    ensures failed { IfOk result
+        (λ p. (R.seen reader.new).failed ≡ failures_with p (R.seen reader.old).failed) }
+    ensures interrupted { IfOk result (λ p.
+        (R.seen reader.new).interrupted ≡ interruptions_with p (R.seen reader.old).interrupted) }
+    ensures quiet { OnErr result (AreAlike (R.seen reader.old) (R.seen reader.new)) }
+{
+    match reader.read(piece) {
+        Ok(0) => Ok(Piece::End),
+        Ok(count) => {
+            make_room(bytes, count);
+            bytes.extend_from_slice(&piece[..count])?;
+            Ok(Piece::Some)
+        }
+        Err(fault) => Ok(Piece::Fault(fault)),
+    }
+}
+
+/// What reads a device block by block, up to a limit: room for one read, how many bytes may still be taken, and how often the device
+/// was interrupted.
+#[derive(Drop)]
+pub struct Blocks {
+    piece: Vec<u8>,
+    left: u64,
+    interruptions: u64,
+}
+
+impl Blocks {
+    /// Blocks of a device that was not read yet, of which at most so many bytes are taken.
+    pub fn new(alloc: Global, limit: u64) -> Result<Blocks, AllocError>
+        ensures { IfOk result (λ blocks. HasRoom blocks
+            × ((first : Seen) → IsTakenBy blocks limit first first [])) }
+    {
+        Ok(Blocks {
+            piece: room(alloc, PIECE)?,
+            left: limit,
+            interruptions: 0,
+        })
+    }
+
+    /// Appends the bytes of one read to a block: whether the device ended.
+    fn take<R: ByteIn>(&mut self, reader: &mut R, block: &mut Vec<u8>) -> Result<bool, ReadFault>
+        requires { HasRoom self.old }
+        ensures room { HasRoom self.new }
+        ensures more { IfOk result (λ _.
+            GoesOnTaking (R.seen reader.old) self.old (R.seen reader.new) self.new
+            block.old.items block.new.items) }
+        ensures left { OnOk result
+            (length block.new.items + self.new.left ≡ length block.old.items + self.old.left) }
+        ensures on { IfOk result (λ ended. ended ≡ false → IsTakenOn self.old self.new
+            (length block.old.items) (length block.new.items)) }
+        ensures end { IfOk result (λ ended. ended ≡ true → IsAtEnd (R.seen reader.new).bytes) }
+        ensures fault { IfErr result
+            (StopsTaking (R.seen reader.old) self.old (R.seen reader.new)) }
+    {
+        let before = block.len();
+        let wanted = self.left.min(PIECE as u64 - 1) as usize + 1;
+        let piece = &mut self.piece.as_mut_slice()[..wanted];
+        let Ok(read) = read_piece(reader, piece, block) else {
+            return Err(ReadFault::OutOfMemory);
+        };
+        let ended = match read {
+            Piece::Some => {
+                let count = (block.len() - before) as u64;
+                if count > self.left {
+                    return Err(ReadFault::TooLarge);
+                }
+                self.left -= count;
+                false
+            }
+            Piece::End => true,
+            Piece::Fault(DeviceFault::Interrupted) if self.interruptions < MOST_INTERRUPTIONS => {
+                self.interruptions += 1;
+                false
+            }
+            Piece::Fault(_) => return Err(ReadFault::ReadFailed),
+        };
+        Ok(ended)
+    }
+
+    /// Appends bytes of the device to a block until it has `size` or more, or the device ends: whether it ended.
+    ///
+    /// `TooLarge` where the device had more bytes than the limit, of which one more is taken then; `ReadFailed` where a read failed, or
+    /// was interrupted for the 1,001st time in all; `OutOfMemory` where memory for the bytes was refused.
+    pub fn fill<R: ByteIn>(
+        &mut self,
+        reader: &mut R,
+        block: &mut Vec<u8>,
+        size: usize,
+    ) -> Result<bool, ReadFault>
+        requires { HasRoom self.old }
+        ensures room { HasRoom self.new }
+        ensures more { IfOk result (λ _.
+            GoesOnTaking (R.seen reader.old) self.old (R.seen reader.new) self.new
+            block.old.items block.new.items) }
+        ensures left { OnOk result
+            (length block.new.items + self.new.left ≡ length block.old.items + self.old.left) }
+        ensures full { IfOk result (λ ended. ended ≡ false → size ≤ length block.new.items) }
+        ensures end { IfOk result (λ ended. ended ≡ true → IsAtEnd (R.seen reader.new).bytes) }
+        ensures fault { IfErr result
+            (StopsTaking (R.seen reader.old) self.old (R.seen reader.new)) }
+    {
+        while block.len() < size {
+            match self.take(reader, block) {
+                Ok(true) => return Ok(true),
+                Ok(_) => {}
+                Err(fault) => return Err(fault),
+            }
+        }
+        Ok(false)
+    }
+}
+
+/// All bytes of a device to its end.
+///
+/// `TooLarge` where there are more than `limit`, which takes `limit + 1` bytes of the device and
+/// no more; `ReadFailed` where a read failed or was interrupted for the 1,001st time;
+/// `OutOfMemory` where memory for the bytes was refused. Bytes taken before a fault are lost.
+pub fn read_all<R: ByteIn>(alloc: Global, reader: &mut R, limit: u64) -> Result<Vec<u8>, ReadFault>
+    // All bytes that the device had, and none is left.
+    ensures all { IfOk result
+        (λ bytes. IfSome (R.seen reader.old).bytes (λ left. bytes.items ≡ left)) }
+    ensures end { OnOk result (IsAtEnd (R.seen reader.new).bytes) }
+    ensures within { IfOk result (λ bytes. length bytes.items ≤ limit) }
+
+    ensures too_large { IsErrOf result ReadFault.TooLarge
+        → IfSome (R.seen reader.old).bytes (λ left. limit < length left) }
+    ensures read_failed { IsErrOf result ReadFault.ReadFailed →
+        HasGivenUp (R.seen reader.old) (R.seen reader.new) }
+
+    // What is left is the end of what there was, and at most one byte beyond the limit is taken.
+    ensures left { TakesAtMost (limit + 1) (R.seen reader.old) (R.seen reader.new) }
+    // A failure or the 1,001st interruption is a fault at once, and nothing else is ReadFailed.
+    ensures counts { CountsAfter result (R.seen reader.old) (R.seen reader.new) }
+{
+    let mut blocks = Blocks::new(alloc, limit)?;
+    let mut bytes = Vec::new(alloc);
+    match blocks.fill(reader, &mut bytes, usize::MAX) {
+        Ok(_) => Ok(bytes),
+        Err(fault) => Err(fault),
+    }
+}

@@ -1,6 +1,0 @@
-use Rattle.std.proofs.Common.{◌≡◌, take}
-use Rattle.ea_c.specs.Sessions.{starts}
-use Rattle.ea_c.proofs.queries.sources_of.Given as goal
-
-abbrev pub invariant-loop-i : goal.invariant-loop-i
-invariant-loop-i l = l.sources.items ≡ starts (take l.i l.nodes) (take l.i l.departures)

@@ -1,6 +1,0 @@
-use Rattle.std.proofs.Common.{◌≡◌, ◌<◌, ◌≤◌, ◌-◌, ℕ, length}
-use Rattle.ea_c.proofs.Telling.{AreWritten}
-use Rattle.ea_c.proofs.tellings.write_labels.Given as goal
-
-abbrev pub invariant-loop-place : goal.invariant-loop-place
-invariant-loop-place l = AreWritten l.answer l.out l.place

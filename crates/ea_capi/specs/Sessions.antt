@@ -1,0 +1,38 @@
+-- Searches as callers see them: what a query asks, what it is answered, and why it is refused.
+use Rattle.std.specs.Prelude.{◌≡◌, ◌≢◌, ℕ, ◌<◌, ◌≤◌, true, List, [], ◌∷◌, length, Option, Some, None}
+use Rattle.std.specs.List.{IsAmong}
+use Rattle.ea_base.specs.declared.limits.TheConstants.{HORIZON}
+use Rattle.ea_road.specs.declared.source.Source.{Source}
+use Rattle.ea_travel_times.specs.StepLists.{steps_in}
+use Rattle.ea_travel_times.specs.TimetableLists.{TimetablesAnswer}
+use Rattle.ea_road.specs.Roads.{IsNode}
+use Rattle.ea_road.specs.Queries.{Asking, IsAskedBy}
+use Rattle.ea_search.specs.Answers.{HasArrivals, IsAnswer}
+use Rattle.ea_load.specs.declared.road.Road.{Road}
+use Rattle.ea_capi.specs.declared.handle.content.Session.{Session}
+use Rattle.ea_capi.specs.States.{road_of}
+
+-- When an arc of the road arrives.
+abbrev pub answers_on : Road → ℕ → ℕ → ℕ → ℕ → Type 0
+answers_on road = TimetablesAnswer road.times.list.items (steps_in road.times.steps)
+
+-- A source among so many nodes: one of these, and a departure within the horizon.
+pub record IsStart (nodes : ℕ) (source : Source) : Type 0 where
+  pub node : IsNode nodes source.node
+  pub departure : source.departure ≤ HORIZON
+
+-- Nodes with their departures.
+abbrev pub starts : List ℕ → List ℕ → List Source
+starts [] departures = []
+starts (node ∷ nodes) [] = []
+starts (node ∷ nodes) (departure ∷ departures) = record { node = node; departure = departure } ∷ starts nodes departures
+
+-- The search has the answer of a query on its road, and where it has room for walks the canonical ones.
+pub record IsAnswered (query : Asking) (session : Session) : Type 0 where
+  pub arrivals : HasArrivals (road_of session).network (answers_on (road_of session)) query session.search.answer
+  pub walks : session.walks ≡ true → IsAnswer (road_of session).network (answers_on (road_of session)) query session.search.answer
+
+-- A search is of the same road and room.
+pub record IsSame (old new : Session) : Type 0 where
+  pub road : road_of new ≡ road_of old
+  pub walks : new.walks ≡ old.walks

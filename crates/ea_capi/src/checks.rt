@@ -1,0 +1,161 @@
+//! The checker of reports.
+ghost use Rattle.std.specs.Prelude.{◌≡◌, ◌↔◌, ◌<◌, ◌≤◌, All, IsTrue, Some, length};
+ghost use Rattle.ea_check.specs.Checked.{AreCheckable, IsChecked, sources_of};
+ghost use Rattle.ea_check.specs.Form.{lines_of_report};
+ghost use Rattle.ea_capi.specs.Checks.{IsAnswerTo, IsJudged, IsToldOf, IsVerdict, refused_by, told_of_check};
+ghost use Rattle.ea_capi.specs.States.{road_in};
+
+use crate::handle::content::Content;
+use crate::handle::handle::Handle;
+use crate::fault_numbers::{BEYOND_HORIZON, DONE, Fault, NO_ROAD, NO_SUCH_NODE, OUT_OF_MEMORY};
+use ea_check::{CheckFault, check, is_checkable};
+use ea_load::{Road, departures_fit, run_queries};
+use ea_base::HORIZON;
+use ea_road::Query;
+use std::alloc::Global;
+
+/// When the searches of a report start.
+#[repr(C)]
+#[derive(Clone, Copy, Debug, PartialEq, Eq)]
+pub struct Starts {
+    /// When the first node departs.
+    pub depart: u64,
+    /// By how much each next one departs later.
+    pub gap: u64,
+    /// 0 where each node is a problem of its own; else all are one.
+    pub joint: u32,
+}
+
+/// A fault of a report as callers are told of it: 30 and its number, and 13 for want of memory.
+fn tell_of_check(fault: CheckFault) -> Fault
+    ensures { result ≡ told_of_check fault }
+{
+    match fault {
+        CheckFault::BadLine(line) => Fault {
+            line,
+            number: 31,
+            text: 3,
+        },
+        CheckFault::NotAttained(line) => Fault {
+            line,
+            number: 32,
+            text: 3,
+        },
+        CheckFault::NotLeast(line) => Fault {
+            line,
+            number: 33,
+            text: 3,
+        },
+        CheckFault::OutOfMemory => Fault {
+            line: 0,
+            number: OUT_OF_MEMORY,
+            text: 0,
+        },
+        CheckFault::NotCanonical(line) => Fault {
+            line,
+            number: 35,
+            text: 3,
+        },
+    }
+}
+
+/// A refusal with no text's fault.
+pub(crate) fn refusal(number: u32) -> Fault
+    ensures { result ≡ refused_by number }
+{
+    Fault {
+        line: 0,
+        number,
+        text: 0,
+    }
+}
+
+/// What a checked report comes to.
+fn verdict(alloc: Global, road: &Road, queries: &[Query], report: &[u8]) -> Fault
+    requires { AreCheckable road.now.network (length road.now.times.list.items) queries.now }
+    ensures { IsVerdict road.now (sources_of queries.now) (lines_of_report report.now) result }
+{
+    match check(alloc, &road.network, &road.times, queries, report) {
+        Ok(_) => refusal(DONE),
+        Err(fault) => tell_of_check(fault),
+    }
+}
+
+/// What a report of queries on a road comes to, where they are queries on it.
+fn judge(alloc: Global, road: &Road, queries: &[Query], report: &[u8]) -> Fault
+    ensures { IsJudged road.now queries.now (lines_of_report report.now) result }
+{
+    if !is_checkable(&road.network, road.times.classes(), queries) {
+        return refusal(NO_SUCH_NODE);
+    }
+    verdict(alloc, road, queries, report)
+}
+
+/// Whether numbers are from 1 on.
+fn are_numbered(nodes: &[u32]) -> bool
+    ensures { IsTrue result ↔ All (λ node. 0 < node) nodes.now }
+{
+    nodes.iter().all(|node| *node > 0)
+}
+
+/// What a report comes to, of problems from nodes that depart one after the other, where these are problems on the road.
+fn judge_run(alloc: Global, road: &Road, nodes: &[u32], starts: &Starts, report: &[u8]) -> Fault
+    ensures { IsAnswerTo road.now starts.now nodes.now (lines_of_report report.now) result }
+{
+    let Starts { depart, gap, joint } = *starts;
+    if depart > HORIZON || gap > HORIZON || !departures_fit(nodes.len(), depart, gap) {
+        return refusal(BEYOND_HORIZON);
+    }
+    if !are_numbered(nodes) {
+        return refusal(NO_SUCH_NODE);
+    }
+    match run_queries(alloc, nodes, joint > 0, depart, gap) {
+        Ok(queries) => judge(alloc, road, &queries, report),
+        Err(_) => refusal(OUT_OF_MEMORY),
+    }
+}
+
+/// What a report comes to by a content's road.
+fn judge_on(
+    alloc: Global,
+    content: &Content,
+    nodes: &[u32],
+    starts: &Starts,
+    report: &[u8],
+) -> Fault
+    ensures { IsToldOf (road_in (Some content.now)) starts.now nodes.now
+        (lines_of_report report.now) result }
+{
+    match content {
+        Content::Road(terrain) => judge_run(alloc, &terrain.road, nodes, starts, report),
+        _ => refusal(NO_ROAD),
+    }
+}
+
+/// Checks a report on a road, of searches from these nodes that depart as `starts` says.
+///
+/// The number is 0 where the report is right. Where it isn't, `fault` tells the line of its first fault, and the number is 31
+/// BadLine, 32 NotAttained, 33 NotLeast or 35 NotCanonical.
+#[unsafe(no_mangle)]
+pub extern "C" fn earliest_check(
+    alloc: Global,
+    road: &mut Handle,
+    nodes: &[u32],
+    starts: &Starts,
+    report: &[u8],
+    fault: &mut Fault,
+) -> u32
+    ensures same { road.new.value ≡ road.old.value }
+    ensures number { result ≡ fault.new.number }
+    ensures told { IsToldOf (road_in road.old.value) starts.now nodes.now
+        (lines_of_report report.now) fault.new }
+{
+    let Some(content) = road.take(alloc) else {
+        *fault = refusal(NO_ROAD);
+        return NO_ROAD;
+    };
+    let found = judge_on(alloc, &content, nodes, starts, report);
+    road.put(content);
+    *fault = found;
+    found.number
+}

@@ -1,0 +1,228 @@
+//! Roads of lists that a caller has.
+ghost use Rattle.std.specs.Prelude.{◌≡◌, ◌↔◌, ◌≤◌, IfErr, IfOk, IsTrue, length};
+ghost use Rattle.ea_input.specs.TableViews.{table as table_of};
+ghost use Rattle.ea_road.specs.Roads.{IsNetwork, top_class};
+ghost use Rattle.ea_travel_times.specs.StepLists.{steps_in};
+ghost use Rattle.ea_travel_times.specs.Timetables.{AreFit};
+ghost use Rattle.ea_load.specs.declared.file_fault.FileWord.TheVariants.{Tp};
+ghost use Rattle.ea_load.specs.Files.{IsFaultAs};
+ghost use Rattle.ea_load.specs.Given.{IsTableOf};
+ghost use Rattle.ea_load.specs.Texts.{IsTableFault, text_if_any};
+ghost use Rattle.ea_capi.specs.Lists.{AreEven, IsMade, IsNoRoad, IsNoRoadWith, IsRoadOfLists, IsRoadWith, arc_lists, arcs_to};
+
+use crate::checks::refusal;
+use crate::handle::handle::Handle;
+use crate::fault_numbers::{Fault, LENGTHS_DIFFER, OUT_OF_MEMORY, OUT_OF_RANGE, tell};
+use crate::road::roads::keep;
+use ea_load::{FileFault, FileWord, Road};
+use ea_base::RawTable;
+use ea_blocks::{FaultKind, InputFault};
+use ea_input::read_tp;
+use ea_base::MOST_ARCS;
+use ea_road::{Arc, Network};
+use ea_travel_times::Timetables;
+use std::alloc::{AllocError, Global};
+
+/// The lists of a network's arcs: of each its tail, its head and its weight, and its class, which is 0 where the list is empty.
+#[derive(Clone, Copy)]
+pub struct Lists<'a> {
+    pub tails: &'a [u32],
+    pub heads: &'a [u32],
+    pub weights: &'a [u32],
+    pub classes: &'a [u32],
+}
+
+/// Whether the lists have one length; that of classes may be empty.
+fn are_even(lists: Lists<'_>) -> bool
+    ensures { IsTrue result ↔ AreEven (arc_lists lists.entry) }
+{
+    let count = lists.tails.len();
+    if lists.heads.len() != count || lists.weights.len() != count {
+        return false;
+    }
+    lists.classes.len() == 0 || lists.classes.len() == count
+}
+
+/// The arcs of lists.
+fn arcs_in(alloc: Global, lists: Lists<'_>) -> Result<Vec<Arc>, AllocError>
+    requires { AreEven (arc_lists lists) }
+    ensures { IfOk result (λ arcs.
+        arcs.items ≡ arcs_to (length lists.entry.tails.now) (arc_lists lists.entry)) }
+{
+    let mut arcs = Vec::with_capacity(alloc, lists.tails.len())?;
+    for i in 0..lists.tails.len() {
+        arcs.push(Arc {
+            tail: lists.tails[i],
+            head: lists.heads[i],
+            weight: lists.weights[i],
+            class: match lists.classes.get(i) {
+                Some(class) => *class,
+                None => 0,
+            },
+        })?;
+    }
+    Ok(arcs)
+}
+
+/// The line of a text with these nodes and arcs that makes no network: that of its problem, or of the first arc whose ends
+/// aren't nodes.
+fn unfit_line(nodes: u32, arcs: &[Arc]) -> u64 {
+    if !Network::fits(nodes, &[]) || arcs.len() > MOST_ARCS as usize {
+        return 1;
+    }
+    for i in 0..arcs.len() {
+        if !Network::fits(nodes, &arcs[i..i + 1]) {
+            return i as u64 + 2;
+        }
+    }
+    1
+}
+
+/// The fault of a text of timetables as that of its file.
+fn fault_of(fault: InputFault) -> FileFault
+    ensures { IsFaultAs Tp fault result }
+{
+    if fault.kind == FaultKind::OutOfMemory {
+        FileFault::OutOfMemory
+    } else {
+        FileFault::Input {
+            file: FileWord::Tp,
+            fault,
+        }
+    }
+}
+
+/// The timetables of a text that assigns no classes; none of an empty one.
+fn table_in(alloc: Global, tp: &[u8]) -> Result<RawTable, FileFault>
+    ensures denoted { IfOk result (λ found. IsTableOf 0 (text_if_any tp.now) (table_of found)) }
+    ensures fault { IfErr result (IsTableFault 0 tp.now) }
+{
+    if tp.len() == 0 {
+        return Ok(RawTable {
+            kinds: Vec::new(alloc),
+            assigned: Vec::new(alloc),
+            steps: Vec::new(alloc),
+        });
+    }
+    match read_tp(alloc, tp, 0) {
+        Ok(table) => Ok(table),
+        Err(fault) => Err(fault_of(fault)),
+    }
+}
+
+/// A network with timetables.
+fn joined(alloc: Global, nodes: u32, arcs: Vec<Arc>, table: RawTable) -> Result<Road, AllocError>
+    requires network { IsNetwork (record { nodes = nodes; arcs = arcs.items }) }
+    requires table { AreFit table.kinds.items table.steps.items }
+    ensures network { IfOk result (λ road. road.network
+        ≡ record { nodes = nodes; arcs = arcs.items }) }
+    ensures times { IfOk result (λ road. (road.times.list.items ≡ table.kinds.items)
+        × (steps_in road.times.steps ≡ table.steps.items)) }
+{
+    let times = Timetables::with_steps(alloc, table.kinds, table.steps)?;
+    let network = Network::new(alloc, nodes, arcs)?;
+    Ok(Road { network, times })
+}
+
+/// A road whose timetables have the class of each arc.
+fn classed(road: Road) -> Result<Road, Fault>
+    ensures same { IfOk result (λ it. it ≡ road) }
+    ensures classed { IfOk result (λ it. top_class it.network.arcs ≤ length it.times.list.items) }
+    ensures refused { IfErr result (λ fault.
+        (top_class road.network.arcs ≤ length road.times.list.items → ⊥)
+        × (fault ≡ record { line = 0; number = 6; text = 2 })) }
+{
+    if road.network.top_class() as usize > road.times.classes() {
+        return Err(Fault {
+            line: 0,
+            number: OUT_OF_RANGE,
+            text: 2,
+        });
+    }
+    Ok(road)
+}
+
+/// The road of a network's arcs and a text of timetables.
+fn road_with(alloc: Global, nodes: u32, arcs: Vec<Arc>, tp: &[u8]) -> Result<Road, Fault>
+    requires { IsNetwork (record { nodes = nodes; arcs = arcs.items }) }
+    ensures road { IfOk result (IsRoadWith (record { nodes = nodes; arcs = arcs.items }) tp.now) }
+    ensures classed { IfOk result (λ it. top_class it.network.arcs ≤ length it.times.list.items) }
+    ensures refused { IfErr result
+        (IsNoRoadWith (record { nodes = nodes; arcs = arcs.items }) tp.now) }
+{
+    let table = match table_in(alloc, tp) {
+        Ok(table) => table,
+        Err(fault) => return Err(tell(fault)),
+    };
+    match joined(alloc, nodes, arcs, table) {
+        Ok(road) => classed(road),
+        Err(_) => Err(refusal(OUT_OF_MEMORY)),
+    }
+}
+
+/// The road of lists and a text of timetables.
+fn road_of(alloc: Global, nodes: u32, lists: Lists<'_>, tp: &[u8]) -> Result<Road, Fault>
+    ensures road { IfOk result (IsRoadOfLists nodes (arc_lists lists.entry) tp.now) }
+    ensures classed { IfOk result (λ it. top_class it.network.arcs ≤ length it.times.list.items) }
+    ensures refused { IfErr result (IsNoRoad nodes (arc_lists lists.entry) tp.now) }
+{
+    if !are_even(lists) {
+        return Err(refusal(LENGTHS_DIFFER));
+    }
+    let Ok(arcs) = arcs_in(alloc, lists) else {
+        return Err(refusal(OUT_OF_MEMORY));
+    };
+    if !Network::fits(nodes, &arcs) {
+        return Err(Fault {
+            line: unfit_line(nodes, &arcs),
+            number: OUT_OF_RANGE,
+            text: 1,
+        });
+    }
+    road_with(alloc, nodes, arcs, tp)
+}
+
+/// Makes the road of lists: of so many nodes, and of arcs with these tails, heads, weights and classes, where an empty list
+/// of classes makes all 0, the plain one; and of the text of timetables, which has kinds and assigns none.
+///
+/// The handle holds the road afterwards; what it held before is let go. Else it is as it was, the number is that of the
+/// fault, and `fault` tells the line that a text of the same network would have it in.
+#[unsafe(no_mangle)]
+pub extern "C" fn earliest_road_of_lists(
+    alloc: Global,
+    nodes: u32,
+    tails: &[u32],
+    heads: &[u32],
+    weights: &[u32],
+    classes: &[u32],
+    tp: &[u8],
+    road: &mut Handle,
+    fault: &mut Fault,
+) -> u32
+    ensures number { result ≡ fault.new.number }
+    ensures made { IsMade nodes (record {
+      tails = tails.now;
+      heads = heads.now;
+      weights = weights.now;
+      classes = classes.now;
+    })
+        tp.now road.old.value road.new.value fault.new }
+{
+    let lists = Lists {
+        tails,
+        heads,
+        weights,
+        classes,
+    };
+    match road_of(alloc, nodes, lists, tp) {
+        Ok(found) => {
+            let number = keep(alloc, found, road);
+            *fault = refusal(number);
+            number
+        }
+        Err(found) => {
+            *fault = found;
+            found.number
+        }
+    }
+}

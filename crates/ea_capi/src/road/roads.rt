@@ -1,0 +1,126 @@
+//! Roads: made of texts, counted, let go.
+ghost use Rattle.std.specs.Prelude.{◌≡◌, ◌≤◌, ℕ, length, None, MatchOption, IfOk, Some};
+ghost use Rattle.ea_road.specs.Roads.{top_class};
+ghost use Rattle.ea_capi.specs.Roads.{IsKept, IsRead};
+ghost use Rattle.ea_capi.specs.States.{road_in};
+
+use crate::handle::content::{Content, Terrain};
+use crate::handle::handle::Handle;
+use crate::fault_numbers::{DONE, Fault, OUT_OF_MEMORY, tell};
+use ea_load::{Road, road_of_texts};
+use std::alloc::{AllocError, Global};
+use std::sync::Arc;
+
+/// A road in a box of its own.
+fn boxed(alloc: Global, road: Road) -> Result<Box<Content, Global>, AllocError>
+    requires { top_class road.network.arcs ≤ length road.times.list.items }
+    ensures { IfOk result (λ it. road_in (Some it.value) ≡ Some road) }
+{
+    let terrain = Arc::new(alloc, Terrain { road })?;
+    Ok(Box::new(alloc, Content::Road(terrain))?)
+}
+
+/// Puts a road into a handle.
+pub(crate) fn keep(alloc: Global, road: Road, handle: &mut Handle) -> u32
+    requires { top_class road.network.arcs ≤ length road.times.list.items }
+    ensures { IsKept road handle.old.value handle.new.value result }
+{
+    match boxed(alloc, road) {
+        Ok(content) => {
+            handle.put(content);
+            DONE
+        }
+        Err(_) => OUT_OF_MEMORY,
+    }
+}
+
+/// Makes the road of the text of a network and of that of its timetables; an empty text of timetables is none.
+///
+/// The handle holds the road afterwards; what it held before is let go. Where the texts have a fault, or memory is
+/// refused, it is as it was, the number is the fault's, and `fault` tells its text and its line.
+#[unsafe(no_mangle)]
+pub extern "C" fn earliest_road_read(
+    alloc: Global,
+    gr: &[u8],
+    tp: &[u8],
+    road: &mut Handle,
+    fault: &mut Fault,
+) -> u32
+    ensures { IsRead gr.now tp.now road.old.value road.new.value fault.new result }
+{
+    match road_of_texts(alloc, gr, tp) {
+        Ok(found) => {
+            let number = keep(alloc, found, road);
+            *fault = Fault {
+                line: 0,
+                number,
+                text: 0,
+            };
+            number
+        }
+        Err(found) => {
+            *fault = tell(found);
+            fault.number
+        }
+    }
+}
+
+/// How many nodes a content's road has.
+fn nodes_of(content: &Content) -> u32
+    ensures { MatchOption (road_in (Some content.now)) (result ≡ 0)
+        (λ road. result ≡ road.network.nodes) }
+{
+    match content {
+        Content::Road(terrain) => terrain.road.network.nodes(),
+        _ => 0,
+    }
+}
+
+/// How many arcs a content's road has.
+fn arcs_of(content: &Content) -> u32
+    ensures { MatchOption (road_in (Some content.now)) (result ≡ 0)
+        (λ road. result ≡ length road.network.arcs) }
+{
+    match content {
+        Content::Road(terrain) => terrain.road.network.arcs().len() as u32,
+        _ => 0,
+    }
+}
+
+/// The number of a road's nodes; 0 where the handle holds no road.
+#[unsafe(no_mangle)]
+pub extern "C" fn earliest_road_nodes(alloc: Global, road: &mut Handle) -> u32
+    ensures same { road.new.value ≡ road.old.value }
+    ensures nodes { MatchOption (road_in road.old.value) (result ≡ 0)
+        (λ it. result ≡ it.network.nodes) }
+{
+    let Some(content) = road.take(alloc) else {
+        return 0;
+    };
+    let nodes = nodes_of(&content);
+    road.put(content);
+    nodes
+}
+
+/// The number of a road's arcs; 0 where the handle holds no road.
+#[unsafe(no_mangle)]
+pub extern "C" fn earliest_road_arcs(alloc: Global, road: &mut Handle) -> u32
+    ensures same { road.new.value ≡ road.old.value }
+    ensures arcs { MatchOption (road_in road.old.value) (result ≡ 0)
+        (λ it. result ≡ length it.network.arcs) }
+{
+    let Some(content) = road.take(alloc) else {
+        return 0;
+    };
+    let arcs = arcs_of(&content);
+    road.put(content);
+    arcs
+}
+
+/// Lets a road go: the handle holds nothing afterwards. The searches that were made on the road keep their shares of it.
+#[unsafe(no_mangle)]
+pub extern "C" fn earliest_road_free(alloc: Global, road: &mut Handle)
+    ensures { road.new.value ≡ None }
+{
+    let _ = road.take(alloc);
+}

@@ -1,0 +1,7 @@
+//! Searches of C: begun, asked, and their answers.
+
+pub mod arrivals;
+pub mod begin;
+pub mod queries;
+pub mod sessions;
+pub mod walks;

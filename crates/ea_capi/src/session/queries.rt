@@ -1,0 +1,201 @@
+//! Queries on searches.
+ghost use Rattle.std.specs.Prelude.{◌≡◌, ◌≢◌, ◌↔◌, ◌≤◌, ◌<◌, ℕ, [], ◌∷◌, IfOk, IfErr, None, Some, true, IsTrue, length, take};
+ghost use Rattle.ea_road.specs.declared.source.Source.{Source};
+ghost use Rattle.ea_road.specs.Roads.{IsNode};
+ghost use Rattle.ea_capi.specs.Sessions.{IsStart, starts};
+ghost use Rattle.ea_capi.specs.Calls.{AreGoodStarts, AreStarts, IsDone, IsDoneOrScarce, IsFound, IsPair, IsQueried, from_starts, from_to};
+ghost use Rattle.ea_capi.specs.States.{road_of, session_in};
+
+use crate::handle::content::{Content, Session};
+use crate::handle::handle::Handle;
+use crate::fault_numbers::{DONE, LENGTHS_DIFFER, NO_SEARCH, NO_SUCH_NODE, OUT_OF_MEMORY};
+use ea_base::HORIZON;
+use ea_road::{Query, Source};
+use std::alloc::{AllocError, Global};
+
+impl Session {
+    /// Answers one pair.
+    fn find_pair(self, source: u32, departure: u64, target: u32) -> (Session, u32)
+        ensures found { result.1 ≡ 0 → IsFound (from_to source departure target) self
+            result.0 result.1 }
+        ensures refused { result.1 ≢ 0 → result.0 ≡ self }
+        ensures pair { IsPair (road_of self)
+            (record { node = source; departure = departure }) target
+            → result.1 ≡ 0 }
+    {
+        let number = self.refusal(source, departure);
+        if number != DONE {
+            return (self, number);
+        }
+        if target == 0 || target > self.nodes() {
+            return (self, NO_SUCH_NODE);
+        }
+        let query = Query::pair(
+            Source {
+                node: source,
+                departure,
+            },
+            target,
+        );
+        (self.find(&query), DONE)
+    }
+}
+
+/// What a search answers one pair; no search is there in other contents.
+fn pair_of(content: Content, source: u32, departure: u64, target: u32) -> (Content, u32)
+    ensures { IsQueried
+        (λ it. IsPair (road_of it) (record { node = source; departure = departure }) target) IsDone
+        (from_to source departure target) (session_in (Some content))
+        (Some content) (Some result.0) result.1 }
+{
+    match content {
+        Content::Search(session) => {
+            let (session, number) = session.find_pair(source, departure, target);
+            (Content::Search(session), number)
+        }
+        other => (other, NO_SEARCH),
+    }
+}
+
+/// Searches from a source, departing at a time of at most HORIZON, to one target.
+///
+/// The search keeps the answer, which `earliest_search_arrival` and `earliest_search_walk` tell for the target. Where the
+/// number isn't 0 the search is as it was.
+#[unsafe(no_mangle)]
+pub extern "C" fn earliest_search_pair(
+    alloc: Global,
+    search: &mut Handle,
+    source: u32,
+    departure: u64,
+    target: u32,
+) -> u32
+    ensures { IsQueried
+        (λ it. IsPair (road_of it) (record { node = source; departure = departure }) target) IsDone
+        (from_to source departure target) (session_in search.old.value)
+        search.old.value search.new.value result }
+{
+    let Some((room, content)) = search.empty_out(alloc) else {
+        return NO_SEARCH;
+    };
+    let (content, number) = pair_of(content, source, departure, target);
+    search.fill(room, content);
+    number
+}
+
+/// Nodes and their departures as sources.
+fn sources_of(alloc: Global, nodes: &[u32], departures: &[u64]) -> Result<Vec<Source>, AllocError>
+    requires { length nodes.now ≡ length departures.now }
+    ensures { IfOk result (λ sources. sources.items ≡ starts nodes.now departures.now) }
+{
+    let mut sources = Vec::with_capacity(alloc, nodes.len())?;
+    for i in 0..nodes.len() {
+        sources.push(Source {
+            node: nodes[i],
+            departure: departures[i],
+        })?;
+    }
+    Ok(sources)
+}
+
+/// Whether a source is one among so many nodes.
+fn is_start(nodes: u32, source: Source) -> bool
+    ensures { IsTrue result ↔ IsStart nodes source }
+{
+    0 < source.node && source.node <= nodes && source.departure <= HORIZON
+}
+
+/// Whether sources are some among so many nodes.
+fn are_starts(nodes: u32, sources: &[Source]) -> bool
+    ensures { IsTrue result ↔ AreStarts nodes sources.now }
+{
+    for source in sources {
+        if !is_start(nodes, *source) {
+            return false;
+        }
+    }
+    true
+}
+
+impl Session {
+    /// Why sources are not those of its road: the first refusal's number.
+    fn refusal_of(&self, sources: &[Source]) -> u32
+        ensures { result ≢ 0 }
+    {
+        for source in sources {
+            let number = self.refusal(source.node, source.departure);
+            if number != DONE {
+                return number;
+            }
+        }
+        NO_SUCH_NODE
+    }
+
+    /// Answers what is asked from sources.
+    fn find_from(self, sources: Vec<Source>) -> (Session, u32)
+        ensures found { result.1 ≡ 0 →
+            IsFound (record { sources = sources.items; target = None }) self result.0 result.1 }
+        ensures refused { result.1 ≢ 0 → result.0 ≡ self }
+        ensures good { AreStarts (road_of self).network.nodes sources.items → result.1 ≡ 0 }
+    {
+        if !are_starts(self.nodes(), &sources) {
+            let number = self.refusal_of(&sources);
+            return (self, number);
+        }
+        let query = Query::new(sources);
+        (self.find(&query), DONE)
+    }
+
+    /// Answers what is asked from nodes at departures.
+    fn find_starts(self, alloc: Global, nodes: &[u32], departures: &[u64]) -> (Session, u32)
+        ensures found { result.1 ≡ 0 →
+            IsFound (from_starts nodes.now departures.now) self result.0 result.1 }
+        ensures refused { result.1 ≢ 0 → result.0 ≡ self }
+        ensures good { AreGoodStarts nodes.now departures.now self → IsDoneOrScarce result.1 }
+    {
+        if nodes.len() != departures.len() {
+            return (self, LENGTHS_DIFFER);
+        }
+        match sources_of(alloc, nodes, departures) {
+            Ok(sources) => self.find_from(sources),
+            Err(_) => (self, OUT_OF_MEMORY),
+        }
+    }
+}
+
+/// What a search answers from nodes at departures; no search is there in other contents.
+fn starts_of(alloc: Global, content: Content, nodes: &[u32], departures: &[u64]) -> (Content, u32)
+    ensures { IsQueried (AreGoodStarts nodes.now departures.now) IsDoneOrScarce
+        (from_starts nodes.now departures.now) (session_in (Some content))
+        (Some content) (Some result.0) result.1 }
+{
+    match content {
+        Content::Search(session) => {
+            let (session, number) = session.find_starts(alloc, nodes, departures);
+            (Content::Search(session), number)
+        }
+        other => (other, NO_SEARCH),
+    }
+}
+
+/// Searches from these nodes, each departing at its time of at most HORIZON, to all nodes. Both lists have one length, which may be
+/// 0: then no node is reached.
+///
+/// The search keeps the answer, which the calls that tell of it give. Where the number isn't 0 the search is as it was.
+#[unsafe(no_mangle)]
+pub extern "C" fn earliest_search_from(
+    alloc: Global,
+    search: &mut Handle,
+    nodes: &[u32],
+    departures: &[u64],
+) -> u32
+    ensures { IsQueried (AreGoodStarts nodes.now departures.now) IsDoneOrScarce
+        (from_starts nodes.now departures.now) (session_in search.old.value)
+        search.old.value search.new.value result }
+{
+    let Some((room, content)) = search.empty_out(alloc) else {
+        return NO_SEARCH;
+    };
+    let (content, number) = starts_of(alloc, content, nodes, departures);
+    search.fill(room, content);
+    number
+}

@@ -1,0 +1,12 @@
+use Rattle.std.proofs.Common.{◌≡◌, ◌≤◌, ◌+◌, ◌||◌, drop}
+use Rattle.ea_check.specs.Counted.{ends_blank, has_other, starts}
+use Rattle.ea_check.proofs.form.number_count.found_in.Given as goal
+
+-- What is found so far and what the bytes that are left have are together what the piece has.
+abbrev pub invariant-loop-b : goal.invariant-loop-b
+invariant-loop-b l = record {
+  few : l.starts ≤ l.b-index;
+  starts : l.starts + starts l.blank (drop l.b-index l.piece) ≡ starts l.before l.piece;
+  other : (l.other || has_other (drop l.b-index l.piece)) ≡ has_other l.piece;
+  blank : ends_blank l.blank (drop l.b-index l.piece) ≡ ends_blank l.before l.piece;
+}

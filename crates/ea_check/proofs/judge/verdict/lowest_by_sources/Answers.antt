@@ -1,0 +1,24 @@
+use Rattle.std.proofs.Common.{arith}
+use Rattle.ea_check.specs.Verdicts.{Improves, reported_time}
+use Rattle.ea_check.proofs.Judged.{still_found, still_passed}
+use Rattle.ea_check.proofs.Sourced.{source_is_node, item_among}
+use Rattle.ea_check.proofs.judge.verdict.lowest_by_sources.Goals as goal
+
+pub lower_by_source-lowest-requires-clause-source : goal.lower_by_source-lowest-requires-clause-source
+lower_by_source-lowest-requires-clause-source g c =
+    item_among c.args.query.now.sources c.sources-source-items.result.now c.loop-source.source-index (record { node = 0; departure = 0 }) c.sources-source-items.ensures.sources c.loop-source-test.true
+
+pub lower_by_source-lowest-requires-clause-node : goal.lower_by_source-lowest-requires-clause-node
+lower_by_source-lowest-requires-clause-node g c =
+    source_is_node c.args.network.now.nodes c.args.query.now.sources c.sources-source-items.result.now c.loop-source.source-index _ (record { node = 0; departure = 0 }) c.requires.task.starts c.sources-source-items.ensures.sources c.loop-source-test.true c.requires.formed.each_node
+
+pub loop-source-preserved : goal.loop-source-preserved
+loop-source-preserved g c =
+    let was = c.loop-source.invariant in
+    let now = c.lower_by_source-lowest.ensures in
+    let time = reported_time c.args.reported.now in
+    record {
+      lower = omega (arith, was.lower, now.lower);
+      found = still_found (Improves c.args.network.now (g.T.TravelTimes.answers c.args.times.now) c.args.query.now.sources time) c.loop-source.lowest _ c.args.above was.found now.found;
+      passed = still_passed c.sources-source-items.result.now time c.loop-source.source-index c.loop-source.lowest _ (record { node = 0; departure = 0 }) c.loop-source-test.true now.lower was.passed now.passed;
+    }

@@ -1,8 +1,0 @@
-use Rattle.std.proofs.Common.{◌≤◌, length}
-use Rattle.ea_check.proofs.reported.Reported.walks.Given as goal
-
-abbrev pub invariant-loop-said : goal.invariant-loop-said
-invariant-loop-said l = record {
-  few : l.walks ≤ l.said-index;
-  inside : l.said-index ≤ length l.self;
-}

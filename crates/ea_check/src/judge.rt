@@ -1,0 +1,5 @@
+//! The verdict on a report whose form is right.
+
+pub mod canonical_walk;
+pub mod verdict;
+pub mod walk_sources;

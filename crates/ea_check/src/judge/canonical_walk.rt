@@ -1,0 +1,99 @@
+//! Written walks beside the links.
+ghost use Rattle.std.specs.Prelude.{◌≡◌, ◌<◌, ◌↔◌, IfOk, IsTrue, drop, false, length};
+ghost use Rattle.ea_road.specs.Roads.{IsNode};
+ghost use Rattle.ea_search.specs.declared.link.TheConstants.{NO_LEVEL};
+ghost use Rattle.ea_search.specs.Links.{link, linked_walk};
+ghost use Rattle.ea_paths.specs.Stored.{AreFollowable};
+ghost use Rattle.ea_bytes.specs.Text.{fields_of};
+ghost use Rattle.ea_check.specs.Form.{AreShort, arcs_of};
+
+use crate::form::walk_arcs::read_arcs;
+use ea_search::Link;
+use ea_report::ArcTexts;
+use std::alloc::{AllocError, Global};
+
+/// Whether the arcs are those that the links of a node lead along.
+fn is_linked_walk(links: &[Link], node: u32, arcs: &[u32]) -> bool
+    requires node { IsNode (length links.now) node }
+    requires followable { AreFollowable links.now }
+    requires level { (link links.now node).level < NO_LEVEL }
+    ensures { IsTrue result ↔ (arcs.now ≡ linked_walk links.now node) }
+{
+    if arcs.len() != links[node as usize - 1].level as usize {
+        return false;
+    }
+    let mut left = arcs.len();
+    let mut at = node;
+    'back: while left > 0 {
+        let link = links[at as usize - 1];
+        if link.arc != arcs[left - 1] {
+            return false;
+        }
+        at = link.from;
+        left -= 1;
+    }
+    true
+}
+
+/// Whether a text of arcs is that one, without the space that stands before its first arc.
+fn is_spaced(text: &[u8], spaced: &[u8]) -> bool
+    ensures { IsTrue result ↔ (text.now ≡ drop 1 spaced.now) }
+{
+    match spaced {
+        [] => text.is_empty(),
+        [_, arcs @ ..] => text == arcs,
+    }
+}
+
+/// Compares written walks with those along links.
+#[derive(Drop)]
+pub(crate) struct Comparing<'a> {
+    /// The text of the arcs along the links of the last node.
+    pub texts: ArcTexts<'a>,
+    /// The arcs of the last walk that was not written in the same way.
+    pub arcs: Vec<u32>,
+}
+
+impl<'a> Comparing<'a> {
+    /// No walk yet.
+    pub(crate) fn new(alloc: Global, links: &'a [Link]) -> Comparing<'a>
+        ensures { result.texts.links ≡ links.now }
+    {
+        Comparing {
+            texts: ArcTexts::new(alloc, links),
+            arcs: Vec::new(alloc),
+        }
+    }
+
+    /// Whether the text of a walk's arcs is that of the arcs that the links of a node lead along. Where it is not, its arcs are
+    /// kept. Texts are compared first, and arcs only where a walk is written in another way or is another.
+    ///
+    /// It takes time in proportion to the text.
+    pub(crate) fn is_canonical(
+        &mut self,
+        links: &[Link],
+        node: u32,
+        text: &[u8],
+    ) -> Result<bool, AllocError>
+        requires links { self.old.texts.links ≡ links.now }
+        requires short { AreShort (linked_walk links.now node) }
+        requires node { IsNode (length links.now) node }
+        requires followable { AreFollowable links.now }
+        requires level { (link links.now node).level < NO_LEVEL }
+        ensures links { self.new.texts.links ≡ links.now }
+        ensures same { IfOk result
+            (λ same. IsTrue same ↔ (arcs_of (fields_of text.now) ≡ linked_walk links.now node)) }
+        ensures arcs { IfOk result
+            (λ same. same ≡ false → self.new.arcs.items ≡ arcs_of (fields_of text.now)) }
+    {
+        // A walk's text is no shorter than the walk, so a text that is shorter is not worth going along the links.
+        if links[node as usize - 1].level as usize <= text.len() {
+            self.texts.go_to(node)?;
+            if is_spaced(text, self.texts.text()) {
+                return Ok(true);
+            }
+        }
+        read_arcs(text, &mut self.arcs)?;
+        Ok(is_linked_walk(links, node, &self.arcs))
+    }
+}

@@ -1,0 +1,255 @@
+//! What is wrong with a report of one problem whose form is right.
+ghost use Rattle.std.specs.Prelude.{◌≡◌, ◌≤◌, ◌<◌, ◌⊎◌, ℕ, MatchOption, OnOk, length};
+ghost use Rattle.std.specs.List.{IsAmong};
+ghost use Rattle.ea_base.specs.declared.limits.TheConstants.{HORIZON};
+ghost use Rattle.ea_road.specs.declared.arc.Arc.{Arc};
+ghost use Rattle.ea_road.specs.Roads.{IsArc, IsNode};
+ghost use Rattle.ea_search.specs.Links.{AreLinks};
+ghost use Rattle.ea_check.specs.Starts.{AreOrdered};
+ghost use Rattle.ea_check.specs.Nodes.{IsFirstOther, IsOtherAt};
+ghost use Rattle.ea_check.specs.Verdicts.{AreUnimproved, Improves, IsFirst, IsNotLeast, IsReported, IsTask, IsVerdict, IsWellFormed, reported_time};
+
+use crate::judge::canonical_walk::Comparing;
+use crate::fault::CheckFault;
+use crate::form::reported::Reported;
+use crate::judge::walk_sources::attains;
+use ea_search::{Link, NO_LEVEL};
+use ea_base::HORIZON;
+use ea_road::{NONE, Network, Query, Source};
+use ea_travel_times::TravelTimes;
+use std::alloc::Global;
+
+/// A node's `w` line that is not the canonical walk, where the node's lines are attained. Else the first that is not.
+fn other_at<T: TravelTimes>(
+    network: &Network,
+    times: &T,
+    query: &Query,
+    ordered: &[Source],
+    reported: &Reported,
+    links: &[Link],
+    node: u32,
+    walks: &mut Comparing,
+) -> Result<Option<u64>, CheckFault>
+    requires task { IsTask network.now (T.classes times.now) query.now.sources }
+    requires ordered { AreOrdered query.now.sources ordered.now }
+    requires formed { IsWellFormed network.now.nodes reported.now }
+    requires links { AreLinks network.now (T.answers times.now) query.now.sources
+        (IsReported reported.now) links.now }
+    requires node { IsNode network.now.nodes node }
+    requires walks { walks.old.texts.links ≡ links.now }
+    ensures other { IsOtherAt network.now
+        (T.answers times.now) query.now.sources reported.now node result }
+    ensures walks { OnOk result (walks.new.texts.links ≡ links.now) }
+{
+    let time = reported.time(node);
+    if time == NONE {
+        return Ok(None);
+    }
+    if links[node as usize - 1].level == NO_LEVEL {
+        return Err(CheckFault::NotAttained(reported.line(node)));
+    }
+    let Some((line, text)) = reported.walk(node) else {
+        return Ok(None);
+    };
+    if walks.is_canonical(links, node, text)? {
+        return Ok(None);
+    }
+    if attains(network, times, query, ordered, node, time, &walks.arcs) {
+        Ok(Some(line))
+    } else {
+        Err(CheckFault::NotAttained(line))
+    }
+}
+
+/// The first `w` line that is not the canonical walk, where all lines are attained. Else the first that is not.
+fn first_other<T: TravelTimes>(
+    alloc: Global,
+    network: &Network,
+    times: &T,
+    query: &Query,
+    ordered: &[Source],
+    reported: &Reported,
+    links: &[Link],
+) -> Result<Option<u64>, CheckFault>
+    requires task { IsTask network.now (T.classes times.now) query.now.sources }
+    requires ordered { AreOrdered query.now.sources ordered.now }
+    requires formed { IsWellFormed network.now.nodes reported.now }
+    requires links { AreLinks network.now (T.answers times.now) query.now.sources
+        (IsReported reported.now) links.now }
+    ensures { IsFirstOther network.now (T.answers times.now) query.now.sources reported.now result }
+{
+    let mut walks = Comparing::new(alloc, links);
+    let mut first = None;
+    for node in 1..network.nodes() + 1 {
+        let other = other_at(
+            network, times, query, ordered, reported, links, node, &mut walks,
+        )?;
+        first = first.or(other);
+    }
+    Ok(first)
+}
+
+/// The lower of a node and the head of an arc, where that arc improves the head's reported time.
+fn lower_by_arc<T: TravelTimes>(
+    network: &Network,
+    times: &T,
+    query: &Query,
+    reported: &Reported,
+    number: u32,
+    lowest: u32,
+) -> u32
+    requires task { IsTask network.now (T.classes times.now) query.now.sources }
+    requires formed { IsWellFormed network.now.nodes reported.now }
+    requires from_one { 0 < number }
+    requires to_last { number ≤ length network.now.arcs }
+    ensures lower { result ≤ lowest }
+    ensures found { (result ≡ lowest)
+        ⊎ Improves network.now (T.answers times.now) query.now.sources
+        (reported_time reported.now) result }
+    ensures passed { (arc : Arc) (arrival : ℕ) → IsArc network.now number arc
+        → reported_time reported.now arc.tail ≤ HORIZON
+        → T.answers times.now arc.class arc.weight (reported_time reported.now arc.tail) arrival
+        → arrival ≤ HORIZON → arrival < reported_time reported.now arc.head → result ≤ arc.head }
+{
+    let arc = network.arc(number);
+    let departure = reported.time(arc.tail);
+    if departure == NONE || lowest <= arc.head {
+        return lowest;
+    }
+    let arrival = times.arrive(arc.class, u64::from(arc.weight), departure);
+    if arrival <= HORIZON && arrival < reported.time(arc.head) {
+        arc.head
+    } else {
+        lowest
+    }
+}
+
+/// The lowest node whose reported time an arc improves, or the node given where none below it is.
+fn lowest_by_arcs<T: TravelTimes>(
+    network: &Network,
+    times: &T,
+    query: &Query,
+    reported: &Reported,
+    above: u32,
+) -> u32
+    requires task { IsTask network.now (T.classes times.now) query.now.sources }
+    requires formed { IsWellFormed network.now.nodes reported.now }
+    ensures lower { result ≤ above }
+    ensures found { (result ≡ above)
+        ⊎ Improves network.now (T.answers times.now) query.now.sources
+        (reported_time reported.now) result }
+    ensures passed { (number : ℕ) (arc : Arc) (arrival : ℕ) → IsArc network.now number arc
+        → reported_time reported.now arc.tail ≤ HORIZON
+        → T.answers times.now arc.class arc.weight (reported_time reported.now arc.tail) arrival
+        → arrival ≤ HORIZON → arrival < reported_time reported.now arc.head → result ≤ arc.head }
+{
+    let mut lowest = above;
+    for number in 1..network.arcs().len() as u32 + 1 {
+        lowest = lower_by_arc(network, times, query, reported, number, lowest);
+    }
+    lowest
+}
+
+/// The lower of a node and a source's node, where that source improves the node's reported time.
+fn lower_by_source<T: TravelTimes>(
+    network: &Network,
+    times: &T,
+    query: &Query,
+    reported: &Reported,
+    source: Source,
+    lowest: u32,
+) -> u32
+    requires task { IsTask network.now (T.classes times.now) query.now.sources }
+    requires formed { IsWellFormed network.now.nodes reported.now }
+    requires source { IsAmong query.now.sources source }
+    requires node { IsNode (length reported.now) source.node }
+    ensures lower { result ≤ lowest }
+    ensures found { (result ≡ lowest)
+        ⊎ Improves network.now (T.answers times.now) query.now.sources
+        (reported_time reported.now) result }
+    ensures passed { source.departure < reported_time reported.now source.node
+        → result ≤ source.node }
+{
+    if lowest <= source.node {
+        return lowest;
+    }
+    if source.departure < reported.time(source.node) {
+        source.node
+    } else {
+        lowest
+    }
+}
+
+/// The lowest node whose reported time a source improves, or the node given where none below it is.
+fn lowest_by_sources<T: TravelTimes>(
+    network: &Network,
+    times: &T,
+    query: &Query,
+    reported: &Reported,
+    above: u32,
+) -> u32
+    requires task { IsTask network.now (T.classes times.now) query.now.sources }
+    requires formed { IsWellFormed network.now.nodes reported.now }
+    ensures lower { result ≤ above }
+    ensures found { (result ≡ above)
+        ⊎ Improves network.now (T.answers times.now) query.now.sources
+        (reported_time reported.now) result }
+    ensures passed { (source : Source) → IsAmong query.now.sources source
+        → source.departure < reported_time reported.now source.node → result ≤ source.node }
+{
+    let mut lowest = above;
+    for source in query.sources() {
+        lowest = lower_by_source(network, times, query, reported, *source, lowest);
+    }
+    lowest
+}
+
+/// The first `d` line that a source or an arc improves.
+fn first_not_least<T: TravelTimes>(
+    network: &Network,
+    times: &T,
+    query: &Query,
+    reported: &Reported,
+) -> Option<u64>
+    requires task { IsTask network.now (T.classes times.now) query.now.sources }
+    requires formed { IsWellFormed network.now.nodes reported.now }
+    ensures { MatchOption result
+        (AreUnimproved network.now (T.answers times.now) query.now.sources reported.now)
+        (λ line. IsFirst (IsNotLeast network.now
+        (T.answers times.now) query.now.sources reported.now) line) }
+{
+    let above = network.nodes() + 1;
+    let by_sources = lowest_by_sources(network, times, query, reported, above);
+    let lowest = lowest_by_arcs(network, times, query, reported, by_sources);
+    if lowest == above {
+        None
+    } else {
+        Some(reported.line(lowest))
+    }
+}
+
+/// What is wrong with a report of one problem, by the links of its reported times.
+pub(crate) fn judge<T: TravelTimes>(
+    alloc: Global,
+    network: &Network,
+    times: &T,
+    query: &Query,
+    ordered: &[Source],
+    reported: &Reported,
+    links: &[Link],
+) -> Result<(), CheckFault>
+    requires task { IsTask network.now (T.classes times.now) query.now.sources }
+    requires ordered { AreOrdered query.now.sources ordered.now }
+    requires formed { IsWellFormed network.now.nodes reported.now }
+    requires links { AreLinks network.now (T.answers times.now) query.now.sources
+        (IsReported reported.now) links.now }
+    ensures { IsVerdict network.now (T.answers times.now) query.now.sources reported.now result }
+{
+    if let Some(line) = first_other(alloc, network, times, query, ordered, reported, links)? {
+        return Err(CheckFault::NotCanonical(line));
+    }
+    match first_not_least(network, times, query, reported) {
+        Some(line) => Err(CheckFault::NotLeast(line)),
+        None => Ok(()),
+    }
+}

@@ -1,0 +1,146 @@
+//! What is said after the line of a fault: what it means and what to do.
+use crate::files::{Sources, Unopened};
+use crate::source::{SHOWN, Source};
+use ea_load::AnswerFault;
+use ea_check::CheckFault;
+use ea_messages::{fault_named, look_of, reason_of, wanted_of_line};
+use ea_load::FileWord;
+use ea_blocks::InputFault;
+use ea_bytes::ReadFault;
+use ea_messages::Outcome;
+use ea_bytes::without_return;
+use ea_options::bad_value_of;
+use std::io::ErrorKind;
+
+/// Says something on standard error, indented.
+fn remark(rt: &HostRuntime, text: &str) {
+    let _ = eprintln!(rt; "  {text}");
+}
+
+/// Says something of a file.
+fn remark_on(rt: &HostRuntime, name: &str, text: &str) {
+    let name = if name == "-" { "standard input" } else { name };
+    let _ = eprintln!(rt; "  {name}: {text}");
+}
+
+/// Why a file can't be opened.
+pub(crate) fn explain_unopened(rt: &HostRuntime, unopened: &Unopened<'_>) {
+    remark_on(rt, unopened.name, reason_of(unopened.reason));
+}
+
+/// Which option's value is bad, and its limits.
+pub(crate) fn explain_words(rt: &HostRuntime, words: &[String]) {
+    match bad_value_of(rt.alloc(), words) {
+        None => remark(rt, "- is standard input, which one file alone can be"),
+        Some(bad) => {
+            let (option, value, least, most) = (bad.option, bad.value, bad.least, bad.most);
+            let _ = eprintln!(rt;
+                "  --{option} {value}: it has to be a whole number from {least} to {most}"
+            );
+            if value.contains(':') {
+                remark(
+                    rt,
+                    "times are counted in the units of the weights: 8:00 is 28800 where these are seconds",
+                );
+            }
+        }
+    }
+}
+
+/// A line as it is shown: at most 120 columns, with ? in place of what is no printable ASCII.
+fn shown(rt: &HostRuntime, line: &[u8]) -> Option<String> {
+    let mut text = String::new(rt.alloc());
+    for byte in without_return(line).iter().take(SHOWN) {
+        let shown = match byte {
+            b'\t' => ' ',
+            b' '..=b'~' => char::from(*byte),
+            _ => '?',
+        };
+        text.push(shown).ok()?;
+    }
+    Some(text)
+}
+
+/// Shows a line of a file, and answers it where it can be read again.
+fn show_line(rt: &HostRuntime, source: &mut Source<'_>, number: u64) -> Option<Vec<u8>> {
+    let name = source.name;
+    let line = source.line(rt.alloc(), number)?;
+    let text = shown(rt, &line)?;
+    let _ = eprintln!(rt; "  {name}, line {number}: {text}");
+    Some(line)
+}
+
+/// What is wrong with a file's text.
+fn explain_text(rt: &HostRuntime, file: FileWord, fault: InputFault, source: &mut Source<'_>) {
+    if let Some(look) = look_of(source.front()) {
+        remark_on(rt, source.name, look.advice());
+        return;
+    }
+    let line = show_line(rt, source, fault.line);
+    let line = match &line {
+        Some(line) => without_return(line),
+        None => &[],
+    };
+    remark(rt, wanted_of_line(file, fault.kind, line));
+}
+
+/// Why a file can't be read.
+fn explain_read(rt: &HostRuntime, fault: ReadFault, source: &Source<'_>) {
+    match (fault, source.refusal) {
+        (ReadFault::TooLarge, _) => remark_on(rt, source.name, "it has more than 8589934592 bytes"),
+        (_, Some(reason)) => remark_on(rt, source.name, reason_of(reason)),
+        (_, None) => remark_on(rt, source.name, "it was interrupted too often"),
+    }
+}
+
+/// Why a report is refused.
+fn explain_check(rt: &HostRuntime, fault: CheckFault, sources: &mut Sources<'_>) {
+    if let Some(line) = fault.line() {
+        if let Some(report) = sources.named(FileWord::Report) {
+            let _ = show_line(rt, report, line);
+        }
+    }
+    if let Some(found) = fault_named(fault.name()) {
+        remark(rt, found.meaning);
+    }
+}
+
+/// Why the output can't be written.
+pub(crate) fn explain_write(rt: &HostRuntime, reason: Option<ErrorKind>) {
+    match reason {
+        Some(reason) => remark_on(rt, "the output", reason_of(reason)),
+        None => remark_on(rt, "the output", "it takes nothing more"),
+    }
+}
+
+/// What the fault of a command means that has files.
+pub(crate) fn explain_outcome(
+    rt: &HostRuntime,
+    outcome: &Outcome,
+    sources: &mut Sources<'_>,
+    reason: Option<ErrorKind>,
+) {
+    match outcome {
+        Outcome::Answer(AnswerFault::Read { file, fault }) => {
+            if let Some(source) = sources.named(*file) {
+                explain_read(rt, *fault, source);
+            }
+        }
+        Outcome::Answer(AnswerFault::Input { file, fault }) => {
+            if let Some(source) = sources.named(*file) {
+                explain_text(rt, *file, *fault, source);
+            }
+        }
+        Outcome::Answer(AnswerFault::BadOption) => remark(
+            rt,
+            "a departure, --depart and so many times --gap, is above 281474976710655: make these less",
+        ),
+        Outcome::Answer(AnswerFault::Write { .. }) => explain_write(rt, reason),
+        Outcome::Answer(AnswerFault::OutOfMemory { .. }) => remark(
+            rt,
+            "memory was refused: look at `ulimit -a`, or take fewer workers by --workers",
+        ),
+        Outcome::Check(fault) => explain_check(rt, *fault, sources),
+        Outcome::Command(_) | Outcome::Unopened(_) | Outcome::Accepted => {}
+    }
+}

@@ -1,0 +1,192 @@
+//! The files that a command names, opened in their order.
+ghost use Rattle.std.specs.Prelude.{◌≡◌, IfOk, MatchOption, is_some};
+ghost use Rattle.ea_messages.specs.Named.{HasFiles};
+
+use crate::output::Output;
+use crate::source::Source;
+use ea_load::FileWord;
+use ea_bytes::StdIn;
+use ea_messages::Opened;
+use ea_options::Command;
+use std::io::ErrorKind;
+
+/// A file that can't be opened: its word and name, and the system's reason.
+#[derive(Clone, Copy)]
+pub struct Unopened<'a> {
+    pub(crate) word: FileWord,
+    pub(crate) name: &'a str,
+    pub(crate) reason: ErrorKind,
+}
+
+/// The names of a command's files.
+#[derive(Clone, Copy)]
+pub struct Names<'a> {
+    gr: &'a str,
+    /// Which file says where searches start.
+    word: FileWord,
+    starts: &'a str,
+    tp: Option<&'a str>,
+    /// The report that is to be checked.
+    pub report: Option<&'a str>,
+    /// The file that the report goes to.
+    output: Option<&'a str>,
+}
+
+/// The names of a command's files; none where it names no files.
+pub fn names_of<'a>(command: &Command<'a>) -> Option<Names<'a>>
+    ensures { MatchOption result (Rattle.std.specs.Prelude.⊤)
+        (λ names. HasFiles command.now names.report) }
+{
+    match *command {
+        Command::Stored | Command::Explain { .. } | Command::Formats => None,
+        Command::Run {
+            gr,
+            ss,
+            tp,
+            output,
+            ..
+        }
+        | Command::Rank {
+            gr,
+            ss,
+            tp,
+            output,
+            ..
+        } => Some(Names {
+            gr,
+            word: FileWord::Ss,
+            starts: ss,
+            tp,
+            report: None,
+            output,
+        }),
+        Command::Pairs {
+            gr,
+            p2p,
+            tp,
+            output,
+            ..
+        } => Some(Names {
+            gr,
+            word: FileWord::P2p,
+            starts: p2p,
+            tp,
+            report: None,
+            output,
+        }),
+        Command::Check {
+            gr,
+            ss,
+            tp,
+            report,
+            ..
+        } => Some(Names {
+            gr,
+            word: FileWord::Ss,
+            starts: ss,
+            tp,
+            report: Some(report),
+            output: None,
+        }),
+    }
+}
+
+/// The files of a command.
+#[derive(Drop)]
+pub struct Sources<'a> {
+    gr: Source<'a>,
+    word: FileWord,
+    starts: Source<'a>,
+    tp: Option<Source<'a>>,
+    report: Option<Source<'a>>,
+}
+
+/// Opens a file; where that can't be done, the error tells which it is and why.
+fn open<'a>(rt: &HostRuntime, word: FileWord, name: &'a str) -> Result<Source<'a>, Unopened<'a>> {
+    match Source::open(rt, name) {
+        Ok(source) => Ok(source),
+        Err(reason) => Err(Unopened { word, name, reason }),
+    }
+}
+
+/// Opens a file that may be left out.
+fn open_if_named<'a>(
+    rt: &HostRuntime,
+    word: FileWord,
+    name: Option<&'a str>,
+) -> Result<Option<Source<'a>>, Unopened<'a>>
+    ensures { IfOk result (λ file. is_some file ≡ is_some name.entry) }
+{
+    match name {
+        None => Ok(None),
+        Some(name) => match open(rt, word, name) {
+            Ok(file) => Ok(Some(file)),
+            Err(unopened) => Err(unopened),
+        },
+    }
+}
+
+/// Opens the files of a command, in their order.
+pub fn open_all<'a>(rt: &HostRuntime, names: &Names<'a>) -> Result<Sources<'a>, Unopened<'a>>
+    ensures { IfOk result (λ files. is_some files.report ≡ is_some names.now.report) }
+{
+    let gr = open(rt, FileWord::Gr, names.gr)?;
+    let starts = open(rt, names.word, names.starts)?;
+    let tp = open_if_named(rt, FileWord::Tp, names.tp)?;
+    let report = open_if_named(rt, FileWord::Report, names.report)?;
+    Ok(Sources {
+        gr,
+        word: names.word,
+        starts,
+        tp,
+        report,
+    })
+}
+
+/// Opens what the report goes to; where that can't be done, the error tells why.
+pub fn open_output<'a>(rt: &HostRuntime, names: &Names<'a>) -> Result<Output, Unopened<'a>> {
+    match Output::open(rt, names.output) {
+        Ok(output) => Ok(output),
+        Err(reason) => Err(Unopened {
+            word: FileWord::Out,
+            name: names.output.unwrap_or("-"),
+            reason,
+        }),
+    }
+}
+
+/// A reader of a file that may be left out.
+fn reader<'a, 'b>(source: &'b mut Option<Source<'a>>) -> Option<StdIn<&'b mut Source<'a>>>
+    ensures { is_some result ≡ is_some source.old }
+{
+    match source {
+        None => None,
+        Some(source) => Some(StdIn::new(source)),
+    }
+}
+
+impl<'a> Sources<'a> {
+    /// The readers of the files.
+    pub fn readers(&mut self) -> Opened<StdIn<&mut Source<'a>>>
+        ensures { is_some result.report ≡ is_some self.old.report }
+    {
+        Opened {
+            gr: StdIn::new(&mut self.gr),
+            starts: StdIn::new(&mut self.starts),
+            tp: reader(&mut self.tp),
+            report: reader(&mut self.report),
+        }
+    }
+
+    /// The file of a word, where the command has it.
+    pub(crate) fn named(&mut self, word: FileWord) -> Option<&mut Source<'a>> {
+        match word {
+            FileWord::Gr => Some(&mut self.gr),
+            FileWord::Tp => self.tp.as_mut(),
+            FileWord::Report => self.report.as_mut(),
+            FileWord::Out => None,
+            FileWord::Ss | FileWord::P2p if word == self.word => Some(&mut self.starts),
+            FileWord::Ss | FileWord::P2p => None,
+        }
+    }
+}

@@ -1,0 +1,79 @@
+//! How it is told what a command came to, and with which status.
+use crate::explanations::{explain_outcome, explain_unopened, explain_words, explain_write};
+use crate::files::{Sources, Unopened};
+use crate::output::Output;
+use crate::pages::show_text;
+use ea_load::AnswerFault;
+use ea_bytes::StdOut;
+use ea_messages::{Outcome, say};
+use ea_options::CommandFault;
+
+/// The status where the output can't be written and nobody is there to read the line that says so.
+const LEFT: u8 = 4;
+
+/// Tells an outcome, and answers the status: what was asked for goes to standard output, the rest to standard error.
+pub fn tell(rt: &HostRuntime, outcome: &Outcome) -> u8 {
+    match outcome.asked_text() {
+        Some(text) => show_text(rt, text),
+        None => say(outcome, &mut StdOut::new(rt.stderr())),
+    }
+}
+
+/// Tells why words ask for nothing, and answers the status. Where faults are explained, a bad value is.
+pub fn refuse(rt: &HostRuntime, words: &[String], fault: CommandFault, explains: bool) -> u8 {
+    let explains = explains && matches!(fault, CommandFault::BadOption);
+    let status = tell(rt, &Outcome::Command(fault));
+    if explains {
+        explain_words(rt, words);
+    }
+    status
+}
+
+/// Tells that a file can't be opened, and answers the status.
+pub fn tell_unopened(rt: &HostRuntime, unopened: &Unopened<'_>, explains: bool) -> u8 {
+    let status = tell(rt, &Outcome::Unopened(unopened.word));
+    if explains {
+        explain_unopened(rt, unopened);
+    }
+    status
+}
+
+/// Tells what a command came to that had files, and answers the status; where nothing is to be told, a whole report is put in its
+/// place.
+pub fn tell_end(
+    rt: &HostRuntime,
+    outcome: Option<Outcome>,
+    sources: &mut Sources<'_>,
+    output: &Output,
+    explains: bool,
+) -> u8 {
+    let Some(outcome) = outcome else {
+        return tell_put(rt, output, explains);
+    };
+    let reason = output.refusal;
+    let is_left = output.is_left();
+    output.leave(rt);
+    if is_left && matches!(outcome, Outcome::Answer(AnswerFault::Write { .. })) {
+        return LEFT;
+    }
+    let status = tell(rt, &outcome);
+    if explains {
+        explain_outcome(rt, &outcome, sources, reason);
+    }
+    status
+}
+
+/// Puts a whole report in its place, and tells where that can't be done.
+fn tell_put(rt: &HostRuntime, output: &Output, explains: bool) -> u8 {
+    match output.put_in_place(rt) {
+        Ok(()) => 0,
+        Err(reason) => {
+            let written = output.written;
+            let status = tell(rt, &Outcome::Answer(AnswerFault::Write { written }));
+            if explains {
+                explain_write(rt, Some(reason));
+            }
+            status
+        }
+    }
+}

@@ -1,6 +1,0 @@
-use Rattle.ea_drafts.specs.Drafts.{IsDraftAt}
-use Rattle.ea_drafts.proofs.ahead.report_ahead.Given as goal
-
--- the drafts of the problems of this call
-abbrev pub ghosts-report_asked : goal.ghosts-report_asked
-ghosts-report_asked g a = record { fits = IsDraftAt a.job.plan.walks a.job.road.now a.job.queries.now }

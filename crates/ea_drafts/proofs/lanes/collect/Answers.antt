@@ -1,7 +1,0 @@
-use Rattle.std.specs.Prelude.{is_ok}
-use Rattle.ea_drafts.proofs.Piling.{piled_more}
-use Rattle.ea_drafts.proofs.lanes.collect.Goals as goal
-
-pub loop-preserved : goal.loop-preserved
-loop-preserved g c =
-    piled_more c.args.job c.loop.pile.items c.push.new.self.items c.in-Some.made (is_ok c.push.result) c.loop.invariant c.in-Some.ensures c.push.ensures.items

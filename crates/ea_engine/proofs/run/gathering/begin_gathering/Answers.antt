@@ -1,0 +1,42 @@
+use Rattle.std.proofs.Common.{[], ◌∷◌, ◌++◌, ◌∙◌, ap, arith}
+use Rattle.ea_engine.specs.Worked.{back_of}
+use Rattle.ea_engine.proofs.JoinLemmas.{waits_hand}
+use Rattle.ea_engine.proofs.RowedLemmas.{waits_first}
+use Rattle.ea_engine.proofs.run.gathering.begin_gathering.Goals as goal
+
+pub returns-clause-gathered : goal.returns-clause-gathered
+returns-clause-gathered g c =
+    let e = c.requires.end in
+    let hand = c.args.end.hand in
+    let k = c.keep_hand.ensures in
+    record {
+      fit = e.fit;
+      gathered = record {
+        back = e.handed.back ++ back_of hand;
+        refused = e.handed.refused ++ hand.fresh.items;
+        closed = e.handed.closed;
+        waits = waits_hand e.handed.back e.handed.refused hand _ _ e.handed.waits k.kept k.popped k.taken k.fresh;
+      };
+      nodes = k.room ∙ c.requires.nodes;
+      offered = e.offered;
+      counters_are = c.push_reserved.ensures.items ∙ ap (λ xs. xs ++ c.args.end.counters ∷ []) c.requires.results.counters;
+      rngs_are = c.push_reserved-2.ensures.items ∙ ap (λ xs. xs ++ c.args.end.rng ∷ []) c.requires.results.rngs;
+      tracers_are = c.push_reserved-3.ensures.items ∙ ap (λ xs. xs ++ c.args.end.tracer ∷ []) c.requires.results.tracers;
+      pushed_is = omega (arith, e.pushed_is);
+      pushed_few = omega (arith, e.pushed_is, e.pushed_few);
+      popped_is = omega (arith, e.popped_is);
+      returned_is = omega (arith, c.from.ensures);
+      returned_few = omega (arith, c.from.ensures, e.returned_is, e.returned_few);
+      few = omega (arith, c.from.ensures, e.returned_is, k.few, c.requires.few);
+      some = λ more. k.some (waits_first _ c.args.seeds.returned _ _ c.requires.some (omega (arith, c.from.ensures, e.returned_is)) more);
+    }
+
+pub keep_hand-requires-clause-taken : goal.keep_hand-requires-clause-taken
+keep_hand-requires-clause-taken g c = λ entry inside.
+    let is = c.requires.end.inside.taken entry inside in
+    (is.from_one, omega (arith, is.to_last, c.requires.nodes))
+
+pub keep_hand-requires-clause-fresh : goal.keep_hand-requires-clause-fresh
+keep_hand-requires-clause-fresh g c = λ entry inside.
+    let is = c.requires.end.inside.fresh entry inside in
+    (is.from_one, omega (arith, is.to_last, c.requires.nodes))

@@ -1,5 +1,0 @@
-use Rattle.ea_engine.proofs.WorkLemmas.{IsVisit-saw}
-use Rattle.ea_engine.proofs.taking.visit_first.Goals as goal
-
-pub returns-clause-visit : goal.returns-clause-visit
-returns-clause-visit g c = IsVisit-saw _ _ _ _ _ _ _ _ _ _ _ c.read_ahead.ensures.saw c.visit_taken.ensures.visit

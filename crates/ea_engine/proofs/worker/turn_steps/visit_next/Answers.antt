@@ -1,0 +1,17 @@
+use Rattle.std.proofs.Common.{arith}
+use Rattle.std.proofs.lemmas.Bool.Decides.{nat_tests}
+use Rattle.ea_engine.proofs.HoldLemmas.{nothing}
+use Rattle.ea_engine.proofs.TurnLemmas.{IsTurn-visited}
+use Rattle.ea_engine.proofs.worker.turn_steps.visit_next.Goals as goal
+
+pub pop_and_visit-requires-clause-taken : goal.pop_and_visit-requires-clause-taken
+pop_and_visit-requires-clause-taken g c κs outlives = nothing _ (grind (arith, nat_tests))
+
+pub visit_taken-requires-clause-taken : goal.visit_taken-requires-clause-taken
+visit_taken-requires-clause-taken g c κs outlives = (grind (arith, nat_tests), c.requires.taken.1)
+
+pub returns-clause-turn : goal.returns-clause-turn
+returns-clause-turn g c = IsTurn-visited _ _ _ _ _ _ _ c.visit_taken.ensures.visit c.requires.taken.0
+
+pub returns-clause-pushes : goal.returns-clause-pushes
+returns-clause-pushes g c = c.visit_taken.ensures.visit.pushes

@@ -1,0 +1,47 @@
+//! Laws of a run, as functions that do nothing.
+ghost use Rattle.std.specs.Prelude.{◌≡◌, ℕ, ◌↔◌};
+ghost use Rattle.ea_travel_times.specs.Answers.{IsFifo};
+ghost use Rattle.ea_road.specs.Arrivals.{Reaches};
+ghost use Rattle.ea_road.specs.Queries.{IsProblem};
+ghost use Rattle.ea_engine.specs.Grounds.{IsGround};
+ghost use Rattle.ea_engine.specs.Problems.{IsNamed};
+ghost use Rattle.ea_engine.specs.Opened.{FinishMayBegin, NothingOpenIsLost};
+
+use crate::run::ground::Ground;
+use crate::run::problem::Posed;
+use ea_pool::EntryHeap;
+use ea_road::Known;
+use ea_travel_times::TravelTimes;
+use std::alloc::Global;
+
+/// Whatever the interleaving: once all seats are joined and both tables closed, each labelled node is satisfied at its
+/// label, or its entry was left or handed back, or its label is above the target's.
+pub fn nothing_open_is_lost<K: Known + Posed>()
+    ensures { NothingOpenIsLost K.is_known K.problem }
+{}
+
+/// So the finishing pass may begin where the nodes of these entries wait.
+pub fn finish_may_begin<K: Known + Posed>()
+    requires names { (node time : ℕ) → K.is_known node time
+        ↔ Reaches K.problem.network K.problem.answers K.problem.query.sources node time }
+    ensures { FinishMayBegin K.is_known K.problem }
+{}
+
+/// Travel times are first in, first out.
+pub fn times_are_fifo<T: TravelTimes>(times: &T)
+    ensures { IsFifo (T.answers times.now) (T.classes times.now) }
+{}
+
+/// What workers read is the ground of the problem that `K` names, where the label table has a place for each node. That a
+/// network is one and that travel times are first in, first out comes with their types.
+pub fn ground_is_laid<K: Known + Posed, E: EntryHeap, T: TravelTimes>(ground: &Ground<'_, K, T, E>)
+    requires problem { IsProblem ground.now.network.now (T.classes ground.now.times.now)
+        ground.now.query.now }
+    requires named { IsNamed K.is_known K.problem ground.now.network.now
+        (T.answers ground.now.times.now) ground.now.query.now }
+    requires places { ground.now.labels.now.nodes ≡ ground.now.network.now.nodes }
+    ensures { IsGround K.is_known K.problem T.answers T.classes ground.now }
+{
+    ground.network.keeps_limits();
+    times_are_fifo(ground.times);
+}

@@ -1,0 +1,67 @@
+//! From the seats that the workers leave to the condition of the finishing pass.
+ghost use Rattle.std.specs.Prelude.{◌≡◌, ◌+◌, ◌<◌, ◌≤◌, ◌^◌, length};
+ghost use Rattle.ea_base.specs.declared.limits.TheConstants.{SHARES as LABEL_SHARES};
+ghost use Rattle.ea_base.specs.declared.limits.TheConstants.{SHARES};
+ghost use Rattle.ea_search.specs.Underway.{IsUnderway};
+ghost use Rattle.ea_engine.specs.Gathered.{IsGathered};
+ghost use Rattle.ea_engine.specs.Opened.{AreOffered};
+ghost use Rattle.ea_engine.specs.Problems.{IsPosed};
+ghost use Rattle.ea_engine.specs.Seated.{tables, AreSeatsOf};
+
+use crate::run::drained::drain;
+use crate::worker::means::Seats;
+use crate::run::problem::Posed;
+use ea_search::Open;
+use ea_labels::Labels;
+use ea_pool::{EntryHeap, Pool};
+use ea_road::Known;
+use std::alloc::Global;
+
+/// A table of labels, and the nodes that are to be scanned.
+#[derive(Drop)]
+pub struct Settled {
+    pub table: Vec<u64>,
+    pub todo: Open,
+    /// How many entries were left in the pool.
+    pub drained: u128,
+}
+
+/// Closes both tables, and lets the node of each entry wait that is left.
+pub fn settle<K: Known + Posed, E: EntryHeap>(
+    labels: Labels<K>,
+    pool: Pool<K, Global, E>,
+    seats: Seats<K, E>,
+    mut todo: Open,
+) -> Settled
+    requires posed { IsPosed K.is_known K.problem }
+    requires places { labels.nodes ≡ K.problem.network.nodes }
+    requires fit { AreSeatsOf (tables labels pool) seats.label_seat seats.pool_seat }
+    requires label_shares { seats.label_seat.history.shares ≡ LABEL_SHARES }
+    requires pool_shares { seats.pool_seat.account.shares ≡ SHARES }
+    requires room { todo.nodes ≡ labels.nodes }
+    requires gathered { IsGathered K.problem seats.label_seat.history
+        seats.pool_seat.account todo.waiting }
+    requires few { length seats.pool_seat.account.pushed < 2 ^ 127 }
+    requires offered { AreOffered K.problem.query.sources seats.label_seat.history }
+    ensures underway { IsUnderway K.problem.network K.problem.answers K.problem.query
+        result.table.items result.todo.waiting }
+    ensures room { result.todo.nodes ≡ K.problem.network.nodes }
+    ensures walks { result.todo.walks ≡ todo.walks }
+    ensures drained { length seats.pool_seat.account.pushed
+        ≡ length seats.pool_seat.account.popped + result.drained }
+    ensures few { length result.todo.waiting ≤ length todo.waiting + result.drained }
+    ensures some { 0 < length todo.waiting + result.drained → 0 < length result.todo.waiting }
+{
+    let Seats {
+        label_seat,
+        pool_seat,
+    } = seats;
+    let table = labels.close(label_seat);
+    let closed = pool.close(pool_seat);
+    let drained = drain(closed, &mut todo);
+    Settled {
+        table,
+        todo,
+        drained,
+    }
+}

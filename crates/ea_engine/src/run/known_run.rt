@@ -1,0 +1,116 @@
+//! A run up to its least arrivals, where the problem and the known pairs are named.
+ghost use Rattle.std.specs.Prelude.{◌≡◌, ℕ, ◌↔◌, true, IfOk};
+ghost use Rattle.ea_road.specs.Arrivals.{Reaches};
+ghost use Rattle.ea_road.specs.Queries.{IsProblem};
+ghost use Rattle.ea_search.specs.Underway.{IsFinished};
+ghost use Rattle.ea_engine.specs.Problems.{IsNamed};
+ghost use Rattle.ea_engine.specs.Runs.{IsCrew, IsRunOf};
+
+use crate::run::arrays::Arrays;
+use crate::run::crew::Crew;
+use crate::worker::gate::Gate;
+use crate::laws::times_are_fifo;
+use crate::run::problem::Posed;
+use crate::run::ran::Ran;
+use crate::settings::Settings;
+use crate::worker::turn::{Flow, Turn};
+use crate::run::workers::{Begun, run};
+use ea_search::{Finished, finish_in_order};
+use ea_pool::{Buckets, LeastHeap, OpenHeap};
+use ea_road::{Known, Network, Query};
+use ea_travel_times::TravelTimes;
+use rand_core::Rng;
+use std::alloc::{AllocError, Global};
+use std::thread::Threads;
+
+/// A run that is finished: the table of least arrivals, and how the run went.
+#[derive(Drop)]
+pub struct Ended<R, F> {
+    pub finished: Finished,
+    pub ran: Ran<R, F>,
+}
+
+/// Runs the workers with heaps of a kind and the finishing pass, with the arrays for walks where these are asked for. What is
+/// open then is finished in about the order of labels.
+fn run_with<
+    K: Known + Posed,
+    E: OpenHeap<Global> + Send + Sync,
+    H: Threads + Sync,
+    T: TravelTimes + Sync,
+    R: Rng + Send + Drop,
+    G: Gate,
+    F: FnMut(Turn) -> Flow + Send + Drop,
+>(
+    alloc: Global,
+    rt: &H,
+    network: &Network,
+    times: &T,
+    query: &Query,
+    crew: Crew<R, G, F>,
+    walks: bool,
+) -> Result<Ended<R, F>, AllocError>
+    requires problem { IsProblem network.now (T.classes times.now) query.now }
+    requires named { IsNamed K.is_known K.problem network.now (T.answers times.now) query.now }
+    requires crew { IsCrew F.IsAlwaysCallable crew }
+    ensures finished { IfOk result (λ ended. IsFinished network.now (T.answers times.now) query.now
+        ended.finished.table.items ended.finished.todo) }
+    ensures walks { IfOk result (λ ended. ended.finished.todo.walks ≡ walks) }
+    ensures run { IfOk result (λ ended.
+        IsRunOf R.stream F.step network.now (T.answers times.now) query.now crew.entry ended.ran) }
+{
+    times_are_fifo(times);
+    let width = network.mean_weight();
+    let arrays = Arrays::<K, R, F, E>::reserve(
+        alloc,
+        network.nodes(),
+        width,
+        crew.settings,
+        walks,
+    )?;
+    let Begun { table, todo, ran } = run(rt, network, times, query, arrays, crew);
+    let finished = finish_in_order(alloc, network, times, query, table, todo);
+    Ok(Ended { finished, ran })
+}
+
+/// Whether heaps are to give their least entry first: where entries are taken one at a time, or by one worker alone.
+fn takes_least(settings: Settings) -> bool
+    ensures one { settings.batch ≡ 1 → result ≡ true }
+    ensures alone { settings.workers ≡ 1 → result ≡ true }
+{
+    settings.batch == 1 || settings.workers == 1
+}
+
+/// Runs the workers and the finishing pass. Where entries are taken one at a time, or by one worker alone, heaps give the least
+/// entry first; several workers take batches from buckets of times, whose windows are about as wide as an arc's mean weight.
+pub fn run_named<
+    K: Known + Posed,
+    H: Threads + Sync,
+    T: TravelTimes + Sync,
+    R: Rng + Send + Drop,
+    G: Gate,
+    F: FnMut(Turn) -> Flow + Send + Drop,
+>(
+    alloc: Global,
+    rt: &H,
+    network: &Network,
+    times: &T,
+    query: &Query,
+    crew: Crew<R, G, F>,
+    walks: bool,
+) -> Result<Ended<R, F>, AllocError>
+    requires problem { IsProblem network.now (T.classes times.now) query.now }
+    requires named { IsNamed K.is_known K.problem network.now (T.answers times.now) query.now }
+    requires crew { IsCrew F.IsAlwaysCallable crew }
+    ensures finished { IfOk result (λ ended. IsFinished network.now (T.answers times.now) query.now
+        ended.finished.table.items ended.finished.todo) }
+    ensures walks { IfOk result (λ ended. ended.finished.todo.walks ≡ walks) }
+    ensures run { IfOk result (λ ended.
+        IsRunOf R.stream F.step network.now (T.answers times.now) query.now crew.entry ended.ran) }
+{
+    if takes_least(crew.settings) {
+        return run_with::<K, LeastHeap<Global>, H, T, R, G, F>(
+            alloc, rt, network, times, query, crew, walks,
+        );
+    }
+    run_with::<K, Buckets<Global>, H, T, R, G, F>(alloc, rt, network, times, query, crew, walks)
+}

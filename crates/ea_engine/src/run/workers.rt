@@ -1,0 +1,237 @@
+//! A run of the workers, from the seeds to the condition of the finishing pass.
+ghost use Rattle.std.specs.Prelude.{◌≡◌, ◌≤◌, ◌+◌, ◌-◌, ◌*◌, ◌^◌, ◌<◌, ℕ, ◌∷◌, [], List, length, vec_len};
+ghost use Rattle.std.specs.Vec.{vec_capacity};
+ghost use Rattle.ea_base.specs.declared.limits.TheConstants.{SHARES as LABEL_SHARES};
+ghost use Rattle.ea_base.specs.declared.limits.TheConstants.{MOST_WORKERS, SHARES};
+ghost use Rattle.ea_road.specs.Queries.{IsProblem};
+ghost use Rattle.ea_engine.specs.Grounds.{IsGround, tables_of};
+ghost use Rattle.ea_engine.specs.Limits.{pace_of};
+ghost use Rattle.ea_engine.specs.Problems.{IsNamed, IsPosed};
+ghost use Rattle.ea_engine.specs.Reserved.{AreArrays, AreNew, AreUnfilled};
+ghost use Rattle.ea_engine.specs.Rowed.{AreSeated, HaveWorked, IsDoneRow, IsSeeded, IsSettledRow};
+ghost use Rattle.ea_engine.specs.Runs.{IsCrew, IsRunOf};
+ghost use Rattle.ea_engine.specs.Seated.{tables, AreSeatsOf};
+ghost use Rattle.ea_engine.specs.Seeds.{AreSeeds};
+ghost use Rattle.ea_search.specs.Underway.{IsUnderway};
+
+use crate::run::arrays::Arrays;
+use crate::run::closing::{Settled, settle};
+use crate::run::crew::Crew;
+use crate::worker::gate::Gate;
+use crate::run::gathering::{Gathering, gather_row};
+use crate::run::ground::Ground;
+use crate::laws::ground_is_laid;
+use crate::worker::means::Seats;
+use crate::run::problem::Posed;
+use crate::run::ran::{Ran, Results};
+use crate::run::row::{Place, run_workers};
+use crate::run::seats::{seat_row, split_seats};
+use crate::run::seeds::{Seeds, seed_all};
+use crate::worker::turn::{Flow, Turn};
+use ea_search::Open;
+use ea_labels::Labels;
+use ea_pool::{EntryHeap, Pool};
+use ea_road::{Known, Network, Query};
+use ea_travel_times::TravelTimes;
+use rand_core::Rng;
+use std::alloc::Global;
+use std::thread::Threads;
+
+/// Seats the workers: the first one gets the seats that the seeds used, each other one a share of both.
+pub fn seat_workers<K: Known + Posed, E: EntryHeap + Send + Sync, R: Drop, F: Drop>(
+    labels: &Labels<K>,
+    pool: &Pool<K, Global, E>,
+    mut seats: Seats<K, E>,
+    mut others: Vec<Seats<K, E>>,
+    rngs: Vec<R>,
+    tracers: Vec<F>,
+    row: &mut Vec<Place<K, R, F, E>>,
+)
+    requires fit { AreSeatsOf (tables labels.now pool.now) seats.label_seat seats.pool_seat }
+    requires label_shares { seats.label_seat.history.shares ≡ LABEL_SHARES }
+    requires pool_shares { seats.pool_seat.account.shares ≡ SHARES }
+    requires workers { (1 ≤ vec_len rngs) × (vec_len rngs ≤ MOST_WORKERS)
+        × (vec_len tracers ≡ vec_len rngs) }
+    requires none { (others.items ≡ []) × (row.old.items ≡ []) }
+    requires room { (vec_len rngs ≤ vec_capacity others) × (vec_len rngs ≤ vec_capacity row.old) }
+    ensures len { vec_len row.new ≡ vec_len rngs }
+    ensures seated { (seeded : ℕ) (waiting : List ℕ)
+        → IsSeeded K.problem (tables labels.now pool.now) seeded waiting seats
+        → AreSeated K.problem (tables labels.now pool.now) seeded waiting
+        rngs.items tracers.items row.new.items }
+{
+    split_seats(labels, pool, &mut seats, rngs.len() - 1, &mut others);
+    put_first(&mut others, seats);
+    seat_row(others, rngs, tracers, row);
+}
+
+/// Puts a pair of seats before the others, for which there is room.
+fn put_first<K: Known, E: EntryHeap>(seats: &mut Vec<Seats<K, E>>, first: Seats<K, E>)
+    requires room { vec_len seats.old < vec_capacity seats.old }
+    ensures first { seats.new.items ≡ first ∷ seats.old.items }
+{
+    match seats.insert(0, first) {
+        Ok(()) => {}
+        Err(_) => unreachable!(),
+    }
+}
+
+/// What a run comes to before the finishing pass: the table of labels, the open nodes, and how it went.
+#[derive(Drop)]
+pub struct Begun<R, F> {
+    pub table: Vec<u64>,
+    pub todo: Open,
+    pub ran: Ran<R, F>,
+}
+
+/// Offers the sources, seats the workers, and runs them.
+fn work_row<
+    H: Threads + Sync,
+    K: Known + Posed,
+    E: EntryHeap + Send + Sync,
+    T: TravelTimes + Sync,
+    R: Rng + Send + Drop,
+    G: Gate,
+    F: FnMut(Turn) -> Flow + Send + Drop,
+>(
+    rt: &H,
+    ground: &Ground<'_, K, T, E>,
+    mut seats: Seats<K, E>,
+    todo: &mut Open,
+    others: Vec<Seats<K, E>>,
+    row: &mut Vec<Place<K, R, F, E>>,
+    crew: Crew<R, G, F>,
+) -> Seeds
+    requires ground { IsGround K.is_known K.problem T.answers T.classes ground.now }
+    requires seats { AreNew (tables_of ground.now) seats }
+    requires none { (others.items ≡ []) × (row.old.items ≡ []) }
+    requires room { (crew.settings.workers ≤ vec_capacity others)
+        × (crew.settings.workers ≤ vec_capacity row.old) }
+    requires nodes { todo.old.nodes ≡ ground.now.labels.now.nodes }
+    requires waiting { todo.old.waiting ≡ [] }
+    requires crew { IsCrew F.IsAlwaysCallable crew }
+    ensures nodes { todo.new.nodes ≡ todo.old.nodes }
+    ensures walks { todo.new.walks ≡ todo.old.walks }
+    ensures few { length todo.new.waiting ≤ result.returned }
+    ensures some { 0 < result.returned → 0 < length todo.new.waiting }
+    ensures small { result.seeded + result.returned < 2 ^ 64 }
+    ensures seeds { AreSeeds K.problem.query.sources (result.seeded + result.returned) }
+    ensures len { vec_len row.new ≡ crew.entry.settings.workers }
+    ensures worked { HaveWorked K.problem (tables_of ground.now) R.stream F.step
+        (pace_of crew.entry.settings) result.seeded todo.new.waiting
+        crew.entry.rngs.items crew.entry.tracers.items row.new.items }
+{
+    let Crew {
+        settings,
+        rngs,
+        gate,
+        tracers,
+    } = crew;
+    let seeds = seed_all(ground, &mut seats, todo);
+    seat_workers(
+        ground.labels,
+        ground.pool,
+        seats,
+        others,
+        rngs,
+        tracers,
+        row,
+    );
+    run_workers(rt, ground, settings.pace(), gate, row);
+    seeds
+}
+
+/// Gathers what the workers of a row leave, and settles what is to be scanned.
+fn settle_row<K: Known + Posed, E: EntryHeap, R: Drop, F: Drop>(
+    labels: Labels<K>,
+    pool: Pool<K, Global, E>,
+    row: Vec<Place<K, R, F, E>>,
+    seeds: Seeds,
+    todo: Open,
+    results: Results<R, F>,
+) -> Begun<R, F>
+    requires posed { IsPosed K.is_known K.problem }
+    requires places { labels.nodes ≡ K.problem.network.nodes }
+    requires row { IsDoneRow K.problem (tables labels pool) seeds.seeded todo.waiting row.items }
+    requires few_workers { vec_len row ≤ MOST_WORKERS }
+    requires nodes { todo.nodes ≡ labels.nodes }
+    requires few { length todo.waiting ≤ seeds.returned }
+    requires some { 0 < seeds.returned → 0 < length todo.waiting }
+    requires small { seeds.seeded + seeds.returned < 2 ^ 64 }
+    requires results { AreUnfilled (vec_len row) results }
+    ensures underway { IsUnderway K.problem.network K.problem.answers K.problem.query
+        result.table.items result.todo.waiting }
+    ensures nodes { result.todo.nodes ≡ K.problem.network.nodes }
+    ensures walks { result.todo.walks ≡ todo.walks }
+    ensures row { IsSettledRow seeds.seeded seeds.returned row.items result.ran }
+{
+    let Gathering {
+        seats,
+        todo,
+        returned,
+        results,
+    } = gather_row(&labels, &pool, row, seeds, todo, results);
+    let Settled {
+        table,
+        todo,
+        drained,
+    } = settle(labels, pool, seats, todo);
+    let ran = Ran {
+        seeded: seeds.seeded,
+        returned,
+        drained,
+        finish: todo.len() as u128,
+        results,
+    };
+    Begun { table, todo, ran }
+}
+
+/// Runs the workers from the seeds on, joins them, and drains the pool. It takes no memory of its own.
+pub fn run<
+    H: Threads + Sync,
+    K: Known + Posed,
+    E: EntryHeap + Send + Sync,
+    T: TravelTimes + Sync,
+    R: Rng + Send + Drop,
+    G: Gate,
+    F: FnMut(Turn) -> Flow + Send + Drop,
+>(
+    rt: &H,
+    network: &Network,
+    times: &T,
+    query: &Query,
+    arrays: Arrays<K, R, F, E>,
+    crew: Crew<R, G, F>,
+) -> Begun<R, F>
+    requires problem { IsProblem network.now (T.classes times.now) query.now }
+    requires named { IsNamed K.is_known K.problem network.now (T.answers times.now) query.now }
+    requires crew { IsCrew F.IsAlwaysCallable crew }
+    requires arrays { AreArrays network.now.nodes (crew.settings.workers * crew.settings.heaps)
+        crew.settings.workers arrays.todo.walks arrays }
+    ensures underway { IsUnderway network.now (T.answers times.now) query.now
+        result.table.items result.todo.waiting }
+    ensures nodes { result.todo.nodes ≡ network.now.nodes }
+    ensures walks { result.todo.walks ≡ arrays.todo.walks }
+    ensures run { IsRunOf R.stream F.step network.now (T.answers times.now) query.now
+        crew.entry result.ran }
+{
+    let Arrays {
+        labels,
+        pool,
+        seats,
+        mut todo,
+        others,
+        mut row,
+        results,
+    } = arrays;
+    let ground = Ground {
+        network,
+        times,
+        query,
+        labels: &labels,
+        pool: &pool,
+    };
+    ground_is_laid(&ground);
+    let seeds = work_row(rt, &ground, seats, &mut todo, others, &mut row, crew);
+    settle_row(labels, pool, row, seeds, todo, results)
+}

@@ -1,0 +1,100 @@
+//! Words that keep a worker mostly at its own heaps.
+ghost use Rattle.std.specs.Prelude.{◌≡◌, ◌+◌, ◌-◌, ◌%◌, ◌<◌, ◌≤◌};
+ghost use Rattle.rand_core.specs.Steps.{stream_of, steps_u64_low};
+ghost use Rattle.ea_engine.specs.Homes.{homing_step, IsAtHome};
+ghost use Rattle.ea_base.specs.declared.limits.TheConstants.{LEAST_HEAPS, MOST_HEAPS, MOST_WORKERS};
+
+use rand_core::utils::NextWord;
+use rand_core::{Rng, utils};
+
+/// Words of the generator below this, every eighth one, make a random word.
+const RANDOM: u64 = 1 << 61;
+
+/// So many numbers of them are told apart.
+const SPAN: u64 = 1 << 28;
+
+/// How many words are kept.
+const WORDS: usize = 8;
+
+/// A generator whose words draw the heaps of one worker, each in turn: as a push's word or the first of a pop each draws one of
+/// them. As the second word of a pop seven of eight lead to the next of them, and about every eighth, by the generator below, to
+/// any other heap. So what a processor wrote mostly stays with it. What is promised of workers holds for any words.
+#[derive(Drop)]
+pub struct Homing<R> {
+    below: R,
+    words: [u32; WORDS],
+    /// How many heaps all workers have together.
+    heaps: u32,
+    /// Which of the words is next.
+    place: usize,
+}
+
+/// The word that is `step` modulo one less than the heaps, and `heap` modulo the heaps: as the first word of a pop it draws that
+/// heap, and as the second one the heap that is so many and one behind the first.
+fn word_at(heaps: u32, step: u32, heap: u32) -> u32
+    requires { (heap < heaps) × (step + 1 < heaps) × (heaps ≤ 128) }
+    ensures draws { result % heaps ≡ heap }
+    ensures leads { result % (heaps - 1) ≡ step }
+{
+    step + (heaps - 1) * ((step + heaps - heap) % heaps)
+}
+
+impl<R> Homing<R> {
+    /// Words for the worker of this number, from 0, of so many with so many heaps each.
+    pub fn new(below: R, worker: u32, workers: u32, heaps: u32) -> Homing<R>
+        requires worker { (worker < workers) × (workers ≤ MOST_WORKERS) }
+        requires heaps { (LEAST_HEAPS ≤ heaps) × (heaps ≤ MOST_HEAPS) }
+        ensures { IsAtHome below worker workers heaps result }
+    {
+        let all = workers * heaps;
+        let first = worker * heaps;
+        let mut words = [0; WORDS];
+        for place in 0..WORDS {
+            let at = place as u32 % heaps;
+            let step = if at == 0 { all - heaps } else { 0 };
+            words[place] = word_at(all, step, first + at);
+        }
+        Homing {
+            below,
+            words,
+            heaps: all,
+            place: 0,
+        }
+    }
+}
+
+impl<R: NextWord<u64>> NextWord<u64> for Homing<R> {
+    ghost step = { homing_step R.step };
+
+    #[tactic(auto, unfolding(crate::specs::Homes::homing_step))]
+    fn next_word(&mut self) -> u64 {
+        let drawn = self.below.next_word();
+        let own = u64::from(self.words[self.place % WORDS]);
+        self.place = if self.place < WORDS - 1 {
+            self.place + 1
+        } else {
+            0
+        };
+        if drawn < RANDOM {
+            own + u64::from(self.heaps) * (drawn % SPAN)
+        } else {
+            own
+        }
+    }
+}
+
+impl<R: NextWord<u64>> Rng for Homing<R> {
+    ghost stream = { stream_of (steps_u64_low (homing_step R.step)) };
+
+    fn next_u32(&mut self) -> u32 {
+        (self.next_word() % 4_294_967_296) as u32
+    }
+
+    fn next_u64(&mut self) -> u64 {
+        self.next_word()
+    }
+
+    fn fill_bytes(&mut self, dst: &mut [u8]) {
+        utils::fill_bytes_via_u64(self, dst)
+    }
+}

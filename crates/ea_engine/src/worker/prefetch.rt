@@ -1,0 +1,88 @@
+//! Reads of memory ahead of the visits that need it. The loads of each loop don't wait for one another, so that many of them
+//! are under way at once. Nothing rests on what they give.
+ghost use Rattle.std.specs.Prelude.{◌≡◌};
+ghost use Rattle.ea_pool.specs.Entries.{AreKnown};
+ghost use Rattle.ea_road.specs.Roads.{IsNode};
+ghost use Rattle.ea_engine.specs.Grounds.{IsGround};
+ghost use Rattle.ea_engine.specs.Worked.{OnlySaw};
+
+use crate::run::ground::Ground;
+use crate::run::problem::Posed;
+use ea_labels::LabelSeat;
+use ea_pool::{Entry, EntryHeap};
+use ea_road::{Known, Network};
+use ea_travel_times::TravelTimes;
+
+/// Fewer entries are not worth it.
+const FEW: usize = 4;
+
+// Reads the labels of entries' nodes, and where their arcs begin.
+fn read_places<K: Known + Posed, E: EntryHeap, T: TravelTimes>(
+    ground: &Ground<'_, K, T, E>,
+    seat: &mut LabelSeat<K>,
+    entries: &[Entry],
+) -> u32
+    requires ground { IsGround K.is_known K.problem T.answers T.classes ground.now }
+    requires seat { seat.old.table ≡ ground.now.labels.now.table }
+    requires known { AreKnown K.is_known entries.now }
+    ensures seat { seat.new.table ≡ seat.old.table }
+    ensures saw { OnlySaw seat.old.history seat.new.history }
+{
+    let mut places = 0;
+    for entry in entries {
+        ground.labels.read(seat, entry.node);
+        places ^= ground.network.touch_place(entry.node);
+    }
+    places
+}
+
+// Reads the first arcs from entries' nodes.
+fn read_arcs(network: &Network, entries: &[Entry]) -> u32 {
+    let mut heads = 0;
+    for entry in entries {
+        heads ^= network.touch_arc(entry.node);
+    }
+    heads
+}
+
+// Reads the labels of the heads of the arcs from a node.
+fn read_heads<K: Known + Posed, E: EntryHeap, T: TravelTimes>(
+    ground: &Ground<'_, K, T, E>,
+    seat: &mut LabelSeat<K>,
+    node: u32,
+)
+    requires ground { IsGround K.is_known K.problem T.answers T.classes ground.now }
+    requires seat { seat.old.table ≡ ground.now.labels.now.table }
+    requires node { IsNode K.problem.network.nodes node }
+    ensures seat { seat.new.table ≡ seat.old.table }
+    ensures saw { OnlySaw seat.old.history seat.new.history }
+{
+    for arc in ground.network.leaving(node).arcs {
+        ground.labels.read(seat, arc.head);
+    }
+}
+
+/// Reads what the visits of these entries will read, where they are several: their labels, where their arcs begin, and the
+/// labels of the arcs' heads.
+pub fn read_ahead<K: Known + Posed, E: EntryHeap, T: TravelTimes>(
+    ground: &Ground<'_, K, T, E>,
+    seat: &mut LabelSeat<K>,
+    entries: &[Entry],
+)
+    requires ground { IsGround K.is_known K.problem T.answers T.classes ground.now }
+    requires seat { seat.old.table ≡ ground.now.labels.now.table }
+    requires known { AreKnown K.is_known entries.now }
+    ensures seat { seat.new.table ≡ seat.old.table }
+    ensures saw { OnlySaw seat.old.history seat.new.history }
+{
+    if entries.len() < FEW {
+        return;
+    }
+    // There are neither so many arcs nor so many nodes. What was read is looked at so that no load is left out.
+    if (read_places(ground, seat, entries) ^ read_arcs(ground.network, entries)) == u32::MAX {
+        return;
+    }
+    for entry in entries {
+        read_heads(ground, seat, entry.node);
+    }
+}

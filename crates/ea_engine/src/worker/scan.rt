@@ -1,0 +1,206 @@
+ghost use Rattle.std.specs.Prelude.{◌≡◌, ℕ, ◌<◌, ◌≤◌, [], ◌^◌, true, false};
+ghost use Rattle.arrayvec.specs.ArrayVec.{array_vec_len};
+ghost use Rattle.ea_base.specs.declared.limits.TheConstants.{HORIZON, MOST_BATCH};
+ghost use Rattle.ea_road.specs.Roads.{IsArc};
+ghost use Rattle.ea_pool.specs.Entries.{AreKnown};
+ghost use Rattle.ea_engine.specs.Grounds.{IsGround, tables_of};
+ghost use Rattle.ea_engine.specs.Seated.{AreSeatsOf, kit_of};
+ghost use Rattle.ea_engine.specs.Closed.{IsFollowed, IsScanned};
+ghost use Rattle.ea_engine.specs.Worked.{OnlySaw, Progress};
+ghost use Rattle.ea_engine.specs.Scans.{stops_scan, lowered_by, pushes_by, LeavesFew};
+
+use crate::run::ground::Ground;
+use crate::worker::means::Means;
+use crate::run::problem::Posed;
+use crate::worker::push::push_fresh;
+use ea_labels::{LabelSeat, Offered};
+use ea_pool::{Batch, Entry, EntryHeap};
+use ea_base::HORIZON;
+use ea_road::{Arc, Known, Leaving};
+use ea_travel_times::TravelTimes;
+use rand_core::Rng;
+use std::alloc::Global;
+
+/// What following an arc came to.
+#[derive(Clone, Copy, Debug, PartialEq, Eq)]
+pub enum Followed {
+    Unchanged,
+    /// The head was lowered, and its entry is fresh.
+    Lowered,
+    /// The head was lowered, and the pool took all that was fresh.
+    Pushed,
+    /// The head was lowered, and the pool didn't take all that was fresh.
+    Refused,
+}
+
+/// What a scan came to: how many heads were lowered, how often fresh entries were pushed, and whether a push was refused.
+#[derive(Clone, Copy)]
+pub struct ScanEnd {
+    pub lowered: u64,
+    pub pushes: u64,
+    pub refused: bool,
+}
+
+/// Whether an arc has a timetable, and its head a label that isn't above the departure. It needs no travel time then: no arc arrives
+/// before it is left. For a plain arc a sum costs less than to look.
+#[inline(always)]
+fn is_ahead<K: Known + Posed, E: EntryHeap, T: TravelTimes>(
+    ground: &Ground<'_, K, T, E>,
+    seat: &mut LabelSeat<K>,
+    departure: u64,
+    arc: Arc,
+) -> bool
+    requires ground { IsGround K.is_known K.problem T.answers T.classes ground.now }
+    requires seat { seat.old.table ≡ ground.now.labels.now.table }
+    requires departure { departure ≤ HORIZON }
+    requires arc { (number : ℕ) × IsArc K.problem.network number arc }
+    ensures seat { seat.new.table ≡ seat.old.table }
+    ensures saw { OnlySaw seat.old.history seat.new.history }
+    ensures followed { result ≡ true
+        → IsFollowed K.problem seat.new.history.bounds departure arc }
+{
+    if arc.class == 0 {
+        return false;
+    }
+    ground.labels.read(seat, arc.head) <= departure
+}
+
+/// Asks when one arc from a popped entry arrives, and offers that to its head. Where it lowers the head and a batch is fresh then,
+/// it is pushed.
+#[inline(always)]
+fn ask_and_offer<K: Known + Posed, E: EntryHeap, T: TravelTimes, R: Rng>(
+    ground: &Ground<'_, K, T, E>,
+    means: &mut Means<K, R, E>,
+    fresh: &mut Batch,
+    batch: usize,
+    entry: Entry,
+    arc: Arc,
+) -> Followed
+    requires ground { IsGround K.is_known K.problem T.answers T.classes ground.now }
+    requires seats { AreSeatsOf (tables_of ground.now) means.old.label_seat means.old.pool_seat }
+    requires fresh { AreKnown K.is_known fresh.old.items }
+    requires room { (array_vec_len fresh.old < batch) × (batch ≤ MOST_BATCH) }
+    requires entry { K.is_known entry.node entry.key }
+    requires arc { (number : ℕ) × IsArc K.problem.network number arc }
+    requires tail { arc.tail ≡ entry.node }
+    ensures seats { AreSeatsOf (tables_of ground.now) means.new.label_seat means.new.pool_seat }
+    ensures fresh { AreKnown K.is_known fresh.new.items }
+    ensures progress { Progress (kit_of R.stream means.old [] fresh.old.items)
+        (kit_of R.stream means.new [] fresh.new.items) [] (pushes_by result) (lowered_by result) }
+    ensures left { LeavesFew (stops_scan result) batch (array_vec_len fresh.new) }
+    ensures one { batch ≡ 1 → pushes_by result ≡ lowered_by result }
+    ensures spent { IsFollowed K.problem means.new.label_seat.history.bounds entry.key arc }
+{
+    let arrival = ground
+        .times
+        .arrive(arc.class, u64::from(arc.weight), entry.key);
+    if arrival > HORIZON {
+        return Followed::Unchanged;
+    }
+    match ground
+        .labels
+        .offer(&mut means.label_seat, arc.head, arrival)
+    {
+        Offered::Kept(_) => Followed::Unchanged,
+        Offered::Lowered => {
+            fresh.push(Entry {
+                key: arrival,
+                node: arc.head,
+            });
+            if fresh.len() < batch {
+                return Followed::Lowered;
+            }
+            if push_fresh(ground.pool, &mut means.pool_seat, &mut means.rng, fresh) {
+                Followed::Pushed
+            } else {
+                Followed::Refused
+            }
+        }
+    }
+}
+
+/// Follows one arc from a popped entry, but where its head is ahead of it. Where it lowers the head and a batch is fresh then, it is
+/// pushed.
+#[inline(always)]
+pub fn follow<K: Known + Posed, E: EntryHeap, T: TravelTimes, R: Rng>(
+    ground: &Ground<'_, K, T, E>,
+    means: &mut Means<K, R, E>,
+    fresh: &mut Batch,
+    batch: usize,
+    entry: Entry,
+    arc: Arc,
+) -> Followed
+    requires ground { IsGround K.is_known K.problem T.answers T.classes ground.now }
+    requires seats { AreSeatsOf (tables_of ground.now) means.old.label_seat means.old.pool_seat }
+    requires fresh { AreKnown K.is_known fresh.old.items }
+    requires room { (array_vec_len fresh.old < batch) × (batch ≤ MOST_BATCH) }
+    requires entry { K.is_known entry.node entry.key }
+    requires arc { (number : ℕ) × IsArc K.problem.network number arc }
+    requires tail { arc.tail ≡ entry.node }
+    ensures seats { AreSeatsOf (tables_of ground.now) means.new.label_seat means.new.pool_seat }
+    ensures fresh { AreKnown K.is_known fresh.new.items }
+    ensures progress { Progress (kit_of R.stream means.old [] fresh.old.items)
+        (kit_of R.stream means.new [] fresh.new.items) [] (pushes_by result) (lowered_by result) }
+    ensures left { LeavesFew (stops_scan result) batch (array_vec_len fresh.new) }
+    ensures one { batch ≡ 1 → pushes_by result ≡ lowered_by result }
+    ensures spent { IsFollowed K.problem means.new.label_seat.history.bounds entry.key arc }
+{
+    if is_ahead(ground, &mut means.label_seat, entry.key, arc) {
+        return Followed::Unchanged;
+    }
+    ask_and_offer(ground, means, fresh, batch, entry, arc)
+}
+
+/// Scans a popped entry: follows each arc from its node, until the pool refuses a push.
+#[inline(always)]
+pub fn scan_entry<K: Known + Posed, E: EntryHeap, T: TravelTimes, R: Rng>(
+    ground: &Ground<'_, K, T, E>,
+    means: &mut Means<K, R, E>,
+    fresh: &mut Batch,
+    batch: usize,
+    entry: Entry,
+) -> ScanEnd
+    requires ground { IsGround K.is_known K.problem T.answers T.classes ground.now }
+    requires seats { AreSeatsOf (tables_of ground.now) means.old.label_seat means.old.pool_seat }
+    requires fresh { AreKnown K.is_known fresh.old.items }
+    requires room { (array_vec_len fresh.old < batch) × (batch ≤ MOST_BATCH) }
+    requires entry { K.is_known entry.node entry.key }
+    ensures seats { AreSeatsOf (tables_of ground.now) means.new.label_seat means.new.pool_seat }
+    ensures fresh { AreKnown K.is_known fresh.new.items }
+    ensures progress { Progress (kit_of R.stream means.old [] fresh.old.items)
+        (kit_of R.stream means.new [] fresh.new.items) [] result.pushes result.lowered }
+    ensures left { LeavesFew result.refused batch (array_vec_len fresh.new) }
+    ensures scanned { result.refused ≡ false
+        → IsScanned K.problem means.new.label_seat.history.bounds entry }
+    ensures refused { result.refused ≡ true → 0 < result.lowered }
+    ensures few { result.lowered ≤ 2 ^ 28 }
+    ensures pushes { result.pushes ≤ result.lowered }
+    ensures one { batch ≡ 1 → result.pushes ≡ result.lowered }
+{
+    let mut lowered = 0;
+    let mut pushes = 0;
+    let Leaving { numbers: _, arcs } = ground.network.leaving(entry.node);
+    for arc in arcs {
+        let arc = arc.with_tail(entry.node);
+        match follow(ground, means, fresh, batch, entry, arc) {
+            Followed::Unchanged => {}
+            Followed::Lowered => lowered += 1,
+            Followed::Pushed => {
+                lowered += 1;
+                pushes += 1;
+            }
+            Followed::Refused => {
+                return ScanEnd {
+                    lowered: lowered + 1,
+                    pushes: pushes + 1,
+                    refused: true,
+                };
+            }
+        }
+    }
+    ScanEnd {
+        lowered,
+        pushes,
+        refused: false,
+    }
+}

@@ -1,4 +1,0 @@
-pub mod Departing
-pub mod There
-pub mod Stepping
-pub mod Denoting

@@ -1,6 +1,0 @@
-use Rattle.std.proofs.Common.{◌≡◌, take}
-use Rattle.ea_files.specs.Starts.{pair_problems}
-use Rattle.ea_files.proofs.starts.pair_queries.Given as goal
-
-abbrev pub invariant-loop-i : goal.invariant-loop-i
-invariant-loop-i l = l.queries.items ≡ pair_problems l.depart l.gap 0 (take l.i l.pairs)

@@ -1,6 +1,0 @@
-use Rattle.std.proofs.Common.{◌≡◌, [], ◌∷◌, map, take}
-use Rattle.ea_files.specs.Starts.{asks_all}
-use Rattle.ea_files.proofs.starts.queries_from.Given as goal
-
-abbrev pub invariant-loop-source : goal.invariant-loop-source
-invariant-loop-source l = l.queries.items ≡ map (λ source. asks_all (source ∷ [])) (take l.source-index l.sources)

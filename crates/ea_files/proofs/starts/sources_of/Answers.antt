@@ -1,9 +1,0 @@
-use Rattle.ea_files.proofs.Departing.{sources_next}
-use Rattle.ea_files.proofs.starts.sources_of.Goals as goal
-
-pub loop-i-preserved : goal.loop-i-preserved
-loop-i-preserved c =
-    let next = sources_next c.args.depart c.args.gap c.loop-i.i c.args.nodes.now c.loop-i-test.true in
-    let pushed = c.in_ok-push.ensures.items in
-    let front = c.loop-i.invariant in
-    cc

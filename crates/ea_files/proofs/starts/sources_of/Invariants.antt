@@ -1,6 +1,0 @@
-use Rattle.std.proofs.Common.{◌≡◌, take}
-use Rattle.ea_files.specs.Starts.{sources_from}
-use Rattle.ea_files.proofs.starts.sources_of.Given as goal
-
-abbrev pub invariant-loop-i : goal.invariant-loop-i
-invariant-loop-i l = l.sources.items ≡ sources_from l.depart l.gap 0 (take l.i l.nodes)

@@ -1,6 +1,0 @@
-use Rattle.std.proofs.Common.{refl}
-use Rattle.ea_files.proofs.There.{table_there}
-use Rattle.ea_files.proofs.together.read_table_by.Goals as goal
-
-pub returns-in-Some-clause-denoted : goal.returns-in-Some-clause-denoted
-returns-in-Some-clause-denoted g c = table_there g.R.Device.seen c.args.tp.now _ _ _ c.args.arcs c.read_timetables_by.result c.in-Some.is refl c.read_timetables_by.ensures.denoted

@@ -1,6 +1,0 @@
-use Rattle.ea_finish.specs.Frontiers.{KeepsWaiting}
-use Rattle.ea_finish.specs.Underway.{bound_of}
-use Rattle.ea_finish.proofs.frontier.Frontier.draw.Given as goal
-
-abbrev pub invariant-drawing : goal.invariant-drawing
-invariant-drawing g l = KeepsWaiting (bound_of (g.L.Table.labels l.table)) l.initial.self l.self

@@ -1,5 +1,0 @@
-use Rattle.ea_finish.proofs.Fronts.{KeepsWaiting-then}
-use Rattle.ea_finish.proofs.frontier.Frontier.narrow.Goals as goal
-
-pub returns : goal.returns
-returns c = λ label. rw (← c.self.view_is) (KeepsWaiting-then label _ _ _ (c.pour.ensures label) (c.spread.ensures label))

@@ -1,6 +1,0 @@
-use Rattle.std.proofs.Common.{ℕ}
-use Rattle.ea_finish.specs.Frontiers.{KeepsWaiting}
-use Rattle.ea_finish.proofs.frontier.Frontier.pour.Given as goal
-
-abbrev pub invariant-moving : goal.invariant-moving
-invariant-moving l = (label : ℕ → ℕ) → KeepsWaiting label l.initial.self l.self

@@ -1,4 +1,0 @@
-use Rattle.ea_finish.proofs.frontier.FrontierOpens.open.Goals as goal
-
-pub returns-clause-kept : goal.returns-clause-kept
-returns-clause-kept c = rw (← c.self.view_is) c.put.ensures.rest

@@ -1,5 +1,0 @@
-use Rattle.ea_finish.proofs.searching.search.Goals as goal
-
--- no arc is noted at first
-pub returns-clause-had : goal.returns-clause-had
-returns-clause-had g c = c.exhaust.ensures.had (λ v u k has. absurd (c.requires.had v u k (c.begin.ensures.adds v u k has)))

@@ -1,7 +1,0 @@
-use Rattle.std.proofs.Common.{inl}
-use Rattle.ea_finish.proofs.Entries.{AwaitsScansFrom-moved}
-use Rattle.ea_finish.proofs.searching.search_on.Goals as goal
-
-pub exhaust-requires-clause-underway : goal.exhaust-requires-clause-underway
-exhaust-requires-clause-underway g c =
-    AwaitsScansFrom-moved _ _ _ _ (g.L.Table.labels c.args.table.now) _ _ _ c.requires.underway (λ v waits. c.move_in.ensures.rest v (inl waits))

@@ -1,8 +1,0 @@
-use Rattle.std.proofs.Common.{◌≡◌, length}
-use Rattle.ea_finish.proofs.waiting.Waiting.clear.Given as goal
-
-abbrev pub invariant-loop : goal.invariant-loop
-invariant-loop l = record { nodes : l.self.nodes ≡ l.initial.self.nodes }
-
-abbrev pub decreases-loop : goal.decreases-loop
-decreases-loop l = length l.self.waiting

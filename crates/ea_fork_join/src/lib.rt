@@ -1,0 +1,13 @@
+//! Work on the parts of a row, each in a thread of its own, where one thread starts all others. `std::thread` has the same calls, and
+//! halves the row: two threads start others at the same moment then, which Linux often puts on one processor, where they stay for
+//! as long as 30 ms while another processor has nothing to do.
+#![tactic(auto)]
+
+mod beside_join;
+mod rows;
+
+pub use beside_join::for_each_chunk_mut_beside;
+pub use rows::for_each_mut;
+
+/// How many threads `for_each_mut` starts at most.
+pub const MOST_THREADS: usize = 64;

@@ -1,0 +1,111 @@
+//! Each part of a row, in a thread of its own.
+ghost use Rattle.std.specs.Prelude.{◌≡◌, ◌<◌, ◌≤◌, length, slice_index_or};
+ghost use Rattle.ea_fork_join.specs.declared.TheConstants.{MOST_THREADS};
+ghost use denote.Param.Send.{IsSend, IsSync};
+ghost use Rattle.std.specs.Fork.{AcceptsAt, AcceptsChunksMut, AcceptsEach};
+ghost use Rattle.std.specs.Fork.{AllInChunks, ChangesAt, ChangesChunks, ChangesEach};
+ghost use Rattle.std.specs.Fork.Halves.{ChangesByChunks, IsChunked};
+
+use std::thread::{Threads, join_mut};
+
+/// Calls f(start, part) at each part of so many places that a row has, the last one maybe shorter, each in a thread of its own
+/// where one can be started. The last is called in this thread.
+fn for_each_chunk_mut<R: Threads + Sync, T: Send, F: Fn(usize, &mut [T]) + Sync>(
+    rt: &R,
+    row: &mut [T],
+    size: usize,
+    f: &F,
+)
+    requires size { 0 < size }
+    requires accepts { AcceptsChunksMut F.Fn f.now size row.old }
+    ensures chunks { ChangesChunks F.Fn f.now size row.old row.new }
+    ensures by_index { AllInChunks F.Fn f.now size row.old row.new }
+{
+    if !row.is_empty() {
+        parts_from(rt, f, 0, size, row.len().div_ceil(size), row);
+    }
+}
+
+/// Calls f at the place of a part of one place.
+fn at_one<T, F: Fn(usize, &mut T)>(f: &F, start: usize, part: &mut [T])
+    requires one { length part.old ≡ 1 }
+    requires accepts { (d : T) → AcceptsAt F.Fn f.now start (slice_index_or part.old 0 d) }
+    ensures { (d : T) → ChangesAt F.Fn f.now start (slice_index_or part.old 0 d) (slice_index_or part.new 0 d) }
+{
+    f(start, &mut part[0]);
+}
+
+/// Calls f(i, &mut row[i]) at each place of a row, each in a thread of its own where one can be started. The last is called in this
+/// thread.
+pub fn for_each_mut<R: Threads + Sync, T: Send, F: Fn(usize, &mut T) + Sync>(
+    rt: &R,
+    row: &mut [T],
+    f: &F,
+)
+    requires few { length row.old ≤ MOST_THREADS }
+    requires accepts { AcceptsEach F.Fn f.now row.old }
+    ensures { ChangesEach F.Fn f.now row.old row.new }
+{
+    let at_part = move |start: usize, part: &mut [T]|
+        requires { (length part.now ≡ 1)
+            × ((d : T) → AcceptsAt F.Fn f.now start (slice_index_or part.now 0 d)) }
+        ensures { (d : T) → ChangesAt F.Fn f.entry.now start
+            (slice_index_or part.entry.now 0 d) (slice_index_or part.exit.now 0 d) }
+    { at_one(f, start, part) };
+    for_each_chunk_mut(rt, row, 1, &at_part);
+}
+
+/// Calls f at so many parts of a row, which stands at this place of the whole row.
+#[cycle(parts)]
+pub(crate) fn parts_from<R: Threads + Sync, T: Send, F: Fn(usize, &mut [T]) + Sync>(
+    rt: &R,
+    f: &F,
+    base: usize,
+    size: usize,
+    count: usize,
+    row: &mut [T],
+)
+    requires { IsChunked (AcceptsAt F.Fn f.now) base size count row.old }
+    ensures { ChangesByChunks (ChangesAt F.Fn f.now) base size row.old row.new }
+{
+    if count == 1 {
+        f(base, row);
+        return;
+    }
+    let (first, rest) = row.split_at_mut(size);
+    first_and_rest(rt, f, size, base, 1, first, base + size, count - 1, rest);
+}
+
+/// Starts a thread for the first part, and goes on with the others in this one. It is a function of its own so that what the closures
+/// require is what it is given.
+#[cycle(parts)]
+fn first_and_rest<R: Threads + Sync, T: Send, F: Fn(usize, &mut [T]) + Sync>(
+    rt: &R,
+    f: &F,
+    size: usize,
+    base: usize,
+    one: usize,
+    first: &mut [T],
+    next: usize,
+    left: usize,
+    rest: &mut [T],
+)
+    requires first { IsChunked (AcceptsAt F.Fn f.now) base size one first.old }
+    requires rest { IsChunked (AcceptsAt F.Fn f.now) next size left rest.old }
+    ensures first { ChangesByChunks (ChangesAt F.Fn f.now) base size first.old first.new }
+    ensures rest { ChangesByChunks (ChangesAt F.Fn f.now) next size rest.old rest.new }
+{
+    let mut starting = ||
+        requires { IsSync R.row × IsSync F.row × IsSend T.row
+            × IsChunked (AcceptsAt F.Fn f.now) base size one first.now }
+        ensures { ChangesByChunks (ChangesAt F.Fn f.entry.now) base size
+            first.entry.now first.exit.now }
+    { parts_from(rt, f, base, size, one, first) };
+    let mut going_on = ||
+        requires { IsSync R.row × IsSync F.row × IsSend T.row
+            × IsChunked (AcceptsAt F.Fn f.now) next size left rest.now }
+        ensures { ChangesByChunks (ChangesAt F.Fn f.entry.now) next size
+            rest.entry.now rest.exit.now }
+    { parts_from(rt, f, next, size, left, rest) };
+    join_mut(rt, &mut starting, &mut going_on);
+}

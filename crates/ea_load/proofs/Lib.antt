@@ -1,0 +1,7 @@
+pub mod Posing
+pub mod Asking
+pub mod Outcomes
+pub mod Departing
+pub mod There
+pub mod Stepping
+pub mod Denoting

@@ -1,0 +1,12 @@
+-- The words by which messages call files.
+use Rattle.std.specs.Prelude.{ℕ, List, codes}
+use Rattle.ea_load.specs.declared.file_fault.FileWord.{FileWord}
+use Rattle.ea_load.specs.declared.file_fault.FileWord.TheVariants.{Gr, Ss, Tp, P2p, Report, Out}
+
+abbrev pub file_word : FileWord → List ℕ
+file_word Gr = codes "gr"
+file_word Ss = codes "ss"
+file_word Tp = codes "tp"
+file_word P2p = codes "p2p"
+file_word Report = codes "report"
+file_word Out = codes "out"

@@ -1,0 +1,9 @@
+pub mod Faults
+pub mod Posed
+pub mod Asked
+pub mod FileNames
+pub mod Files
+pub mod Given
+pub mod Sound
+pub mod Starts
+pub mod Texts

@@ -1,0 +1,75 @@
+//! Files by their names in messages, and why one gave nothing.
+ghost use Rattle.std.specs.Prelude.{◌≡◌, Some};
+ghost use Rattle.ea_load.specs.FileNames.{file_word};
+
+use ea_blocks::InputFault;
+
+use ea_bytes::ReadFault;
+use std::alloc::AllocError;
+use std::fmt;
+use thiserror::Error;
+
+/// A file, as messages call it.
+#[derive(Clone, Copy, Debug, PartialEq, Eq)]
+pub enum FileWord {
+    /// The network.
+    Gr,
+    /// The sources.
+    Ss,
+    /// The timetables.
+    Tp,
+    /// The pairs of source and target.
+    P2p,
+    /// A report that is checked.
+    Report,
+    /// The file that a report goes to.
+    Out,
+}
+
+impl FileWord {
+    /// The word.
+    pub fn word(self) -> &'static str
+        ensures { result.now ≡ file_word self }
+    {
+        match self {
+            FileWord::Gr => "gr",
+            FileWord::Ss => "ss",
+            FileWord::Tp => "tp",
+            FileWord::P2p => "p2p",
+            FileWord::Report => "report",
+            FileWord::Out => "out",
+        }
+    }
+}
+
+impl fmt::Display for FileWord {
+    ghost output = { λ word. Some (file_word word) };
+
+    fn fmt<W: fmt::Write>(&self, f: &mut fmt::Formatter<W>) -> fmt::Result {
+        f.write_str(self.word())
+    }
+}
+
+/// Why a file gave nothing.
+#[derive(Clone, Copy, Debug, PartialEq, Eq, Error)]
+pub enum FileFault {
+    /// It couldn't be read, or is too large.
+    #[error("{file}: {fault}")]
+    Read { file: FileWord, fault: ReadFault },
+    /// Its text has a fault.
+    #[error("{file}: {fault}")]
+    Input { file: FileWord, fault: InputFault },
+    /// Memory was refused, which says nothing of the file.
+    #[error("there is not enough memory (13 OutOfMemory)")]
+    OutOfMemory,
+}
+
+impl From<AllocError> for FileFault {
+    ghost use Rattle.ea_load.specs.declared.file_fault.FileFault.TheVariants.{OutOfMemory};
+
+    ghost from_gives = { λ _ fault. fault ≡ OutOfMemory };
+
+    fn from(_refused: AllocError) -> FileFault {
+        FileFault::OutOfMemory
+    }
+}

@@ -1,0 +1,84 @@
+//! All files of a run, or of pairs.
+ghost use Rattle.std.specs.Prelude.{◌≡◌, ℕ, List, IfOk, IfErr, OnOk};
+ghost use Rattle.ea_bytes.specs.Device.{BearsOn};
+ghost use Rattle.ea_input.specs.Formats.{source_format, pair_format};
+ghost use Rattle.ea_input.specs.Sources.{DenotesSources};
+ghost use Rattle.ea_input.specs.Pairs.{DenotesPairs};
+ghost use Rattle.ea_load.specs.Files.{bytes_there, IsBorneIfThere, IsFirstFault, reading, tables};
+ghost use Rattle.ea_load.specs.Given.{AreGiven, Given, IsRoadOf};
+
+use crate::file_fault::{FileFault, FileWord};
+use crate::file_readers::{read_graph, read_sources};
+use crate::road::{Road, read_road};
+use crate::parallel_readers::{read_graph_by, read_pairs_by, read_road_by};
+use ea_bytes::ByteIn;
+use std::alloc::Global;
+use std::thread::Threads;
+
+/// A road, and the nodes of sources in the order of their file.
+#[derive(Drop)]
+pub struct RunFiles {
+    pub road: Road,
+    pub sources: Vec<u32>,
+}
+
+/// A road, and pairs of source and target in the order of their file.
+#[derive(Drop)]
+pub struct PairFiles {
+    pub road: Road,
+    pub pairs: Vec<(u32, u32)>,
+}
+
+/// Reads the files of a run: network, sources, and timetables where there are any. Each is read to its end and
+/// understood before the next is touched, and its text is let go.
+///
+/// The first fault in this order is answered; `OutOfMemory` may stand in place of any answer.
+pub fn read_run<G: ByteIn, S: ByteIn, T: ByteIn>(
+    alloc: Global,
+    gr: &mut G,
+    ss: &mut S,
+    tp: &mut Option<T>,
+) -> Result<RunFiles, FileFault>
+    ensures given { IfOk result (λ files. (given : Given)
+        × AreGiven DenotesSources (G.seen gr.old).bytes (S.seen ss.old).bytes
+        (bytes_there T.seen tp.old)
+        given files.sources.items
+        × IsRoadOf given files.road) }
+    ensures gr_borne { OnOk result (BearsOn (G.seen gr.old) (G.seen gr.new)) }
+    ensures ss_borne { OnOk result (BearsOn (S.seen ss.old) (S.seen ss.new)) }
+    ensures tp_borne { OnOk result (IsBorneIfThere T.seen tp.old tp.new) }
+    ensures fault { IfErr result (IsFirstFault FileWord.Ss source_format DenotesSources
+        (reading G.seen gr.old gr.new) (reading S.seen ss.old ss.new)
+        (tables T.seen tp.old tp.new)) }
+{
+    let graph = read_graph(alloc, gr)?;
+    let sources = read_sources(alloc, ss, graph.nodes)?;
+    let road = read_road(alloc, graph, tp)?;
+    Ok(RunFiles { road, sources })
+}
+
+/// Reads the files of pairs, as `read_run_by` those of a run.
+pub fn read_pairs<H: Threads + Sync, G: ByteIn, P: ByteIn, T: ByteIn>(
+    alloc: Global,
+    rt: &H,
+    gr: &mut G,
+    p2p: &mut P,
+    tp: &mut Option<T>,
+) -> Result<PairFiles, FileFault>
+    ensures given { IfOk result (λ files. (given : Given)
+        × AreGiven DenotesPairs (G.seen gr.old).bytes (P.seen p2p.old).bytes
+        (bytes_there T.seen tp.old)
+        given files.pairs.items
+        × IsRoadOf given files.road) }
+    ensures gr_borne { OnOk result (BearsOn (G.seen gr.old) (G.seen gr.new)) }
+    ensures p2p_borne { OnOk result (BearsOn (P.seen p2p.old) (P.seen p2p.new)) }
+    ensures tp_borne { OnOk result (IsBorneIfThere T.seen tp.old tp.new) }
+    ensures fault { IfErr result (IsFirstFault FileWord.P2p pair_format DenotesPairs
+        (reading G.seen gr.old gr.new) (reading P.seen p2p.old p2p.new)
+        (tables T.seen tp.old tp.new)) }
+{
+    let graph = read_graph_by(alloc, rt, gr)?;
+    let pairs = read_pairs_by(alloc, rt, p2p, graph.nodes)?;
+    let road = read_road_by(alloc, rt, graph, tp)?;
+    Ok(PairFiles { road, pairs })
+}

@@ -1,0 +1,20 @@
+//! What the files of a command give: a network with its travel times and the problems that are asked, or the first fault.
+#![tactic(auto)]
+
+mod answer_fault;
+mod departures;
+mod file_fault;
+mod file_readers;
+mod files;
+mod memory_texts;
+mod parallel_readers;
+mod road;
+
+pub use answer_fault::AnswerFault;
+pub use departures::{departures_fit, pair_queries, run_queries};
+pub use file_fault::{FileFault, FileWord};
+pub use file_readers::read_report;
+pub use files::{PairFiles, RunFiles, read_pairs, read_run};
+pub use memory_texts::road_of_texts;
+pub use parallel_readers::read_run_by;
+pub use road::{Road, timetables_law};

@@ -1,0 +1,74 @@
+//! A network and its timetables, of what files denote.
+ghost use Rattle.std.specs.Prelude.{◌≡◌, ℕ, List, Option, IfOk, IfErr, length};
+ghost use Rattle.ea_input.specs.Graph.{DenotesGraph};
+ghost use Rattle.ea_input.specs.Table.{DenotesTable, Table};
+ghost use Rattle.ea_input.specs.Views.{graph as graph_of};
+ghost use Rattle.ea_load.specs.Files.{IsTextIfThere, tables};
+ghost use Rattle.ea_load.specs.Given.{IsRoadOf, IsTableOf, given_by, roads_of};
+ghost use Rattle.ea_load.specs.Sound.{IsSound};
+ghost use Rattle.ea_travel_times.specs.Timetables.{AreFit};
+
+use crate::file_fault::FileFault;
+use crate::file_readers::read_table;
+use ea_base::{RawGraph, RawTable};
+use ea_bytes::ByteIn;
+use ea_road::{ArcList, Network};
+use ea_travel_times::Timetables;
+use std::alloc::{AllocError, Global};
+
+/// A network, and when its arcs arrive.
+#[derive(Drop)]
+pub struct Road {
+    pub network: Network,
+    pub times: Timetables,
+}
+
+/// The arcs of a graph with their classes.
+pub(crate) fn classed_arcs(
+    alloc: Global,
+    graph: RawGraph,
+    table: &RawTable,
+) -> Result<ArcList, AllocError>
+    requires { IsSound (given_by graph table.now) }
+    ensures { IfOk result (λ list. list ≡ (roads_of (given_by graph table.now)).arcs) }
+{
+    ArcList::with_classes(alloc, graph.arcs, table)
+}
+
+/// The road of a graph and a table.
+pub(crate) fn road_of(alloc: Global, graph: RawGraph, table: RawTable) -> Result<Road, AllocError>
+    requires { IsSound (given_by graph table) }
+    ensures { IfOk result (IsRoadOf (given_by graph table)) }
+{
+    let nodes = graph.nodes;
+    let arcs = classed_arcs(alloc, graph, &table)?;
+    let times = Timetables::with_steps(alloc, table.kinds, table.steps)?;
+    let network = Network::of_list(alloc, nodes, arcs)?;
+    Ok(Road { network, times })
+}
+
+/// The road of a graph and a file of timetables, which may be left out.
+pub(crate) fn read_road<T: ByteIn>(
+    alloc: Global,
+    graph: RawGraph,
+    tp: &mut Option<T>,
+) -> Result<Road, FileFault>
+    requires denoted { (lines : List (List (List ℕ))) × DenotesGraph lines (graph_of graph) }
+    ensures road { IfOk result (λ road. (text : Option (List ℕ)) × (table : Table)
+        × IsTextIfThere T.seen tp.old tp.new text
+        × IsTableOf (length (graph_of graph).arcs) text table
+        × IsRoadOf (record { graph = graph_of graph; table = table }) road) }
+    ensures fault { IfErr result
+        ((tables T.seen tp.old tp.new).IsFault (length (graph_of graph).arcs)) }
+{
+    let table = read_table(alloc, tp, graph.arcs.len() as u32)?;
+    let road = road_of(alloc, graph, table)?;
+    Ok(road)
+}
+
+/// The law of the texts of timetables: the kinds and steps that they denote are those that travel
+/// times ask for. It computes nothing.
+pub fn timetables_law(_arcs: u32)
+    ensures { (lines : List (List (List ℕ))) (table : Table) → DenotesTable _arcs lines table
+        → AreFit table.kinds table.steps }
+{}

@@ -1,0 +1,18 @@
+//! What a command comes to, as people are told: its line and exit status, what a fault means, the formats on one page.
+#![tactic(auto)]
+
+mod advice;
+mod fault_pages;
+mod formats;
+mod line_forms;
+mod opened;
+mod os_reasons;
+mod outcome_lines;
+
+pub use advice::{Look, look_of};
+pub use fault_pages::{FAULTS, Fault, fault_named};
+pub use formats::FORMATS;
+pub use line_forms::wanted_of_line;
+pub use opened::Opened;
+pub use os_reasons::reason_of;
+pub use outcome_lines::{Outcome, say, show};

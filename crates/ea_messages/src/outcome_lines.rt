@@ -1,0 +1,278 @@
+//! Outcomes, told in one line and a status.
+ghost use Rattle.std.specs.Prelude.{◌≡◌, ◌≤◌, IfOk, IfErr, length, option_map};
+ghost use Rattle.std.specs.List.{flat_map};
+ghost use Rattle.ea_messages.specs.Said;
+ghost use Rattle.ea_messages.specs.Said.{IsSaid, IsShown, IsUnshown, asked_text, line_of, status_of, plain_line, file_line, text_line, written_line, check_line, command_line, command_status, answer_line, answer_status, input_line, input_status, read_line, read_status, refused_line, refused_status};
+
+use ea_load::AnswerFault;
+use ea_check::CheckFault;
+use ea_load::FileWord;
+use ea_blocks::{FaultKind, InputFault};
+use ea_bytes::{ByteOut, ReadFault};
+use ea_report::write_pieces;
+use ea_options::CommandFault;
+use itoa::Buffer;
+
+/// What the program has to tell beside a report.
+#[derive(Drop)]
+pub enum Outcome {
+    /// The words ask for nothing.
+    Command(CommandFault),
+    /// A file can't be opened.
+    Unopened(FileWord),
+    /// The report is not whole.
+    Answer(AnswerFault),
+    /// The report that was checked is right.
+    Accepted,
+    /// The report that was checked is refused.
+    Check(CheckFault),
+}
+
+/// Writes pieces, as far as the device takes them.
+fn put<W: ByteOut>(pieces: &[&[u8]], out: &mut W)
+    requires { length pieces.now ≤ 1000 }
+    ensures { IsSaid (flat_map (λ piece. piece.now) pieces.now) (W.seen out.old)
+        (W.seen out.new) }
+{
+    let _ = write_pieces(pieces, out);
+}
+
+/// Writes a line of one message.
+fn put_plain<W: ByteOut>(message: &str, out: &mut W)
+    ensures { IsSaid (plain_line message.now) (W.seen out.old)
+        (W.seen out.new) }
+{
+    let pieces = [
+        b"earliest: ".as_slice(),
+        message.as_bytes(),
+        b"\n".as_slice(),
+    ];
+    put(pieces.as_slice(), out);
+}
+
+/// Writes the line of a file.
+fn put_file<'a, W: ByteOut>(word: &'a str, number: u8, name: &'a str, out: &mut W)
+    ensures { IsSaid (file_line word.now number name.now) (W.seen out.old)
+        (W.seen out.new) }
+{
+    let mut buffer = Buffer::new();
+    let pieces = [
+        b"earliest: ".as_slice(),
+        word.as_bytes(),
+        b": ".as_slice(),
+        buffer.format(number).as_bytes(),
+        b" ".as_slice(),
+        name.as_bytes(),
+        b"\n".as_slice(),
+    ];
+    put(pieces.as_slice(), out);
+}
+
+/// Writes the line of a fault in a line of a file.
+fn put_text<'a, W: ByteOut>(word: &'a str, line: u64, number: u8, name: &'a str, out: &mut W)
+    ensures { IsSaid (text_line word.now line number name.now) (W.seen out.old)
+        (W.seen out.new) }
+{
+    let mut line_buffer = Buffer::new();
+    let mut buffer = Buffer::new();
+    let pieces = [
+        b"earliest: ".as_slice(),
+        word.as_bytes(),
+        b" ".as_slice(),
+        line_buffer.format(line).as_bytes(),
+        b": ".as_slice(),
+        buffer.format(number).as_bytes(),
+        b" ".as_slice(),
+        name.as_bytes(),
+        b"\n".as_slice(),
+    ];
+    put(pieces.as_slice(), out);
+}
+
+/// Writes the line of a report that couldn't be written whole.
+fn put_written<W: ByteOut>(written: u128, out: &mut W)
+    ensures { IsSaid (written_line written) (W.seen out.old)
+        (W.seen out.new) }
+{
+    let mut buffer = Buffer::new();
+    let pieces = [
+        b"earliest: 12 WriteFailed after ".as_slice(),
+        buffer.format(written).as_bytes(),
+        b" bytes\n".as_slice(),
+    ];
+    put(pieces.as_slice(), out);
+}
+
+/// Writes the line of a report that is refused at a line.
+fn put_verdict<W: ByteOut>(verdict: &str, line: u64, out: &mut W)
+    ensures { IsSaid (check_line verdict.now line) (W.seen out.old)
+        (W.seen out.new) }
+{
+    let mut buffer = Buffer::new();
+    let pieces = [
+        b"earliest: check ".as_slice(),
+        verdict.as_bytes(),
+        b" line ".as_slice(),
+        buffer.format(line).as_bytes(),
+        b"\n".as_slice(),
+    ];
+    put(pieces.as_slice(), out);
+}
+
+/// Tells why words ask for nothing.
+fn say_command<W: ByteOut>(fault: &CommandFault, out: &mut W) -> u8
+    ensures status { result ≡ command_status fault.now }
+    ensures line { IsSaid (command_line fault.now) (W.seen out.old)
+        (W.seen out.new) }
+{
+    match fault {
+        CommandFault::Words { help, text } => {
+            let pieces = [text.as_bytes()];
+            put(pieces.as_slice(), out);
+            if *help { 0 } else { 2 }
+        }
+        CommandFault::BadOption => {
+            put_plain("14 BadOption", out);
+            2
+        }
+        CommandFault::OutOfMemory => {
+            put_plain("13 OutOfMemory", out);
+            3
+        }
+    }
+}
+
+/// Tells why a file wasn't read.
+fn say_read<W: ByteOut>(file: FileWord, fault: ReadFault, out: &mut W) -> u8
+    ensures status { result ≡ read_status fault }
+    ensures line { IsSaid (read_line file fault) (W.seen out.old)
+        (W.seen out.new) }
+{
+    match fault {
+        ReadFault::TooLarge => {
+            put_file(file.word(), 10, "TooLarge", out);
+            1
+        }
+        ReadFault::ReadFailed => {
+            put_file(file.word(), 11, "ReadFailed", out);
+            4
+        }
+        ReadFault::OutOfMemory => {
+            put_plain("13 OutOfMemory", out);
+            3
+        }
+    }
+}
+
+/// Tells the fault of a file's text.
+fn say_input<W: ByteOut>(file: FileWord, fault: InputFault, out: &mut W) -> u8
+    ensures status { result ≡ input_status fault.kind }
+    ensures line { IsSaid (input_line file fault.line fault.kind) (W.seen out.old)
+        (W.seen out.new) }
+{
+    let kind = fault.kind;
+    if kind == FaultKind::OutOfMemory {
+        put_plain("13 OutOfMemory", out);
+        3
+    } else {
+        put_text(file.word(), fault.line, kind.number(), kind.name(), out);
+        1
+    }
+}
+
+/// Tells why a report is not whole.
+fn say_answer<W: ByteOut>(fault: AnswerFault, out: &mut W) -> u8
+    ensures status { result ≡ answer_status fault }
+    ensures line { IsSaid (answer_line fault) (W.seen out.old)
+        (W.seen out.new) }
+{
+    match fault {
+        AnswerFault::Read { file, fault } => say_read(file, fault, out),
+        AnswerFault::Input { file, fault } => say_input(file, fault, out),
+        AnswerFault::BadOption => {
+            put_plain("14 BadOption", out);
+            2
+        }
+        AnswerFault::Write { written } => {
+            put_written(written, out);
+            4
+        }
+        AnswerFault::OutOfMemory { .. } => {
+            put_plain("13 OutOfMemory", out);
+            3
+        }
+    }
+}
+
+/// Tells why a report is refused.
+fn say_check<W: ByteOut>(fault: CheckFault, out: &mut W) -> u8
+    ensures status { result ≡ refused_status fault }
+    ensures line { IsSaid (refused_line fault) (W.seen out.old)
+        (W.seen out.new) }
+{
+    match fault {
+        CheckFault::BadLine(line) => put_verdict("1 BadLine", line, out),
+        CheckFault::NotAttained(line) => put_verdict("2 NotAttained", line, out),
+        CheckFault::NotLeast(line) => put_verdict("3 NotLeast", line, out),
+        CheckFault::NotCanonical(line) => put_verdict("5 NotCanonical", line, out),
+        CheckFault::OutOfMemory => {
+            put_plain("13 OutOfMemory", out);
+            return 3;
+        }
+    }
+    5
+}
+
+impl Outcome {
+    /// The text that was asked for: `ok`, or what clap shows for `--help` and its like. None where there is a fault to tell.
+    pub fn asked_text(&self) -> Option<&str>
+        ensures { option_map (λ text. text.now) result ≡ asked_text self.now }
+    {
+        match self {
+            Outcome::Accepted => Some("ok\n"),
+            Outcome::Command(CommandFault::Words { help: true, text }) => Some(text.as_str()),
+            _ => None,
+        }
+    }
+}
+
+/// Writes a text that was asked for, with no memory.
+///
+/// Errors: `Write` where a write failed, took nothing of bytes that were left, or was interrupted for the 1,001st time; so
+/// many bytes of the text went out, its front.
+pub fn show<W: ByteOut>(text: &str, out: &mut W) -> Result<(), AnswerFault>
+    ensures ok { IfOk result (λ done. IsShown text.now (W.seen out.old) (W.seen out.new)) }
+    ensures err { IfErr result (IsUnshown text.now (W.seen out.old) (W.seen out.new)) }
+{
+    let pieces = [text.as_bytes()];
+    match write_pieces(pieces.as_slice(), out) {
+        Ok(_) => Ok(()),
+        Err(fault) => Err(AnswerFault::Write {
+            written: fault.written,
+        }),
+    }
+}
+
+/// Tells an outcome in its line, as far as the device takes it, and answers the status of the program: 0 where all is well
+/// or help was asked for, 1 where a file's text is at fault, 2 where the words are, 3 for want of memory, 4 where a file or
+/// the output is at fault, 5 where a report is refused. It takes no memory.
+pub fn say<W: ByteOut>(outcome: &Outcome, out: &mut W) -> u8
+    ensures status { result ≡ status_of outcome.now }
+    ensures line { IsSaid (line_of outcome.now) (W.seen out.old)
+        (W.seen out.new) }
+{
+    match outcome {
+        Outcome::Command(fault) => say_command(fault, out),
+        Outcome::Unopened(file) => {
+            put_file(file.word(), 15, "OpenFailed", out);
+            4
+        }
+        Outcome::Answer(fault) => say_answer(*fault, out),
+        Outcome::Accepted => {
+            let pieces = [b"ok\n".as_slice()];
+            put(pieces.as_slice(), out);
+            0
+        }
+        Outcome::Check(fault) => say_check(*fault, out),
+    }
+}

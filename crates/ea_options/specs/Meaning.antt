@@ -1,0 +1,170 @@
+-- What words ask for: no words ask for the stored run; words that begin with a command's name ask for what clap makes of
+-- the others, with the defaults and limits of each option.
+use Rattle.std.specs.Prelude.{ℕ, ◌+◌, Bool, true, false, nat_le, List, codes, Option, Some, None, option_and_then, option_map, if◌then◌else◌}
+use Rattle.std.specs.Str.{bytes_eq}
+use Rattle.ea_base.specs.declared.limits.TheConstants.{HORIZON, LEAST_HEAPS, MOST_AT_ONCE, MOST_BATCH, MOST_HEAPS, MOST_TURNS, MOST_WORKERS}
+use Rattle.clap.specs.Words.{App, Row, Text, first_of, matches_of}
+use Rattle.ea_options.specs.declared.meaning.Names.{Names}
+use Rattle.ea_options.specs.declared.options.RunOptions.{RunOptions}
+use Rattle.ea_options.specs.declared.options.Command.{Command}
+use Rattle.ea_options.specs.declared.options.Command.TheVariants as command
+use Rattle.ea_options.specs.Grammar.{run_app, pairs_app, rank_app, check_app}
+use Rattle.ea_options.specs.Values.{chosen_of, option_of, is_given}
+
+infixl 10 ◌>>=◌
+abbrev pub ◌>>=◌ : {A B : Type 0} → Option A → (A → Option B) → Option B
+o >>= f = option_and_then f o
+
+-- The numbers of the options, where each is a number within its limits.
+unfoldable pub options_of : List Row → Option RunOptions
+options_of rows = do
+  workers ← chosen_of (codes "workers") 1 MOST_WORKERS rows
+  at_once ← chosen_of (codes "at-once") 1 MOST_AT_ONCE rows
+  batch ← chosen_of (codes "batch") 1 MOST_BATCH rows
+  heaps ← option_of (codes "heaps") 2 LEAST_HEAPS MOST_HEAPS rows
+  turns ← option_of (codes "turns") 1000000 0 MOST_TURNS rows
+  seed ← option_of (codes "seed") 1 0 18446744073709551615 rows
+  depart ← option_of (codes "depart") 0 0 HORIZON rows
+  gap ← option_of (codes "gap") 0 0 HORIZON rows
+  Some (record {
+    joint = is_given (codes "joint") rows;
+    walks = is_given (codes "walks") rows;
+    stats = is_given (codes "stats") rows;
+    progress = is_given (codes "progress") rows;
+    workers = workers;
+    at_once = at_once;
+    batch = batch;
+    heaps = heaps;
+    turns = turns;
+    seed = seed;
+    depart = depart;
+    gap = gap;
+  })
+
+-- The names of a command's files; a report is checked, or put into a file.
+pub record Files : Type 0 where
+  pub gr : Text
+  pub starts : Text
+  pub tp : Option Text
+  pub report : Option Text
+  pub output : Option Text
+
+abbrev pub files : Names → Files
+files names = record {
+  gr = names.gr.now;
+  starts = names.starts.now;
+  tp = option_map (λ t. t.now) names.tp;
+  report = option_map (λ t. t.now) names.report;
+  output = option_map (λ t. t.now) names.output;
+}
+
+-- The name `-` stands for standard input, which one file alone can be.
+abbrev pub input_by : Text → ℕ
+input_by name = if bytes_eq name (codes "-") then 1 else 0
+
+abbrev pub input_if_named : Option Text → ℕ
+input_if_named None = 0
+input_if_named (Some name) = input_by name
+
+abbrev pub has_input_twice : Files → Bool
+has_input_twice files =
+    nat_le 2 (input_by files.gr + input_by files.starts + input_if_named files.tp + input_if_named files.report)
+
+-- A name that may be left out where it isn't wanted.
+abbrev pub wanted : Bool → Option Text → Option (Option Text)
+wanted true None = None
+wanted true (Some name) = Some (Some name)
+wanted false name = Some name
+
+-- The files that a command's rows name; the second is called so, and a report may be wanted.
+unfoldable pub files_of : Text → Bool → List Row → Option Files
+files_of second reported rows = do
+  gr ← first_of (codes "gr") rows
+  starts ← first_of second rows
+  report ← wanted reported (first_of (codes "report") rows)
+  Some (record { gr = gr; starts = starts; tp = first_of (codes "tp") rows; report = report; output = first_of (codes "output") rows })
+
+-- What is asked: the stored run, a command's files and options, what a fault means, or the formats.
+pub data Asked : Type 0 where
+  stored : Asked
+  run : Files → RunOptions → Asked
+  pairs : Files → RunOptions → Asked
+  rank : Files → RunOptions → Asked
+  check : Files → RunOptions → Asked
+  explain : Option Text → Asked
+  formats : Asked
+
+abbrev pub asked : Command → Asked
+asked command.Stored = stored
+asked (command.Run gr ss tp output options) = run (record { gr = gr.now; starts = ss.now; tp = option_map (λ t. t.now) tp; report = None; output = option_map (λ t. t.now) output }) options
+asked (command.Pairs gr p2p tp output options) = pairs (record { gr = gr.now; starts = p2p.now; tp = option_map (λ t. t.now) tp; report = None; output = option_map (λ t. t.now) output }) options
+asked (command.Rank gr ss tp output options) = rank (record { gr = gr.now; starts = ss.now; tp = option_map (λ t. t.now) tp; report = None; output = option_map (λ t. t.now) output }) options
+asked (command.Check gr ss tp report options) = check (record { gr = gr.now; starts = ss.now; tp = option_map (λ t. t.now) tp; report = Some report.now; output = None }) options
+asked (command.Explain fault) = explain (option_map (λ t. t.now) fault)
+asked command.Formats = formats
+
+-- The commands, as clap knows them, what each calls its second file, and whether it wants a report.
+pub data Verb : Type 0 where
+  run_verb : Verb
+  pairs_verb : Verb
+  rank_verb : Verb
+  check_verb : Verb
+
+-- What a first word names: a command with files, one of those without, or none.
+pub data Head : Type 0 where
+  of_files : Verb → Head
+  of_explain : Head
+  of_formats : Head
+  of_none : Head
+
+abbrev pub head_of : Text → Head
+head_of word =
+    if bytes_eq word (codes "run") then of_files run_verb else
+    (if bytes_eq word (codes "pairs") then of_files pairs_verb else
+    (if bytes_eq word (codes "rank") then of_files rank_verb else
+    (if bytes_eq word (codes "check") then of_files check_verb else
+    (if bytes_eq word (codes "explain") then of_explain else
+    (if bytes_eq word (codes "formats") then of_formats else of_none)))))
+
+abbrev pub app_by : Verb → App
+app_by run_verb = run_app
+app_by pairs_verb = pairs_app
+app_by rank_verb = rank_app
+app_by check_verb = check_app
+
+abbrev pub second_by : Verb → Text
+second_by run_verb = codes "ss"
+second_by pairs_verb = codes "p2p"
+second_by rank_verb = codes "ss"
+second_by check_verb = codes "ss"
+
+abbrev pub reported_by : Verb → Bool
+reported_by run_verb = false
+reported_by pairs_verb = false
+reported_by rank_verb = false
+reported_by check_verb = true
+
+-- A command that checks a report has no output, and the others check none.
+abbrev pub named_report : Verb → Files → Files
+named_report check_verb files = record files { output = None }
+named_report _ files = record files { report = None }
+
+abbrev pub ask_by : Verb → Files → RunOptions → Asked
+ask_by run_verb files = run (named_report run_verb files)
+ask_by pairs_verb files = pairs (named_report pairs_verb files)
+ask_by rank_verb files = rank (named_report rank_verb files)
+ask_by check_verb files = check (named_report check_verb files)
+
+-- The files and the options that clap makes of a command's words.
+abbrev pub files_by : Verb → List Text → Option Files
+files_by verb words = files_of (second_by verb) (reported_by verb) (matches_of (app_by verb) words)
+
+abbrev pub options_by : Verb → List Text → Option RunOptions
+options_by verb words = options_of (matches_of (app_by verb) words)
+
+-- What they ask for, where standard input stands for one file at most.
+abbrev pub asked_once : Verb → Files → RunOptions → Option Asked
+asked_once verb files options = if has_input_twice files then None else Some (ask_by verb files options)
+
+abbrev pub meaning_by : Verb → List Text → Option Asked
+meaning_by verb words = files_by verb words >>= λ files. options_by verb words >>= λ options. asked_once verb files options

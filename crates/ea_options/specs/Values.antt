@@ -1,0 +1,33 @@
+-- The values that a command's options have in clap's matches.
+use Rattle.std.specs.Prelude.{ℕ, Bool, false, ◌&&◌, List, codes, nat_le, if◌then◌else◌, Option, Some, None, option_and_then, option_map}
+use Rattle.std.specs.Str.{bytes_eq}
+use Rattle.clap.specs.Words.{Row, Text, first_of}
+use Rattle.ea_bytes.specs.Text.{number_of}
+
+-- A number within its limits, both included.
+abbrev pub within_limits : ℕ → ℕ → ℕ → Option ℕ
+within_limits low high n = if nat_le low n && nat_le n high then Some n else None
+
+-- The number of an option: the default where it isn't used, nothing where its text is no number or out of its limits.
+abbrev pub number_in : ℕ → ℕ → ℕ → Option Text → Option ℕ
+number_in default low high None = Some default
+number_in default low high (Some text) = option_and_then (within_limits low high) (number_of text)
+
+abbrev pub option_of : Text → ℕ → ℕ → ℕ → List Row → Option ℕ
+option_of name default low high rows = number_in default low high (first_of name rows)
+
+-- The number of an option that may be left to the program.
+abbrev pub number_if_given : ℕ → ℕ → Option Text → Option (Option ℕ)
+number_if_given low high None = Some None
+number_if_given low high (Some text) = option_map Some (option_and_then (within_limits low high) (number_of text))
+
+abbrev pub chosen_of : Text → ℕ → ℕ → List Row → Option (Option ℕ)
+chosen_of name low high rows = number_if_given low high (first_of name rows)
+
+-- Whether a flag is there: clap gives it the text `true` then.
+abbrev pub is_true : Option Text → Bool
+is_true None = false
+is_true (Some text) = bytes_eq text (codes "true")
+
+abbrev pub is_given : Text → List Row → Bool
+is_given name rows = is_true (first_of name rows)

@@ -1,0 +1,102 @@
+//! What is bad in words that clap takes, and whether words ask for explanations.
+ghost use Rattle.std.specs.Prelude.{IfSome};
+ghost use Rattle.ea_options.specs.Bad.{IsBad};
+
+use crate::commands::{check_command, pairs_command, rank_command, run_command};
+use crate::values::{number_of_text, text_of};
+use clap::ArgMatches;
+use ea_base::{HORIZON, LEAST_HEAPS, MOST_AT_ONCE, MOST_BATCH, MOST_HEAPS, MOST_TURNS, MOST_WORKERS};
+use std::alloc::Global;
+use std::convert::AsStr;
+
+/// An option whose value is no number from `least` to `most`.
+#[derive(Clone, Copy, Debug, PartialEq, Eq)]
+pub struct BadValue<'a> {
+    /// The option's name, without its dashes.
+    pub option: &'static str,
+    pub value: &'a str,
+    pub least: u64,
+    pub most: u64,
+}
+
+/// An option's value, where it is bad.
+fn bad_value<'a>(
+    matches: &ArgMatches<'a>,
+    option: &'static str,
+    least: u64,
+    most: u64,
+) -> Option<BadValue<'a>>
+    ensures { IfSome result IsBad }
+{
+    let value = text_of(matches, option)?;
+    match number_of_text(least, most, value) {
+        Some(_) => None,
+        None => Some(BadValue {
+            option,
+            value,
+            least,
+            most,
+        }),
+    }
+}
+
+/// The first option with a bad value.
+fn first_bad<'a>(matches: &ArgMatches<'a>) -> Option<BadValue<'a>>
+    ensures { IfSome result IsBad }
+{
+    for (option, least, most) in [
+        ("workers", 1, u64::from(MOST_WORKERS)),
+        ("at-once", 1, u64::from(MOST_AT_ONCE)),
+        ("batch", 1, u64::from(MOST_BATCH)),
+        ("heaps", u64::from(LEAST_HEAPS), u64::from(MOST_HEAPS)),
+        ("turns", 0, MOST_TURNS),
+        ("seed", 0, u64::MAX),
+        ("depart", 0, HORIZON),
+        ("gap", 0, HORIZON),
+    ] {
+        if let Some(bad) = bad_value(matches, option, least, most) {
+            return Some(bad);
+        }
+    }
+    None
+}
+
+/// The first option with a bad value, where `of_words` answers `BadOption` for the words. None where it doesn't, where two
+/// files are standard input and all values are good, and where memory is refused.
+pub fn bad_value_of<'a, S: AsStr>(alloc: Global, words: &'a [S]) -> Option<BadValue<'a>>
+    ensures { IfSome result IsBad }
+{
+    let verb = words.first()?.as_str();
+    let command = if verb == "run" {
+        run_command(alloc)
+    } else if verb == "pairs" {
+        pairs_command(alloc)
+    } else if verb == "rank" {
+        rank_command(alloc)
+    } else if verb == "check" {
+        check_command(alloc)
+    } else {
+        return None;
+    };
+    match command {
+        Ok(command) => match command.try_get_matches_from(words) {
+            Ok(matches) => first_bad(&matches),
+            Err(_) => None,
+        },
+        Err(_) => None,
+    }
+}
+
+/// Whether words ask for explanations: `--explain` is among those before the first `--`.
+pub fn asks_to_explain<S: AsStr>(words: &[S]) -> bool {
+    for word in words {
+        let word = word.as_str();
+        if word == "--explain" {
+            return true;
+        }
+        if word == "--" {
+            return false;
+        }
+    }
+    false
+}

@@ -1,0 +1,116 @@
+//! The options that words give, part by part.
+ghost use Rattle.std.specs.Prelude.{◌≡◌, IfSome};
+ghost use Rattle.clap.specs.Words.{found_of, rows_of};
+ghost use Rattle.ea_options.specs.Chosen.{AreCounts, AreDepartures, IsQueue, counts_of, departures_of, flags_of, queue_of};
+ghost use Rattle.ea_options.specs.Limits.{AreOptions};
+ghost use Rattle.ea_options.specs.Meaning.{options_of};
+
+use crate::options::RunOptions;
+use crate::values::{chosen_number, has_flag, option_number};
+use clap::ArgMatches;
+use ea_base::{HORIZON, LEAST_HEAPS, MOST_AT_ONCE, MOST_BATCH, MOST_HEAPS, MOST_TURNS, MOST_WORKERS};
+
+/// How many workers, problems and entries go at once; none leaves it to the program.
+#[derive(Clone, Copy)]
+struct Counts {
+    workers: Option<u64>,
+    at_once: Option<u64>,
+    batch: Option<u64>,
+}
+
+#[tactic(auto, unfolding(crate::specs::Chosen::counts_of))]
+fn counts_in(matches: &ArgMatches<'_>) -> Option<Counts>
+    ensures counts { result ≡ counts_of (rows_of (found_of matches.now)) }
+    ensures limits { IfSome result AreCounts }
+{
+    let workers = chosen_number(matches, "workers", 1, u64::from(MOST_WORKERS))?;
+    let at_once = chosen_number(matches, "at-once", 1, u64::from(MOST_AT_ONCE))?;
+    let batch = chosen_number(matches, "batch", 1, u64::from(MOST_BATCH))?;
+    Some(Counts {
+        workers,
+        at_once,
+        batch,
+    })
+}
+
+/// How the shared queue is made, for how many turns it is used, and the seed of its choices.
+#[derive(Clone, Copy)]
+struct Queue {
+    heaps: u64,
+    turns: u64,
+    seed: u64,
+}
+
+#[tactic(auto, unfolding(crate::specs::Chosen::queue_of))]
+fn queue_in(matches: &ArgMatches<'_>) -> Option<Queue>
+    ensures queue { result ≡ queue_of (rows_of (found_of matches.now)) }
+    ensures limits { IfSome result IsQueue }
+{
+    let most_heaps = u64::from(MOST_HEAPS);
+    let heaps = option_number(matches, "heaps", 2, u64::from(LEAST_HEAPS), most_heaps)?;
+    let turns = option_number(matches, "turns", 1_000_000, 0, MOST_TURNS)?;
+    let seed = option_number(matches, "seed", 1, 0, u64::MAX)?;
+    Some(Queue { heaps, turns, seed })
+}
+
+/// When sources depart.
+#[derive(Clone, Copy)]
+struct Departures {
+    depart: u64,
+    gap: u64,
+}
+
+#[tactic(auto, unfolding(crate::specs::Chosen::departures_of))]
+fn departures_in(matches: &ArgMatches<'_>) -> Option<Departures>
+    ensures departures { result ≡ departures_of (rows_of (found_of matches.now)) }
+    ensures limits { IfSome result AreDepartures }
+{
+    let depart = option_number(matches, "depart", 0, 0, HORIZON)?;
+    let gap = option_number(matches, "gap", 0, 0, HORIZON)?;
+    Some(Departures { depart, gap })
+}
+
+/// Which flags are there.
+#[derive(Clone, Copy)]
+struct Flags {
+    joint: bool,
+    walks: bool,
+    stats: bool,
+    progress: bool,
+}
+
+fn flags_in(matches: &ArgMatches<'_>) -> Flags
+    ensures { result ≡ flags_of (rows_of (found_of matches.now)) }
+{
+    Flags {
+        joint: has_flag(matches, "joint"),
+        walks: has_flag(matches, "walks"),
+        stats: has_flag(matches, "stats"),
+        progress: has_flag(matches, "progress"),
+    }
+}
+
+/// The options of a command, where each is a number within its limits.
+pub(crate) fn options_in(matches: &ArgMatches<'_>) -> Option<RunOptions>
+    ensures options { result ≡ options_of (rows_of (found_of matches.now)) }
+    ensures limits { IfSome result AreOptions }
+{
+    let counts = counts_in(matches)?;
+    let queue = queue_in(matches)?;
+    let departures = departures_in(matches)?;
+    let flags = flags_in(matches);
+    Some(RunOptions {
+        joint: flags.joint,
+        walks: flags.walks,
+        stats: flags.stats,
+        progress: flags.progress,
+        workers: counts.workers,
+        at_once: counts.at_once,
+        batch: counts.batch,
+        heaps: queue.heaps,
+        turns: queue.turns,
+        seed: queue.seed,
+        depart: departures.depart,
+        gap: departures.gap,
+    })
+}

@@ -1,0 +1,33 @@
+ghost use Rattle.std.specs.Prelude.{◌≡◌};
+
+use std::alloc::AllocError;
+use thiserror::Error as ErrorTexts;
+
+/// Why words ask for nothing.
+#[derive(Debug, Drop, ErrorTexts)]
+pub enum CommandFault {
+    /// The words name no command, lack a file's name, or aren't understood; or they ask for help or the version.
+    /// The text is for the user.
+    #[error("{text}")]
+    Words {
+        /// Whether the text was asked for.
+        help: bool,
+        text: String,
+    },
+    /// The value of an option is no number, or is out of its limits.
+    #[error("an option's value is no number or is out of its limits")]
+    BadOption,
+    /// Memory was refused.
+    #[error("memory was refused")]
+    OutOfMemory,
+}
+
+impl From<AllocError> for CommandFault {
+    ghost use Rattle.ea_options.specs.declared.fault.CommandFault.TheVariants.{OutOfMemory};
+
+    ghost from_gives = { λ _ fault. fault ≡ OutOfMemory };
+
+    fn from(_error: AllocError) -> CommandFault {
+        CommandFault::OutOfMemory
+    }
+}

@@ -1,0 +1,15 @@
+//! The command line of `earliest`: what its words ask for, and the texts that explain them.
+#![tactic(auto)]
+
+mod arguments;
+mod bad_value;
+mod chosen;
+mod commands;
+mod fault;
+mod meaning;
+mod options;
+mod values;
+
+pub use bad_value::{BadValue, asks_to_explain, bad_value_of};
+pub use fault::CommandFault;
+pub use options::{Command, RunOptions};

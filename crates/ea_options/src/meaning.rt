@@ -1,0 +1,377 @@
+//! What words ask for.
+ghost use Rattle.std.specs.Prelude.{◌≡◌, IfOk, IsOkAnd, IfErr, IfSome, true, map, codes, option_map, is_some, Some, false, [], ◌∷◌, ◌≤◌};
+ghost use Rattle.clap.specs.Built.{IsParsedFrom};
+ghost use Rattle.clap.specs.Words.{App, app_of, fault_of, found_of, kind_of, matches_of, rows_of, is_simple, is_simple_and_free, IsAmong};
+ghost use Rattle.ea_options.specs.Building.{Builds};
+ghost use Rattle.ea_options.specs.Meaning.{Verb, run_verb, pairs_verb, rank_verb, check_verb, of_files, of_explain, of_formats, of_none};
+ghost use Rattle.ea_options.specs.Limits.{AreOptions, HasLimits};
+ghost use Rattle.ea_options.specs.Meaning;
+ghost use Rattle.ea_options.specs.Meaning.{files, files_of, has_input_twice, head_of, options_of};
+ghost use Rattle.ea_options.specs.Refusals.{Asks, AsksAs, AsksBy, IsAskedBy, IsReadBy, IsRefusal, IsRefusedBy, IsRefusalBy, IsFaultOf, IsComplaint, IsUnasked, is_shown};
+
+use crate::chosen::options_in;
+use crate::commands::{
+    check_command, explain_command, formats_command, pairs_command, program, rank_command,
+    run_command,
+};
+use crate::fault::CommandFault;
+use crate::options::{Command, RunOptions};
+use crate::values::text_of;
+use clap::error::ErrorKind;
+use clap::{ArgMatches, Error};
+use std::alloc::{AllocError, Global};
+use std::convert::AsStr;
+
+/// Whether a text of this kind was asked for.
+fn is_asked_for(kind: ErrorKind) -> bool
+    ensures { result ≡ is_shown kind }
+{
+    matches!(kind, ErrorKind::DisplayHelp | ErrorKind::DisplayVersion)
+}
+
+/// What clap's error says.
+fn fault_of_error(alloc: Global, error: Error) -> CommandFault
+    ensures { IsFaultOf error result }
+{
+    let kind = error.kind();
+    if matches!(kind, ErrorKind::OutOfMemory) {
+        return CommandFault::OutOfMemory;
+    }
+    match format!(in alloc; "{error}") {
+        Ok(text) => CommandFault::Words {
+            help: is_asked_for(kind),
+            text,
+        },
+        Err(_) => CommandFault::OutOfMemory,
+    }
+}
+
+/// What clap makes of words.
+fn matches_in<'a, S: AsStr>(
+    alloc: Global,
+    command: clap::Command<'a>,
+    words: &'a [S],
+) -> Result<ArgMatches<'a>, CommandFault>
+    requires simple { is_simple (app_of command) ≡ true }
+    requires free { is_simple_and_free (app_of command) ≡ true }
+    ensures taken { IfOk result
+        (λ m. fault_of (app_of command.entry) (map S.text words.entry.now) ≡ []) }
+    ensures parsed { IfOk result (λ m. IsParsedFrom command.entry m) }
+    ensures rows { IfOk result
+        (λ m. rows_of (found_of m)
+        ≡ matches_of (app_of command.entry) (map S.text words.entry.now)) }
+    ensures refused { IfErr result
+        (IsRefusalBy (fault_of (app_of command.entry) (map S.text words.entry.now))) }
+{
+    match command.try_get_matches_from(words) {
+        Ok(matches) => Ok(matches),
+        Err(error) => Err(fault_of_error(alloc, error)),
+    }
+}
+
+/// What clap makes of words where memory has not been refused for the command.
+fn matches_of_built<'a, S: AsStr>(
+    alloc: Global,
+    command: Result<clap::Command<'a>, AllocError>,
+    words: &'a [S],
+) -> Result<ArgMatches<'a>, CommandFault>
+    requires simple { IfOk command (λ c. is_simple (app_of c) ≡ true) }
+    requires free { IfOk command (λ c. is_simple_and_free (app_of c) ≡ true) }
+    ensures taken { (app : App) → Builds app command.entry
+        → IfOk result (λ m. fault_of app (map S.text words.entry.now) ≡ []) }
+    ensures parsed { IfOk result (λ m. IsOkAnd command.entry (λ c. IsParsedFrom c m)) }
+    ensures rows { (app : App) → Builds app command.entry → IfOk result
+        (λ m. rows_of (found_of m) ≡ matches_of app (map S.text words.entry.now)) }
+    ensures refused { (app : App) → Builds app command.entry
+        → IfErr result (IsRefusalBy (fault_of app (map S.text words.entry.now))) }
+{
+    match command {
+        Ok(command) => matches_in(alloc, command, words),
+        Err(_) => Err(CommandFault::OutOfMemory),
+    }
+}
+
+/// The names of a command's files.
+#[derive(Clone, Copy, Debug)]
+struct Names<'a> {
+    gr: &'a str,
+    starts: &'a str,
+    tp: Option<&'a str>,
+    report: Option<&'a str>,
+    output: Option<&'a str>,
+}
+
+/// 1 where a name stands for standard input, else 0.
+fn input_by(name: &str) -> u8
+    ensures input { result ≡ Meaning.input_by name.now }
+    ensures bound { result ≤ 1 }
+{
+    if name == "-" { 1 } else { 0 }
+}
+
+/// The same of a name that may be left out.
+fn input_if_named(name: Option<&str>) -> u8
+    ensures input { result ≡ Meaning.input_if_named (option_map (λ t. t.now) name.entry) }
+    ensures bound { result ≤ 1 }
+{
+    match name {
+        None => 0,
+        Some(name) => input_by(name),
+    }
+}
+
+impl Names<'_> {
+    /// Whether two of the files that are read are standard input.
+    fn has_input_twice(&self) -> bool
+        ensures { result ≡ has_input_twice (files self.now) }
+    {
+        let first = input_by(self.gr) + input_by(self.starts);
+        2 <= first + input_if_named(self.tp) + input_if_named(self.report)
+    }
+}
+
+/// A name, which may be left out where it isn't wanted.
+fn wanted(is_wanted: bool, name: Option<&str>) -> Option<Option<&str>>
+    ensures { option_map (λ name. option_map (λ t. t.now) name) result
+        ≡ Meaning.wanted is_wanted (option_map (λ t. t.now) name.entry) }
+{
+    match name {
+        None if is_wanted => None,
+        name => Some(name),
+    }
+}
+
+/// The names of a command's files; the second is called so, and a report may be wanted.
+#[tactic(auto, unfolding(crate::specs::Meaning::files_of))]
+fn names_in<'a>(matches: &ArgMatches<'a>, second: &str, reported: bool) -> Option<Names<'a>>
+    ensures { option_map files result
+        ≡ files_of second.now reported (rows_of (found_of matches.now)) }
+{
+    let gr = text_of(matches, "gr")?;
+    let starts = text_of(matches, second)?;
+    let report = wanted(reported, text_of(matches, "report"))?;
+    Some(Names {
+        gr,
+        starts,
+        tp: text_of(matches, "tp"),
+        report,
+        output: text_of(matches, "output"),
+    })
+}
+
+/// What a command asks for: its files, whose names are all there, and its options.
+fn asked_in<'a>(
+    matches: &ArgMatches<'a>,
+    second: &str,
+    reported: bool,
+) -> Result<(Names<'a>, RunOptions), CommandFault>
+    requires named { is_some (files_of second.now reported (rows_of (found_of matches.now)))
+        ≡ true }
+    ensures ok { IfOk result (λ asked.
+        (files_of second.now reported (rows_of (found_of matches.now)) ≡ Some (files asked.0))
+        × (options_of (rows_of (found_of matches.now)) ≡ Some asked.1)
+        × (has_input_twice (files asked.0) ≡ false)) }
+    ensures limits { IfOk result (λ asked. AreOptions asked.1) }
+    ensures err { IfErr result (IsUnasked second.now reported (rows_of (found_of matches.now))) }
+{
+    let names = names_in(matches, second, reported).unwrap();
+    match options_in(matches) {
+        Some(options) => {
+            if names.has_input_twice() {
+                Err(CommandFault::BadOption)
+            } else {
+                Ok((names, options))
+            }
+        }
+        None => Err(CommandFault::BadOption),
+    }
+}
+
+/// What is said where no command is named.
+fn no_command(alloc: Global) -> CommandFault
+    ensures { IsComplaint result }
+{
+    match String::from_str(alloc, "error: no command is named\n") {
+        Ok(text) => CommandFault::Words { help: false, text },
+        Err(_) => CommandFault::OutOfMemory,
+    }
+}
+
+/// What the words of a command with files ask for.
+fn asked_of_words<'a, S: AsStr>(
+    alloc: Global,
+    command: Result<clap::Command<'a>, AllocError>,
+    words: &'a [S],
+    second: &str,
+    reported: bool,
+) -> Result<(Names<'a>, RunOptions), CommandFault>
+    requires { (verb : Verb) × IsReadBy verb command second.now reported }
+    ensures ok { (verb : Verb) → IsReadBy verb command.entry second.now reported → IfOk result
+        (λ asked. IsAskedBy verb (map S.text words.entry.now) (files asked.0) asked.1) }
+    ensures limits { IfOk result (λ asked. AreOptions asked.1) }
+    ensures err { (verb : Verb) → IsReadBy verb command.entry second.now reported
+        → IfErr result (IsRefusedBy (of_files verb) (map S.text words.entry.now)) }
+{
+    match matches_of_built(alloc, command, words) {
+        Ok(matches) => asked_in(&matches, second, reported),
+        Err(fault) => Err(fault),
+    }
+}
+
+/// What words that begin with `run` ask for.
+fn run_of_words<'a, S: AsStr>(alloc: Global, words: &'a [S]) -> Result<Command<'a>, CommandFault>
+    ensures ok { IfOk result (AsksBy run_verb (map S.text words.entry.now)) }
+    ensures limits { IfOk result HasLimits }
+    ensures err { IfErr result (IsRefusedBy (of_files run_verb) (map S.text words.entry.now)) }
+{
+    let command = run_command(alloc);
+    let (names, options) = asked_of_words(alloc, command, words, "ss", false)?;
+    Ok(Command::Run {
+        gr: names.gr,
+        ss: names.starts,
+        tp: names.tp,
+        output: names.output,
+        options,
+    })
+}
+
+/// What words that begin with `pairs` ask for.
+fn pairs_of_words<'a, S: AsStr>(alloc: Global, words: &'a [S]) -> Result<Command<'a>, CommandFault>
+    ensures ok { IfOk result (AsksBy pairs_verb (map S.text words.entry.now)) }
+    ensures limits { IfOk result HasLimits }
+    ensures err { IfErr result (IsRefusedBy (of_files pairs_verb) (map S.text words.entry.now)) }
+{
+    let command = pairs_command(alloc);
+    let (names, options) = asked_of_words(alloc, command, words, "p2p", false)?;
+    Ok(Command::Pairs {
+        gr: names.gr,
+        p2p: names.starts,
+        tp: names.tp,
+        output: names.output,
+        options,
+    })
+}
+
+/// What words that begin with `rank` ask for.
+fn rank_of_words<'a, S: AsStr>(alloc: Global, words: &'a [S]) -> Result<Command<'a>, CommandFault>
+    ensures ok { IfOk result (AsksBy rank_verb (map S.text words.entry.now)) }
+    ensures limits { IfOk result HasLimits }
+    ensures err { IfErr result (IsRefusedBy (of_files rank_verb) (map S.text words.entry.now)) }
+{
+    let command = rank_command(alloc);
+    let (names, options) = asked_of_words(alloc, command, words, "ss", false)?;
+    Ok(Command::Rank {
+        gr: names.gr,
+        ss: names.starts,
+        tp: names.tp,
+        output: names.output,
+        options,
+    })
+}
+
+/// What words that begin with `check` ask for.
+fn check_of_words<'a, S: AsStr>(alloc: Global, words: &'a [S]) -> Result<Command<'a>, CommandFault>
+    ensures ok { IfOk result (AsksBy check_verb (map S.text words.entry.now)) }
+    ensures limits { IfOk result HasLimits }
+    ensures err { IfErr result (IsRefusedBy (of_files check_verb) (map S.text words.entry.now)) }
+{
+    let command = check_command(alloc);
+    let (names, options) = asked_of_words(alloc, command, words, "ss", true)?;
+    Ok(Command::Check {
+        gr: names.gr,
+        ss: names.starts,
+        tp: names.tp,
+        report: names.report.unwrap(),
+        options,
+    })
+}
+
+/// What words that begin with `explain` ask for.
+fn explain_of_words<'a, S: AsStr>(
+    alloc: Global,
+    words: &'a [S],
+) -> Result<Command<'a>, CommandFault>
+    ensures ok { IfOk result (AsksAs of_explain (map S.text words.entry.now)) }
+    ensures limits { IfOk result HasLimits }
+    ensures err { IfErr result (IsRefusedBy of_explain (map S.text words.entry.now)) }
+{
+    let matches = matches_of_built(alloc, explain_command(alloc), words)?;
+    Ok(Command::Explain {
+        fault: text_of(&matches, "fault"),
+    })
+}
+
+/// What words that begin with `formats` ask for.
+fn formats_of_words<'a, S: AsStr>(
+    alloc: Global,
+    words: &'a [S],
+) -> Result<Command<'a>, CommandFault>
+    ensures ok { IfOk result (AsksAs of_formats (map S.text words.entry.now)) }
+    ensures limits { IfOk result HasLimits }
+    ensures err { IfErr result (IsRefusedBy of_formats (map S.text words.entry.now)) }
+{
+    matches_of_built(alloc, formats_command(alloc), words)?;
+    Ok(Command::Formats)
+}
+
+/// Why words that begin with no command's name ask for nothing.
+fn refusal_of_words<'a, S: AsStr>(alloc: Global, words: &'a [S]) -> CommandFault
+    ensures { IsRefusedBy of_none (map S.text words.entry.now) result }
+{
+    match matches_of_built(alloc, program(alloc), words) {
+        Ok(_) => no_command(alloc),
+        Err(fault) => fault,
+    }
+}
+
+/// What words whose first is this ask for.
+fn answer_to<'a, S: AsStr>(
+    alloc: Global,
+    verb: &str,
+    words: &'a [S],
+) -> Result<Command<'a>, CommandFault>
+    ensures ok { IfOk result (AsksAs (head_of verb.now) (map S.text words.entry.now)) }
+    ensures limits { IfOk result HasLimits }
+    ensures err { IfErr result (IsRefusedBy (head_of verb.now) (map S.text words.entry.now)) }
+{
+    if verb == "run" {
+        run_of_words(alloc, words)
+    } else if verb == "pairs" {
+        pairs_of_words(alloc, words)
+    } else if verb == "rank" {
+        rank_of_words(alloc, words)
+    } else if verb == "check" {
+        check_of_words(alloc, words)
+    } else if verb == "explain" {
+        explain_of_words(alloc, words)
+    } else if verb == "formats" {
+        formats_of_words(alloc, words)
+    } else {
+        Err(refusal_of_words(alloc, words))
+    }
+}
+
+impl RunOptions {
+    /// What the words of a command line, without the program's name, ask for.
+    ///
+    /// No words ask for the stored run. The first of other words is a command's name; an option's value is read as the
+    /// numbers of the input files are.
+    ///
+    /// Errors: `Words` where clap refuses the words or is asked for a text, `BadOption` where it takes them and an
+    /// option's value is no number or out of its limits or two files are standard input, `OutOfMemory` where memory is
+    /// refused.
+    pub fn of_words<'a, S: AsStr>(
+        alloc: Global,
+        words: &'a [S],
+    ) -> Result<Command<'a>, CommandFault>
+        ensures ok { IfOk result (Asks (map S.text words.entry.now)) }
+        // Each number of the options is within its limits.
+        ensures limits { IfOk result HasLimits }
+        ensures err { IfErr result (IsRefusal (map S.text words.entry.now)) }
+    {
+        let Some(first) = words.first() else {
+            return Ok(Command::Stored);
+        };
+        answer_to(alloc, first.as_str(), words)
+    }
+}

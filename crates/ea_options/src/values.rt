@@ -1,0 +1,101 @@
+//! The numbers that options have.
+ghost use Rattle.std.specs.Prelude.{◌≡◌, ◌≤◌, ◌<◌, ◌^◌, IfSome, Some, option_and_then, option_map};
+ghost use Rattle.clap.specs.Words.{found_of, rows_of, first_of};
+ghost use Rattle.ea_bytes.specs.Text.{number_of};
+ghost use Rattle.ea_options.specs.Values.{chosen_of, number_in, option_of, is_given};
+
+use clap::ArgMatches;
+use ea_bytes::number;
+
+/// A number, where it is within its limits.
+fn within_limits(low: u64, high: u64, value: u128) -> Option<u64>
+    ensures value { result ≡ Rattle.ea_options.specs.Values.within_limits low high value }
+    ensures limits { IfSome result (λ n. (low ≤ n) × (n ≤ high)) }
+{
+    if u128::from(low) <= value && value <= u128::from(high) {
+        Some(value as u64)
+    } else {
+        None
+    }
+}
+
+/// The number that a text is, where it is within its limits.
+pub(crate) fn number_of_text(low: u64, high: u64, text: &str) -> Option<u64>
+    ensures value { result ≡ option_and_then (Rattle.ea_options.specs.Values.within_limits low high)
+        (number_of text.now) }
+    ensures limits { IfSome result (λ n. (low ≤ n) × (n ≤ high)) }
+{
+    within_limits(low, high, number(text.as_bytes())?)
+}
+
+/// The number of a text, or the default where there is none.
+fn number_or(default: u64, low: u64, high: u64, text: Option<&str>) -> Option<u64>
+    requires default { (low ≤ default) × (default ≤ high) }
+    ensures value { result ≡ number_in default low high (option_map (λ t. t.now) text.entry) }
+    ensures limits { IfSome result (λ n. (low ≤ n) × (n ≤ high)) }
+{
+    match text {
+        None => Some(default),
+        Some(text) => number_of_text(low, high, text),
+    }
+}
+
+/// The number of a text that is there.
+fn number_if_given(low: u64, high: u64, text: Option<&str>) -> Option<Option<u64>>
+    ensures value { result ≡ Rattle.ea_options.specs.Values.number_if_given low high
+        (option_map (λ t. t.now) text.entry) }
+    ensures limits { IfSome result (λ chosen. IfSome chosen (λ n. (low ≤ n) × (n ≤ high))) }
+{
+    match text {
+        None => Some(None),
+        Some(text) => match number_of_text(low, high, text) {
+            Some(number) => Some(Some(number)),
+            None => None,
+        },
+    }
+}
+
+/// The text that an argument has.
+pub(crate) fn text_of<'a>(matches: &ArgMatches<'a>, name: &str) -> Option<&'a str>
+    ensures { option_map (λ t. t.now) result ≡ first_of name.now (rows_of (found_of matches.now)) }
+{
+    matches.get_str(name)
+}
+
+/// The number that an option has.
+pub(crate) fn option_number(
+    matches: &ArgMatches<'_>,
+    name: &str,
+    default: u64,
+    low: u64,
+    high: u64,
+) -> Option<u64>
+    requires default { (low ≤ default) × (default ≤ high) }
+    ensures value { result ≡ option_of name.now default low high (rows_of (found_of matches.now)) }
+    ensures limits { IfSome result (λ n. (low ≤ n) × (n ≤ high)) }
+{
+    number_or(default, low, high, matches.get_str(name))
+}
+
+/// The number that an option has which may be left to the program.
+pub(crate) fn chosen_number(
+    matches: &ArgMatches<'_>,
+    name: &str,
+    low: u64,
+    high: u64,
+) -> Option<Option<u64>>
+    ensures value { result ≡ chosen_of name.now low high (rows_of (found_of matches.now)) }
+    ensures limits { IfSome result (λ chosen. IfSome chosen (λ n. (low ≤ n) × (n ≤ high))) }
+{
+    number_if_given(low, high, matches.get_str(name))
+}
+
+/// Whether a flag is there.
+pub(crate) fn has_flag(matches: &ArgMatches<'_>, name: &str) -> bool
+    ensures { result ≡ is_given name.now (rows_of (found_of matches.now)) }
+{
+    match text_of(matches, name) {
+        None => false,
+        Some(text) => text == "true",
+    }
+}

@@ -1,0 +1,16 @@
+use Rattle.ea_paths.proofs.search.find.Goals as goal
+
+pub over-frontier-requires-clause-entries : goal.over-frontier-requires-clause-entries
+over-frontier-requires-clause-entries g c = λ entry is. absurd (c.requires.lists.1 entry is)
+
+pub finish_noted-todo-requires-clause-underway : goal.finish_noted-todo-requires-clause-underway
+finish_noted-todo-requires-clause-underway g c = rw c.into_parts-lists.ensures.todo c.search.ensures.underway
+
+pub returns-clause-lists : goal.returns-clause-lists
+returns-clause-lists g c = (c.into_parts-lists.ensures.length, rw c.into_parts-lists.ensures.lists c.search.ensures.none)
+
+pub returns-clause-listed : goal.returns-clause-listed
+returns-clause-listed g c = c.finish_noted-todo.ensures.listed c.search.ensures.listed
+
+pub returns-clause-had : goal.returns-clause-had
+returns-clause-had g c = c.finish_noted-todo.ensures.had c.search.ensures.had

@@ -1,0 +1,4 @@
+pub mod Offers
+pub mod Mended
+pub mod Stored
+pub mod Replayed

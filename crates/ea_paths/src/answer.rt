@@ -1,0 +1,130 @@
+ghost use Rattle.std.specs.Prelude.{◌≡◌, ◌<◌, ◌↔◌, true, Some, None, IfOk, IsTrue, MatchOption};
+ghost use Rattle.ea_road.specs.Queries.{IsAskedBy};
+ghost use Rattle.ea_road.specs.Roads.{IsNode};
+ghost use Rattle.ea_search.specs.Answers.{Answered, answer_of, arrival_of, walk_of};
+ghost use Rattle.ea_paths.specs.Stored.{IsStoredAnswer};
+
+use ea_search::Link;
+use ea_road::NONE;
+use std::alloc::{AllocError, Global};
+use std::marker::Model;
+
+/// Earliest arrivals and, where they were asked for, the canonical walks that attain them. Contracts see it as one value:
+/// `arrival_of` and `walk_of` say what it gives for a node.
+#[derive(Drop)]
+pub struct Answer {
+    nodes: u32,
+    target: Option<u32>,
+    table: Vec<u64>,
+    links: Vec<Link>,
+    walks: bool,
+}
+
+impl Model for Answer {
+    ghost use Rattle.ea_search.specs.Answers.{Answered, answer_of};
+    ghost use Rattle.ea_paths.specs.Stored.{IsStoredAnswer};
+
+    ghost Value = { Answered };
+
+    ghost view = { λ a. answer_of a.nodes a.target a.table.items a.links.items a.walks };
+
+    ghost invariant = { λ a.
+        IsStoredAnswer (answer_of a.nodes a.target a.table.items a.links.items a.walks) };
+}
+
+impl Answer {
+    pub(crate) fn new(
+        nodes: u32,
+        target: Option<u32>,
+        table: Vec<u64>,
+        links: Vec<Link>,
+        walks: bool,
+    ) -> Answer
+        requires { IsStoredAnswer (answer_of nodes target table.items links.items walks) }
+        ensures { result ≡ answer_of nodes target table.items links.items walks }
+    {
+        Answer {
+            nodes,
+            target,
+            table,
+            links,
+            walks,
+        }
+    }
+
+    /// The labels and the links.
+    pub(crate) fn into_arrays(self) -> (Vec<u64>, Vec<Link>)
+        ensures labels { result.0.items ≡ self.labels }
+        ensures links { result.1.items ≡ self.links }
+    {
+        (self.table, self.links)
+    }
+
+    /// Whether the answer has walks.
+    pub fn has_walks(&self) -> bool
+        ensures { result ≡ self.now.walks }
+    {
+        self.walks
+    }
+
+    /// The number of nodes of the network.
+    pub fn nodes(&self) -> u32
+        ensures { result ≡ self.now.nodes }
+    {
+        self.nodes
+    }
+
+    /// The link of each node, where the answer has walks: how its walk ends. Going back along links from an asked node that
+    /// is reached, its level in number, one comes over the arcs of its walk from the last to the first.
+    pub fn links(&self) -> &[Link]
+        ensures links { result.now ≡ self.now.links }
+        ensures stored { IsStoredAnswer self.now }
+    {
+        &self.links
+    }
+
+    /// Whether a number is that of an asked node.
+    pub fn asks(&self, node: u32) -> bool
+        ensures { IsTrue result ↔ (IsNode self.now.nodes node × IsAskedBy self.now.target node) }
+    {
+        0 < node
+            && node <= self.nodes
+            && match self.target {
+                None => true,
+                Some(target) => node == target,
+            }
+    }
+
+    /// The earliest arrival at an asked node; none where no walk reaches it within the horizon.
+    pub fn arrival(&self, node: u32) -> Option<u64>
+        requires node { IsNode self.now.nodes node }
+        requires asked { IsAskedBy self.now.target node }
+        ensures { result ≡ arrival_of self.now node }
+    {
+        let label = self.table[node as usize - 1];
+        if label == NONE { None } else { Some(label) }
+    }
+
+    /// The numbers of the arcs of an asked node's canonical walk, first arc first; none where no walk reaches the node
+    /// within the horizon. Memory is refused only for the list that it gives.
+    pub fn walk(&self, alloc: Global, node: u32) -> Result<Option<Vec<u32>>, AllocError>
+        requires node { IsNode self.now.nodes node }
+        requires asked { IsAskedBy self.now.target node }
+        requires walks { self.now.walks ≡ true }
+        ensures { IfOk result (λ found. MatchOption found (walk_of self.now node ≡ None)
+            (λ walk. walk_of self.now node ≡ Some walk.items)) }
+    {
+        if self.table[node as usize - 1] == NONE {
+            return Ok(None);
+        }
+        let mut walk = Vec::with_capacity(alloc, self.links[node as usize - 1].level as usize)?;
+        let mut at = node;
+        'back: while self.links[at as usize - 1].level > 0 {
+            let end = self.links[at as usize - 1];
+            walk.push(end.arc)?;
+            at = end.from;
+        }
+        walk.reverse();
+        Ok(Some(walk))
+    }
+}

@@ -1,0 +1,121 @@
+//! Levels that change as notes are followed, passed on to the nodes that have their links by arcs from there.
+ghost use Rattle.std.specs.Prelude.{◌≡◌, length, IsTrue};
+ghost use Rattle.ea_road.specs.Roads.{IsNode};
+ghost use Rattle.ea_paths.specs.Replayed.{StayAfter};
+
+use ea_search::{Link, NO_LEVEL};
+use crate::log_replay::{place_of, relevel};
+use crate::ties::Ties;
+use ea_search::Waiting;
+use ea_road::Network;
+
+/// Passes a node's level on to a head whose link is by an arc from the node. False where that was given up.
+fn pass_to_head(
+    node: u32,
+    head: u32,
+    links: &mut [Link],
+    waiting: &mut Waiting,
+    ties: &mut Ties,
+) -> bool
+    requires places { length links.old ≡ waiting.old.nodes }
+    ensures places { length links.new ≡ length links.old }
+    ensures nodes { waiting.new.nodes ≡ waiting.old.nodes }
+    ensures stay { IsTrue result → StayAfter links.old waiting.old.waiting ties.old.list.items
+        links.new waiting.new.waiting ties.new.list.items }
+{
+    let Some(from) = place_of(node, links.len()) else {
+        return false;
+    };
+    let Some(at) = place_of(head, links.len()) else {
+        return false;
+    };
+    let level = links[from].level;
+    let old = links[at];
+    if old.from != node || old.level == 0 {
+        return true;
+    }
+    if old.level >= NO_LEVEL || level >= NO_LEVEL {
+        return true;
+    }
+    let new = Link {
+        level: level.saturating_add(1),
+        arc: old.arc,
+        from: node,
+    };
+    relevel(head, new, links, waiting, ties)
+}
+
+/// Passes a node's level on to the heads that have their links by its arcs. False where that was given up.
+fn pass_to_heads(
+    network: &Network,
+    node: u32,
+    links: &mut [Link],
+    waiting: &mut Waiting,
+    ties: &mut Ties,
+) -> bool
+    requires node { IsNode network.now.nodes node }
+    requires places { length links.old ≡ waiting.old.nodes }
+    ensures places { length links.new ≡ length links.old }
+    ensures nodes { waiting.new.nodes ≡ waiting.old.nodes }
+    ensures stay { IsTrue result → StayAfter links.old waiting.old.waiting ties.old.list.items
+        links.new waiting.new.waiting ties.new.list.items }
+{
+    let arcs = network.leaving(node).arcs;
+    for arc in arcs {
+        if !pass_to_head(node, arc.head, links, waiting, ties) {
+            return false;
+        }
+    }
+    true
+}
+
+/// What `pass_on` does where a level changed.
+#[inline(never)]
+fn pass_on_all(
+    network: &Network,
+    links: &mut [Link],
+    waiting: &mut Waiting,
+    ties: &mut Ties,
+) -> bool
+    requires places { length links.old ≡ network.now.nodes }
+    requires nodes { waiting.old.nodes ≡ network.now.nodes }
+    ensures places { length links.new ≡ length links.old }
+    ensures nodes { waiting.new.nodes ≡ waiting.old.nodes }
+    ensures stay { IsTrue result → StayAfter links.old waiting.old.waiting ties.old.list.items
+        links.new waiting.new.waiting ties.new.list.items }
+{
+    'passing: for _ in 0..links.len() {
+        let Some(node) = ties.changed.pop() else {
+            return true;
+        };
+        if node == 0 || node > network.nodes() {
+            return false;
+        }
+        if !pass_to_heads(network, node, links, waiting, ties) {
+            return false;
+        }
+    }
+    false
+}
+
+/// Passes levels that changed on to the nodes that have their links by arcs from there, and so on, until none is left. False where
+/// that was given up; then links and nodes that wait are of no use.
+#[inline(always)]
+pub(crate) fn pass_on(
+    network: &Network,
+    links: &mut [Link],
+    waiting: &mut Waiting,
+    ties: &mut Ties,
+) -> bool
+    requires places { length links.old ≡ network.now.nodes }
+    requires nodes { waiting.old.nodes ≡ network.now.nodes }
+    ensures places { length links.new ≡ length links.old }
+    ensures nodes { waiting.new.nodes ≡ waiting.old.nodes }
+    ensures stay { IsTrue result → StayAfter links.old waiting.old.waiting ties.old.list.items
+        links.new waiting.new.waiting ties.new.list.items }
+{
+    if ties.changed.is_empty() {
+        return true;
+    }
+    pass_on_all(network, links, waiting, ties)
+}

@@ -1,0 +1,349 @@
+//! The arrays of searches by one thread, which answer query after query.
+ghost use Rattle.std.specs.Prelude.{◌≡◌, ℕ, [], true, false, None, Contains, length, map, replicate, if◌then◌else◌, IfOk};
+ghost use Rattle.ea_road.specs.Queries.{IsProblem};
+ghost use Rattle.ea_road.specs.declared.TheConstants.{NONE};
+ghost use Rattle.ea_search.specs.Answers.{HasArrivals, IsAnswer};
+ghost use Rattle.ea_search.specs.Frontiers.{HaveNone};
+ghost use Rattle.ea_search.specs.Listings.{AreLabelsListed, nothing};
+ghost use Rattle.ea_search.specs.Notes.{AreHad};
+ghost use Rattle.ea_search.specs.Scans.{AwaitsScans};
+ghost use Rattle.ea_search.specs.Underway.{IsFinished};
+
+use crate::answer::Answer;
+use ea_search::finish_noted;
+use ea_search::{Frontier, empty_lists};
+use ea_search::NO_LINK;
+use crate::log_links::link_noted;
+use ea_search::Listed;
+use ea_search::Noted;
+use ea_search::Open;
+use ea_search::search;
+use ea_search::{Reached, Table};
+use crate::ties::Ties;
+use crate::link_search::link_all;
+use ea_search::Waiting;
+use ea_search::Words;
+use ea_road::{NONE, Network, Query};
+use ea_travel_times::TravelTimes;
+use std::alloc::{AllocError, Global};
+use std::marker::Model;
+
+/// The arrays of a search by one thread, with its last answer in them. They are reserved once and answer query after query:
+/// what a query costs follows the nodes that it and the one before it reach, not the size of the network.
+#[derive(Drop)]
+pub struct Search {
+    answer: Answer,
+    walks: bool,
+    waiting: Waiting,
+    lists: Vec<Vec<(u64, u32)>>,
+    listed: Listed,
+    notes: Words,
+    ties: Ties,
+}
+
+impl Model for Search {
+    ghost use Rattle.std.specs.Prelude.{map};
+    ghost use Rattle.ea_search.specs.Listings.{CanSearch, Searched};
+
+    ghost Value = { Searched };
+
+    ghost view = { λ s.
+        record { nodes = s.waiting.nodes; walks = s.walks; answer = s.answer } };
+
+    ghost invariant = { λ s. CanSearch s.waiting s.walks s.answer s.listed
+        (map (λ l. l.items) s.lists.items) };
+}
+
+/// How many links there is room for.
+fn room_of(nodes: u32, walks: bool) -> usize
+    ensures { result ≡ (if walks then nodes else 0) }
+{
+    if walks { nodes as usize } else { 0 }
+}
+
+/// How wide the windows are where nothing is noted. In wider ones more nodes are scanned again, in narrower ones lists are spread more often.
+fn width_without_walks(network: &Network) -> u64 {
+    network.mean_weight().saturating_mul(2)
+}
+
+/// The least mean weight for which windows of a search with notes are wide: below it many arcs come to a node at the same time, from
+/// nodes of different levels.
+const LARGE_MEAN: u64 = 8;
+
+/// How wide the windows of a search with notes are. Where a node is scanned too early in its window, its heads have a level from it that
+/// changes. Below a large mean weight that is so of many, whose levels all were mended, so the windows are mostly single times there.
+fn width_with_notes(network: &Network) -> u64 {
+    let mean = network.mean_weight();
+    if mean < LARGE_MEAN {
+        return mean / 8;
+    }
+    width_without_walks(network)
+}
+
+/// The arrays on which a search runs.
+#[derive(Drop)]
+struct Arrays {
+    table: Vec<u64>,
+    todo: Open,
+    lists: Vec<Vec<(u64, u32)>>,
+    listed: Listed,
+    notes: Words,
+    ties: Ties,
+}
+
+/// Searches from the sources until each label is least, on a table without labels and lists without entries.
+fn find<T: TravelTimes, L: Table>(
+    network: &Network,
+    times: &T,
+    query: &Query,
+    width: u64,
+    lists: Vec<Vec<(u64, u32)>>,
+    todo: Open,
+    table: &mut L,
+) -> (Vec<Vec<(u64, u32)>>, Open)
+    requires problem { IsProblem network.now (T.classes times.now) query.now }
+    requires labels { L.labels table.old ≡ replicate network.now.nodes NONE }
+    requires room { todo.nodes ≡ network.now.nodes }
+    requires lists { (length lists.items ≡ 66) × HaveNone (map (λ l. l.items) lists.items) }
+    requires had { (v u k : ℕ) → L.had table.old v u k → ⊥ }
+    ensures finished { IsFinished network.now (T.answers times.now) query.now
+        (L.labels table.new) result.1 }
+    ensures met { AwaitsScans network.now (T.answers times.now) query.now
+        (L.labels table.new) (L.met table.new) (Contains []) }
+    ensures had { AreHad network.now (T.answers times.now) (L.labels table.new) (L.had table.new) }
+    ensures walks { result.1.walks ≡ todo.walks }
+    ensures lists { (length result.0.items ≡ 66)
+        × HaveNone (map (λ l. l.items) result.0.items) }
+    ensures listed { AreLabelsListed (L.labels table.new) (L.lists table.new) }
+{
+    let mut frontier = Frontier::over(lists, todo, width);
+    search(network, times, query, table, &mut frontier);
+    let (lists, todo) = frontier.into_parts();
+    let todo = finish_noted(network, times, query, table, todo);
+    (lists, todo)
+}
+
+impl Search {
+    /// Arrays for so many nodes, with room for walks or without.
+    fn with_room(alloc: Global, nodes: u32, walks: bool) -> Result<Search, AllocError>
+        ensures nodes { IfOk result (λ search. search.nodes ≡ nodes) }
+        ensures walks { IfOk result (λ search. search.walks ≡ walks) }
+    {
+        let waiting = Waiting::reserve(alloc, nodes)?;
+        let lists = empty_lists(alloc)?;
+        let table = vec![in alloc; NONE; nodes as usize]?;
+        let room = room_of(nodes, walks);
+        let links = vec![in alloc; NO_LINK; room]?;
+        Ok(Search {
+            answer: Answer::new(nodes, None, table, links, false),
+            walks,
+            waiting,
+            lists,
+            listed: Listed::new(alloc, nodes),
+            notes: Words::none(alloc),
+            ties: Ties::none(alloc),
+        })
+    }
+
+    /// Arrays for searches in networks of so many nodes, and for their walks. The error comes only where memory is refused.
+    pub fn reserve(alloc: Global, nodes: u32) -> Result<Search, AllocError>
+        ensures nodes { IfOk result (λ search. search.nodes ≡ nodes) }
+        ensures walks { IfOk result (λ search. search.walks ≡ true) }
+    {
+        Search::with_room(alloc, nodes, true)
+    }
+
+    /// Arrays for searches in networks of so many nodes, where no walks are asked for. The error comes only where memory is
+    /// refused.
+    pub fn reserve_without_walks(alloc: Global, nodes: u32) -> Result<Search, AllocError>
+        ensures nodes { IfOk result (λ search. search.nodes ≡ nodes) }
+        ensures walks { IfOk result (λ search. search.walks ≡ false) }
+    {
+        Search::with_room(alloc, nodes, false)
+    }
+
+    /// The last answer; before the first query, one in which no node is reached.
+    pub fn answer(&self) -> &Answer
+        ensures { result.now ≡ self.now.answer }
+    {
+        &self.answer
+    }
+
+    /// The last answer, without the arrays that the next query would need.
+    pub fn into_answer(self) -> Answer
+        ensures { result ≡ self.answer }
+    {
+        self.answer
+    }
+
+    /// The arrays as they were at first.
+    fn into_arrays(self) -> Arrays
+        ensures labels { result.table.items ≡ replicate self.nodes NONE }
+        ensures todo { result.todo
+            ≡ record { nodes = self.nodes; waiting = []; walks = self.walks } }
+        ensures lists { (length result.lists.items ≡ 66)
+            × HaveNone (map (λ l. l.items) result.lists.items) }
+        ensures listed { result.listed ≡ nothing }
+        ensures notes { result.notes ≡ [] }
+    {
+        let Search {
+            answer,
+            walks,
+            waiting,
+            lists,
+            mut listed,
+            mut notes,
+            ties,
+        } = self;
+        let (mut table, mut links) = answer.into_arrays();
+        listed.put_back(&mut table, &mut links);
+        notes.clear();
+        Arrays {
+            table,
+            todo: Open::of(waiting, links, walks),
+            lists,
+            listed,
+            notes,
+            ties,
+        }
+    }
+
+    /// Answers a query without walks: the search is handed over and comes back with its answer. It takes no memory but what
+    /// the nodes that it reaches need; where that is refused, the search takes longer.
+    pub fn find_arrivals<T: TravelTimes>(
+        self,
+        network: &Network,
+        times: &T,
+        query: &Query,
+    ) -> Search
+        requires problem { IsProblem network.now (T.classes times.now) query.now }
+        requires nodes { self.nodes ≡ network.now.nodes }
+        ensures arrivals { HasArrivals network.now (T.answers times.now) query.now result.answer }
+        ensures none { result.answer.walks ≡ false }
+        ensures room { (result.nodes ≡ self.nodes) × (result.walks ≡ self.walks) }
+    {
+        let walks = self.walks;
+        let Arrays {
+            table,
+            todo,
+            lists,
+            listed,
+            notes,
+            ties,
+        } = self.into_arrays();
+        let mut reached = Reached {
+            labels: table,
+            listed,
+        };
+        let width = width_without_walks(network);
+        let (lists, todo) = find(network, times, query, width, lists, todo, &mut reached);
+        let Reached { labels, listed } = reached;
+        let (waiting, links) = todo.into_parts();
+        Search {
+            answer: Answer::new(network.nodes(), query.target(), labels, links, false),
+            walks,
+            waiting,
+            lists,
+            listed,
+            notes,
+            ties,
+        }
+    }
+
+    /// Answers a query with its canonical walks. Else as `find_arrivals`.
+    pub fn find_walks<T: TravelTimes>(self, network: &Network, times: &T, query: &Query) -> Search
+        requires problem { IsProblem network.now (T.classes times.now) query.now }
+        requires nodes { self.nodes ≡ network.now.nodes }
+        requires walks { self.walks ≡ true }
+        ensures answer { IsAnswer network.now (T.answers times.now) query.now result.answer }
+        ensures room { (result.nodes ≡ self.nodes) × (result.walks ≡ true) }
+    {
+        if query.target().is_none() {
+            self.find_all_walks(network, times, query)
+        } else {
+            self.find_pair_walk(network, times, query)
+        }
+    }
+
+    /// The walks to all nodes, by the notes of the search.
+    fn find_all_walks<T: TravelTimes>(self, network: &Network, times: &T, query: &Query) -> Search
+        requires problem { IsProblem network.now (T.classes times.now) query.now }
+        requires all { query.now.target ≡ None }
+        requires nodes { self.nodes ≡ network.now.nodes }
+        requires walks { self.walks ≡ true }
+        ensures answer { IsAnswer network.now (T.answers times.now) query.now result.answer }
+        ensures room { (result.nodes ≡ self.nodes) × (result.walks ≡ true) }
+    {
+        let Arrays {
+            table,
+            todo,
+            lists,
+            mut listed,
+            notes,
+            mut ties,
+        } = self.into_arrays();
+        let mut noted = Noted::new(table, notes);
+        let width = width_with_notes(network);
+        let (lists, todo) = find(network, times, query, width, lists, todo, &mut noted);
+        let (mut waiting, mut links) = todo.into_parts();
+        link_noted(
+            network,
+            times,
+            query,
+            &noted,
+            &mut links,
+            &mut waiting,
+            &mut ties,
+        );
+        // What is made of the answer is about as long as all that is put back then.
+        listed.add_all();
+        let Noted { labels, notes, .. } = noted;
+        Search {
+            answer: Answer::new(network.nodes(), query.target(), labels, links, true),
+            walks: true,
+            waiting,
+            lists,
+            listed,
+            notes,
+            ties,
+        }
+    }
+
+    /// The walk to the target of a pair.
+    fn find_pair_walk<T: TravelTimes>(self, network: &Network, times: &T, query: &Query) -> Search
+        requires problem { IsProblem network.now (T.classes times.now) query.now }
+        requires nodes { self.nodes ≡ network.now.nodes }
+        requires walks { self.walks ≡ true }
+        ensures answer { IsAnswer network.now (T.answers times.now) query.now result.answer }
+        ensures room { (result.nodes ≡ self.nodes) × (result.walks ≡ true) }
+    {
+        let Arrays {
+            table,
+            todo,
+            lists,
+            listed,
+            notes,
+            ties,
+        } = self.into_arrays();
+        let mut reached = Reached {
+            labels: table,
+            listed,
+        };
+        let width = width_without_walks(network);
+        let (lists, todo) = find(network, times, query, width, lists, todo, &mut reached);
+        let Reached { labels, listed } = reached;
+        let (mut waiting, mut links) = todo.into_parts();
+        let sources = query.sources();
+        link_all(network, times, sources, &labels, &mut links, &mut waiting);
+        let answer = Answer::new(network.nodes(), query.target(), labels, links, true);
+        Search {
+            answer,
+            walks: true,
+            waiting,
+            lists,
+            listed,
+            notes,
+            ties,
+        }
+    }
+}

@@ -1,5 +1,0 @@
-use Rattle.ea_pool.proofs.Runs.{every_run}
-use Rattle.ea_pool.proofs.law.every_run_is_lawful.Goals as goal
-
-pub returns : goal.returns
-returns g c = λ kind. every_run g.K.Known.is_known kind

@@ -1,7 +1,0 @@
-use Rattle.std.proofs.Common.{rules, arith, ap}
-use Rattle.ea_pool.proofs.Moves.{gives_back_at}
-use Rattle.ea_pool.proofs.pool.Pool.give_back.Goals as goal
-
-pub store-requires : goal.store-requires
-store-requires g c = let t = c.requires.held in let h = t.2 in
-    (search rules, search rules, gives_back_at _ _ _ _ _ _ _ _ h.0 t.0 t.1 c.requires.share (omega (arith, c.requires.table.1, c.self.invariant.1, ap (λ p. p.heaps) c.self.view_is)) h.1 h.2.1 h.2.0)

@@ -1,0 +1,8 @@
+//! What a heap holds, and the kinds of heap: binary and of buckets.
+
+pub mod batch;
+pub mod buckets;
+pub mod entry;
+pub mod entry_heap;
+pub mod least_heap;
+pub mod window;

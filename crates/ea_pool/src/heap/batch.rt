@@ -1,0 +1,46 @@
+//! Several entries at once: a batch that a heap is given or gives.
+ghost use Rattle.std.specs.Prelude.{◌≡◌, ◌+◌, ◌<◌, ◌≤◌, true, false, []};
+ghost use Rattle.arrayvec.specs.ArrayVec.{array_vec_len};
+ghost use Rattle.ea_pool.specs.Batches.{GoesIn, ComesOut};
+
+use crate::heap::entry::Entry;
+use crate::heap::entry_heap::{EntryHeap, Slot};
+use crate::shared::words::MOST_IN_BATCH;
+use arrayvec::ArrayVec;
+
+/// A list of entries that takes no memory.
+pub type Batch = ArrayVec<Entry, MOST_IN_BATCH>;
+
+// Pushes the entries of a batch, the last one first, until there is no memory: those that are left stay.
+pub(crate) fn push_all<H: EntryHeap>(heap: &mut Slot<H>, batch: &mut Batch) -> bool
+    ensures went { GoesIn batch.old.items batch.new.items heap.old heap.new }
+    ensures all { result ≡ true → batch.new.items ≡ [] }
+    ensures some { result ≡ false → 0 < array_vec_len batch.new }
+{
+    for _ in 0..batch.len() {
+        let Some(entry) = batch.pop() else {
+            return true;
+        };
+        if let Err(back) = heap.push(entry) {
+            batch.push(back);
+            return false;
+        }
+    }
+    true
+}
+
+// Pops so many entries, or all that there are, or all that the heap gives at once.
+pub(crate) fn pop_some<H: EntryHeap>(heap: &mut Slot<H>, most: usize, batch: &mut Batch)
+    requires { array_vec_len batch.old + most ≤ MOST_IN_BATCH }
+    ensures { ComesOut H.kind most batch.old.items batch.new.items heap.old heap.new }
+{
+    for _ in 0..most {
+        let Some(entry) = heap.pop() else {
+            return;
+        };
+        batch.push(entry);
+        if heap.is_spent() {
+            return;
+        }
+    }
+}

@@ -1,0 +1,137 @@
+//! A heap that gives its least entry first.
+ghost use Rattle.std.specs.Prelude.{◌≡◌, ◌<◌, [], ◌∷◌, length, List, map, IfErr, OnOk, MatchOption};
+ghost use Rattle.std.specs.BinaryHeap.{IsHeap, heap_items};
+ghost use Rattle.ea_pool.specs.Entries.{SameEntries, IsLeastOf, times, least_key};
+
+use crate::OutOfMemory;
+use crate::heap::entry::Entry;
+use crate::heap::entry_heap::{EntryHeap, OpenHeap, Slot};
+use crate::shared::words::EMPTY;
+use std::alloc::{AllocFailed, Allocator};
+use std::cmp::Reverse;
+use std::collections::BinaryHeap;
+use std::marker::Model;
+
+// With the three words of a `BinaryHeap` these are 128 bytes.
+const PADDING: usize = 13;
+
+/// Entries, of which it gives the least. A contract sees them as a list in no promised order.
+#[derive(Drop)]
+pub struct LeastHeap<A: Allocator> {
+    entries: BinaryHeap<Reverse<Entry>, A>,
+    // Heaps lie side by side in a pool: no two share a line of the cache.
+    apart: [u64; PADDING],
+}
+
+impl<A: Allocator> Model for LeastHeap<A> {
+    ghost use Rattle.std.specs.Prelude.{List, map};
+    ghost use Rattle.std.specs.BinaryHeap.{IsHeap, heap_items};
+    ghost use Rattle.ea_pool.specs.declared.heap.entry.Entry.{Entry};
+    ghost use Rattle.ea_pool.specs.Entries.{entry_order};
+
+    ghost Value = { List Entry };
+
+    ghost view = { λ h. map (λ r. r.0) (heap_items h.entries) };
+
+    ghost invariant = { λ h. IsHeap (λ x y. entry_order y.0 x.0) (heap_items h.entries) };
+}
+
+impl<A: Allocator> LeastHeap<A> {
+    /// No entry, and no memory taken.
+    pub fn new(alloc: A) -> LeastHeap<A>
+        ensures { result ≡ [] }
+    {
+        LeastHeap {
+            entries: BinaryHeap::new(alloc),
+            apart: [0; PADDING],
+        }
+    }
+
+    /// How many entries there are.
+    pub fn len(&self) -> usize
+        ensures { result ≡ length self.now }
+    {
+        self.entries.len()
+    }
+
+    /// Hands the entry back where there is no memory.
+    pub fn push(&mut self, entry: Entry) -> Result<(), Entry>
+        ensures pushed { OnOk result (SameEntries self.new (entry ∷ self.old)) }
+        ensures refused { IfErr result (λ back. (back ≡ entry) × (self.new ≡ self.old)) }
+    {
+        match self.entries.push(Reverse(entry)) {
+            Ok(()) => Ok(()),
+            Err(refused) => {
+                let AllocFailed {
+                    value: Reverse(back),
+                } = refused;
+                Err(back)
+            }
+        }
+    }
+
+    /// Takes the least entry out.
+    pub fn pop(&mut self) -> Option<Entry>
+        ensures { MatchOption result ((self.old ≡ []) × (self.new ≡ []))
+            (λ least. IsLeastOf least self.old × SameEntries self.old (least ∷ self.new)) }
+    {
+        match self.entries.pop() {
+            Some(Reverse(least)) => Some(least),
+            None => None,
+        }
+    }
+
+    /// The least key.
+    pub fn least_key(&self) -> Option<u64>
+        ensures key { result ≡ least_key self.now }
+        ensures least { MatchOption result (self.now ≡ []) (λ key. (least : Entry)
+            × (least.key ≡ key) × IsLeastOf least self.now × (0 < times least self.now)) }
+    {
+        match self.entries.peek() {
+            Some(Reverse(least)) => Some(least.key),
+            None => None,
+        }
+    }
+}
+
+impl<A: Allocator> EntryHeap for LeastHeap<A> {
+    ghost use Rattle.ea_pool.specs.Kinds.{Least};
+
+    ghost kind = { Least };
+
+    ghost entries = { λ h. h };
+
+    fn add_entry(&mut self, entry: Entry) -> Result<(), Entry> {
+        self.push(entry)
+    }
+
+    fn take_entry(&mut self) -> Option<Entry> {
+        self.pop()
+    }
+
+    fn is_spent(&self) -> bool {
+        false
+    }
+
+    fn word(&self) -> u64 {
+        match self.least_key() {
+            Some(key) => key,
+            None => EMPTY,
+        }
+    }
+}
+
+impl<A: Allocator> OpenHeap<A> for LeastHeap<A> {
+    fn empty(alloc: A, _width: u64) -> Result<LeastHeap<A>, OutOfMemory> {
+        Ok(LeastHeap::new(alloc))
+    }
+}
+
+impl<A: Allocator> Slot<LeastHeap<A>> {
+    /// The least key.
+    pub(crate) fn least_key(&self) -> Option<u64>
+        ensures key { result ≡ least_key self.now }
+    {
+        self.heap.least_key()
+    }
+}

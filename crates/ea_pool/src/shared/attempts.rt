@@ -1,0 +1,161 @@
+//! Attempts: a heap is taken, used and put back.
+ghost use Rattle.std.specs.Prelude.{◌≡◌, ◌≢◌, ◌*◌, ◌<◌, false, [], ◌∷◌, IfErr, OnOk};
+ghost use Rattle.std.specs.List.{AllByRecursion};
+ghost use Rattle.ea_pool.specs.Kinds.{Least};
+ghost use Rattle.ea_pool.specs.Pools.{Rests, books, SameBooks, Pushes, Pops, IsLeft, IsLeastLeft, NothingLeft};
+ghost use Rattle.ea_pool.specs.Replies.{handed_back, is_busy, OnBusy, UnlessBusy, MatchPopped, OnPopped};
+ghost use Rattle.ea_pool.specs.Tries.{LookedAt, WasBusy, MissedHeap, Missed, TookThere, TookAtTry, TookLeast, TookLesser};
+
+use crate::SHARES;
+use crate::draws::{draw_try, pick};
+use crate::heap::entry::Entry;
+use crate::heap::entry_heap::EntryHeap;
+use crate::heap::least_heap::LeastHeap;
+use crate::shared::pool::Pool;
+use crate::shared::reply::{Popped, PushRefused};
+use crate::shared::seat::Seat;
+use crate::shared::words::{EMPTY, OUT};
+use ea_road::Known;
+use std::alloc::Allocator;
+
+impl<K: Known, A: Allocator, H: EntryHeap> Pool<K, A, H> {
+    // Pushes to one heap, if it is at home.
+    pub(crate) fn push_at(
+        &self,
+        seat: &mut Seat<H>,
+        heap: usize,
+        entry: Entry,
+    ) -> Result<(), PushRefused>
+        requires table { (seat.old.table_id ≡ self.now.table) × (heap < self.now.heaps) }
+        requires rests { Rests seat.old.me }
+        requires known { K.is_known entry.node entry.key }
+        ensures table { seat.new.table_id ≡ seat.old.table_id }
+        ensures rests { Rests seat.new.me }
+        ensures pushed { OnOk result (Pushes (books seat.old.me.0) entry (books seat.new.me.0)) }
+        ensures refused { IfErr result (λ refused.
+            (handed_back refused ≡ entry) × SameBooks (books seat.old.me.0) (books seat.new.me.0)) }
+        ensures missed { OnBusy result (MissedHeap heap seat.old.me.0.seen seat.new.me.0.seen) }
+        ensures took { UnlessBusy result
+            (TookThere H.kind heap seat.old.me.0.seen seat.new.me.0.last_take) }
+        ensures alone { seat.old.me.0.shares ≡ SHARES
+            → IfErr result (λ refused. is_busy refused ≡ false) }
+    {
+        let seen = self.look(seat, heap);
+        if seen == OUT || !self.take(seat, heap, seen) {
+            return Err(PushRefused::Busy(entry));
+        }
+        match self.push_in(seat, heap, entry) {
+            (Ok(()), word) => {
+                self.give_pushed(seat, heap, word);
+                Ok(())
+            }
+            (Err(back), word) => {
+                self.give_back(seat, heap, word);
+                Err(PushRefused::OutOfMemory(back))
+            }
+        }
+    }
+
+    // Tries each heap twice, in turn, from the one that the word picks on.
+    pub(crate) fn push_from(
+        &self,
+        seat: &mut Seat<H>,
+        word: u64,
+        entry: Entry,
+    ) -> Result<(), PushRefused>
+        requires table { seat.old.table_id ≡ self.now.table }
+        requires rests { Rests seat.old.me }
+        requires known { K.is_known entry.node entry.key }
+        ensures table { seat.new.table_id ≡ seat.old.table_id }
+        ensures rests { Rests seat.new.me }
+        ensures pushed { OnOk result (Pushes (books seat.old.me.0) entry (books seat.new.me.0)) }
+        ensures refused { IfErr result (λ refused.
+            (handed_back refused ≡ entry) × SameBooks (books seat.old.me.0) (books seat.new.me.0)) }
+        ensures missed { OnBusy result
+            (Missed self.now.heaps word (2 * self.now.heaps)
+            seat.old.me.0.seen seat.new.me.0.seen) }
+        ensures took { UnlessBusy result
+            (TookAtTry H.kind self.now.heaps word seat.old.me.0.seen seat.new.me.0.last_take) }
+        ensures alone { seat.old.me.0.shares ≡ SHARES
+            → IfErr result (λ refused. is_busy refused ≡ false) }
+    {
+        for attempt in 0..2 * self.heaps {
+            let heap = draw_try(self.heaps, word, attempt);
+            match self.push_at(seat, heap, entry) {
+                Err(PushRefused::Busy(_)) => {}
+                answer => return answer,
+            }
+        }
+        Err(PushRefused::Busy(entry))
+    }
+}
+
+impl<K: Known, A: Allocator> Pool<K, A> {
+    // Pops from one heap that has an entry, if its word is still what was seen.
+    pub(crate) fn pop_at(&self, seat: &mut Seat<LeastHeap<A>>, heap: usize, seen: u64) -> Popped
+        requires table { (seat.old.table_id ≡ self.now.table) × (heap < self.now.heaps) }
+        requires rests { Rests seat.old.me }
+        requires some { seen < EMPTY }
+        ensures table { seat.new.table_id ≡ seat.old.table_id }
+        ensures rests { Rests seat.new.me }
+        ensures popped { MatchPopped result
+            (λ entry. Pops (books seat.old.me.0) entry (books seat.new.me.0)
+            × K.is_known entry.node entry.key × (entry.key ≡ seen))
+            ⊥
+            (SameBooks (books seat.old.me.0) (books seat.new.me.0) × (seat.new.me.0.seen ≡ [])) }
+        ensures took { OnPopped result (λ entry.
+            TookLeast Least heap seen (entry ∷ []) seat.old.me.0.seen seat.new.me.0.last_take) }
+        ensures alone { seat.old.me.0.shares ≡ SHARES → AllByRecursion
+            (λ p. heap ≡ p.0 → seen ≡ p.1 → MatchPopped result (λ _. Unit {0}) ⊥ ⊥)
+            seat.old.me.0.seen }
+        ensures left { seat.old.me.0.shares ≡ SHARES
+            → MatchPopped result
+            (λ entry. IsLeft entry (books seat.old.me.0)) (Unit {0}) (Unit {0}) }
+    {
+        if !self.take(seat, heap, seen) {
+            return Popped::Busy;
+        }
+        match self.pop_in(seat, heap) {
+            (Some(entry), word) => {
+                self.give_popped(seat, heap, word);
+                Popped::Entry(entry)
+            }
+            (None, _) => unreachable!(),
+        }
+    }
+
+    // Looks at heap i and then at heap j, and pops from the one with the lesser word.
+    pub(crate) fn pop_of_two(&self, seat: &mut Seat<LeastHeap<A>>, i: usize, j: usize) -> Popped
+        requires table { seat.old.table_id ≡ self.now.table }
+        requires heaps { (i < self.now.heaps) × (j < self.now.heaps) × (i ≢ j) }
+        requires rests { Rests seat.old.me }
+        ensures table { seat.new.table_id ≡ seat.old.table_id }
+        ensures rests { Rests seat.new.me }
+        ensures popped { MatchPopped result
+            (λ entry. Pops (books seat.old.me.0) entry (books seat.new.me.0)
+            × K.is_known entry.node entry.key)
+            (SameBooks (books seat.old.me.0) (books seat.new.me.0))
+            (SameBooks (books seat.old.me.0) (books seat.new.me.0)) }
+        ensures looked { MatchPopped result (λ entry. Unit {0})
+            (LookedAt i EMPTY j EMPTY seat.old.me.0.seen seat.new.me.0.seen)
+            (WasBusy i j seat.old.me.0.seen seat.new.me.0.seen) }
+        ensures lesser { OnPopped result (λ entry.
+            TookLesser Least i j (entry ∷ []) seat.old.me.0.seen seat.new.me.0.last_take) }
+        ensures alone { seat.old.me.0.shares ≡ SHARES
+            → MatchPopped result (λ _. Unit {0}) (Unit {0}) ⊥ }
+        ensures least { seat.old.me.0.shares ≡ SHARES → self.now.heaps ≡ 2 → MatchPopped result
+            (λ entry. IsLeastLeft entry (books seat.old.me.0))
+            (NothingLeft (books seat.old.me.0)) ⊥ }
+    {
+        let x = self.look(seat, i);
+        let y = self.look(seat, j);
+        if x == OUT || y == OUT {
+            return Popped::Busy;
+        }
+        if x == EMPTY && y == EMPTY {
+            return Popped::Empty;
+        }
+        let (heap, seen) = pick(i, x, j, y);
+        self.pop_at(seat, heap, seen)
+    }
+}

@@ -1,0 +1,278 @@
+//! Calls with several entries at once.
+ghost use Rattle.std.specs.Prelude.{min, ◌≡◌, ◌≢◌, ◌+◌, ◌*◌, ◌<◌, ◌≤◌, true, false, [], ◌++◌};
+ghost use Rattle.std.specs.List.{AllByRecursion};
+ghost use Rattle.arrayvec.specs.ArrayVec.{array_vec_len};
+ghost use Rattle.ea_pool.specs.Batches.{GoesIn, ComesOut, PushesFrom, PopsSome, IsLowest, MatchPushed, MatchSome};
+ghost use Rattle.ea_pool.specs.Draws.{first_draw, second_draw};
+ghost use Rattle.ea_pool.specs.Entries.{AreKnown};
+ghost use Rattle.ea_pool.specs.Kinds.{Shows};
+ghost use Rattle.ea_pool.specs.Pools.{Rests, books, HoldsHeap, AreInTime, SameBooks, PushesAll, NothingLeft};
+ghost use Rattle.ea_pool.specs.Seats.{account_of, heaps_of, IsSeatOf};
+ghost use Rattle.ea_pool.specs.Tries.{LookedAt, WasBusy, MissedHeap, Missed, TookThere, TookAtTry, TookLeast, TookLesser};
+
+use crate::SHARES;
+use crate::heap::batch::{Batch, pop_some, push_all};
+use crate::draws::{draw_first, draw_second, draw_try, pick};
+use crate::heap::entry_heap::EntryHeap;
+use crate::shared::pool::Pool;
+use crate::shared::reply::{PoppedSome, PushAllRefused};
+use crate::shared::seat::{PoolSeat, Seat};
+use crate::shared::words::{EMPTY, MOST_IN_BATCH, OUT};
+use ea_road::Known;
+use std::alloc::Allocator;
+
+impl<K: Known, A: Allocator, H: EntryHeap> Pool<K, A, H> {
+    // Pushes entries into the heap that is held, and gives its new word.
+    fn push_all_in(&self, seat: &mut Seat<H>, heap: usize, batch: &mut Batch) -> (bool, u64)
+        requires table { seat.old.table_id ≡ self.now.table }
+        requires held { HoldsHeap seat.old.me heap (λ es. AreInTime (batch.old.items ++ es)) }
+        ensures table { seat.new.table_id ≡ seat.old.table_id }
+        ensures view { seat.new.me.0 ≡ seat.old.me.0 }
+        ensures moves { HoldsHeap seat.old.me heap (λ es. HoldsHeap seat.new.me heap (λ left.
+            GoesIn batch.old.items batch.new.items es left × Shows H.kind result.1 left)) }
+        ensures all { result.0 ≡ true → batch.new.items ≡ [] }
+        ensures some { result.0 ≡ false → 0 < array_vec_len batch.new }
+    {
+        let held = seat.slot_mut(&self.table.shared, heap);
+        let all = push_all(held, batch);
+        (all, held.word())
+    }
+
+    // Pops entries from the heap that is held, and gives its new word.
+    fn pop_some_in(&self, seat: &mut Seat<H>, heap: usize, most: usize, batch: &mut Batch) -> u64
+        requires table { seat.old.table_id ≡ self.now.table }
+        requires held { HoldsHeap seat.old.me heap (λ es. AreInTime es) }
+        requires room { array_vec_len batch.old + most ≤ MOST_IN_BATCH }
+        ensures table { seat.new.table_id ≡ seat.old.table_id }
+        ensures view { seat.new.me.0 ≡ seat.old.me.0 }
+        ensures moves { HoldsHeap seat.old.me heap (λ es. HoldsHeap seat.new.me heap (λ left.
+            ComesOut H.kind most batch.old.items batch.new.items es left
+            × Shows H.kind result left)) }
+    {
+        let held = seat.slot_mut(&self.table.shared, heap);
+        pop_some(held, most, batch);
+        held.word()
+    }
+
+    // Pushes entries to one heap, if it is at home. Those that it has no room for stay in the batch.
+    fn push_all_at(
+        &self,
+        seat: &mut Seat<H>,
+        heap: usize,
+        batch: &mut Batch,
+    ) -> Result<(), PushAllRefused>
+        requires table { (seat.old.table_id ≡ self.now.table) × (heap < self.now.heaps) }
+        requires rests { Rests seat.old.me }
+        requires known { AreKnown K.is_known batch.old.items }
+        ensures table { seat.new.table_id ≡ seat.old.table_id }
+        ensures rests { Rests seat.new.me }
+        ensures pushed { MatchPushed result
+            (PushesAll (books seat.old.me.0) batch.old.items (books seat.new.me.0)
+            × (batch.new.items ≡ []))
+            (SameBooks (books seat.old.me.0) (books seat.new.me.0) × (batch.new ≡ batch.old))
+            (PushesFrom batch.old.items batch.new.items
+            (books seat.old.me.0) (books seat.new.me.0)) }
+        ensures tried { MatchPushed result
+            (TookThere H.kind heap seat.old.me.0.seen seat.new.me.0.last_take)
+            (MissedHeap heap seat.old.me.0.seen seat.new.me.0.seen)
+            (TookThere H.kind heap seat.old.me.0.seen seat.new.me.0.last_take) }
+        ensures alone { seat.old.me.0.shares ≡ SHARES → MatchPushed result (Unit {0}) ⊥ (Unit {0}) }
+    {
+        let seen = self.look(seat, heap);
+        if seen == OUT || !self.take(seat, heap, seen) {
+            return Err(PushAllRefused::Busy);
+        }
+        let (all, word) = self.push_all_in(seat, heap, batch);
+        self.give_pushed(seat, heap, word);
+        if all {
+            Ok(())
+        } else {
+            Err(PushAllRefused::OutOfMemory)
+        }
+    }
+
+    // Tries each heap twice, in turn, from the one that the word picks on.
+    fn push_all_from(
+        &self,
+        seat: &mut Seat<H>,
+        word: u64,
+        batch: &mut Batch,
+    ) -> Result<(), PushAllRefused>
+        requires table { seat.old.table_id ≡ self.now.table }
+        requires rests { Rests seat.old.me }
+        requires known { AreKnown K.is_known batch.old.items }
+        ensures table { seat.new.table_id ≡ seat.old.table_id }
+        ensures rests { Rests seat.new.me }
+        ensures pushed { MatchPushed result
+            (PushesAll (books seat.old.me.0) batch.old.items (books seat.new.me.0)
+            × (batch.new.items ≡ []))
+            (SameBooks (books seat.old.me.0) (books seat.new.me.0) × (batch.new ≡ batch.old))
+            (PushesFrom batch.old.items batch.new.items
+            (books seat.old.me.0) (books seat.new.me.0)) }
+        ensures tried { MatchPushed result
+            (TookAtTry H.kind self.now.heaps word seat.old.me.0.seen seat.new.me.0.last_take)
+            (Missed self.now.heaps word (2 * self.now.heaps) seat.old.me.0.seen seat.new.me.0.seen)
+            (TookAtTry H.kind self.now.heaps word seat.old.me.0.seen seat.new.me.0.last_take) }
+        ensures alone { seat.old.me.0.shares ≡ SHARES → MatchPushed result (Unit {0}) ⊥ (Unit {0}) }
+    {
+        for attempt in 0..2 * self.heaps {
+            let heap = draw_try(self.heaps, word, attempt);
+            match self.push_all_at(seat, heap, batch) {
+                Err(PushAllRefused::Busy) => {}
+                answer => return answer,
+            }
+        }
+        Err(PushAllRefused::Busy)
+    }
+
+    /// Pushes a batch into the one heap that `push_as` would push to, so that the batch is empty. After
+    /// `Busy` the batch and the account are as they were. After `OutOfMemory` what the heap had no room
+    /// for is left in the batch, the first entries of it in their order, at least one, and what is gone from
+    /// it was pushed.
+    pub fn push_all_as(
+        &self,
+        seat: &mut PoolSeat<K, A, H>,
+        word: u64,
+        batch: &mut Batch,
+    ) -> Result<(), PushAllRefused>
+        requires seat { IsSeatOf self.now seat.old }
+        requires known { AreKnown K.is_known batch.old.items }
+        ensures seat { IsSeatOf self.now seat.new }
+        ensures pushed { MatchPushed result
+            (PushesAll (account_of seat.old) batch.old.items (account_of seat.new)
+            × (batch.new.items ≡ []))
+            (SameBooks (account_of seat.old) (account_of seat.new) × (batch.new ≡ batch.old))
+            (PushesFrom batch.old.items batch.new.items
+            (account_of seat.old) (account_of seat.new)) }
+        // Each of the 2H tries missed; or after others that missed, one of them took its heap.
+        ensures tried { MatchPushed result
+            (TookAtTry H.kind (heaps_of self.now) word seat.old.seen seat.new.last_take)
+            (Missed (heaps_of self.now) word (2 * heaps_of self.now) seat.old.seen seat.new.seen)
+            (TookAtTry H.kind (heaps_of self.now) word seat.old.seen seat.new.last_take) }
+        ensures alone { (account_of seat.old).shares ≡ SHARES
+            → MatchPushed result (Unit {0}) ⊥ (Unit {0}) }
+    {
+        self.push_all_from(&mut seat.seat, word, batch)
+    }
+
+    // Pops entries from one heap that has some, if its word is still what was seen. Says whether it was.
+    fn pop_some_at(
+        &self,
+        seat: &mut Seat<H>,
+        heap: usize,
+        seen: u64,
+        most: usize,
+        batch: &mut Batch,
+    ) -> bool
+        requires table { (seat.old.table_id ≡ self.now.table) × (heap < self.now.heaps) }
+        requires rests { Rests seat.old.me }
+        requires some { seen < EMPTY }
+        requires room { (0 < most) × (array_vec_len batch.old + most ≤ MOST_IN_BATCH) }
+        ensures table { seat.new.table_id ≡ seat.old.table_id }
+        ensures rests { Rests seat.new.me }
+        ensures popped { result ≡ true
+            → PopsSome K.is_known H.kind most batch.old.items batch.new.items
+            (books seat.old.me.0) (books seat.new.me.0)
+            (λ out. TookLeast H.kind heap seen out seat.old.me.0.seen seat.new.me.0.last_take)
+            seat.new.me.0.last_take }
+        ensures busy { result ≡ false → SameBooks (books seat.old.me.0) (books seat.new.me.0)
+            × (seat.new.me.0.seen ≡ []) × (batch.new ≡ batch.old) }
+        ensures alone { seat.old.me.0.shares ≡ SHARES → AllByRecursion
+            (λ p. heap ≡ p.0 → seen ≡ p.1 → result ≡ true) seat.old.me.0.seen }
+    {
+        if !self.take(seat, heap, seen) {
+            return false;
+        }
+        let word = self.pop_some_in(seat, heap, most, batch);
+        self.give_popped(seat, heap, word);
+        true
+    }
+
+    // Looks at heap i and then at heap j, and pops from the one with the lesser word.
+    fn pop_some_of_two(
+        &self,
+        seat: &mut Seat<H>,
+        i: usize,
+        j: usize,
+        most: usize,
+        batch: &mut Batch,
+    ) -> PoppedSome
+        requires table { seat.old.table_id ≡ self.now.table }
+        requires heaps { (i < self.now.heaps) × (j < self.now.heaps) × (i ≢ j) }
+        requires rests { Rests seat.old.me }
+        requires room { (0 < most) × (array_vec_len batch.old + most ≤ MOST_IN_BATCH) }
+        ensures table { seat.new.table_id ≡ seat.old.table_id }
+        ensures rests { Rests seat.new.me }
+        ensures popped { MatchSome result
+            ((pops : PopsSome K.is_known H.kind most batch.old.items batch.new.items
+            (books seat.old.me.0) (books seat.new.me.0)
+            (λ out. TookLesser H.kind i j out seat.old.me.0.seen seat.new.me.0.last_take)
+            seat.new.me.0.last_take)
+            × IsLowest H.kind self.now.heaps (min pops.took.x pops.took.y)
+            pops.out (books seat.old.me.0))
+            (SameBooks (books seat.old.me.0) (books seat.new.me.0) × (batch.new ≡ batch.old))
+            (SameBooks (books seat.old.me.0) (books seat.new.me.0) × (batch.new ≡ batch.old)) }
+        ensures looked { MatchSome result (Unit {0})
+            (LookedAt i EMPTY j EMPTY seat.old.me.0.seen seat.new.me.0.seen)
+            (WasBusy i j seat.old.me.0.seen seat.new.me.0.seen) }
+        ensures alone { seat.old.me.0.shares ≡ SHARES → MatchSome result (Unit {0}) (Unit {0}) ⊥ }
+        ensures nothing { seat.old.me.0.shares ≡ SHARES → self.now.heaps ≡ 2 → MatchSome result
+            (Unit {0}) (NothingLeft (books seat.old.me.0)) (Unit {0}) }
+    {
+        let x = self.look(seat, i);
+        let y = self.look(seat, j);
+        if x == OUT || y == OUT {
+            return PoppedSome::Busy;
+        }
+        if x == EMPTY && y == EMPTY {
+            return PoppedSome::Empty;
+        }
+        let (heap, seen) = pick(i, x, j, y);
+        if self.pop_some_at(seat, heap, seen, most, batch) {
+            PoppedSome::Entries
+        } else {
+            PoppedSome::Busy
+        }
+    }
+
+    /// Looks at the two heaps that `pop_as` would look at, and appends the least entries of the one that
+    /// it would pop from to the batch, in ascending order: `most` of them, at least 1, or all that it has.
+    /// After `Empty` and `Busy` nothing has changed.
+    pub fn pop_some_as(
+        &self,
+        seat: &mut PoolSeat<K, A, H>,
+        first: u64,
+        second: u64,
+        most: usize,
+        batch: &mut Batch,
+    ) -> PoppedSome
+        requires seat { IsSeatOf self.now seat.old }
+        requires room { (0 < most) × (array_vec_len batch.old + most ≤ MOST_IN_BATCH) }
+        ensures seat { IsSeatOf self.now seat.new }
+        ensures popped { let i = first_draw (heaps_of self.now) first in
+            let j = second_draw (heaps_of self.now) first second in
+            MatchSome result
+            ((pops : PopsSome K.is_known H.kind most batch.old.items batch.new.items
+            (account_of seat.old) (account_of seat.new)
+            (λ out. TookLesser H.kind i j out seat.old.seen seat.new.last_take)
+            seat.new.last_take)
+            × IsLowest H.kind (heaps_of self.now) (min pops.took.x pops.took.y)
+            pops.out (account_of seat.old))
+            (SameBooks (account_of seat.old) (account_of seat.new) × (batch.new ≡ batch.old))
+            (SameBooks (account_of seat.old) (account_of seat.new) × (batch.new ≡ batch.old)) }
+        // It looked at the first draw and then at the second.
+        ensures looked { let i = first_draw (heaps_of self.now) first in
+            let j = second_draw (heaps_of self.now) first second in
+            MatchSome result (Unit {0})
+            (LookedAt i EMPTY j EMPTY seat.old.seen seat.new.seen)
+            (WasBusy i j seat.old.seen seat.new.seen) }
+        ensures alone { (account_of seat.old).shares ≡ SHARES
+            → MatchSome result (Unit {0}) (Unit {0}) ⊥ }
+        ensures nothing { (account_of seat.old).shares ≡ SHARES → heaps_of self.now ≡ 2
+            → MatchSome result (Unit {0}) (NothingLeft (account_of seat.old)) (Unit {0}) }
+    {
+        let i = draw_first(self.heaps, first);
+        let j = draw_second(self.heaps, first, second);
+        self.pop_some_of_two(&mut seat.seat, i, j, most, batch)
+    }
+}

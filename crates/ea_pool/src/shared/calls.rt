@@ -1,0 +1,130 @@
+//! What callers do with a shared pool.
+ghost use Rattle.std.specs.Prelude.{◌≡◌, ◌+◌, ◌*◌, ◌<◌, false, [], ◌∷◌, ◌++◌, IfErr, OnOk};
+ghost use Rattle.ea_pool.specs.Kinds.{Least};
+ghost use Rattle.ea_pool.specs.Pools.{SameBooks, Pushes, Pops, Opened, IsLeastLeft, NothingLeft};
+ghost use Rattle.ea_pool.specs.Draws.{first_draw, second_draw};
+ghost use Rattle.ea_pool.specs.Replies.{handed_back, is_busy, OnBusy, UnlessBusy, MatchPopped, OnPopped};
+ghost use Rattle.ea_pool.specs.Seats.{account_of, heaps_of, IsSeatOf};
+ghost use Rattle.ea_pool.specs.Tries.{LookedAt, WasBusy, Missed, TookAtTry, TookLesser};
+
+use crate::SHARES;
+use crate::draws::{draw_first, draw_second};
+use crate::heap::entry::Entry;
+use crate::heap::entry_heap::EntryHeap;
+use crate::shared::pool::Pool;
+use crate::shared::reply::{Popped, PushRefused};
+use crate::shared::rules::OneShare;
+use crate::shared::seat::PoolSeat;
+use crate::shared::words::EMPTY;
+use ea_road::Known;
+use std::alloc::Allocator;
+use std::marker::PhantomData;
+
+impl<K: Known, A: Allocator> Pool<K, A> {
+    /// Looks at the two heaps that the words pick, and pops the least entry of the one with the smaller
+    /// least key; of two with equal keys, of the lower number. `Empty` where both had no entry, and
+    /// `Busy` where one was out or was taken meanwhile: then nothing has changed.
+    pub fn pop_as(&self, seat: &mut PoolSeat<K, A>, first: u64, second: u64) -> Popped
+        requires seat { IsSeatOf self.now seat.old }
+        ensures seat { IsSeatOf self.now seat.new }
+        ensures popped { MatchPopped result
+            (λ entry. Pops (account_of seat.old) entry (account_of seat.new)
+            × K.is_known entry.node entry.key)
+            (SameBooks (account_of seat.old) (account_of seat.new))
+            (SameBooks (account_of seat.old) (account_of seat.new)) }
+        // It looked at the first draw and then at the second.
+        ensures looked { let i = first_draw (heaps_of self.now) first in
+            let j = second_draw (heaps_of self.now) first second in
+            MatchPopped result (λ _. Unit {0})
+            (LookedAt i EMPTY j EMPTY seat.old.seen seat.new.seen)
+            (WasBusy i j seat.old.seen seat.new.seen) }
+        // It took the one with the lesser word, and the least entry of that.
+        ensures lesser { let i = first_draw (heaps_of self.now) first in
+            let j = second_draw (heaps_of self.now) first second in
+            OnPopped result
+            (λ entry. TookLesser Least i j (entry ∷ []) seat.old.seen seat.new.last_take) }
+        ensures alone { (account_of seat.old).shares ≡ SHARES
+            → MatchPopped result (λ _. Unit {0}) (Unit {0}) ⊥ }
+        ensures least { (account_of seat.old).shares ≡ SHARES → heaps_of self.now ≡ 2
+            → MatchPopped result (λ entry. IsLeastLeft entry (account_of seat.old))
+            (NothingLeft (account_of seat.old)) ⊥ }
+    {
+        let i = draw_first(self.heaps, first);
+        let j = draw_second(self.heaps, first, second);
+        self.pop_of_two(&mut seat.seat, i, j)
+    }
+}
+
+impl<K: Known, A: Allocator, H: EntryHeap> Pool<K, A, H> {
+    /// Pushes to the first heap that it can take, of each heap twice in turn from `word mod H` on.
+    /// The entry has to be known, so its key is at most HORIZON.
+    /// After `Busy` and `OutOfMemory` the pool's entries are as if the call had not been made, and the
+    /// same entry comes back.
+    pub fn push_as(
+        &self,
+        seat: &mut PoolSeat<K, A, H>,
+        word: u64,
+        entry: Entry,
+    ) -> Result<(), PushRefused>
+        requires seat { IsSeatOf self.now seat.old }
+        requires known { K.is_known entry.node entry.key }
+        ensures seat { IsSeatOf self.now seat.new }
+        ensures pushed { OnOk result (Pushes (account_of seat.old) entry (account_of seat.new)) }
+        ensures refused { IfErr result (λ refused.
+            (handed_back refused ≡ entry) × SameBooks (account_of seat.old) (account_of seat.new)) }
+        // Each of the 2H tries, in turn, found its heap out or failed to take it.
+        ensures missed { OnBusy result
+            (Missed (heaps_of self.now) word (2 * heaps_of self.now) seat.old.seen seat.new.seen) }
+        // After others that missed, one of the tries took its heap: there the entry went in, or memory was refused.
+        ensures took { UnlessBusy result
+            (TookAtTry H.kind (heaps_of self.now) word seat.old.seen seat.new.last_take) }
+        ensures alone { (account_of seat.old).shares ≡ SHARES
+            → IfErr result (λ refused. is_busy refused ≡ false) }
+    {
+        self.push_from(&mut seat.seat, word, entry)
+    }
+
+    /// Moves one share to a new seat, which has pushed and popped nothing. The seat needs at least two.
+    pub fn split(&self, seat: &mut PoolSeat<K, A, H>) -> PoolSeat<K, A, H>
+        requires seat { IsSeatOf self.now seat.old }
+        requires share { 1 < (account_of seat.old).shares }
+        ensures seats { IsSeatOf self.now seat.new × IsSeatOf self.now result }
+        ensures left { ((account_of seat.new).shares + 1 ≡ (account_of seat.old).shares)
+            × ((account_of seat.new).pushed ≡ (account_of seat.old).pushed)
+            × ((account_of seat.new).popped ≡ (account_of seat.old).popped) }
+        ensures new { Opened 1 (account_of result) }
+    {
+        let other = self.table.shared.split_seat::<OneShare>(&mut seat.seat);
+        seat.shares -= 1;
+        PoolSeat {
+            seat: other,
+            shares: 1,
+            known: PhantomData,
+            memory: PhantomData,
+        }
+    }
+
+    /// Adds the other seat's shares and its account.
+    pub fn join(&self, seat: &mut PoolSeat<K, A, H>, other: PoolSeat<K, A, H>)
+        requires seats { IsSeatOf self.now seat.old × IsSeatOf self.now other }
+        ensures seat { IsSeatOf self.now seat.new }
+        ensures both { ((account_of seat.new).shares
+            ≡ (account_of seat.old).shares + (account_of other).shares)
+            × ((account_of seat.new).pushed
+            ≡ (account_of seat.old).pushed ++ (account_of other).pushed)
+            × ((account_of seat.new).popped
+            ≡ (account_of seat.old).popped ++ (account_of other).popped) }
+    {
+        let PoolSeat {
+            seat: other_seat,
+            shares: other_shares,
+            known: _,
+            memory: _,
+        } = other;
+        self.table
+            .shared
+            .join_seat::<OneShare>(&mut seat.seat, other_seat);
+        self.look(&mut seat.seat, 0);
+        seat.shares += other_shares;
+    }
+}

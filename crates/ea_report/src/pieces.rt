@@ -1,0 +1,88 @@
+//! Texts of a few pieces.
+ghost use Rattle.std.specs.Prelude.{◌≡◌, ◌<◌, ◌≤◌, ◌+◌, ◌*◌, ◌^◌, [], IfOk, IfErr, OnOk, length};
+ghost use Rattle.std.specs.List.{flat_map};
+ghost use Rattle.ea_report.specs.Deliverers.{direct_delivery};
+ghost use Rattle.ea_report.specs.Sent.{IsCutBy, IsWhole, Adds, Stops};
+
+use crate::direct_text::Direct;
+use crate::report::{WriteFault, WriteFaultKind};
+use crate::sender::send;
+use ea_bytes::ByteOut;
+
+impl Direct {
+    /// Sends bytes.
+    pub(crate) fn put<W: ByteOut>(&mut self, bytes: &[u8], out: &mut W) -> Result<(), WriteFault>
+        requires { self.old.written + 2 ^ 64 < 2 ^ 128 }
+        ensures ok { OnOk result (Adds (W.seen out.old) (direct_delivery self.old)
+            (W.seen out.new) (direct_delivery self.new) bytes.now) }
+        ensures err { IfErr result (λ fault. Stops (W.seen out.old) (direct_delivery self.old)
+            (W.seen out.new) fault bytes.now) }
+        ensures device { IfErr result (λ fault. fault.kind ≡ WriteFaultKind.WriteFailed) }
+        ensures bound { self.new.written ≤ self.old.written + 2 ^ 64 }
+        ensures small { IfErr result (λ fault. fault.written ≤ self.old.written + 2 ^ 64) }
+    {
+        match send(out, bytes, &mut self.interruptions) {
+            Ok(()) => {
+                self.written += bytes.len() as u128;
+                Ok(())
+            }
+            Err(sent) => Err(WriteFault {
+                written: self.written + sent as u128,
+                kind: WriteFaultKind::WriteFailed,
+            }),
+        }
+    }
+}
+
+impl Direct {
+    /// Sends more pieces of the text, one after the other and with no memory.
+    ///
+    /// `WriteFailed` where a write failed, took nothing of bytes that were left, or was interrupted for the 1,001st time
+    /// over the whole text. The bytes written before a fault are the front of the text.
+    pub fn put_pieces<W: ByteOut>(
+        &mut self,
+        pieces: &[&[u8]],
+        out: &mut W,
+    ) -> Result<(), WriteFault>
+        requires { self.old.written + length pieces.now * 2 ^ 64 + 2 ^ 64 < 2 ^ 128 }
+        ensures ok { OnOk result (Adds (W.seen out.old) (direct_delivery self.old)
+            (W.seen out.new) (direct_delivery self.new)
+            (flat_map (λ piece. piece.now) pieces.now)) }
+        ensures err { IfErr result (λ fault. Stops (W.seen out.old) (direct_delivery self.old)
+            (W.seen out.new) fault (flat_map (λ piece. piece.now) pieces.now)) }
+        ensures device { IfErr result (λ fault. fault.kind ≡ WriteFaultKind.WriteFailed) }
+        ensures bound { OnOk result
+            (self.new.written ≤ self.old.written + length pieces.now * 2 ^ 64) }
+    {
+        for piece in pieces {
+            self.put(piece, out)?;
+        }
+        Ok(())
+    }
+}
+
+/// Writes the pieces of a text, at most a thousand, one after the other and with no memory. Answers how many bytes it
+/// wrote.
+///
+/// `WriteFailed` where a write failed, took nothing of bytes that were left, or was interrupted for
+/// the 1,001st time in this call. The bytes written before a fault are the front of the text.
+pub fn write_pieces<W: ByteOut>(pieces: &[&[u8]], out: &mut W) -> Result<u128, WriteFault>
+    requires few { length pieces.now ≤ 1000 }
+    ensures ok { let before = W.seen out.old in
+        let after = W.seen out.new in
+        IfOk result (IsWhole before after (flat_map (λ piece. piece.now) pieces.now)) }
+    ensures err { let before = W.seen out.old in
+        let after = W.seen out.new in
+        IfErr result (IsCutBy before after (flat_map (λ piece. piece.now) pieces.now)) }
+    // It takes no memory, so the device is the only cause.
+    ensures kind { IfErr result (λ fault. fault.kind ≡ WriteFaultKind.WriteFailed) }
+{
+    let mut direct = Direct {
+        written: 0,
+        interruptions: 0,
+    };
+    match direct.put_pieces(pieces, out) {
+        Ok(()) => Ok(direct.written),
+        Err(fault) => Err(fault),
+    }
+}

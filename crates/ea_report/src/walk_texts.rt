@@ -1,0 +1,217 @@
+//! The arcs of walks as text, one walk after another: what a walk shares with the one before it stays as it stands.
+ghost use Rattle.std.specs.Prelude.{◌≡◌, ◌<◌, ◌≤◌, ◌+◌, ◌-◌, [], IsTrue, OnOk, length, slice_index, take};
+ghost use Rattle.ea_road.specs.Roads.{IsNode};
+ghost use Rattle.ea_search.specs.declared.link.TheConstants.{NO_LEVEL};
+ghost use Rattle.ea_search.specs.Links.{link, linked_walk};
+ghost use Rattle.ea_paths.specs.Stored.{AreFollowable};
+ghost use Rattle.ea_report.specs.Walks.{AreFronts, IsPath, arcs_text, text_to, HasLevel, LeadsOn};
+
+use crate::lines::push_number;
+use ea_search::Link;
+use std::alloc::{AllocError, Global};
+use std::marker::Model;
+
+/// Whether a node stands at a place among those known.
+fn stands_at(nodes: &[u32], known: usize, place: usize, node: u32) -> bool
+    requires { place < length nodes.now }
+    ensures known { IsTrue result → place < known }
+    ensures same { IsTrue result → slice_index nodes.now place ≡ node }
+{
+    place < known && nodes[place] == node
+}
+
+/// Puts the nodes of a node's walk in their places, from the last back to the first that stands in its place already.
+/// Answers how many places stay as they are.
+fn go_back(links: &[Link], nodes: &mut Vec<u32>, known: usize, node: u32) -> usize
+    requires node { IsNode (length links.now) node }
+    requires followable { AreFollowable links.now }
+    requires level { (link links.now node).level < NO_LEVEL }
+    requires places { length nodes.old.items ≡ (link links.now node).level + 1 }
+    ensures known { result ≤ known }
+    ensures within { result ≤ length nodes.old.items }
+    ensures places { length nodes.new.items ≡ length nodes.old.items }
+    ensures stay { take result nodes.new.items ≡ take result nodes.old.items }
+    ensures path { IsPath links.now nodes.new.items result }
+    ensures last { slice_index nodes.new.items (link links.now node).level ≡ node }
+{
+    let mut left = nodes.len();
+    let mut at = node;
+    'back: while left > 0 {
+        if stands_at(nodes, known, left - 1, at) {
+            return left;
+        }
+        nodes[left - 1] = at;
+        at = links[at as usize - 1].from;
+        left -= 1;
+    }
+    0
+}
+
+/// Appends the arc of the node at a place, but of the first.
+fn push_arc_at(
+    links: &[Link],
+    nodes: &[u32],
+    place: usize,
+    text: &mut Vec<u8>,
+) -> Result<(), AllocError>
+    requires place { place < length nodes.now }
+    requires node { IsNode (length links.now) (slice_index nodes.now place) }
+    requires level { HasLevel links.now nodes.now place }
+    requires before { 0 < place → LeadsOn links.now nodes.now place
+        × HasLevel links.now nodes.now (place - 1) }
+    requires text { 0 < place → text.old.items ≡ text_to links.now nodes.now (place - 1) }
+    requires start { place ≤ 0 → text.old.items ≡ [] }
+    ensures { OnOk result (text.new.items ≡ text_to links.now nodes.now place) }
+{
+    if place == 0 {
+        return Ok(());
+    }
+    push_number(text, u64::from(links[nodes[place] as usize - 1].arc))
+}
+
+/// Writes the text of the arcs on from the last place that has an end, place by place.
+fn write_on(
+    links: &[Link],
+    nodes: &[u32],
+    ends: &mut Vec<usize>,
+    text: &mut Vec<u8>,
+) -> Result<(), AllocError>
+    requires followable { AreFollowable links.now }
+    requires few { length nodes.now ≤ NO_LEVEL }
+    requires path { IsPath links.now nodes.now (length ends.old.items) }
+    requires fronts { AreFronts links.now nodes.now ends.old.items text.old.items }
+    requires some { 0 < length nodes.now }
+    requires whole { 0 < length ends.old.items → text.old.items
+        ≡ text_to links.now nodes.now (length ends.old.items - 1) }
+    requires none { length ends.old.items ≤ 0 → text.old.items ≡ [] }
+    ensures fronts { OnOk result (AreFronts links.now nodes.now ends.new.items text.new.items) }
+    ensures whole { OnOk result
+        (text.new.items ≡ text_to links.now nodes.now (length nodes.now - 1)) }
+{
+    'on: while ends.len() < nodes.len() {
+        push_arc_at(links, nodes, ends.len(), text)?;
+        ends.push(text.len())?;
+    }
+    Ok(())
+}
+
+/// Keeps so many ends, and the text up to the last of them.
+fn cut_to(ends: &mut Vec<usize>, text: &mut Vec<u8>, kept: usize)
+    requires { kept ≤ length ends.old.items }
+    ensures ends { ends.new.items ≡ take kept ends.old.items }
+    ensures some { 0 < kept → text.new.items
+        ≡ take (slice_index ends.old.items (kept - 1)) text.old.items }
+    ensures none { kept ≤ 0 → text.new.items ≡ [] }
+{
+    if kept == 0 {
+        text.clear();
+    } else {
+        text.truncate(ends[kept - 1]);
+    }
+    ends.truncate(kept);
+}
+
+/// Makes so many places.
+fn make_places(nodes: &mut Vec<u32>, ends: &mut Vec<usize>, places: usize) -> Result<(), AllocError>
+    requires { length ends.old.items ≤ length nodes.old.items }
+    ensures places { OnOk result (length nodes.new.items ≡ places) }
+    ensures same { take (length ends.new.items) nodes.new.items
+        ≡ take (length ends.new.items) nodes.old.items }
+    ensures few { length ends.new.items ≤ length nodes.new.items }
+    ensures less { length ends.new.items ≤ length ends.old.items }
+    ensures ends { ends.new.items ≡ take (length ends.new.items) ends.old.items }
+{
+    ends.truncate(places);
+    nodes.resize(places, 0)
+}
+
+/// Goes on to a node's walk: makes its places, keeps what it shares with the walk before, and writes the rest.
+fn go_on(
+    links: &[Link],
+    nodes: &mut Vec<u32>,
+    ends: &mut Vec<usize>,
+    text: &mut Vec<u8>,
+    node: u32,
+) -> Result<(), AllocError>
+    requires node { IsNode (length links.now) node }
+    requires followable { AreFollowable links.now }
+    requires level { (link links.now node).level < NO_LEVEL }
+    requires fronts { AreFronts links.now nodes.old.items ends.old.items text.old.items }
+    ensures fronts { OnOk result
+        (AreFronts links.now nodes.new.items ends.new.items text.new.items) }
+    ensures whole { OnOk result (text.new.items ≡ arcs_text (linked_walk links.now node)) }
+{
+    let places = links[node as usize - 1].level as usize + 1;
+    make_places(nodes, ends, places)?;
+    let kept = go_back(links, nodes, ends.len(), node);
+    cut_to(ends, text, kept);
+    write_on(links, nodes, ends, text)
+}
+
+/// The text of the arcs of one walk after another along links: each number after a space. Contracts see the links and the
+/// text that stands.
+///
+/// Going from one walk to the next takes time in proportion to the arcs that they don't share.
+#[derive(Drop)]
+pub struct ArcTexts<'a> {
+    links: &'a [Link],
+    /// The nodes of the walk, from its source on.
+    nodes: Vec<u32>,
+    /// Where the text of the walk to each of these nodes ends.
+    ends: Vec<usize>,
+    text: Vec<u8>,
+}
+
+impl<'a> Model for ArcTexts<'a> {
+    ghost use Rattle.ea_report.specs.Walks.{AreFronts, Following};
+
+    ghost Value = { Following };
+
+    ghost view = { λ w. record { links = w.links.now; text = w.text.items } };
+
+    ghost invariant = { λ w. AreFronts w.links.now w.nodes.items w.ends.items w.text.items };
+}
+
+impl<'a> ArcTexts<'a> {
+    /// No walk yet.
+    pub fn new(alloc: Global, links: &'a [Link]) -> ArcTexts<'a>
+        ensures links { result.links ≡ links.now }
+        ensures text { result.text ≡ [] }
+    {
+        ArcTexts {
+            links,
+            nodes: Vec::new(alloc),
+            ends: Vec::new(alloc),
+            text: Vec::new(alloc),
+        }
+    }
+
+    /// Goes on to the walk that the links of a node lead along. Where memory is refused, no walk stands, and the next call
+    /// writes its walk anew.
+    pub fn go_to(&mut self, node: u32) -> Result<(), AllocError>
+        requires node { IsNode (length self.old.links) node }
+        requires followable { AreFollowable self.old.links }
+        requires level { (link self.old.links node).level < NO_LEVEL }
+        ensures links { self.new.links ≡ self.old.links }
+        ensures text { OnOk result (self.new.text ≡ arcs_text (linked_walk self.old.links node)) }
+    {
+        let gone = go_on(
+            self.links,
+            &mut self.nodes,
+            &mut self.ends,
+            &mut self.text,
+            node,
+        );
+        if gone.is_err() {
+            self.ends.clear();
+        }
+        gone
+    }
+
+    /// The text of the walk's arcs.
+    pub fn text(&self) -> &[u8]
+        ensures { result.now ≡ self.now.text }
+    {
+        &self.text
+    }
+}

@@ -1,6 +1,0 @@
-use Rattle.std.proofs.Common.{ℕ, ◌+◌, ◌<◌, ◌≤◌}
-use Rattle.ea_road.specs.Speeds.{time_at, value_at}
-use Rattle.ea_road.proofs.fitting.keep_order.Given as goal
-
-abbrev pub invariant-loop-place : goal.invariant-loop-place
-invariant-loop-place l = (p : ℕ) → p + 1 < l.place → time_at l.steps p + value_at l.steps p ≤ time_at l.steps (p + 1) + value_at l.steps (p + 1)

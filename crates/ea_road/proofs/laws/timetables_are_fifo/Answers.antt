@@ -1,6 +1,0 @@
-use Rattle.ea_road.specs.StepLists.{steps_in}
-use Rattle.ea_road.specs.TimetableLaws.{timetables_are_fifo}
-use Rattle.ea_road.proofs.laws.timetables_are_fifo.Goals as goal
-
-pub returns : goal.returns
-returns c = λ classes. timetables_are_fifo c.args.times.now.list.items (steps_in c.args.times.now.steps) classes c.args.times.now.fit

@@ -1,5 +1,0 @@
-use Rattle.ea_road.proofs.Classes.{fit_of_few}
-use Rattle.ea_road.proofs.timetables.Timetables.new.Goals as goal
-
-pub invariant_of-result : goal.invariant_of-result
-invariant_of-result c = record { fit = fit_of_few c.args.kinds.items c.requires }

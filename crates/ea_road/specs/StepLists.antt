@@ -1,7 +1,0 @@
--- The steps that a list of timetables has, of none or of some of its classes.
-use Rattle.std.specs.Prelude.{ℕ, List, [], Option, Some, None}
-use Rattle.ea_road.specs.declared.step_table.StepTable.{StepTable}
-
-abbrev pub steps_in : Option StepTable → List (ℕ × ℕ)
-steps_in None = []
-steps_in (Some table) = table.list.items

@@ -1,0 +1,10 @@
+pub mod Worklists
+pub mod Entries
+pub mod Falls
+pub mod Had
+pub mod Boundary
+pub mod Notings
+pub mod Fronts
+pub mod Listings
+pub mod Gatherings
+pub mod Places

@@ -1,0 +1,9 @@
+pub mod Worklist
+pub mod Underway
+pub mod Scans
+pub mod Links
+pub mod Answers
+pub mod Frontiers
+pub mod Listings
+pub mod Notes
+pub mod Candidates

@@ -1,0 +1,204 @@
+//! A search from the sources, nearly in the order of times.
+ghost use Rattle.std.specs.Prelude.{◌≡◌, ℕ, ◌≤◌, [], Contains, IfSome, IsTrue, length, replicate};
+ghost use Rattle.ea_base.specs.declared.limits.TheConstants.{HORIZON};
+ghost use Rattle.ea_road.specs.Labels.{limit};
+ghost use Rattle.ea_road.specs.Queries.{IsProblem};
+ghost use Rattle.ea_road.specs.Roads.{IsNode, top_class};
+ghost use Rattle.ea_road.specs.declared.TheConstants.{NONE};
+ghost use Rattle.ea_search.specs.Candidates.{Empties, TakesUp};
+ghost use Rattle.ea_search.specs.Frontiers.{HaveNone, WaitsAt};
+ghost use Rattle.ea_search.specs.Listings.{AreLabelsListed};
+ghost use Rattle.ea_search.specs.Notes.{AreHad};
+ghost use Rattle.ea_search.specs.Scans.{AwaitsScans, FallsBy};
+ghost use Rattle.ea_search.specs.Underway.{bound_of};
+
+use crate::buckets::candidates::Candidates;
+use crate::finishing_pass::{latest, scan, start};
+use crate::buckets::frontier::Frontier;
+use crate::labels::table::Table;
+use ea_base::HORIZON;
+use ea_road::{Network, Query};
+use ea_travel_times::TravelTimes;
+
+/// Labels each source's node at most with its departure, and puts it on the frontier.
+fn begin<T: TravelTimes, L: Table>(
+    network: &Network,
+    times: &T,
+    query: &Query,
+    table: &mut L,
+    frontier: &mut Frontier,
+)
+    requires problem { IsProblem network.now (T.classes times.now) query.now }
+    requires room { frontier.old.todo.nodes ≡ network.now.nodes }
+    requires none { (L.labels table.old) ≡ replicate network.now.nodes NONE }
+    ensures underway { AwaitsScans network.now (T.answers times.now) query.now
+        (L.labels table.new) (L.met table.new)
+        (WaitsAt frontier.new (bound_of (L.labels table.new))) }
+    ensures adds { (v u k : ℕ) → L.had table.new v u k → L.had table.old v u k }
+    ensures nodes { frontier.new.todo.nodes ≡ frontier.old.todo.nodes }
+    ensures walks { frontier.new.todo.walks ≡ frontier.old.todo.walks }
+    ensures listed { AreLabelsListed (L.labels table.new) (L.lists table.new) }
+{
+    for source in query.sources() {
+        start(table, frontier, source.node, source.departure);
+    }
+}
+
+/// Gathers what the scan of an entry's node offers, if the entry is of the node's label and that is no later than the last time.
+/// False where there may be no room for all.
+fn take_up<T: TravelTimes, L: Table>(
+    network: &Network,
+    times: &T,
+    table: &L,
+    last: u64,
+    entry: (u64, u32),
+    candidates: &mut Candidates,
+) -> bool
+    requires classes { top_class network.now.arcs ≤ T.classes times.now }
+    requires places { length (L.labels table.now) ≡ network.now.nodes }
+    requires last { last ≤ HORIZON }
+    requires node { IsNode network.now.nodes entry.1 }
+    ensures taken { IsTrue result → TakesUp network.now (T.answers times.now) (L.labels table.now) last entry
+        candidates.old candidates.new }
+    ensures crowded { (IsTrue result → ⊥) → (entry.0 ≡ bound_of (L.labels table.now) entry.1)
+        × (entry.0 ≤ last) × (candidates.new ≡ candidates.old) }
+{
+    let (time, node) = entry;
+    if table.label(node) == time {
+        if time <= last {
+            return candidates.gather(network, times, table, node, time);
+        }
+    }
+    true
+}
+
+/// Takes an entry and those of the hand up. A node for whose arcs there may be no room is answered, and the entries after it stay.
+fn take_hand_up<T: TravelTimes, L: Table>(
+    network: &Network,
+    times: &T,
+    table: &L,
+    last: u64,
+    first: (u64, u32),
+    frontier: &mut Frontier,
+    candidates: &mut Candidates,
+) -> Option<u32>
+    requires classes { top_class network.now.arcs ≤ T.classes times.now }
+    requires places { length (L.labels table.now) ≡ network.now.nodes }
+    requires last { last ≤ HORIZON }
+    requires node { IsNode network.now.nodes first.1 }
+    requires room { frontier.old.todo.nodes ≡ network.now.nodes }
+    requires none { candidates.old ≡ [] }
+    ensures emptied { Empties network.now (T.answers times.now) (L.labels table.now) last first
+        frontier.old frontier.new candidates.new result }
+    ensures crowded { IfSome result (λ node. IsNode network.now.nodes node
+        × (bound_of (L.labels table.now) node ≤ last)) }
+{
+    let mut next = Some(first);
+    while let Some(entry) = next {
+        if !take_up(network, times, table, last, entry, candidates) {
+            return Some(entry.1);
+        }
+        next = frontier.take_drawn();
+    }
+    None
+}
+
+/// Scans the nodes of the frontier at their labels, until it has no entry. What the scans of a hand offer is offered once all of it is
+/// gathered.
+fn exhaust<T: TravelTimes, L: Table>(
+    network: &Network,
+    times: &T,
+    query: &Query,
+    table: &mut L,
+    frontier: &mut Frontier,
+)
+    requires problem { IsProblem network.now (T.classes times.now) query.now }
+    requires room { frontier.old.todo.nodes ≡ network.now.nodes }
+    requires underway { AwaitsScans network.now (T.answers times.now) query.now
+        (L.labels table.old) (L.met table.old)
+        (WaitsAt frontier.old (bound_of (L.labels table.old))) }
+    ensures underway { AwaitsScans network.now (T.answers times.now) query.now
+        (L.labels table.new) (L.met table.new) (Contains frontier.new.todo.waiting) }
+    ensures had { AreHad network.now (T.answers times.now) (L.labels table.old) (L.had table.old)
+        → AreHad network.now (T.answers times.now) (L.labels table.new) (L.had table.new) }
+    ensures nodes { frontier.new.todo.nodes ≡ frontier.old.todo.nodes }
+    ensures walks { frontier.new.todo.walks ≡ frontier.old.todo.walks }
+    ensures beyond { FallsBy network.now (T.answers times.now)
+        (limit query.now.target (bound_of (L.labels table.old)))
+        (bound_of (L.labels table.old)) (bound_of (L.labels table.new)) }
+    ensures none { HaveNone frontier.new.lists }
+    ensures listed { AreLabelsListed (L.labels table.old) (L.lists table.old)
+        → AreLabelsListed (L.labels table.new) (L.lists table.new) }
+{
+    network.keeps_limits();
+    let target = query.target();
+    let mut candidates = Candidates::none();
+    while let Some(entry) = frontier.take(network, table) {
+        let last = latest(target, table).min(HORIZON);
+        let crowded = take_hand_up(
+            network,
+            times,
+            table,
+            last,
+            entry,
+            frontier,
+            &mut candidates,
+        );
+        candidates.offer(table, frontier);
+        if let Some(node) = crowded {
+            let time = table.label(node);
+            scan(network, times, node, time, table, frontier);
+        }
+    }
+}
+
+/// A search from the sources, on a frontier without entries. Only nodes for which it finds no memory still wait then.
+pub fn search<T: TravelTimes, L: Table>(
+    network: &Network,
+    times: &T,
+    query: &Query,
+    table: &mut L,
+    frontier: &mut Frontier,
+)
+    requires problem { IsProblem network.now (T.classes times.now) query.now }
+    requires room { frontier.old.todo.nodes ≡ network.now.nodes }
+    requires none { (L.labels table.old) ≡ replicate network.now.nodes NONE }
+    requires had { (v u k : ℕ) → L.had table.old v u k → ⊥ }
+    ensures underway { AwaitsScans network.now (T.answers times.now) query.now
+        (L.labels table.new) (L.met table.new) (Contains frontier.new.todo.waiting) }
+    ensures had { AreHad network.now (T.answers times.now) (L.labels table.new) (L.had table.new) }
+    ensures nodes { frontier.new.todo.nodes ≡ frontier.old.todo.nodes }
+    ensures walks { frontier.new.todo.walks ≡ frontier.old.todo.walks }
+    ensures none { HaveNone frontier.new.lists }
+    ensures listed { AreLabelsListed (L.labels table.new) (L.lists table.new) }
+{
+    network.keeps_limits();
+    begin(network, times, query, table, frontier);
+    exhaust(network, times, query, table, frontier);
+}
+
+/// The search from a table as it stands, on a frontier in whose list the nodes wait that are open. Only nodes for which it
+/// finds no memory still wait then.
+pub fn search_on<T: TravelTimes, L: Table>(
+    network: &Network,
+    times: &T,
+    query: &Query,
+    table: &mut L,
+    frontier: &mut Frontier,
+)
+    requires problem { IsProblem network.now (T.classes times.now) query.now }
+    requires room { frontier.old.todo.nodes ≡ network.now.nodes }
+    requires underway { AwaitsScans network.now (T.answers times.now) query.now
+        (L.labels table.old) (L.met table.old) (Contains frontier.old.todo.waiting) }
+    ensures underway { AwaitsScans network.now (T.answers times.now) query.now
+        (L.labels table.new) (L.met table.new) (Contains frontier.new.todo.waiting) }
+    ensures nodes { frontier.new.todo.nodes ≡ frontier.old.todo.nodes }
+    ensures walks { frontier.new.todo.walks ≡ frontier.old.todo.walks }
+    ensures beyond { FallsBy network.now (T.answers times.now)
+        (limit query.now.target (bound_of (L.labels table.old)))
+        (bound_of (L.labels table.old)) (bound_of (L.labels table.new)) }
+{
+    network.keeps_limits();
+    frontier.move_in(table);
+    exhaust(network, times, query, table, frontier);
+}

@@ -1,0 +1,327 @@
+//! Nodes by their labels, nearly the least first.
+ghost use Rattle.std.specs.Prelude.{◌≡◌, ℕ, ◌+◌, ◌<◌, ◌≤◌, ◌∷◌, length, map, IfOk, IfSome, MatchOption};
+ghost use Rattle.ea_search.specs.Frontiers.{AreEntries, HaveNone, HasNone, KeepsWaiting, Puts, Takes, WaitsAt};
+ghost use Rattle.ea_search.specs.Underway.{bound_of};
+
+use crate::queue::open::Open;
+use crate::queue::open_list::Opens;
+use crate::labels::table::Table;
+use crate::prefetch::{AHEAD, touch_entries, touch_first_arcs};
+use ea_road::{Network, window_bits};
+use std::alloc::{AllocError, Global};
+use std::marker::Model;
+
+/// The list of the entries that are scanned next, whose memory was read ahead.
+const HAND: usize = 0;
+
+/// The list of the entries whose times lie in the window.
+const WINDOW: usize = 1;
+
+/// How many lists there are: the hand, the window, and one for each bit of a time.
+const LISTS: usize = 66;
+
+/// Fewer entries are not worth reading ahead.
+const FEW: usize = 4;
+
+/// Nodes whose labels fell, with their labels: a radix queue over windows of times. An entry's list is that of the highest
+/// bit in which its time differs from the window's, so that the entries of the window's list lie in no order; where that
+/// list is spent, the next one is spread over those below it. A node for which a list finds no memory waits in `todo`.
+#[derive(Drop)]
+pub struct Frontier {
+    lists: Vec<Vec<(u64, u32)>>,
+    todo: Open,
+    /// A time of the window.
+    low: u64,
+    /// The bits in which times of a window may differ: so many last ones.
+    within: u64,
+    /// How many entries were taken since the window was made narrower.
+    drawn: u64,
+    /// How many entries of the window came from scans of it since then. No more nodes were scanned twice.
+    again: u64,
+    /// By how many bits the window is made narrower the next time.
+    step: u32,
+    /// What was read ahead. It is looked at where nothing rests on it, so that no read is left out.
+    seen: u64,
+}
+
+impl Model for Frontier {
+    ghost use Rattle.std.specs.Prelude.{◌≡◌, map, length};
+    ghost use Rattle.ea_search.specs.Frontiers.{AreEntries, Frontage};
+
+    ghost Value = { Frontage };
+
+    ghost view = { λ f. record { lists = map (λ l. l.items) f.lists.items; todo = f.todo } };
+
+    ghost invariant = { λ f. (length f.lists.items ≡ 66)
+        × AreEntries f.todo.nodes (map (λ l. l.items) f.lists.items) };
+}
+
+/// Lists without an entry.
+pub fn empty_lists(alloc: Global) -> Result<Vec<Vec<(u64, u32)>>, AllocError>
+    ensures length { IfOk result (λ lists. length lists.items ≡ 66) }
+    ensures empty { IfOk result (λ lists. HaveNone (map (λ l. l.items) lists.items)) }
+{
+    let mut lists = Vec::with_capacity(alloc, LISTS)?;
+    'adding: for _ in 0..LISTS {
+        lists.push(Vec::new(alloc))?;
+    }
+    Ok(lists)
+}
+
+impl Frontier {
+    /// Lists, and a list of nodes that wait. The window is from a half to the whole of a width, and one time where that
+    /// is 0.
+    pub fn over(lists: Vec<Vec<(u64, u32)>>, todo: Open, width: u64) -> Frontier
+        requires length { length lists.items ≡ 66 }
+        requires entries { AreEntries todo.nodes (map (λ l. l.items) lists.items) }
+        ensures { result ≡ record { lists = map (λ l. l.items) lists.items; todo = todo } }
+    {
+        Frontier {
+            lists,
+            todo,
+            low: 0,
+            within: window_bits(width),
+            drawn: 0,
+            again: 0,
+            step: 2,
+            seen: 0,
+        }
+    }
+
+    /// The list in which a time belongs.
+    fn list_of(&self, time: u64) -> usize
+        ensures { result < 66 }
+    {
+        let differing = (time ^ self.low) & !self.within;
+        WINDOW + 64 - differing.leading_zeros() as usize
+    }
+
+    /// Puts an entry into a list.
+    fn put(&mut self, list: usize, time: u64, node: u32)
+        requires list { list < 66 }
+        requires node { (0 < node) × (node ≤ self.old.todo.nodes) }
+        ensures { Puts (time, node) self.old self.new }
+    {
+        match self.lists[list].push((time, node)) {
+            Ok(()) => {}
+            Err(_) => self.todo.add(node),
+        }
+    }
+
+    /// Takes an entry out of a list.
+    fn pop(&mut self, list: usize) -> Option<(u64, u32)>
+        requires { list < 66 }
+        ensures { MatchOption result ((self.new ≡ self.old) × HasNone self.old.lists list)
+            (λ entry. (label : ℕ → ℕ) → Takes label entry self.old self.new) }
+    {
+        self.lists[list].pop()
+    }
+
+    /// Takes an entry out of the lowest list that has one.
+    fn pop_lowest(&mut self) -> Option<(u64, u32)>
+        ensures { MatchOption result ((self.new ≡ self.old) × HaveNone self.old.lists)
+            (λ entry. (label : ℕ → ℕ) → Takes label entry self.old self.new) }
+    {
+        for list in 0..LISTS {
+            if let Some(entry) = self.pop(list) {
+                return Some(entry);
+            }
+        }
+        None
+    }
+
+    /// Moves the entries of a list to another.
+    fn pour(&mut self, from: usize, to: usize)
+        requires from { from < 66 }
+        requires to { to < 66 }
+        ensures { (label : ℕ → ℕ) → KeepsWaiting label self.old self.new }
+    {
+        'moving: for _ in 0..self.lists[from].len() {
+            let Some((time, node)) = self.pop(from) else {
+                return;
+            };
+            self.put(to, time, node);
+        }
+    }
+
+    /// The least time of a list.
+    fn least_of(&self, list: usize) -> u64
+        requires { list < 66 }
+    {
+        let mut least = u64::MAX;
+        for entry in &self.lists[list] {
+            least = least.min(entry.0);
+        }
+        least
+    }
+
+    /// Moves the entries of a list to where they belong once the window is that of the least of their times.
+    fn spread(&mut self, list: usize)
+        requires { list < 66 }
+        ensures { (label : ℕ → ℕ) → KeepsWaiting label self.old self.new }
+    {
+        self.low = self.least_of(list);
+        'moving: for _ in 0..self.lists[list].len() {
+            let Some((time, node)) = self.pop(list) else {
+                return;
+            };
+            let to = self.list_of(time);
+            self.put(to, time, node);
+        }
+    }
+
+    /// The first list from the window's on that has an entry; the window's where none has.
+    fn lowest(&self) -> usize
+        ensures { result < 66 }
+    {
+        for list in WINDOW..LISTS {
+            if !self.lists[list].is_empty() {
+                return list;
+            }
+        }
+        WINDOW
+    }
+
+    /// Spreads the next list, where the window has no entry.
+    fn advance(&mut self)
+        ensures { (label : ℕ → ℕ) → KeepsWaiting label self.old self.new }
+    {
+        let list = self.lowest();
+        if list > WINDOW {
+            self.spread(list);
+        }
+    }
+
+    /// Makes the window narrower, each time by more, where too many of its entries came from scans of it.
+    fn narrow(&mut self)
+        ensures { (label : ℕ → ℕ) → KeepsWaiting label self.old self.new }
+    {
+        if self.within == 0 || (self.again <= self.drawn / 2 + 16 && self.seen != u64::MAX) {
+            return;
+        }
+        self.within = self.within.checked_shr(self.step).unwrap_or(0);
+        self.step = self.step.saturating_mul(2);
+        self.drawn = 0;
+        self.again = 0;
+        self.pour(WINDOW, HAND);
+        self.spread(HAND);
+    }
+
+    /// Moves entries from the window to the hand, but for those whose label fell since.
+    fn draw<L: Table>(&mut self, table: &L)
+        requires { length (L.labels table.now) ≡ self.old.todo.nodes }
+        ensures { KeepsWaiting (bound_of (L.labels table.now)) self.old self.new }
+    {
+        'drawing: for _ in 0..AHEAD {
+            let Some((time, node)) = self.pop(WINDOW) else {
+                return;
+            };
+            if table.label(node) == time {
+                self.put(HAND, time, node);
+            }
+        }
+    }
+
+    /// Fills the hand from a window that has many entries. Where the arcs of the hand's nodes begin, and the first of them, is read
+    /// ahead, so that many loads are under way at once.
+    #[inline(never)]
+    fn refill<L: Table>(&mut self, network: &Network, table: &L)
+        requires { length (L.labels table.now) ≡ self.old.todo.nodes }
+        ensures { KeepsWaiting (bound_of (L.labels table.now)) self.old self.new }
+    {
+        self.narrow();
+        self.advance();
+        let window = &self.lists[WINDOW];
+        if window.len() < FEW {
+            self.drawn = self.drawn.wrapping_add(1);
+            return;
+        }
+        let first = window.len().saturating_sub(AHEAD);
+        let places = touch_entries(network, table, &window[first..]);
+        self.draw(table);
+        let hand = &self.lists[HAND];
+        self.drawn = self.drawn.wrapping_add(hand.len() as u64);
+        let arcs = touch_first_arcs(network, hand);
+        self.seen ^= places ^ arcs;
+    }
+
+    /// Takes an entry out, of nearly the least time; none where there is none, but for those whose label fell since.
+    #[inline(always)]
+    pub fn take<L: Table>(&mut self, network: &Network, table: &L) -> Option<(u64, u32)>
+        requires { length (L.labels table.now) ≡ self.old.todo.nodes }
+        ensures { MatchOption result
+            (KeepsWaiting (bound_of (L.labels table.now)) self.old self.new × HaveNone self.new.lists)
+            (λ found. Takes (bound_of (L.labels table.now)) found self.old self.new) }
+    {
+        if let Some(entry) = self.pop(HAND) {
+            return Some(entry);
+        }
+        self.refill(network, table);
+        self.pop_lowest()
+    }
+
+    /// Takes an entry out of the hand.
+    #[inline(always)]
+    pub fn take_drawn(&mut self) -> Option<(u64, u32)>
+        ensures { MatchOption result (self.new ≡ self.old)
+            (λ entry. (label : ℕ → ℕ) → Takes label entry self.old self.new) }
+    {
+        self.pop(HAND)
+    }
+
+    /// Takes the node that has waited longest in the list.
+    fn take_waiting(&mut self) -> Option<u32>
+        ensures lists { self.new.lists ≡ self.old.lists }
+        ensures taken { MatchOption result (self.new ≡ self.old)
+            (λ node. self.old.todo.waiting ≡ node ∷ self.new.todo.waiting) }
+        ensures room { (self.new.todo.nodes ≡ self.old.todo.nodes)
+            × (self.new.todo.walks ≡ self.old.todo.walks) }
+        ensures node { IfSome result (λ node. (0 < node) × (node ≤ self.old.todo.nodes)) }
+    {
+        self.todo.take()
+    }
+
+    /// Puts the nodes that wait in the list among the entries, at their labels.
+    pub fn move_in<L: Table>(&mut self, table: &L)
+        requires { length (L.labels table.now) ≡ self.old.todo.nodes }
+        ensures rest { (node : ℕ) → WaitsAt self.old (bound_of (L.labels table.now)) node
+            → WaitsAt self.new (bound_of (L.labels table.now)) node }
+        ensures room { (self.new.todo.nodes ≡ self.old.todo.nodes)
+            × (self.new.todo.walks ≡ self.old.todo.walks) }
+    {
+        'moving: for _ in 0..self.todo.len() {
+            let Some(node) = self.take_waiting() else {
+                return;
+            };
+            let time = table.label(node);
+            let place = self.list_of(time);
+            self.put(place, time, node);
+        }
+    }
+
+    /// The lists, and the nodes that wait.
+    pub fn into_parts(self) -> (Vec<Vec<(u64, u32)>>, Open)
+        ensures length { length result.0.items ≡ 66 }
+        ensures lists { map (λ l. l.items) result.0.items ≡ self.lists }
+        ensures todo { result.1 ≡ self.todo }
+    {
+        (self.lists, self.todo)
+    }
+}
+
+impl Opens for Frontier {
+    ghost use Rattle.ea_search.specs.Frontiers.{WaitsAt, entries_in};
+
+    ghost room = { λ frontier.
+        record { nodes = frontier.todo.nodes; walks = frontier.todo.walks } };
+
+    ghost waits = { λ frontier label node. WaitsAt frontier label node };
+
+    ghost size = { λ frontier. entries_in frontier };
+
+    fn open(&mut self, node: u32, time: u64) {
+        let list = self.list_of(time);
+        self.again = self.again.wrapping_add(u64::from(list == WINDOW));
+        self.put(list, time, node);
+    }
+}

@@ -1,0 +1,73 @@
+//! The finishing pass in about the order of labels.
+ghost use Rattle.std.specs.Prelude.{◌≡◌, length, map};
+ghost use Rattle.ea_road.specs.Labels.{label_of, limit};
+ghost use Rattle.ea_road.specs.Queries.{IsProblem};
+ghost use Rattle.ea_search.specs.Frontiers.{HaveNone};
+ghost use Rattle.ea_search.specs.Scans.{FallsBy};
+ghost use Rattle.ea_search.specs.Underway.{IsFinished, IsUnderway};
+
+use crate::finishing_pass::{Finished, finish};
+use crate::buckets::frontier::{Frontier, empty_lists};
+use crate::queue::open::Open;
+use crate::buckets::bucket_search::search_on;
+use crate::labels::table::Bare;
+use ea_road::{Network, Query};
+use ea_travel_times::TravelTimes;
+use std::alloc::Global;
+
+/// Searches from the nodes that wait, on lists without entries, and finishes what is left then.
+fn finish_on<T: TravelTimes>(
+    network: &Network,
+    times: &T,
+    query: &Query,
+    lists: Vec<Vec<(u64, u32)>>,
+    table: Vec<u64>,
+    todo: Open,
+) -> Finished
+    requires problem { IsProblem network.now (T.classes times.now) query.now }
+    requires underway { IsUnderway network.now (T.answers times.now) query.now
+        table.items todo.waiting }
+    requires room { todo.nodes ≡ network.now.nodes }
+    requires lists { (length lists.items ≡ 66) × HaveNone (map (λ l. l.items) lists.items) }
+    ensures finished { IsFinished network.now (T.answers times.now) query.now
+        result.table.items result.todo }
+    ensures walks { result.todo.walks ≡ todo.walks }
+    ensures beyond { FallsBy network.now (T.answers times.now)
+        (limit query.now.target (label_of table.items))
+        (label_of table.items) (label_of result.table.items) }
+{
+    network.keeps_limits();
+    let mut frontier = Frontier::over(lists, todo, network.mean_weight());
+    let mut bare = Bare { labels: table };
+    search_on(network, times, query, &mut bare, &mut frontier);
+    let (_, todo) = frontier.into_parts();
+    finish(network, times, query, bare.labels, todo)
+}
+
+/// As `finish`, but the waiting nodes are first searched in about the order of their labels, as `arrivals_alone` searches
+/// from the sources: so what was left open costs what one thread would take for it. What is left then is finished in the
+/// order of opening, which is nothing where memory suffices. Where it doesn't, the answer is the same.
+pub fn finish_in_order<T: TravelTimes>(
+    alloc: Global,
+    network: &Network,
+    times: &T,
+    query: &Query,
+    table: Vec<u64>,
+    todo: Open,
+) -> Finished
+    requires problem { IsProblem network.now (T.classes times.now) query.now }
+    requires underway { IsUnderway network.now (T.answers times.now) query.now
+        table.items todo.waiting }
+    requires room { todo.nodes ≡ network.now.nodes }
+    ensures finished { IsFinished network.now (T.answers times.now) query.now
+        result.table.items result.todo }
+    ensures walks { result.todo.walks ≡ todo.walks }
+    ensures beyond { FallsBy network.now (T.answers times.now)
+        (limit query.now.target (label_of table.items))
+        (label_of table.items) (label_of result.table.items) }
+{
+    match empty_lists(alloc) {
+        Ok(lists) => finish_on(network, times, query, lists, table, todo),
+        Err(_) => finish(network, times, query, table, todo),
+    }
+}

@@ -1,0 +1,252 @@
+ghost use Rattle.std.specs.Prelude.{◌≡◌, ℕ, ◌+◌, ◌<◌, ◌≤◌, [], ◌∷◌, List, length, sum, Contains, IfSome};
+ghost use Rattle.ea_base.specs.declared.limits.TheConstants.{HORIZON};
+ghost use Rattle.ea_road.specs.declared.TheConstants.{NONE};
+ghost use Rattle.ea_road.specs.Arrivals.{IsLeast, IsLeastAt};
+ghost use Rattle.ea_road.specs.Labels.{label_of, limit, time_of};
+ghost use Rattle.ea_road.specs.Queries.{IsAsked, IsProblem};
+ghost use Rattle.ea_road.specs.Roads.{IsArc, IsNode, leaving, top_class};
+ghost use Rattle.ea_search.specs.Listings.{AreLabelsListed, KeepsListed};
+ghost use Rattle.ea_search.specs.Notes.{AreHad};
+ghost use Rattle.ea_search.specs.Scans.{AddsHad, AwaitsScans, FallsBy, IsHadAt, KeepsLess, KeepsMet, Scanned, number_at};
+ghost use Rattle.ea_search.specs.Underway.{IsFinished, IsUnderway, bound_of};
+
+use crate::queue::open::Open;
+use crate::queue::open_list::Opens;
+use crate::labels::table::{Bare, Table};
+use ea_base::HORIZON;
+use ea_road::{Arc, NONE, Network, Query};
+use ea_travel_times::TravelTimes;
+
+/// A table of labels, the first that of node 1, and a list in which nobody waits.
+#[derive(Drop)]
+pub struct Finished {
+    /// A place for each node, the first that of node 1: its label, or NONE.
+    pub table: Vec<u64>,
+    /// The list, with the storage for walks where these are asked for.
+    pub todo: Open,
+}
+
+/// Offers a source's node its departure: a label above it falls to it, and the node is opened.
+pub fn start<L: Table, W: Opens>(table: &mut L, todo: &mut W, node: u32, departure: u64)
+    requires node { (0 < node) × (node ≤ (W.room todo.old).nodes) }
+    requires in_time { departure ≤ HORIZON }
+    requires places { length (L.labels table.old) ≡ (W.room todo.old).nodes }
+    ensures lowers { KeepsLess node departure
+        (L.labels table.old) (W.waits todo.old (bound_of (L.labels table.old)))
+        (L.labels table.new) (W.waits todo.new (bound_of (L.labels table.new))) }
+    ensures still { KeepsMet (L.labels table.old) (L.met table.old)
+        (L.labels table.new) (L.met table.new) }
+    ensures adds { (v u k : ℕ) → L.had table.new v u k → L.had table.old v u k }
+    ensures room { W.room todo.new ≡ W.room todo.old }
+    ensures listed { AreLabelsListed (L.labels table.old) (L.lists table.old)
+        → AreLabelsListed (L.labels table.new) (L.lists table.new) }
+{
+    if departure < table.label(node) {
+        table.start(node, departure);
+        todo.open(node, departure);
+    }
+}
+
+/// Offers a node the arrival by an arc, which is the one at this place among those that leave its tail: a label above it falls to it,
+/// and the node is opened.
+pub fn lower<L: Table, W: Opens>(
+    table: &mut L,
+    todo: &mut W,
+    node: u32,
+    time: u64,
+    from: u32,
+    place: usize,
+)
+    requires node { (0 < node) × (node ≤ (W.room todo.old).nodes) }
+    requires in_time { time ≤ HORIZON }
+    requires places { length (L.labels table.old) ≡ (W.room todo.old).nodes }
+    ensures lowers { KeepsLess node time
+        (L.labels table.old) (W.waits todo.old (bound_of (L.labels table.old)))
+        (L.labels table.new) (W.waits todo.new (bound_of (L.labels table.new))) }
+    ensures met { bound_of (L.labels table.new) node ≡ time → L.met table.new node from place }
+    ensures still { KeepsMet (L.labels table.old) (L.met table.old)
+        (L.labels table.new) (L.met table.new) }
+    ensures adds { AddsHad (IsHadAt node from place time (L.labels table.new))
+        (L.labels table.old) (L.had table.old) (L.labels table.new) (L.had table.new) }
+    ensures spent { sum (L.labels table.new) + W.size todo.new ≤ sum (L.labels table.old) + W.size todo.old }
+    ensures room { W.room todo.new ≡ W.room todo.old }
+    ensures listed { AreLabelsListed (L.labels table.old) (L.lists table.old)
+        → AreLabelsListed (L.labels table.new) (L.lists table.new) }
+{
+    let before = table.label(node);
+    if time < before {
+        table.fall(node, time, from, place);
+        todo.open(node, time);
+    } else if time == before {
+        table.meet(node, from, place);
+    }
+}
+
+/// Offers its head the arrival along one arc, which is the one at this place among those that leave its tail.
+fn follow<T: TravelTimes, L: Table, W: Opens>(
+    network: &Network,
+    times: &T,
+    place: usize,
+    arc: Arc,
+    departure: u64,
+    table: &mut L,
+    todo: &mut W,
+)
+    requires arc { IsArc network.now (number_at network.now arc.tail place) arc }
+    requires placed { place < length (leaving network.now arc.tail) }
+    requires departure { departure ≤ HORIZON }
+    requires classes { top_class network.now.arcs ≤ T.classes times.now }
+    requires places { length (L.labels table.old) ≡ network.now.nodes }
+    requires nodes { (W.room todo.old).nodes ≡ network.now.nodes }
+    ensures scanned { Scanned network.now (T.answers times.now) arc.tail departure
+        (number_at network.now arc.tail place ∷ [])
+        (L.labels table.old) (W.waits todo.old (bound_of (L.labels table.old))) (L.met table.old)
+        (L.labels table.new) (W.waits todo.new (bound_of (L.labels table.new))) (L.met table.new) }
+    ensures had { bound_of (L.labels table.old) arc.tail ≤ departure
+        → AreHad network.now (T.answers times.now) (L.labels table.old) (L.had table.old)
+        → AreHad network.now (T.answers times.now) (L.labels table.new) (L.had table.new) }
+    ensures spent { sum (L.labels table.new) + W.size todo.new ≤ sum (L.labels table.old) + W.size todo.old }
+    ensures room { W.room todo.new ≡ W.room todo.old }
+    ensures listed { AreLabelsListed (L.labels table.old) (L.lists table.old)
+        → AreLabelsListed (L.labels table.new) (L.lists table.new) }
+{
+    network.keeps_limits();
+    // No arc arrives before it is left. Where all arcs are plain, a sum costs less than to look.
+    if network.top_class() > 0 {
+        if table.label(arc.head) < departure {
+            return;
+        }
+    }
+    let arrival = times.arrive(arc.class, u64::from(arc.weight), departure);
+    if arrival <= HORIZON {
+        lower(table, todo, arc.head, arrival, arc.tail, place);
+    }
+}
+
+/// Offers each head the arrival along the arcs from a node, left at its label. The arcs are read as they lie by tail.
+pub fn scan<T: TravelTimes, L: Table, W: Opens>(
+    network: &Network,
+    times: &T,
+    node: u32,
+    departure: u64,
+    table: &mut L,
+    todo: &mut W,
+)
+    requires node { IsNode network.now.nodes node }
+    requires departure { departure ≤ HORIZON }
+    requires classes { top_class network.now.arcs ≤ T.classes times.now }
+    requires places { length (L.labels table.old) ≡ network.now.nodes }
+    requires nodes { (W.room todo.old).nodes ≡ network.now.nodes }
+    ensures scanned { Scanned network.now (T.answers times.now) node departure
+        (leaving network.now node)
+        (L.labels table.old) (W.waits todo.old (bound_of (L.labels table.old))) (L.met table.old)
+        (L.labels table.new) (W.waits todo.new (bound_of (L.labels table.new))) (L.met table.new) }
+    ensures had { bound_of (L.labels table.old) node ≤ departure
+        → AreHad network.now (T.answers times.now) (L.labels table.old) (L.had table.old)
+        → AreHad network.now (T.answers times.now) (L.labels table.new) (L.had table.new) }
+    ensures spent { sum (L.labels table.new) + W.size todo.new ≤ sum (L.labels table.old) + W.size todo.old }
+    ensures room { W.room todo.new ≡ W.room todo.old }
+    ensures listed { AreLabelsListed (L.labels table.old) (L.lists table.old)
+        → AreLabelsListed (L.labels table.new) (L.lists table.new) }
+{
+    let arcs = network.leaving(node).arcs;
+    for place in 0..arcs.len() {
+        follow(
+            network,
+            times,
+            place,
+            arcs[place].with_tail(node),
+            departure,
+            table,
+            todo,
+        );
+    }
+}
+
+/// The label above which a label need not be least: the target's, and NONE where all nodes are asked.
+pub fn latest<L: Table>(target: Option<u32>, table: &L) -> u64
+    requires { IfSome target (λ node. (0 < node) × (node ≤ length (L.labels table.now))) }
+    ensures { result ≡ limit target (label_of (L.labels table.now)) }
+{
+    match target {
+        Some(node) => table.label(node),
+        None => NONE,
+    }
+}
+
+/// Scans waiting nodes at their labels, in the order in which they were opened, until nobody waits.
+pub fn finish_noted<T: TravelTimes, L: Table>(
+    network: &Network,
+    times: &T,
+    query: &Query,
+    table: &mut L,
+    mut todo: Open,
+) -> Open
+    requires problem { IsProblem network.now (T.classes times.now) query.now }
+    requires underway { AwaitsScans network.now (T.answers times.now) query.now
+        (L.labels table.old) (L.met table.old) (Contains todo.waiting) }
+    requires room { todo.nodes ≡ network.now.nodes }
+    ensures finished { IsFinished network.now (T.answers times.now) query.now
+        (L.labels table.new) result }
+    ensures met { AwaitsScans network.now (T.answers times.now) query.now
+        (L.labels table.new) (L.met table.new) (Contains []) }
+    ensures had { AreHad network.now (T.answers times.now) (L.labels table.old) (L.had table.old)
+        → AreHad network.now (T.answers times.now) (L.labels table.new) (L.had table.new) }
+    ensures walks { result.walks ≡ todo.walks }
+    ensures beyond { FallsBy network.now (T.answers times.now)
+        (limit query.now.target (label_of (L.labels table.old)))
+        (label_of (L.labels table.old)) (label_of (L.labels table.new)) }
+    ensures listed { AreLabelsListed (L.labels table.old) (L.lists table.old)
+        → AreLabelsListed (L.labels table.new) (L.lists table.new) }
+{
+    network.keeps_limits();
+    let target = query.target();
+    while let Some(node) = todo.take() {
+        let departure = table.label(node);
+        let last = latest(target, table).min(HORIZON);
+        if departure <= last {
+            scan(network, times, node, departure, table, &mut todo);
+        }
+    }
+    todo
+}
+
+/// Scans waiting nodes at their labels, in the order in which they were opened, until nobody waits. Then each label is
+/// the least arrival; in a pair query, each up to the target's, and no arc is followed that is left later than the label which
+/// the target has at first. It takes no memory.
+///
+/// Labels are corrected until none is open: the method is of Dreyfus, An Appraisal of Some Shortest-Path Algorithms
+/// (Operations Research 17, 1969).
+pub fn finish<T: TravelTimes>(
+    network: &Network,
+    times: &T,
+    query: &Query,
+    table: Vec<u64>,
+    todo: Open,
+) -> Finished
+    requires problem { IsProblem network.now (T.classes times.now) query.now }
+    requires underway { IsUnderway network.now (T.answers times.now) query.now
+        table.items todo.waiting }
+    requires room { todo.nodes ≡ network.now.nodes }
+    ensures finished { IsFinished network.now (T.answers times.now) query.now
+        result.table.items result.todo }
+    ensures walks { result.todo.walks ≡ todo.walks }
+    ensures beyond { FallsBy network.now (T.answers times.now)
+        (limit query.now.target (label_of table.items))
+        (label_of table.items) (label_of result.table.items) }
+    ensures least { (node : ℕ) → IsNode network.now.nodes node → IsAsked query.now node
+        → IsLeast network.now (T.answers times.now) query.now.sources node
+        (time_of (label_of result.table.items node)) }
+    ensures exact { (node time : ℕ) → IsNode network.now.nodes node
+        → IsLeastAt network.now (T.answers times.now) query.now.sources node time
+        → time ≤ limit query.now.target (label_of result.table.items)
+        → label_of result.table.items node ≡ time }
+{
+    network.keeps_limits();
+    let mut bare = Bare { labels: table };
+    let todo = finish_noted(network, times, query, &mut bare, todo);
+    Finished {
+        table: bare.labels,
+        todo,
+    }
+}

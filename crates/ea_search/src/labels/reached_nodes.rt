@@ -1,0 +1,117 @@
+//! The nodes that a search reached, so that what it wrote of them is put back before the next one.
+ghost use Rattle.std.specs.Prelude.{◌≡◌, ◌≢◌, ℕ, length, replicate};
+ghost use Rattle.ea_road.specs.declared.TheConstants.{NONE};
+ghost use Rattle.ea_search.specs.Links.{link, no_link};
+ghost use Rattle.ea_search.specs.Listings.{AreLabelsListed, AreLinksListed, IsListed, KeepsListed, nothing};
+ghost use Rattle.ea_search.specs.Underway.{bound_of};
+
+use crate::link::{Link, NO_LINK};
+use ea_road::NONE;
+use std::alloc::Global;
+use std::marker::Model;
+
+/// One node in so many is listed at most. Beyond that it costs less to put back all.
+const PART: usize = 16;
+
+/// Nodes that were reached, each as often as its label fell. Where there are too many to list each, all count as listed.
+#[derive(Drop)]
+pub struct Listed {
+    nodes: Vec<u32>,
+    most: usize,
+    all: bool,
+}
+
+impl Model for Listed {
+    ghost use Rattle.ea_search.specs.Listings.{Listing};
+
+    ghost Value = { Listing };
+
+    ghost view = { λ l. record { nodes = l.nodes.items; all = l.all } };
+}
+
+/// Takes the label of a node away.
+fn take_label(table: &mut [u64], node: u32)
+    ensures places { length table.new ≡ length table.old }
+    ensures taken { bound_of table.new node ≡ NONE }
+    ensures others { (v : ℕ) → v ≢ node → bound_of table.new v ≡ bound_of table.old v }
+{
+    if 0 < node {
+        let place = node as usize - 1;
+        if place < table.len() {
+            table[place] = NONE;
+        }
+    }
+}
+
+/// Takes the link of a node away.
+fn take_link(links: &mut [Link], node: u32)
+    ensures places { length links.new ≡ length links.old }
+    ensures taken { link links.new node ≡ no_link }
+    ensures others { (v : ℕ) → v ≢ node → link links.new v ≡ link links.old v }
+{
+    if 0 < node {
+        let place = node as usize - 1;
+        if place < links.len() {
+            links[place] = NO_LINK;
+        }
+    }
+}
+
+impl Listed {
+    /// No node is listed, of so many.
+    pub fn new(alloc: Global, nodes: u32) -> Listed
+        ensures { result ≡ nothing }
+    {
+        Listed {
+            nodes: Vec::new(alloc),
+            most: nodes as usize / PART,
+            all: false,
+        }
+    }
+
+    /// Lists a node.
+    pub fn add(&mut self, node: u32)
+        ensures there { IsListed self.new node }
+        ensures kept { KeepsListed (IsListed self.old) (IsListed self.new) }
+    {
+        if self.all {
+            return;
+        }
+        if self.nodes.len() >= self.most {
+            self.all = true;
+            return;
+        }
+        match self.nodes.push(node) {
+            Ok(()) => {}
+            Err(_) => self.all = true,
+        }
+    }
+
+    /// Lists all nodes.
+    pub fn add_all(&mut self)
+        ensures { (node : ℕ) → IsListed self.new node }
+    {
+        self.all = true;
+    }
+
+    /// Puts back what the listed nodes have of labels and links. Then no node is listed.
+    pub fn put_back(&mut self, table: &mut [u64], links: &mut [Link])
+        requires labels { AreLabelsListed table.old (IsListed self.old) }
+        requires links { AreLinksListed links.old (IsListed self.old) }
+        ensures nothing { self.new ≡ nothing }
+        ensures labels { table.new ≡ replicate (length table.old) NONE }
+        ensures links { links.new ≡ replicate (length links.old) no_link }
+    {
+        if self.all {
+            table.fill(NONE);
+            links.fill(NO_LINK);
+            self.nodes.clear();
+            self.all = false;
+            return;
+        }
+        while let Some(node) = self.nodes.pop() {
+            take_label(table, node);
+            take_link(links, node);
+        }
+    }
+}

@@ -1,0 +1,165 @@
+//! The labels of nodes while they are found, and what is noted of the nodes beside them.
+ghost use Rattle.std.specs.Prelude.{◌≡◌, ◌≢◌, ℕ, ◌-◌, ◌<◌, ◌≤◌, ◌⊎◌, List, length, min, set};
+ghost use Rattle.ea_base.specs.declared.limits.TheConstants.{HORIZON};
+ghost use Rattle.ea_search.specs.Listings.{KeepsListed};
+ghost use Rattle.ea_search.specs.Scans.{IsArcOf};
+ghost use Rattle.ea_search.specs.Underway.{bound_of};
+
+use crate::labels::reached_nodes::Listed;
+use ea_base::HORIZON;
+
+/// Labels of nodes, and what is noted beside them, which is known where it is compiled: the nodes that were reached, and levels.
+pub trait Table {
+    /// The label of each node, the first that of node 1; NONE where it has none.
+    ghost labels: { Self → List ℕ };
+
+    /// Whether a node is listed as reached.
+    ghost lists: { Self → ℕ → Type 0 };
+
+    /// By which arcs labels were met since the labels of the arcs' tails fell last: the node, the tail, and the place of the arc among
+    /// those that leave the tail, from 0. Where nothing is noted, all count as met.
+    ghost met: { Self → ℕ → ℕ → ℕ → Type 0 };
+
+    /// By which arcs nodes have their labels. Where nothing is noted, it is none.
+    ghost had: { Self → ℕ → ℕ → ℕ → Type 0 };
+
+    /// The label of a node.
+    fn label(&self, node: u32) -> u64
+        requires { (0 < node) × (node ≤ length (labels self.now)) }
+        ensures { result ≡ bound_of (labels self.now) node };
+
+    /// The latest time that the label of a node may fall to or is: the label, and HORIZON where there is none.
+    fn last(&self, node: u32) -> u64
+        requires { (0 < node) × (node ≤ length (labels self.now)) }
+        ensures { result ≡ min (bound_of (labels self.now) node) HORIZON };
+
+    /// Reads the label of a node ahead. Of the number nothing is promised.
+    fn touch(&self, node: u32) -> u64;
+
+    /// The label of a source's node falls to a departure.
+    fn start(&mut self, node: u32, time: u64)
+        requires node { (0 < node) × (node ≤ length (labels self.old)) }
+        requires time { time ≤ HORIZON }
+        ensures labels { labels self.new ≡ set (labels self.old) (node - 1) time }
+        ensures there { lists self.new node }
+        ensures kept { KeepsListed (lists self.old) (lists self.new) }
+        ensures still { (v u k : ℕ) → v ≢ node → u ≢ node → met self.old v u k → met self.new v u k }
+        ensures adds { (v u k : ℕ) → had self.new v u k → had self.old v u k };
+
+    /// The label of a node falls to a time, for the first time or again, by the arc at this place among those that leave a node.
+    fn fall(&mut self, node: u32, time: u64, from: u32, place: usize)
+        requires node { (0 < node) × (node ≤ length (labels self.old)) }
+        requires time { time ≤ HORIZON }
+        ensures labels { labels self.new ≡ set (labels self.old) (node - 1) time }
+        ensures there { lists self.new node }
+        ensures kept { KeepsListed (lists self.old) (lists self.new) }
+        ensures met { met self.new node from place }
+        ensures still { (v u k : ℕ) → v ≢ node → u ≢ node → met self.old v u k → met self.new v u k }
+        ensures adds { (v u k : ℕ) → had self.new v u k
+            → IsArcOf node from place v u k ⊎ ((v ≢ node) × had self.old v u k) };
+
+    /// The label of a node is reached again, by the arc at this place among those that leave a node.
+    fn meet(&mut self, node: u32, from: u32, place: usize)
+        ensures labels { labels self.new ≡ labels self.old }
+        ensures kept { KeepsListed (lists self.old) (lists self.new) }
+        ensures met { met self.new node from place }
+        ensures still { (v u k : ℕ) → met self.old v u k → met self.new v u k }
+        ensures adds { (v u k : ℕ) → had self.new v u k
+            → IsArcOf node from place v u k ⊎ had self.old v u k };
+}
+
+/// The label of a node in a list, where the node is one.
+pub fn touched(labels: &[u64], node: u32) -> u64 {
+    match labels.get((node as usize).wrapping_sub(1)) {
+        Some(label) => *label,
+        None => 0,
+    }
+}
+
+/// Labels, and nothing is noted.
+#[derive(Drop)]
+pub struct Bare {
+    pub labels: Vec<u64>,
+}
+
+impl Table for Bare {
+    ghost labels = { λ table. table.labels.items };
+
+    ghost lists = { λ table node. Unit };
+
+    ghost met = { λ table node from place. Unit };
+
+    ghost had = { λ table node from place. ⊥ };
+
+    #[inline(always)]
+    fn label(&self, node: u32) -> u64 {
+        self.labels[node as usize - 1]
+    }
+
+    #[inline(always)]
+    fn last(&self, node: u32) -> u64 {
+        self.label(node).min(HORIZON)
+    }
+
+    #[inline(always)]
+    fn touch(&self, node: u32) -> u64 {
+        touched(&self.labels, node)
+    }
+
+    fn start(&mut self, node: u32, time: u64) {
+        self.fall(node, time, 0, 0);
+    }
+
+    #[inline(always)]
+    fn fall(&mut self, node: u32, time: u64, _from: u32, _place: usize) {
+        self.labels[node as usize - 1] = time;
+    }
+
+    fn meet(&mut self, _node: u32, _from: u32, _place: usize) {}
+}
+
+/// Labels, and the nodes that have one are listed.
+#[derive(Drop)]
+pub struct Reached {
+    pub labels: Vec<u64>,
+    pub listed: Listed,
+}
+
+impl Table for Reached {
+    ghost use Rattle.ea_search.specs.Listings.{IsListed};
+
+    ghost labels = { λ table. table.labels.items };
+
+    ghost lists = { λ table node. IsListed table.listed node };
+
+    ghost met = { λ table node from place. Unit };
+
+    ghost had = { λ table node from place. ⊥ };
+
+    #[inline(always)]
+    fn label(&self, node: u32) -> u64 {
+        self.labels[node as usize - 1]
+    }
+
+    #[inline(always)]
+    fn last(&self, node: u32) -> u64 {
+        self.label(node).min(HORIZON)
+    }
+
+    #[inline(always)]
+    fn touch(&self, node: u32) -> u64 {
+        touched(&self.labels, node)
+    }
+
+    fn start(&mut self, node: u32, time: u64) {
+        self.fall(node, time, 0, 0);
+    }
+
+    #[inline(always)]
+    fn fall(&mut self, node: u32, time: u64, _from: u32, _place: usize) {
+        self.labels[node as usize - 1] = time;
+        self.listed.add(node);
+    }
+
+    fn meet(&mut self, _node: u32, _from: u32, _place: usize) {}
+}

@@ -1,0 +1,9 @@
+pub mod Lists
+pub mod BoxLaws
+pub mod Speeding
+pub mod Periods
+pub mod TripSteps
+pub mod RunSums
+pub mod Classes
+pub mod FoundFit
+pub mod Turns

@@ -1,0 +1,14 @@
+pub mod Answers
+pub mod Speeds
+pub mod Trips
+pub mod SpeedLaws
+pub mod TripLaws
+pub mod Timetables
+pub mod Truncated
+pub mod Times
+pub mod TimetableLists
+pub mod StepLists
+pub mod KindLaws
+pub mod TimetableLaws
+pub mod ProfileLists
+pub mod ProfileLaws

@@ -1,0 +1,24 @@
+//! Travel times that depend on the departure: timetables, speeds, trips, and profiles of a caller.
+#![tactic(auto)]
+
+mod arrival_function;
+pub mod laws;
+mod profile;
+mod profile_list;
+mod profiles;
+mod ranges;
+mod step_table;
+mod steps;
+mod timetable;
+mod timetables;
+mod travel_times;
+
+pub use arrival_function::ArrivalFunction;
+pub use ea_base::HORIZON;
+pub use profile::{Arrival, Profile};
+pub use profile_list::ProfileList;
+pub use profiles::Profiles;
+pub use step_table::StepTable;
+pub use timetable::Timetable;
+pub use timetables::Timetables;
+pub use travel_times::TravelTimes;

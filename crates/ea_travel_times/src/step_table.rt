@@ -1,0 +1,68 @@
+//! The steps of all classes of a list of timetables.
+ghost use Rattle.std.specs.Prelude.{◌≡◌, ◌≤◌, ◌<◌, ◌+◌, ◌^◌, IfOk, length};
+ghost use Rattle.ea_base.specs.declared.limits.TheConstants.{HORIZON};
+ghost use Rattle.ea_travel_times.specs.Speeds.{AreSpeeds, AreSums, IsArrivalBySpeeds, speed_at};
+ghost use Rattle.ea_travel_times.specs.Timetables.{run_of};
+ghost use Rattle.ea_travel_times.specs.Trips.{AreTrips, IsArrivalByTrips};
+
+use crate::steps::{arrive_by_speeds, arrive_by_trips, steps_from, sums_from, sums_of};
+use std::alloc::{AllocError, Global};
+
+/// The steps of all classes, each a time and a value, and beside each step the sum of the speeds of its class before its time.
+#[derive(Drop)]
+pub struct StepTable {
+    pub list: Vec<(u64, u64)>,
+    pub sums: Vec<u64>,
+    pub ghost summed: { AreSums list.items sums.items },
+}
+
+impl StepTable {
+    /// A table of these steps. An error comes only where memory for the sums was refused.
+    pub(crate) fn of(alloc: Global, list: Vec<(u64, u64)>) -> Result<StepTable, AllocError>
+        ensures { IfOk result (λ table. table.list.items ≡ list.items) }
+    {
+        let sums = sums_of(alloc, &list)?;
+        Ok(StepTable { list, sums })
+    }
+
+    /// The arrival by the speeds of a class, that of `count` steps from the one at `first` on.
+    pub(crate) fn by_speeds(
+        &self,
+        period: u64,
+        first: usize,
+        count: usize,
+        weight: u64,
+        departure: u64,
+    ) -> u64
+        requires inside { first + count ≤ length self.now.list.items }
+        requires speeds { AreSpeeds period (run_of self.now.list.items first count) }
+        requires weight { weight < 2 ^ 32 }
+        requires departure { departure ≤ HORIZON }
+        ensures { IsArrivalBySpeeds (speed_at (run_of self.now.list.items first count) period)
+            weight departure result }
+    {
+        let steps = steps_from(&self.list, first, count);
+        let sums = sums_from(&self.sums, first, count);
+        arrive_by_speeds(steps, sums, period, weight, departure)
+    }
+
+    /// The arrival by the trips of a class, likewise.
+    pub(crate) fn by_trips(
+        &self,
+        period: u64,
+        first: usize,
+        count: usize,
+        weight: u64,
+        departure: u64,
+    ) -> u64
+        requires inside { first + count ≤ length self.now.list.items }
+        requires trips { AreTrips period (run_of self.now.list.items first count) }
+        requires weight { weight < 2 ^ 32 }
+        requires departure { departure ≤ HORIZON }
+        ensures { IsArrivalByTrips period (run_of self.now.list.items first count)
+            weight departure result }
+    {
+        let steps = steps_from(&self.list, first, count);
+        arrive_by_trips(steps, period, weight, departure)
+    }
+}

@@ -1,4 +1,0 @@
-use Rattle.ea_words.proofs.arguments.with_search.Goals as goal
-
-pub returns : goal.returns
-returns c = λ app built. c.with_workers.ensures _ (c.with_departures.ensures _ built)

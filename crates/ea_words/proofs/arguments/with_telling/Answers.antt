@@ -1,4 +1,0 @@
-use Rattle.ea_words.proofs.arguments.with_telling.Goals as goal
-
-pub returns : goal.returns
-returns c = λ app built. c.with_flag.ensures _ (c.with_flag-command.ensures _ built)

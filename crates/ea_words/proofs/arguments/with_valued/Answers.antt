@@ -1,4 +1,0 @@
-use Rattle.ea_words.proofs.arguments.with_valued.Goals as goal
-
-pub returns : goal.returns
-returns c = λ app built. c.with_arg.ensures app _ built c.valued.ensures.rule c.valued.ensures.local

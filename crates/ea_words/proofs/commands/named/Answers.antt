@@ -1,5 +1,0 @@
-use Rattle.ea_words.proofs.Built.{built_named}
-use Rattle.ea_words.proofs.commands.named.Goals as goal
-
-pub returns : goal.returns
-returns c = built_named c.args.command _ c.bin_name.result c.bin_name.ensures

@@ -1,0 +1,158 @@
+//! From files to a report.
+ghost use Rattle.std.specs.Prelude.{IfOk, IfErr};
+ghost use Rattle.ea_load.specs.Files.{reading};
+ghost use Rattle.ea_load.specs.Asked.{IsAnswered, IsFailed, files_of};
+ghost use Rattle.ea_options.specs.Limits.{AreOptions};
+ghost use Rattle.earliest.specs.Runs.{run_asks, pair_asks};
+
+use crate::reports::report_all;
+use ea_load::AnswerFault;
+use ea_batch::Watched;
+use ea_load::{departures_fit, pair_queries, read_run_by, read_pairs, run_queries};
+use ea_bytes::{ByteIn, ByteOut};
+use ea_report::Totals;
+use ea_base::{Silent, Watch};
+use ea_options::RunOptions;
+use std::alloc::Global;
+use std::thread::Threads;
+
+/// Answers a run: reads the network, the sources and, where there are any, the timetables, and writes the report:
+/// for each source, or with `joint` for all together, the earliest arrival at each node, with `walks` a walk that
+/// attains it, and with `stats` the totals of what the workers did.
+///
+/// Source i, from 0, departs at `depart + i * gap`. What is written doesn't depend on workers, heaps, turns and seed, the
+/// totals aside. Files are read in this order, each to its end and at most 2^33 bytes, before anything is written.
+///
+/// `Read` and `Input` tell the first fault of the files in their order, `BadOption` a departure above 2^48 - 1;
+/// then nothing was written. After `Write` and `OutOfMemory` the bytes written are the front of the report.
+pub fn answer<H: Threads + Sync, G: ByteIn, S: ByteIn, T: ByteIn, W: ByteOut>(
+    alloc: Global,
+    rt: &H,
+    gr: &mut G,
+    ss: &mut S,
+    tp: &mut Option<T>,
+    options: &RunOptions,
+    out: &mut W,
+) -> Result<Totals, AnswerFault>
+    requires options { AreOptions options.now }
+    ensures answered { IfOk result (IsAnswered (run_asks options.now)
+        (files_of (reading G.seen gr.old gr.new)
+        (reading S.seen ss.old ss.new) T.seen tp.old tp.new)
+        (W.seen out.old) (W.seen out.new)) }
+    ensures failed { IfErr result (IsFailed (run_asks options.now)
+        (files_of (reading G.seen gr.old gr.new)
+        (reading S.seen ss.old ss.new) T.seen tp.old tp.new)
+        (W.seen out.old) (W.seen out.new)) }
+{
+    let watched = Watched {
+        options,
+        watch: &mut Silent,
+    };
+    answer_watched(alloc, rt, gr, ss, tp, watched, out)
+}
+
+/// As `answer`, and a watch is told of the problems that are done.
+pub(crate) fn answer_watched<
+    H: Threads + Sync,
+    G: ByteIn,
+    S: ByteIn,
+    T: ByteIn,
+    W: ByteOut,
+    V: Watch,
+>(
+    alloc: Global,
+    rt: &H,
+    gr: &mut G,
+    ss: &mut S,
+    tp: &mut Option<T>,
+    watched: Watched<'_, V>,
+    out: &mut W,
+) -> Result<Totals, AnswerFault>
+    requires options { AreOptions watched.options.now }
+    ensures answered { IfOk result (IsAnswered (run_asks watched.entry.options.now)
+        (files_of (reading G.seen gr.old gr.new)
+        (reading S.seen ss.old ss.new) T.seen tp.old tp.new)
+        (W.seen out.old) (W.seen out.new)) }
+    ensures failed { IfErr result (IsFailed (run_asks watched.entry.options.now)
+        (files_of (reading G.seen gr.old gr.new)
+        (reading S.seen ss.old ss.new) T.seen tp.old tp.new)
+        (W.seen out.old) (W.seen out.new)) }
+{
+    let Watched { options, watch } = watched;
+    let files = read_run_by(alloc, rt, gr, ss, tp)?;
+    if !departures_fit(files.sources.len(), options.depart, options.gap) {
+        return Err(AnswerFault::BadOption);
+    }
+    let queries = run_queries(
+        alloc,
+        &files.sources,
+        options.joint,
+        options.depart,
+        options.gap,
+    )?;
+    report_all(alloc, rt, &files.road, &queries, options, out, watch)
+}
+
+/// Answers pairs: as `answer`, with the earliest arrival at the target of each pair alone. Pair i, from 0, departs at
+/// `depart + i * gap`; `joint` has no effect.
+pub fn answer_pairs<H: Threads + Sync, G: ByteIn, P: ByteIn, T: ByteIn, W: ByteOut>(
+    alloc: Global,
+    rt: &H,
+    gr: &mut G,
+    p2p: &mut P,
+    tp: &mut Option<T>,
+    options: &RunOptions,
+    out: &mut W,
+) -> Result<Totals, AnswerFault>
+    requires options { AreOptions options.now }
+    ensures answered { IfOk result (IsAnswered (pair_asks options.now)
+        (files_of (reading G.seen gr.old gr.new)
+        (reading P.seen p2p.old p2p.new) T.seen tp.old tp.new)
+        (W.seen out.old) (W.seen out.new)) }
+    ensures failed { IfErr result (IsFailed (pair_asks options.now)
+        (files_of (reading G.seen gr.old gr.new)
+        (reading P.seen p2p.old p2p.new) T.seen tp.old tp.new)
+        (W.seen out.old) (W.seen out.new)) }
+{
+    let watched = Watched {
+        options,
+        watch: &mut Silent,
+    };
+    pairs_watched(alloc, rt, gr, p2p, tp, watched, out)
+}
+
+/// As `answer_pairs`, and a watch is told of the problems that are done.
+pub(crate) fn pairs_watched<
+    H: Threads + Sync,
+    G: ByteIn,
+    P: ByteIn,
+    T: ByteIn,
+    W: ByteOut,
+    V: Watch,
+>(
+    alloc: Global,
+    rt: &H,
+    gr: &mut G,
+    p2p: &mut P,
+    tp: &mut Option<T>,
+    watched: Watched<'_, V>,
+    out: &mut W,
+) -> Result<Totals, AnswerFault>
+    requires options { AreOptions watched.options.now }
+    ensures answered { IfOk result (IsAnswered (pair_asks watched.entry.options.now)
+        (files_of (reading G.seen gr.old gr.new)
+        (reading P.seen p2p.old p2p.new) T.seen tp.old tp.new)
+        (W.seen out.old) (W.seen out.new)) }
+    ensures failed { IfErr result (IsFailed (pair_asks watched.entry.options.now)
+        (files_of (reading G.seen gr.old gr.new)
+        (reading P.seen p2p.old p2p.new) T.seen tp.old tp.new)
+        (W.seen out.old) (W.seen out.new)) }
+{
+    let Watched { options, watch } = watched;
+    let files = read_pairs(alloc, rt, gr, p2p, tp)?;
+    if !departures_fit(files.pairs.len(), options.depart, options.gap) {
+        return Err(AnswerFault::BadOption);
+    }
+    let queries = pair_queries(alloc, &files.pairs, options.depart, options.gap)?;
+    report_all(alloc, rt, &files.road, &queries, options, out, watch)
+}

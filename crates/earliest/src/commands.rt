@@ -1,0 +1,121 @@
+//! What each command does with its files.
+ghost use Rattle.std.specs.Prelude.{◌≡◌};
+ghost use Rattle.ea_options.specs.Limits.{HasLimits};
+ghost use Rattle.ea_messages.specs.Named.{HasFiles};
+ghost use Rattle.earliest.specs.Performed.{IsPerformed, outcome_by, performed_on};
+
+use crate::answers::{answer_watched, pairs_watched};
+use crate::checks::check_watched;
+use ea_load::AnswerFault;
+use ea_check::CheckFault;
+use ea_batch::Watched;
+use ea_bytes::{ByteIn, ByteOut};
+use ea_messages::{Opened, Outcome};
+use ea_rank_command::rank_watched;
+use ea_report::Totals;
+use ea_base::Watch;
+use ea_options::Command;
+use std::alloc::Global;
+use std::thread::Threads;
+
+/// What a command came to that was carried out.
+#[derive(Clone, Copy)]
+pub enum Performed {
+    /// The report of a run or of pairs was written.
+    Reported(Totals),
+    /// Rank errors were written.
+    Ranked,
+    /// A report was checked.
+    Checked(Result<(), CheckFault>),
+}
+
+/// Carries out a command that names files, with these files: a run by `answer`, pairs by `answer_pairs`, rank errors by
+/// `rank_report` and a check by `check_report`, each with the command's own options. Its faults are those of that call. The watch
+/// is told how many problems are done; what it does with that is no matter to what goes out.
+pub fn perform<H: Threads + Sync, R: ByteIn, W: ByteOut, V: Watch>(
+    alloc: Global,
+    rt: &H,
+    command: &Command<'_>,
+    files: &mut Opened<R>,
+    out: &mut W,
+    watch: &mut V,
+) -> Result<Performed, AnswerFault>
+    requires limits { HasLimits command.now }
+    requires files { HasFiles command.now files.old.report }
+    ensures { IsPerformed command.now (performed_on R.seen files.old files.new)
+        (W.seen out.old) (W.seen out.new) result }
+{
+    match command {
+        Command::Run { options, .. } => {
+            let gr = &mut files.gr;
+            match answer_watched(
+                alloc,
+                rt,
+                gr,
+                &mut files.starts,
+                &mut files.tp,
+                Watched { options, watch },
+                out,
+            ) {
+                Ok(totals) => Ok(Performed::Reported(totals)),
+                Err(fault) => Err(fault),
+            }
+        }
+        Command::Pairs { options, .. } => {
+            let gr = &mut files.gr;
+            match pairs_watched(
+                alloc,
+                rt,
+                gr,
+                &mut files.starts,
+                &mut files.tp,
+                Watched { options, watch },
+                out,
+            ) {
+                Ok(totals) => Ok(Performed::Reported(totals)),
+                Err(fault) => Err(fault),
+            }
+        }
+        Command::Rank { options, .. } => {
+            let gr = &mut files.gr;
+            let tp = &mut files.tp;
+            match rank_watched(alloc, gr, &mut files.starts, tp, options, out, watch) {
+                Ok(()) => Ok(Performed::Ranked),
+                Err(fault) => Err(fault),
+            }
+        }
+        Command::Check { options, .. } => {
+            let gr = &mut files.gr;
+            match &mut files.report {
+                Some(report) => {
+                    match check_watched(
+                        alloc,
+                        gr,
+                        &mut files.starts,
+                        &mut files.tp,
+                        options,
+                        report,
+                        watch,
+                    ) {
+                        Ok(verdict) => Ok(Performed::Checked(verdict)),
+                        Err(fault) => Err(fault),
+                    }
+                }
+                None => unreachable!(),
+            }
+        }
+        Command::Stored | Command::Explain { .. } | Command::Formats => unreachable!(),
+    }
+}
+
+/// What is to be told of a command that was carried out; none where its report or its rank errors were written whole.
+pub fn outcome_of(performed: Result<Performed, AnswerFault>) -> Option<Outcome>
+    ensures { result ≡ outcome_by performed }
+{
+    match performed {
+        Ok(Performed::Reported(_) | Performed::Ranked) => None,
+        Ok(Performed::Checked(Ok(()))) => Some(Outcome::Accepted),
+        Ok(Performed::Checked(Err(fault))) => Some(Outcome::Check(fault)),
+        Err(fault) => Some(Outcome::Answer(fault)),
+    }
+}

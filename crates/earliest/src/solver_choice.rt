@@ -1,0 +1,425 @@
+//! The answer of a problem, by workers or by the search of one thread.
+ghost use Rattle.std.specs.Prelude.{◌≡◌, ◌≤◌, ℕ, All, IfOk, IfSome, length, replicate, true, vec_len};
+ghost use Rattle.ea_base.specs.declared.limits.TheConstants.{MOST_AT_ONCE, MOST_STARTS, MOST_WORKERS};
+ghost use Rattle.ea_road.specs.Queries.{IsProblem};
+ghost use Rattle.ea_engine.specs.Companies.{idle_with, IsIdleFor, LeavesAs};
+ghost use Rattle.ea_engine.specs.Limits.{AreSettings};
+ghost use Rattle.ea_engine.specs.Tallies.{IsTally};
+ghost use Rattle.ea_options.specs.Limits.{AreOptions, counted_workers};
+ghost use Rattle.earliest.specs.Counted.{AreBalanced, AreSmall, IsTotal, KeepsOn, totals_by};
+ghost use Rattle.ea_rank_command.specs.Generators.{generators_from};
+ghost use Rattle.ea_batch.specs.Solved.{AnswersOn, ArrivesOn};
+ghost use Rattle.earliest.specs.Workers.{AreAtHome, settings_with};
+
+use crate::totals::work_of;
+use ea_engine::{Answer, Company, Counters, Crew, Flow, Homing, NoGate, Settings, Turn, solve, solve_arrivals};
+use ea_load::Road;
+use ea_base::{MOST_AT_ONCE, MOST_TURNS, MOST_WORKERS};
+use ea_report::Totals;
+use ea_road::Query;
+use ea_options::RunOptions;
+use rand_core::{Rng, SeedableRng};
+use rand_xoshiro::Xoshiro256PlusPlus;
+use std::alloc::{AllocError, Global};
+use std::thread::{Threads, available_parallelism};
+
+/// A problem on a road, and whether its walks are asked for.
+#[derive(Clone, Copy)]
+struct Asked<'a> {
+    road: &'a Road,
+    query: &'a Query,
+    walks: bool,
+}
+
+/// An answer, and the totals of finding it.
+#[derive(Drop)]
+pub(crate) struct Found {
+    pub answer: Answer,
+    pub totals: Totals,
+}
+
+/// Workers are not worth starting on fewer nodes, also where they are asked for.
+const FEW_NODES: u32 = 10_000;
+
+/// Two or three are not on fewer than so many: each does half of the work and waits for the other's labels.
+const FEW_FOR_TWO: u32 = 1_000_000;
+
+/// Four workers or more are quicker than the search of one thread from so many nodes on, where all nodes are asked for without walks.
+const MANY_NODES: u32 = 200_000;
+
+/// Two or three workers are from so many on.
+const MANY_FOR_TWO: u32 = 2_000_000;
+
+/// How many processors there are; none where the system doesn't tell.
+fn processors<H: Threads>(rt: &H) -> Option<usize>
+    ensures { IfSome result (λ count. 1 ≤ count) }
+{
+    match available_parallelism(rt) {
+        Ok(processors) => Some(processors.get()),
+        Err(_) => None,
+    }
+}
+
+/// How many problems are searched at once: as many as are asked for, else one where workers or statistics are asked for,
+/// else one for each processor.
+pub(crate) fn threads_at_once<H: Threads>(rt: &H, options: &RunOptions) -> usize
+    requires { AreOptions options.now }
+    ensures { (1 ≤ result) × (result ≤ MOST_AT_ONCE) }
+{
+    match options.at_once {
+        Some(threads) => threads as usize,
+        None => {
+            if options.workers.is_some() || options.stats {
+                return 1;
+            }
+            processors(rt).unwrap_or(1).min(MOST_AT_ONCE as usize)
+        }
+    }
+}
+
+/// One worker for each processor, where so many are quicker on so many nodes than one thread.
+fn workers_on(processors: Option<usize>, nodes: u32) -> u32
+    requires { IfSome processors (λ count. 1 ≤ count) }
+    ensures { (1 ≤ result) × (result ≤ MOST_WORKERS) }
+{
+    match processors {
+        Some(count) if count >= 4 || nodes >= MANY_FOR_TWO => {
+            count.min(MOST_WORKERS as usize) as u32
+        }
+        _ => 1,
+    }
+}
+
+/// So many workers as are asked for, but no more than there are processors: more wait for one another. One where they are too few
+/// for so many nodes.
+fn workers_asked(processors: Option<usize>, workers: u32, nodes: u32) -> u32
+    requires processors { IfSome processors (λ count. 1 ≤ count) }
+    requires workers { (1 ≤ workers) × (workers ≤ MOST_WORKERS) }
+    ensures { (1 ≤ result) × (result ≤ MOST_WORKERS) }
+{
+    let most = processors.unwrap_or(MOST_WORKERS as usize);
+    let workers = (workers as usize).min(most) as u32;
+    if workers < 4 && nodes < FEW_FOR_TWO {
+        1
+    } else {
+        workers
+    }
+}
+
+/// How many workers search a problem. With statistics it is those that are counted. Else those that are asked for, and where the
+/// program may choose, one for each processor where that is quicker; one is the search of one thread.
+pub(crate) fn workers_of<H: Threads>(
+    rt: &H,
+    road: &Road,
+    query: &Query,
+    options: &RunOptions,
+) -> u32
+    requires { AreOptions options.now }
+    ensures some { (1 ≤ result) × (result ≤ MOST_WORKERS) }
+    ensures counted { options.now.stats ≡ true → result ≡ counted_workers options.now }
+{
+    if options.stats {
+        return options.counted_workers() as u32;
+    }
+    let nodes = road.network.nodes();
+    if nodes < FEW_NODES {
+        return 1;
+    }
+    if let Some(workers) = options.workers {
+        return workers_asked(processors(rt), workers as u32, nodes);
+    }
+    if nodes < MANY_NODES || options.walks || query.target().is_some() {
+        return 1;
+    }
+    workers_on(processors(rt), nodes)
+}
+
+/// The budget of turns where none is asked for.
+const TURNS: u64 = 1_000_000;
+
+/// After how many idle turns in a row a worker among several ends, at most: where nothing is left they notice it long before.
+const PATIENCE: u32 = 65_536;
+
+/// How many entries a worker among several takes from a heap, or gives to one, at once.
+const BATCH: u64 = 32;
+
+/// The settings of so many workers. Turns are counted where statistics are asked for, or where not the default is.
+fn settings_of(options: &RunOptions, workers: u32) -> Settings
+    requires options { AreOptions options.now }
+    requires workers { (1 ≤ workers) × (workers ≤ MOST_WORKERS) }
+    ensures settings { AreSettings result }
+    ensures workers { result.workers ≡ workers }
+    ensures asked { options.now.stats ≡ true → result ≡ settings_with options.now workers }
+{
+    let is_alone = workers == 1;
+    let is_counted = options.stats || options.turns != TURNS;
+    Settings {
+        workers,
+        heaps: options.heaps as u32,
+        turns: if is_counted {
+            options.turns
+        } else {
+            MOST_TURNS
+        },
+        batch: options.batch.unwrap_or(if is_alone { 1 } else { BATCH }) as u32,
+        patience: if is_alone { 32 } else { PATIENCE },
+    }
+}
+
+/// The generators of workers: worker i's is seeded with `seed + i`, modulo 2^64.
+fn generators(alloc: Global, seed: u64, workers: u32) -> Result<Vec<Xoshiro256PlusPlus>, AllocError>
+    ensures one_each { IfOk result (λ rngs. vec_len rngs ≡ workers) }
+    ensures seeded { IfOk result (λ rngs. rngs.items ≡ generators_from seed workers) }
+{
+    let mut rngs = Vec::with_capacity(alloc, workers as usize)?;
+    for i in 0..workers {
+        rngs.push(Xoshiro256PlusPlus::seed_from_u64(seed.wrapping_add(u64::from(i))))?;
+    }
+    Ok(rngs)
+}
+
+/// Such generators, each of which keeps its worker mostly at its own heaps.
+fn homing_generators(
+    alloc: Global,
+    seed: u64,
+    settings: Settings,
+) -> Result<Vec<Homing<Xoshiro256PlusPlus>>, AllocError>
+    requires settings { AreSettings settings }
+    ensures one_each { IfOk result (λ rngs. vec_len rngs ≡ settings.workers) }
+    ensures seeded { IfOk result (λ rngs. AreAtHome seed settings rngs.items) }
+{
+    let workers = settings.workers;
+    let mut rngs = Vec::with_capacity(alloc, workers as usize)?;
+    for i in 0..workers {
+        let below = Xoshiro256PlusPlus::seed_from_u64(seed.wrapping_add(u64::from(i)));
+        rngs.push(Homing::new(below, i, workers, settings.heaps))?;
+    }
+    Ok(rngs)
+}
+
+/// So many copies of a value.
+fn copies<T: Copy + Drop>(alloc: Global, value: T, count: u32) -> Result<Vec<T>, AllocError>
+    ensures { IfOk result (λ made. made.items ≡ replicate count value) }
+{
+    let mut made = Vec::with_capacity(alloc, count as usize)?;
+    for i in 0..count {
+        made.push(value)?;
+    }
+    Ok(made)
+}
+
+/// The totals of a problem.
+fn totals_of(
+    seeded: u128,
+    returned: u128,
+    drained: u128,
+    finish: u128,
+    counters: &[Counters],
+) -> Totals
+    requires tally { (sources : ℕ) × (sources ≤ MOST_STARTS)
+        × IsTally sources seeded returned drained finish counters.now }
+    requires few { length counters.now ≤ 16 }
+    ensures sums { result ≡ totals_by (record {
+      seeded = seeded;
+      returned = returned;
+      drained = drained;
+      finish = finish;
+      workers = counters.now;
+    }) }
+    ensures balanced { AreBalanced result }
+    ensures small { AreSmall 1 result }
+{
+    let work = work_of(counters);
+    Totals {
+        seeded,
+        pushed: work.pushed,
+        popped: work.popped,
+        stale: work.stale,
+        scanned: work.scanned,
+        returned,
+        drained,
+        finish,
+    }
+}
+
+/// The answer of a problem with walks.
+fn find_walks<H: Threads + Sync, R: Rng + Send + Drop, T: FnMut(Turn) -> Flow + Send + Drop>(
+    alloc: Global,
+    rt: &H,
+    road: &Road,
+    query: &Query,
+    settings: Settings,
+    rngs: Vec<R>,
+    tracers: Vec<T>,
+) -> Result<Found, AllocError>
+    requires problem { IsProblem road.now.network (length road.now.times.list.items) query.now }
+    requires few { length query.now.sources ≤ MOST_STARTS }
+    requires settings { AreSettings settings }
+    requires workers { (vec_len rngs ≡ settings.workers) × (vec_len tracers ≡ settings.workers) }
+    requires tracers { All T.IsAlwaysCallable tracers.items }
+    requires stays { All (KeepsOn T.step settings.workers) tracers.items }
+    ensures answer { IfOk result (λ found. AnswersOn road.now query.now found.answer) }
+    ensures counted { IfOk result (λ found. IsTotal settings query.now found.totals) }
+    ensures balanced { IfOk result (λ found. AreBalanced found.totals) }
+    ensures small { IfOk result (λ found. AreSmall 1 found.totals) }
+{
+    let solved = solve(
+        alloc,
+        rt,
+        &road.network,
+        &road.times,
+        query,
+        Crew {
+            settings,
+            rngs,
+            gate: &NoGate,
+            tracers,
+        },
+    )?;
+    Ok(Found {
+        totals: totals_of(
+            solved.seeded,
+            solved.returned,
+            solved.drained,
+            solved.finish,
+            &solved.counters,
+        ),
+        answer: solved.answer,
+    })
+}
+
+/// The answer of a problem without walks.
+fn find_arrivals<H: Threads + Sync, R: Rng + Send + Drop, T: FnMut(Turn) -> Flow + Send + Drop>(
+    alloc: Global,
+    rt: &H,
+    road: &Road,
+    query: &Query,
+    settings: Settings,
+    rngs: Vec<R>,
+    tracers: Vec<T>,
+) -> Result<Found, AllocError>
+    requires problem { IsProblem road.now.network (length road.now.times.list.items) query.now }
+    requires few { length query.now.sources ≤ MOST_STARTS }
+    requires settings { AreSettings settings }
+    requires workers { (vec_len rngs ≡ settings.workers) × (vec_len tracers ≡ settings.workers) }
+    requires tracers { All T.IsAlwaysCallable tracers.items }
+    requires stays { All (KeepsOn T.step settings.workers) tracers.items }
+    ensures answer { IfOk result (λ found. ArrivesOn road.now query.now found.answer) }
+    ensures counted { IfOk result (λ found. IsTotal settings query.now found.totals) }
+    ensures balanced { IfOk result (λ found. AreBalanced found.totals) }
+    ensures small { IfOk result (λ found. AreSmall 1 found.totals) }
+{
+    let solved = solve_arrivals(
+        alloc,
+        rt,
+        &road.network,
+        &road.times,
+        query,
+        Crew {
+            settings,
+            rngs,
+            gate: &NoGate,
+            tracers,
+        },
+    )?;
+    Ok(Found {
+        totals: totals_of(
+            solved.seeded,
+            solved.returned,
+            solved.drained,
+            solved.finish,
+            &solved.counters,
+        ),
+        answer: solved.answer,
+    })
+}
+
+/// The answer of a problem by workers of these settings and generators, where each one's tracer is a copy of this.
+fn find_by<H: Threads + Sync, R: Rng + Send + Drop, T: FnMut(Turn) -> Flow + Send + Drop + Copy>(
+    alloc: Global,
+    rt: &H,
+    asked: Asked<'_>,
+    settings: Settings,
+    rngs: Vec<R>,
+    tracer: T,
+) -> Result<Found, AllocError>
+    requires problem { IsProblem asked.road.now.network
+        (length asked.road.now.times.list.items) asked.query.now }
+    requires few { length asked.query.now.sources ≤ MOST_STARTS }
+    requires settings { AreSettings settings }
+    requires workers { vec_len rngs ≡ settings.workers }
+    requires tracer { T.IsAlwaysCallable tracer }
+    requires stays { KeepsOn T.step settings.workers tracer }
+    ensures arrivals { IfOk result (λ found.
+        ArrivesOn asked.entry.road.now asked.entry.query.now found.answer) }
+    ensures walks { IfOk result (λ found. asked.entry.walks ≡ true
+        → AnswersOn asked.entry.road.now asked.entry.query.now found.answer) }
+    ensures counted { IfOk result (λ found. IsTotal settings asked.entry.query.now found.totals) }
+    ensures balanced { IfOk result (λ found. AreBalanced found.totals) }
+    ensures small { IfOk result (λ found. AreSmall 1 found.totals) }
+{
+    let Asked { road, query, walks } = asked;
+    let tracers = copies(alloc, tracer, settings.workers)?;
+    if walks {
+        find_walks(alloc, rt, road, query, settings, rngs, tracers)
+    } else {
+        find_arrivals(alloc, rt, road, query, settings, rngs, tracers)
+    }
+}
+
+/// The answer of a problem, with walks where the options ask for them, by so many workers.
+pub(crate) fn find<H: Threads + Sync>(
+    alloc: Global,
+    rt: &H,
+    road: &Road,
+    query: &Query,
+    options: &RunOptions,
+    workers: u32,
+) -> Result<Found, AllocError>
+    requires problem { IsProblem road.now.network (length road.now.times.list.items) query.now }
+    requires few { length query.now.sources ≤ MOST_STARTS }
+    requires options { AreOptions options.now }
+    requires workers { (1 ≤ workers) × (workers ≤ MOST_WORKERS) }
+    ensures arrivals { IfOk result (λ found. ArrivesOn road.now query.now found.answer) }
+    ensures walks { IfOk result (λ found. options.now.walks ≡ true
+        → AnswersOn road.now query.now found.answer) }
+    ensures counted { IfOk result (λ found. options.now.stats ≡ true
+        → IsTotal (settings_with options.now workers) query.now found.totals) }
+    ensures balanced { IfOk result (λ found. AreBalanced found.totals) }
+    ensures small { IfOk result (λ found. AreSmall 1 found.totals) }
+{
+    let settings = settings_of(options, workers);
+    let asked = Asked {
+        road,
+        query,
+        walks: options.walks,
+    };
+    if workers == 1 {
+        let rngs = generators(alloc, options.seed, workers)?;
+        return find_by(
+            alloc,
+            rt,
+            asked,
+            settings,
+            rngs,
+            |_turn: Turn| -> Flow
+                ensures { result ≡ Flow.Go }
+            { Flow::Go },
+        );
+    }
+    let rngs = homing_generators(alloc, options.seed, settings)?;
+    let company = Company::on(road.network.nodes());
+    let mut member = company.member();
+    find_by(
+        alloc,
+        rt,
+        asked,
+        settings,
+        rngs,
+        move |turn: Turn| -> Flow
+            ensures leaves { LeavesAs turn.kind turn.number member.entry result }
+            ensures idle { (turns : ℕ) → IsIdleFor member.entry turns
+                → IsIdleFor member.exit (idle_with turns turn.kind) }
+        { member.after(turn) },
+    )
+}

@@ -1,0 +1,57 @@
+//! The run that is built in, which is done where there are no words.
+use ea_bytes::{StdIn, StdOut};
+use ea_cli::{Output, tell};
+use earliest::{AnswerFault, Outcome, RunOptions, answer};
+use std::io::IsTerminal;
+use std::thread::Threads;
+
+const GRAPH: &[u8] = b"p sp 4 5\na 1 2 7\na 1 3 2\na 3 2 3\na 2 4 1\na 3 4 9\n";
+
+const SOURCES: &[u8] = b"p aux sp ss 1\ns 1\n";
+
+/// The options by default.
+const DEFAULTS: RunOptions = RunOptions {
+    joint: false,
+    walks: false,
+    stats: false,
+    progress: false,
+    workers: None,
+    at_once: None,
+    batch: None,
+    heaps: 2,
+    turns: 1_000_000,
+    seed: 1,
+    depart: 0,
+    gap: 0,
+};
+
+/// What is said after it on a terminal.
+const MORE: &str =
+    "This is a small network that is built in. `earliest run --help` says how to give your own.";
+
+/// Answers four nodes and five arcs, from node 1 at time 0.
+pub fn stored<H: Threads + Sync>(rt: &HostRuntime, threads: &H) -> u8 {
+    let mut gr = StdIn::new(GRAPH);
+    let mut ss = StdIn::new(SOURCES);
+    let mut tp: Option<StdIn<&[u8]>> = None;
+    let mut output = Output::standard(rt);
+    let answered = answer(
+        rt.alloc(),
+        threads,
+        &mut gr,
+        &mut ss,
+        &mut tp,
+        &DEFAULTS,
+        &mut StdOut::new(&mut output),
+    );
+    match answered {
+        Ok(_) => {
+            if rt.stderr().is_terminal() {
+                let _ = eprintln!(rt; "{MORE}");
+            }
+            0
+        }
+        Err(AnswerFault::Write { .. }) if output.is_left() => 4,
+        Err(fault) => tell(rt, &Outcome::Answer(fault)),
+    }
+}

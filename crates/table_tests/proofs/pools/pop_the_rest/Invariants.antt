@@ -1,6 +1,0 @@
-use Rattle.std.proofs.Common.{◌≡◌}
-use Rattle.ea_pool.specs.Seats.{account_of, IsSeatOf}
-use Rattle.table_tests.proofs.pools.pop_the_rest.Given as goal
-
-abbrev pub invariant-loop-step : goal.invariant-loop-step
-invariant-loop-step g l = IsSeatOf l.pool l.seat × ((account_of l.seat).shares ≡ (account_of l.fn.seat).shares)

@@ -1,6 +1,0 @@
-use Rattle.std.proofs.Common.{◌≡◌}
-use Rattle.ea_pool.specs.Seats.{account_of, IsSeatOf}
-use Rattle.table_tests.proofs.pools.push_and_pop.Given as goal
-
-abbrev pub invariant-loop-step : goal.invariant-loop-step
-invariant-loop-step l = IsSeatOf l.pool l.seat × ((account_of l.seat).shares ≡ (account_of l.initial.seat).shares)

@@ -1,0 +1,375 @@
+//! Runs, and what is read of them. All tests run their workers through here, so that what a run promises is carried by one
+//! function.
+ghost use Rattle.std.specs.Prelude.{◌≡◌, All, IsTrue};
+ghost use Rattle.ea_engine.specs.Limits.{AreSettings};
+
+use crate::asserts::{assert_none_wrong, assert_that};
+use ea_engine::{Answer, Counters, Crew, Flow, Gate, NoGate, Settings, Solved, Turn, solve, solve_alone};
+use ea_road::is_problem;
+use rand_core::{Rng, SeedableRng};
+use rand_xoshiro::Xoshiro256PlusPlus;
+use std::alloc::{AllocError, Global};
+use std::process::Abort;
+use std::test::Fail;
+use std::thread::Threads;
+use test_support::constant::Constant;
+use test_support::networks::{FOUR_NODES, Given, Row, pose};
+
+/// What a run came to.
+#[derive(Drop)]
+pub struct Came {
+    pub answer: Answer,
+    pub seeded: u128,
+    pub returned: u128,
+    pub drained: u128,
+    pub finish: u128,
+    pub counters: Vec<Counters>,
+}
+
+/// What is read of a run's outcome: generators and tracers are let go.
+pub fn came_of<R: Drop, T: Drop>(solved: Solved<R, T>) -> Came {
+    Came {
+        answer: solved.answer,
+        seeded: solved.seeded,
+        returned: solved.returned,
+        drained: solved.drained,
+        finish: solved.finish,
+        counters: solved.counters,
+    }
+}
+
+/// Whether settings are such as tests have, and so many generators and tracers are one for each worker.
+pub fn fits(settings: Settings, rngs: usize, tracers: usize) -> bool
+    ensures settings { IsTrue result → AreSettings settings }
+    ensures rngs { IsTrue result → rngs ≡ settings.workers }
+    ensures tracers { IsTrue result → tracers ≡ settings.workers }
+{
+    if settings.workers == 0
+        || settings.workers > 16
+        || settings.heaps < 2
+        || settings.heaps > 8
+        || settings.turns > 1_000_000
+        || settings.batch == 0
+        || settings.batch > 64
+        || settings.patience == 0
+        || settings.patience > 1_048_576
+    {
+        return false;
+    }
+    rngs == settings.workers as usize && tracers == settings.workers as usize
+}
+
+/// Runs a crew; none where it doesn't fit or what is given makes no problem.
+pub fn attempt<
+    H: Threads + Sync,
+    R: Rng + Send + Drop,
+    G: Gate,
+    T: FnMut(Turn) -> Flow + Send + Drop,
+>(alloc: Global, rt: &H, given: &Given, crew: Crew<'_, R, G, T>) -> Result<Option<Came>, AllocError>
+    requires tracers { All T.IsAlwaysCallable crew.tracers.items }
+{
+    if !fits(crew.settings, crew.rngs.len(), crew.tracers.len())
+        || !is_problem(&given.network, given.times.classes(), &given.query)
+    {
+        return Ok(None);
+    }
+    let solved = solve(alloc, rt, &given.network, &given.times, &given.query, crew)?;
+    Ok(Some(came_of(solved)))
+}
+
+/// Runs a crew that fits on what makes a problem.
+pub fn run<H: Threads + Sync, R: Rng + Send + Drop, G: Gate, T: FnMut(Turn) -> Flow + Send + Drop>(
+    alloc: Global,
+    rt: &H,
+    given: &Given,
+    crew: Crew<'_, R, G, T>,
+) -> Result<Came, Fail>
+    requires tracers { All T.IsAlwaysCallable crew.tracers.items }
+{
+    Ok(attempt(alloc, rt, given, crew)?.ok_or("problem")?)
+}
+
+/// What is given by rows for all nodes, from these sources.
+pub fn posed(
+    alloc: Global,
+    nodes: u32,
+    rows: &[Row],
+    sources: &[(u32, u64)],
+) -> Result<Given, Fail> {
+    Ok(pose(alloc, nodes, rows, sources)?.ok_or("rows")?)
+}
+
+/// What is given in the example four-nodes, from node 1 at 0.
+pub fn four(alloc: Global) -> Result<Given, Fail> {
+    posed(alloc, 4, &FOUR_NODES, &[(1, 0)])
+}
+
+/// Workers that pop entry by entry.
+pub fn singly(workers: u32, heaps: u32, turns: u64) -> Settings {
+    Settings {
+        workers,
+        heaps,
+        turns,
+        batch: 1,
+        patience: 32,
+    }
+}
+
+/// Runs workers by generators of the test, one a worker, that are shown to nobody.
+pub fn run_crew<H: Threads + Sync, R: Rng + Send + Drop, G: Gate>(
+    alloc: Global,
+    rt: &H,
+    given: &Given,
+    heaps: u32,
+    turns: u32,
+    rngs: Vec<R>,
+    gate: &G,
+) -> Result<Came, Fail> {
+    let mut tracers = Vec::new(alloc);
+    for _ in 0..rngs.len() {
+        tracers.push(|_turn: Turn| -> Flow { Flow::Go })?;
+    }
+    let settings = singly(rngs.len().min(17) as u32, heaps, u64::from(turns));
+    let crew = Crew {
+        settings,
+        rngs,
+        gate,
+        tracers,
+    };
+    run(alloc, rt, given, crew)
+}
+
+/// Runs workers on the example four-nodes by generators of the test.
+pub fn run_crew_on_four<H: Threads + Sync, R: Rng + Send + Drop, G: Gate>(
+    alloc: Global,
+    rt: &H,
+    heaps: u32,
+    turns: u32,
+    rngs: Vec<R>,
+    gate: &G,
+) -> Result<Came, Fail> {
+    run_crew(alloc, rt, &four(alloc)?, heaps, turns, rngs, gate)
+}
+
+/// So many generators that give one word alone.
+pub fn constants(alloc: Global, workers: u32, word: u64) -> Result<Vec<Constant>, AllocError> {
+    let mut rngs = Vec::new(alloc);
+    for _ in 0..workers {
+        rngs.push(Constant(word))?;
+    }
+    Ok(rngs)
+}
+
+/// So many generators that begin with seeds.
+pub fn seeded(
+    alloc: Global,
+    workers: u32,
+    seed: u64,
+) -> Result<Vec<Xoshiro256PlusPlus>, AllocError> {
+    let mut rngs = Vec::new(alloc);
+    for worker in 0..workers {
+        rngs.push(Xoshiro256PlusPlus::seed_from_u64(seed ^ u64::from(worker)))?;
+    }
+    Ok(rngs)
+}
+
+/// The answer of workers whose generators begin with a seed.
+pub fn run_all<H: Threads + Sync>(
+    alloc: Global,
+    rt: &H,
+    given: &Given,
+    settings: Settings,
+    seed: u64,
+) -> Result<Answer, Fail> {
+    let rngs = seeded(alloc, settings.workers, seed)?;
+    let turns = settings.turns.min(1000) as u32;
+    let came = run_crew(alloc, rt, given, settings.heaps, turns, rngs, &NoGate)?;
+    Ok(came.answer)
+}
+
+/// Runs one worker with a generator and a tracer.
+pub fn run_with<H: Threads + Sync, R: Rng + Send + Drop, T: FnMut(Turn) -> Flow + Send + Drop>(
+    alloc: Global,
+    rt: &H,
+    given: &Given,
+    settings: Settings,
+    rng: R,
+    tracer: T,
+) -> Result<Came, Fail>
+    requires { T.IsAlwaysCallable tracer }
+{
+    let mut rngs = Vec::new(alloc);
+    rngs.push(rng)?;
+    let mut tracers = Vec::new(alloc);
+    tracers.push(tracer)?;
+    let crew = Crew {
+        settings,
+        rngs,
+        gate: &NoGate,
+        tracers,
+    };
+    run(alloc, rt, given, crew)
+}
+
+/// Runs one worker over two heaps, with the words of seed 1, whose turns are shown to nobody.
+pub fn run_plain<H: Threads + Sync>(
+    alloc: Global,
+    rt: &H,
+    given: &Given,
+    turns: u64,
+) -> Result<Came, Fail> {
+    let words = Xoshiro256PlusPlus::seed_from_u64(1);
+    let tracer = |_turn: Turn| -> Flow { Flow::Go };
+    run_with(alloc, rt, given, singly(1, 2, turns), words, tracer)
+}
+
+/// The answer of one thread.
+pub fn answer_alone(alloc: Global, given: &Given) -> Result<Answer, Fail> {
+    if !is_problem(&given.network, given.times.classes(), &given.query) {
+        return Err(Fail::from("problem"));
+    }
+    Ok(solve_alone(alloc, &given.network, &given.times, &given.query)?)
+}
+
+/// Ends a test where a row of its table is wrong, and tells its place.
+pub fn assert_told<H: Abort>(rt: &H, wrong: Result<Option<usize>, Fail>) -> Result<(), Fail> {
+    assert_none_wrong(rt, wrong?);
+    Ok(())
+}
+
+/// Ends a test where something isn't right, and says what.
+pub fn assert_right<H: Abort>(rt: &H, what: &str, right: Result<bool, Fail>) -> Result<(), Fail> {
+    assert_that(rt, what, right?);
+    Ok(())
+}
+
+/// What is counted of a run, and what each of its workers counts.
+#[derive(Clone, Copy)]
+pub enum Count {
+    Workers,
+    Seeded,
+    Handed,
+    Drained,
+    Finish,
+    Turns,
+    Empty,
+    Pops,
+    Popped,
+    Unvisited,
+    Stale,
+    Scanned,
+    Refused,
+    Cut,
+    Lowered,
+    Pushes,
+    Pushed,
+    Returned,
+}
+
+/// A count of a run as a whole; none where its workers count it.
+fn of_run(came: &Came, count: Count) -> Option<u128> {
+    match count {
+        Count::Workers => Some(came.counters.len() as u128),
+        Count::Seeded => Some(came.seeded),
+        Count::Handed => Some(came.returned),
+        Count::Drained => Some(came.drained),
+        Count::Finish => Some(came.finish),
+        _ => None,
+    }
+}
+
+/// What a worker counts.
+fn of_worker(counters: &Counters, count: Count) -> u64 {
+    match count {
+        Count::Turns => counters.turns,
+        Count::Empty => counters.empty,
+        Count::Pops => counters.pops,
+        Count::Popped => counters.popped,
+        Count::Unvisited => counters.unvisited,
+        Count::Stale => counters.stale,
+        Count::Scanned => counters.scanned,
+        Count::Refused => counters.refused,
+        Count::Cut => counters.cut,
+        Count::Lowered => counters.lowered,
+        Count::Pushes => counters.pushes,
+        Count::Pushed => counters.pushed,
+        Count::Returned => counters.returned,
+        _ => u64::MAX,
+    }
+}
+
+/// A count and its number.
+pub type Wanted = (Count, u128);
+
+/// Whether each of the workers counts this number.
+fn all_count(workers: &[Counters], count: Count, number: u128) -> bool {
+    for counters in workers {
+        if u128::from(of_worker(counters, count)) != number {
+            return false;
+        }
+    }
+    true
+}
+
+/// The place of the first of the counts that is otherwise.
+pub fn wrong_count(came: &Came, wanted: &[Wanted]) -> Option<usize> {
+    for (place, (count, number)) in wanted.iter().enumerate() {
+        let right = match of_run(came, *count) {
+            Some(counted) => counted == *number,
+            None => all_count(came.counters.as_slice(), *count, *number),
+        };
+        if !right {
+            return Some(place);
+        }
+    }
+    None
+}
+
+/// The place of the first of the counts that is otherwise in a run on four-nodes; behind them all where its arrivals are.
+pub fn told(came: &Came, wanted: &[Wanted]) -> Option<usize> {
+    wrong_beside(came, has_four(&came.answer), wanted)
+}
+
+/// The place of the first of the counts that is otherwise; behind them all where the rest of what a test looks at isn't right.
+pub fn wrong_beside(came: &Came, right: bool, wanted: &[Wanted]) -> Option<usize> {
+    if right {
+        wrong_count(came, wanted)
+    } else {
+        Some(wanted.len())
+    }
+}
+
+/// How often workers together did something.
+pub fn total(came: &Came, count: Count) -> u64 {
+    let mut sum = 0u64;
+    for counters in &came.counters {
+        sum = sum.saturating_add(of_worker(counters, count));
+    }
+    sum
+}
+
+/// Whether an answer gives an arrival for an asked node.
+pub fn arrives(answer: &Answer, node: u32, arrival: Option<u64>) -> bool {
+    answer.asks(node) && answer.arrival(node) == arrival
+}
+
+/// Whether an answer has the arrivals of the four nodes.
+pub fn has_four(answer: &Answer) -> bool {
+    let wanted = [0, 5, 2, 6];
+    let mut right = answer.nodes() == 4;
+    for node in 1..5u32 {
+        right &= answer.asks(node) && answer.arrival(node) == Some(wanted[node as usize - 1]);
+    }
+    right
+}
+
+/// Whether an answer gives this walk for an asked node.
+pub fn walks(alloc: Global, answer: &Answer, node: u32, walk: &[u32]) -> Result<bool, AllocError> {
+    if !answer.asks(node) || !answer.has_walks() {
+        return Ok(false);
+    }
+    match answer.walk(alloc, node)? {
+        Some(arcs) => Ok(arcs.as_slice() == walk),
+        None => Ok(false),
+    }
+}
