@@ -1,10 +1,11 @@
-# `make` builds the program, `make run` runs its main job, `make test` runs the whole gate (`rt ci`, the edits that must be
-# refused, then the table of tests/ with the program that `rt ci` has built), and `make cases` runs the table alone.
+# `make` builds the program, `make run` runs its main job, `make test` runs the whole gate (`rt ci`, then the suites of tests/ with the
+# program that it has built), and `make cases` runs the suites alone.
+# `make try ARGS="run examples/commuter.gr examples/commuter.ss"` runs a command with no proof, within a minute.
+# `make part CRATES="ea_input"` proves some crates and those that they stand on, with their edits and tests.
 # `make lib` builds the library for C, C++ and Python (lib/), and puts it beside the Python package. `make install PREFIX=..` installs
 # the program, its man page, the completions of bash, zsh and fish, the library, its headers and its pkg-config file.
-# `make try` runs the program with no proof, within about a minute. `make part CRATES="ea_input"` runs the gate of some crates
-# and of those that they stand on, with ABOVE=1 also of those that stand on them. `make bench` measures the program in bin/ beside its
-# peers on networks of up to 10^6 nodes, with SIZE=large up to 10^7, and writes bench/results/ and docs/performance.md.
+# `make bench` measures the program in bin/ beside its peers on networks of up to 10^6 nodes, with SIZE=large up to 10^7, and writes
+# bench/results/ and docs/performance.md.
 .PHONY: all lib run try test part cases bench install clean
 
 PREFIX ?= /usr/local
@@ -19,17 +20,16 @@ run: all
 	bin/earliest run examples/four-nodes.gr examples/four-nodes.ss --walks
 
 try:
-	@echo "earliest: the stored network, run with no proof (rt try); make run proves what it runs"
-	cd crates/earliest_program && rt try
+	@python3 tools/try.py $(ARGS)
 
 test:
 	python3 tests/gate.py
 
 part:
-	python3 tests/gate.py $(if $(ABOVE),--above) $(or $(CRATES),$(error name some crates: make part CRATES="ea_input"))
+	rt ci $(or $(CRATES),$(error name some crates: make part CRATES="ea_input"))
 
-cases: all
-	python3 tests/run.py bin/earliest
+cases: all lib
+	python3 tests/gate.py bin/earliest
 
 bench:
 	@test -x bin/earliest || $(MAKE) all

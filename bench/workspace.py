@@ -13,25 +13,25 @@ import sys
 
 sys.dont_write_bytecode = True
 HERE = os.path.dirname(os.path.abspath(__file__))
-sys.path.insert(0, os.path.join(HERE, "..", "tests"))
-import crates
+sys.path.insert(0, os.path.join(HERE, "..", "tools"))
+import repository
 
 PROGRAMS = {
-    "alone": "ea_input ea_road ea_finish anyhow",
-    "several": "ea_input ea_road ea_finish ea_engine rand_core rand_xoshiro anyhow",
-    "pairs": "ea_input ea_road ea_finish anyhow",
-    "check": "ea_input ea_road ea_finish ea_report ea_check anyhow",
+    "alone": "ea_input ea_road ea_search ea_paths anyhow",
+    "several": "ea_input ea_road ea_search ea_paths ea_engine rand_core rand_xoshiro anyhow",
+    "pairs": "ea_input ea_road ea_search ea_paths anyhow",
+    "check": "ea_input ea_road ea_search ea_paths ea_report ea_check anyhow",
     "rank": "ea_rank anyhow",
     "readers": "ea_input anyhow",
-    "writer": "ea_input ea_road ea_finish ea_report anyhow",
-    "pool": "ea_lists ea_road ea_pool",
+    "writer": "ea_input ea_road ea_search ea_paths ea_report anyhow",
+    "pool": "ea_machine ea_road ea_pool",
 }
 SCRATCH = "/tmp/bench"
 
 
 def copied(name, room):
     """Copies a crate: its sources anew, what is proved of it where nothing is there yet."""
-    here, there = os.path.join(crates.ROOT, "crates", name), os.path.join(room, "crates", name)
+    here, there = os.path.join(repository.ROOT, "crates", name), os.path.join(room, "crates", name)
     os.makedirs(there, exist_ok=True)
     for part in os.listdir(here):
         if part == "must-fail" or part == "out" and os.path.isdir(os.path.join(there, part)):
@@ -66,13 +66,13 @@ def built(name, scratch=SCRATCH, words=(), say=print):
     if shutil.which("rt") is None:
         return None
     room = os.path.join(scratch, "workspace")
-    lines, uses = crates.listed()
+    lines, uses = repository.listed()
     direct = [it for it in PROGRAMS[name].split() if it in lines]
-    wanted = {*direct, *[it for one in direct for it in crates.below(one, uses)]}
+    wanted = {*direct, *[it for one in direct for it in repository.below(one, uses)]}
     for crate in wanted:
         copied(crate, room)
     folder = placed(name, room)
-    shutil.copy(os.path.join(crates.ROOT, "HANDLES"), room)
+    shutil.copy(os.path.join(repository.ROOT, "HANDLES"), room)
     with open(os.path.join(room, "crates.txt"), "w", encoding="ascii") as file:
         file.writelines(lines[it] for it in lines if it in wanted)
         file.write(f"{name}_times: {PROGRAMS[name]}\n")

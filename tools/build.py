@@ -20,8 +20,7 @@ import time
 from concurrent.futures import FIRST_COMPLETED, ThreadPoolExecutor, wait
 
 sys.dont_write_bytecode = True
-sys.path.insert(0, os.path.join(os.path.dirname(os.path.abspath(__file__)), "..", "tests"))
-import crates
+import repository
 
 PROGRAM = "earliest_program"
 
@@ -36,11 +35,11 @@ class Libraries:
     """The libraries of the program as they are built, and what is told of them."""
 
     def __init__(self):
-        self.rt, self.rtlib = crates.kit()
-        os.chdir(crates.ROOT)
+        self.rt, self.rtlib = repository.kit()
+        os.chdir(repository.ROOT)
         # Its first call sets the handler of a signal, which only this thread may.
         self.rtlib.guarded()
-        every = {crate.name: crate for crate in self.rtlib.crates_below(crates.ROOT)}
+        every = {crate.name: crate for crate in self.rtlib.crates_below(repository.ROOT)}
         self.program = every[PROGRAM]
         self.left = self.program.below()
         self.done = []
@@ -131,8 +130,8 @@ def main():
     status = libraries.run_program()
     if status:
         return status
-    os.makedirs(os.path.join(crates.ROOT, "bin"), exist_ok=True)
-    shutil.copy(os.path.join(libraries.program.folder, "out", PROGRAM), os.path.join(crates.ROOT, "bin", "earliest"))
+    os.makedirs(os.path.join(repository.ROOT, "bin"), exist_ok=True)
+    shutil.copy(os.path.join(libraries.program.folder, "out", PROGRAM), os.path.join(repository.ROOT, "bin", "earliest"))
     print(f"bin/earliest is built, after {time.monotonic() - begun:.0f} s")
     return 0
 

@@ -11,11 +11,10 @@ import sys
 import tempfile
 
 sys.dont_write_bytecode = True
-sys.path.insert(0, os.path.join(os.path.dirname(os.path.abspath(__file__)), "..", "tests"))
-import crates
+import repository
 
-ROOT = crates.ROOT
-CRATE = "ea_c"
+ROOT = repository.ROOT
+CRATE = "ea_capi"
 PACKAGE = """prefix=PREFIX
 libdir=${prefix}/lib
 includedir=${prefix}/include
@@ -59,7 +58,7 @@ def archived():
 def archived_over(room):
     """The same in a room where rt ci has proved what the crate stands on, by one job, since the gate tries edits meanwhile. (`rt lib` would
     prove that again: what rt ci leaves has no stamp.)"""
-    _, rtlib = crates.kit()
+    _, rtlib = repository.kit()
     os.chdir(room)
     rtlib.guarded()
     crate = next(it for it in rtlib.crates_below(os.path.realpath(room)) if it.name == CRATE)

@@ -9,9 +9,11 @@ import tempfile
 import time
 
 HERE = os.path.dirname(os.path.abspath(__file__))
-EXAMPLES = os.path.join(HERE, "..", "examples")
-sys.path.insert(0, os.path.join(HERE, "..", "tools"))
-import pages
+EXAMPLES = os.path.join(HERE, "..", "..", "examples")
+sys.path.insert(0, os.path.join(HERE, "..", "..", "tools"))
+import repository
+
+pages = repository.tool("pages")
 
 
 def read(name):

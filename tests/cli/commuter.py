@@ -1,4 +1,4 @@
-"""The commuter network of examples/, made anew: python3 tools/commuter.py FOLDER
+"""The commuter network of examples/, made anew: python3 tests/cli/commuter.py FOLDER
 
 A town of 300 crossings, 20 from west to east and 15 from north to south, in two halves with a river between the tenth and the
 eleventh column: a main road through the middle row, which crosses the river by the only bridge, side streets, and a ferry

@@ -1,17 +1,16 @@
-"""The commuter network of examples/ and the ferry's feed: their files are those that tools/ make, and their reports those of a
+"""The commuter network of examples/ and the ferry's feed: their files are those that the scripts make, and their reports those of a
 plain search of one's own, with speeds summed second by second."""
 import heapq
 import os
+import subprocess
 import sys
 import tempfile
 
+import commuter
 import travel_times
 
 HERE = os.path.dirname(os.path.abspath(__file__))
-EXAMPLES = os.path.join(HERE, "..", "examples")
-sys.path.append(os.path.join(HERE, "..", "tools"))
-import commuter
-import trips_of_gtfs
+EXAMPLES = os.path.join(HERE, "..", "..", "examples")
 
 MORNING, GAP = 27600, 1800
 
@@ -89,10 +88,10 @@ def stored(folder, name):
 def results(program):
     """A name, what was, and what is wanted."""
     texts = dict(commuter.texts())
-    found = [(f"tools/commuter.py makes {name}", stored(EXAMPLES, name), text) for name, text in texts.items()]
+    found = [(f"commuter.py makes {name}", stored(EXAMPLES, name), text) for name, text in texts.items()]
     found += [(f"a plain search gives {name}", stored(EXAMPLES, name), text) for name, text in reports(texts)]
     with tempfile.TemporaryDirectory() as folder:
-        trips_of_gtfs.write(os.path.join(EXAMPLES, "gtfs"), "20261123", os.path.join(folder, "monday"))
+        subprocess.run([sys.executable, os.path.join(HERE, "..", "..", "tools", "trips_of_gtfs.py"), "gtfs", "20261123", os.path.join(folder, "monday")], cwd=EXAMPLES, check=True)
         found += [(f"tools/trips_of_gtfs.py makes monday{end}", stored(folder, "monday" + end), stored(os.path.join(EXAMPLES, "gtfs"), "monday" + end)) for end in (".gr", ".tp", ".stops")]
     return found
 

@@ -1,4 +1,5 @@
-"""The engine in other people's programs: the calls of C, the C++ classes and the Python package, against the program's own reports.
+"""The engine in other people's programs: the calls of C, the C++ classes and the Python package, against the program's own reports:
+python3 tests/embedding/run.py PROGRAM, after the library was built.
 
 What can't be run for want of a compiler or of a checker of memory is told, and left out.
 """
@@ -12,7 +13,7 @@ import tempfile
 from concurrent.futures import ThreadPoolExecutor
 
 HERE = os.path.dirname(os.path.abspath(__file__))
-ROOT = os.path.normpath(os.path.join(HERE, ".."))
+ROOT = os.path.normpath(os.path.join(HERE, "..", ".."))
 EXAMPLES = os.path.join(ROOT, "examples")
 STATIC, SHARED = (os.path.join(ROOT, "lib", name) for name in ("libearliest.a", "libearliest.so"))
 FILES = ["four-nodes.gr", "road.gr", "road.tp"]
@@ -38,7 +39,7 @@ def read(*parts):
 
 def numbered():
     """The numbers of refusals and the last time in the header are those of the crates, and its words name each by its number."""
-    header, crate = read("include", "earliest.h"), read("crates", "ea_c", "src", "numbers.rt")
+    header, crate = read("include", "earliest.h"), read("crates", "ea_capi", "src", "fault_numbers.rt")
     told = {name: int(number) for name, number in re.findall(r"EARLIEST_(\w+) = (\d+)", header)}
     for name, number in re.findall(r"pub const (\w+): u32 = (\d+);", crate):
         if name in told:
@@ -54,11 +55,11 @@ def numbered():
 def in_c(room):
     """Each call of C with each refusal, and 100,000 calls with bad numbers, under a checker of memory; the example."""
     checked, plain, example = (os.path.join(room, name) for name in ("checked", "plain", "walk_to"))
-    said = built("cc", ["-std=c99", "-g", "-fsanitize=address,undefined"], os.path.join(HERE, "embedding.c"), checked)
+    said = built("cc", ["-std=c99", "-g", "-fsanitize=address,undefined"], os.path.join(HERE, "calls.c"), checked)
     yield "the calls of C, compiled", said, None
     yield "the calls of C", ran([checked, *FILES]), (0, b"", b"")
     if shutil.which("valgrind"):
-        yield "the calls of C, compiled for valgrind", built("cc", ["-std=c99", "-g"], os.path.join(HERE, "embedding.c"), plain), None
+        yield "the calls of C, compiled for valgrind", built("cc", ["-std=c99", "-g"], os.path.join(HERE, "calls.c"), plain), None
         words = ["valgrind", "-q", "--error-exitcode=9", "--leak-check=full"]
         yield "the calls of C under valgrind", ran([*words, plain, *FILES]), (0, b"", b"")
     else:
@@ -75,7 +76,7 @@ def in_c(room):
 def in_cpp(room):
     """Roads of vectors; the example in C++: a road, and a search by each thread."""
     vectors, example = os.path.join(room, "vectors"), os.path.join(room, "by_threads")
-    said = built("c++", ["-std=c++17", "-g", "-fsanitize=address,undefined"], os.path.join(HERE, "embedding.cpp"), vectors)
+    said = built("c++", ["-std=c++17", "-g", "-fsanitize=address,undefined"], os.path.join(HERE, "classes.cpp"), vectors)
     yield "the classes of C++, compiled", said, None
     yield "the classes of C++", ran([vectors]), (0, b"", b"")
     said = built("c++", ["-std=c++17", "-pthread", "-g", "-fsanitize=address,undefined"], os.path.join(EXAMPLES, "by_threads.cpp"), example)
@@ -219,23 +220,9 @@ def installed(room):
     yield "the installed package", ran([python, "-c", text], env=environment), (0, b"[2, 3, 4]\n", b"")
 
 
-def built_library(room=None):
-    """Proves and builds the library, over what rt ci has proved in a room, or else over what earlier builds left: the status, and what
-    was said. It is nice to what else runs."""
-    over = ["--over", room] if room else []
-    words = ["nice", sys.executable, os.path.join(ROOT, "tools", "library.py"), *over]
-    ran = subprocess.run(words, stdout=subprocess.PIPE, text=True)
-    return ran.returncode, ran.stdout
-
-
-def results(program, library):
-    """Each test with what came and what has to come, where this came of building the library."""
+def results(program):
+    """Each test with what came and what has to come."""
     yield from numbered()
-    status, said = library
-    yield "the library, built", status or None, None
-    if status:
-        print(said)
-        return
     with tempfile.TemporaryDirectory() as room:
         for compiler, cases in (("cc", in_c), ("c++", in_cpp)):
             if shutil.which(compiler):
@@ -247,7 +234,7 @@ def results(program, library):
 
 
 if __name__ == "__main__":
-    FOUND = list(results(sys.argv[1], built_library()))
+    FOUND = list(results(sys.argv[1]))
     ILL = [(name, was, want) for name, was, want in FOUND if was != want]
     for name, was, want in ILL:
         print("failed:", name, was, "and not", want)

@@ -1,4 +1,4 @@
-"""Runs the cases of tests/cases.txt with a built program: python3 tests/run.py PROGRAM
+"""Tests the built program: python3 tests/cli/run.py PROGRAM
 
 A case fails where the status, the standard output or the standard error differs in any byte.
 """
@@ -14,7 +14,6 @@ sys.dont_write_bytecode = True
 import at_once
 import commuter_network
 import documents
-import embedding
 import explained
 import large
 import opening
@@ -26,7 +25,7 @@ import threads
 import travel_times
 
 HERE = os.path.dirname(os.path.abspath(__file__))
-EXAMPLES = os.path.join(HERE, "..", "examples")
+EXAMPLES = os.path.join(HERE, "..", "..", "examples")
 
 
 def wanted(text):
@@ -115,21 +114,21 @@ def alike(program):
         yield f"{command} {road}: {this} beside {that}", was, (0, 0, equal, True)
 
 
-def all_results(program, library):
-    """Runs all cases: each with what came and what has to come; what building the library for C came to is given. What waits for clocks or
-    compilers goes beside the rest."""
+def all_results(program):
+    """Runs all cases: each with what came and what has to come. What waits for clocks runs beside the rest."""
     program = os.path.abspath(program)
-    with ThreadPoolExecutor(2) as pool:
-        aside = [pool.submit(list, it) for it in (progress.results(program), embedding.results(program, library))]
-        return run_each(program) + [it for one in aside for it in one.result()]
+    with ThreadPoolExecutor(1) as pool:
+        waiting = pool.submit(list, progress.results(program))
+        return run_each(program) + waiting.result()
 
 
-def counted(results):
-    """Tells which cases failed, and answers how many passed and failed."""
+def main():
+    results = all_results(sys.argv[1])
     failed = [(name, was) for name, was, want in results if was != want]
     for name, was in failed:
         print("failed:", name, *was)
-    return len(results) - len(failed), len(failed)
+    print(f"{len(results) - len(failed)} passed, {len(failed)} failed")
+    return 1 if failed else 0
 
 
 def run_each(program):
@@ -155,6 +154,4 @@ def run_each(program):
 
 
 if __name__ == "__main__":
-    PASSED, FAILED = counted(all_results(sys.argv[1], embedding.built_library()))
-    print(f"{PASSED} passed, {FAILED} failed")
-    sys.exit(1 if FAILED else 0)
+    sys.exit(main())

@@ -1,4 +1,4 @@
-"""The crates of the repository, as crates.txt lists them, and rt as a module."""
+"""The repository as its scripts see it: where it lies, its crates as crates.txt lists them, `rt` and the tools as modules."""
 import importlib.machinery
 import importlib.util
 import os
@@ -31,21 +31,21 @@ def below(name, uses):
     return found
 
 
-def above(name, uses):
-    """The crates that stand on a crate."""
-    return [one for one in uses if name in below(one, uses)]
+def module(name, path):
+    """A Python file as a module."""
+    loader = importlib.machinery.SourceFileLoader(name, path)
+    made = importlib.util.module_from_spec(importlib.util.spec_from_loader(name, loader))
+    loader.exec_module(made)
+    return made
 
 
-def processors():
-    """How many processors this process may run on."""
-    return len(os.sched_getaffinity(0))
+def tool(name):
+    """A script of tools/ as a module."""
+    return module(name, os.path.join(ROOT, "tools", name + ".py"))
 
 
 def kit():
-    """rt as a module, and its library."""
+    """`rt` as a module, and its library."""
     program = os.path.realpath(shutil.which("rt"))
     sys.path.insert(0, os.path.dirname(program))
-    loader = importlib.machinery.SourceFileLoader("rt", program)
-    module = importlib.util.module_from_spec(importlib.util.spec_from_loader("rt", loader))
-    loader.exec_module(module)
-    return module, importlib.import_module("rtlib")
+    return module("rt", program), importlib.import_module("rtlib")

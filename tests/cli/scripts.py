@@ -10,8 +10,8 @@ import tempfile
 import commuter_network
 
 HERE = os.path.dirname(os.path.abspath(__file__))
-EXAMPLES = os.path.join(HERE, "..", "examples")
-TOOLS = os.path.join(HERE, "..", "tools")
+EXAMPLES = os.path.join(HERE, "..", "..", "examples")
+TOOLS = os.path.join(HERE, "..", "..", "tools")
 ROAD = "--tp road.tp".split()
 
 

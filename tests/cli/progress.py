@@ -7,7 +7,7 @@ import tempfile
 import time
 
 HERE = os.path.dirname(os.path.abspath(__file__))
-EXAMPLES = os.path.join(HERE, "..", "examples")
+EXAMPLES = os.path.join(HERE, "..", "..", "examples")
 # A machine with much other work may begin a program some tenths of a second late.
 PAUSE = 2.0
 LINE = re.compile(rb"earliest: (\d+) of (\d+) problems, (\d+) s\n")
