@@ -17,6 +17,7 @@ import documents
 import explained
 import large
 import opening
+import outputs
 import people
 import progress
 import road_network
@@ -141,6 +142,7 @@ def run_each(program):
     results.append(("memory for what a file announces", held(program), (1, b"", b"earliest: gr 0: 8 TooFewLines\n")))
     results += [(shlex.join(words), ran(program, words), wanted) for words, wanted in opening.cases()]
     results += alike(program)
+    results += outputs.results(program)
     results += people.results(program)
     results += explained.results(program)
     results += road_network.results(program)

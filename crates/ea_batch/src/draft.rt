@@ -9,10 +9,10 @@ use crate::one_search::search;
 use crate::sheet::Sheet;
 use crossbeam_deque::{Steal, Stealer, Worker};
 use ea_load::Road;
+use ea_options::RunOptions;
 use ea_paths::Search;
 use ea_report::{ReportOptions, write_problem};
 use ea_road::Query;
-use ea_options::RunOptions;
 use std::alloc::{AllocError, Global};
 
 /// What was made of a problem.

@@ -1,13 +1,13 @@
 //! Reports of problems by searches of one thread: one after the other, or made ahead by several threads.
 #![tactic(auto)]
 
-mod parallel_reports;
 mod draft;
 mod hand_over;
 mod lane;
+mod one_search;
+mod parallel_reports;
 mod progress;
 mod round;
-mod one_search;
 mod sheet;
 
 pub use parallel_reports::{Watched, report_ahead};

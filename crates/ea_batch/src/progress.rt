@@ -9,10 +9,9 @@ ghost use Rattle.ea_batch.specs.Solved.{AnswersOn, ArrivesOn, Serves};
 
 use crate::one_search::search;
 use crossbeam_deque::Worker;
-use ea_load::AnswerFault;
-use ea_load::Road;
-use ea_paths::{Answer, Search};
 use ea_bytes::ByteOut;
+use ea_load::{AnswerFault, Road};
+use ea_paths::{Answer, Search};
 use ea_report::{ReportOptions, WriteFault, WriteFaultKind, write_problem};
 use ea_road::Query;
 use std::alloc::Global;

@@ -9,4 +9,3 @@ IsTakenUp {S} {T} step state IsAside before aside after true =
     (start : T) (n m : ℕ) (lines : List (List (List ℕ))) → IsAside start → lines_after step n (state start) lines ≡ Ok (state aside)
     → lines_after step m (state before) lines ≡ Ok (state after)
 IsTakenUp step state IsAside before aside after false = state after ≡ state before
-

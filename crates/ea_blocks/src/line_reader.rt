@@ -106,11 +106,7 @@ pub fn read_lines<R: LineReader>(
 }
 
 /// What a text is read to.
-pub fn read_text<R: LineReader>(
-    alloc: Global,
-    start: R,
-    text: &[u8],
-) -> Result<R::Text, InputFault>
+pub fn read_text<R: LineReader>(alloc: Global, start: R, text: &[u8]) -> Result<R::Text, InputFault>
     ensures { Gives R.view result (text_after R.step R.end (R.state start) (field_lines text.now)) }
 {
     let mut reader = start;

@@ -1,19 +1,19 @@
 //! Bytes from devices, and texts as lines, fields and numbers.
 #![tactic(auto)]
 
-mod fault_counts;
+mod blocks;
 mod device;
+mod fault_counts;
 mod field;
 mod line;
 mod number_field;
 mod std_in;
-mod blocks;
 mod std_out;
 
+pub use blocks::{Blocks, ReadFault, read_all};
 pub use device::{ByteIn, ByteOut, Device, DeviceFault};
 pub use field::{KEPT_FIELDS, fields, first_field, is_blank, is_comment};
 pub use line::{first_line, without_return};
 pub use number_field::number;
 pub use std_in::StdIn;
-pub use blocks::{Blocks, ReadFault, read_all};
 pub use std_out::StdOut;

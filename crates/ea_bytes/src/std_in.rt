@@ -1,8 +1,8 @@
 //! Readers of std as devices.
 ghost use Rattle.std.specs.Prelude.{◌≡◌};
 
-use crate::fault_counts::{Counts, fault_of, no_faults};
 use crate::device::{ByteIn, Device, DeviceFault};
+use crate::fault_counts::{Counts, fault_of, no_faults};
 use std::io::Read;
 use std::marker::Model;
 

@@ -1,8 +1,8 @@
 //! Writers of std as devices.
 ghost use Rattle.std.specs.Prelude.{◌≡◌};
 
-use crate::fault_counts::{Counts, fault_of, no_faults};
 use crate::device::{ByteOut, Device, DeviceFault};
+use crate::fault_counts::{Counts, fault_of, no_faults};
 use std::io::Write;
 use std::marker::Model;
 

@@ -5,12 +5,12 @@ ghost use Rattle.ea_check.specs.Form.{lines_of_report};
 ghost use Rattle.ea_capi.specs.Checks.{IsAnswerTo, IsJudged, IsToldOf, IsVerdict, refused_by, told_of_check};
 ghost use Rattle.ea_capi.specs.States.{road_in};
 
+use crate::fault_numbers::{BEYOND_HORIZON, DONE, Fault, NO_ROAD, NO_SUCH_NODE, OUT_OF_MEMORY};
 use crate::handle::content::Content;
 use crate::handle::handle::Handle;
-use crate::fault_numbers::{BEYOND_HORIZON, DONE, Fault, NO_ROAD, NO_SUCH_NODE, OUT_OF_MEMORY};
+use ea_base::HORIZON;
 use ea_check::{CheckFault, check, is_checkable};
 use ea_load::{Road, departures_fit, run_queries};
-use ea_base::HORIZON;
 use ea_road::Query;
 use std::alloc::Global;
 

@@ -10,13 +10,13 @@ use crate::fault::CheckFault;
 use crate::form::line::look_ahead;
 use crate::form::problem::read_problem;
 use crate::form::reported::Reported;
-use crate::judge::walk_sources::ordered_sources;
 use crate::judge::verdict::judge;
-use ea_paths::find_links;
-use ea_search::Open;
-use ea_road::{Network, Query, is_problem};
-use ea_travel_times::TravelTimes;
+use crate::judge::walk_sources::ordered_sources;
 use ea_base::{Silent, Watch};
+use ea_paths::find_links;
+use ea_road::{Network, Query, is_problem};
+use ea_search::Open;
+use ea_travel_times::TravelTimes;
 use std::alloc::Global;
 
 /// What is wrong with what a report says of a problem.

@@ -12,7 +12,6 @@ ghost use Rattle.ea_check.specs.Form.{AreInOrder, Line, SaysProblem, lines_of_re
 ghost use Rattle.ea_check.specs.Verdicts.{IsFaultless, IsRight, IsVerdict, IsWellFormed, Said};
 
 use ea_road::{Network, Query};
-
 use ea_travel_times::TravelTimes;
 
 /// A report of one problem without a fault is right, and a right one has no fault.

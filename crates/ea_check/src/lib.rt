@@ -1,10 +1,10 @@
 //! The checker of reports: whether a report is right, and if not, its first fault.
 #![tactic(auto)]
 
-mod form;
-mod judge;
 mod checking;
 mod fault;
+mod form;
+mod judge;
 pub mod laws;
 
 pub use checking::{check, check_watched, is_checkable};

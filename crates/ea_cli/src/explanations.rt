@@ -1,14 +1,11 @@
 //! What is said after the line of a fault: what it means and what to do.
 use crate::files::{Sources, Unopened};
 use crate::source::{SHOWN, Source};
-use ea_load::AnswerFault;
-use ea_check::CheckFault;
-use ea_messages::{fault_named, look_of, reason_of, wanted_of_line};
-use ea_load::FileWord;
 use ea_blocks::InputFault;
-use ea_bytes::ReadFault;
-use ea_messages::Outcome;
-use ea_bytes::without_return;
+use ea_bytes::{ReadFault, without_return};
+use ea_check::CheckFault;
+use ea_load::{AnswerFault, FileWord};
+use ea_messages::{Outcome, fault_named, look_of, reason_of, wanted_of_line};
 use ea_options::bad_value_of;
 use std::io::ErrorKind;
 

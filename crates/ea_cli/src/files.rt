@@ -4,8 +4,8 @@ ghost use Rattle.ea_messages.specs.Named.{HasFiles};
 
 use crate::output::Output;
 use crate::source::Source;
-use ea_load::FileWord;
 use ea_bytes::StdIn;
+use ea_load::FileWord;
 use ea_messages::Opened;
 use ea_options::Command;
 use std::io::ErrorKind;

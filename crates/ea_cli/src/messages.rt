@@ -3,8 +3,8 @@ use crate::explanations::{explain_outcome, explain_unopened, explain_words, expl
 use crate::files::{Sources, Unopened};
 use crate::output::Output;
 use crate::pages::show_text;
-use ea_load::AnswerFault;
 use ea_bytes::StdOut;
+use ea_load::AnswerFault;
 use ea_messages::{Outcome, say};
 use ea_options::CommandFault;
 
@@ -44,7 +44,7 @@ pub fn tell_end(
     rt: &HostRuntime,
     outcome: Option<Outcome>,
     sources: &mut Sources<'_>,
-    output: &Output,
+    output: &mut Output,
     explains: bool,
 ) -> u8 {
     let Some(outcome) = outcome else {
@@ -64,11 +64,15 @@ pub fn tell_end(
 }
 
 /// Puts a whole report in its place, and tells where that can't be done.
-fn tell_put(rt: &HostRuntime, output: &Output, explains: bool) -> u8 {
+fn tell_put(rt: &HostRuntime, output: &mut Output, explains: bool) -> u8 {
+    let written = output.written;
     match output.put_in_place(rt) {
         Ok(()) => 0,
-        Err(reason) => {
-            let written = output.written;
+        Err(unplaced) => {
+            let reason = unplaced.reason;
+            if let Some(kept) = unplaced.kept {
+                let _ = eprintln!(rt; "earliest: the whole report is in {kept}");
+            }
             let status = tell(rt, &Outcome::Answer(AnswerFault::Write { written }));
             if explains {
                 explain_write(rt, Some(reason));

@@ -1,24 +1,7 @@
-//! Where a report goes: standard output, or a file that is put in its place when it is whole.
+//! Where a report goes: a stream, or a file that is put in its place when it is whole.
+use crate::target::{Goal, goal_of};
 use std::fs::{self, File};
-use std::io::{self, ErrorKind, Stdout, Write};
-
-/// How many names are tried for the file beside.
-const MOST_NAMES: u32 = 1000;
-
-/// Where the bytes go.
-#[derive(Drop)]
-enum Goal {
-    /// Standard output.
-    Output(Stdout),
-    /// A device, a pipe or whatever else is no file: it is written as it is.
-    Device(File),
-    /// A file beside the one that is named.
-    Beside {
-        file: File,
-        made: String,
-        name: String,
-    },
-}
+use std::io::{self, ErrorKind, Write};
 
 /// What takes a report, and what its fault may be explained by.
 #[derive(Drop)]
@@ -30,27 +13,34 @@ pub struct Output {
     pub(crate) refusal: Option<ErrorKind>,
 }
 
+/// A whole report that couldn't be put in its place.
+#[derive(Clone, Copy)]
+pub(crate) struct Unplaced<'a> {
+    pub(crate) reason: ErrorKind,
+    /// The part file that has the whole report.
+    pub(crate) kept: Option<&'a str>,
+}
+
 impl Output {
-    /// Standard output.
-    pub fn standard(rt: &HostRuntime) -> Output {
+    fn to(goal: Goal) -> Output {
         Output {
-            goal: Goal::Output(rt.stdout()),
+            goal,
             written: 0,
             refusal: None,
         }
     }
 
+    /// Standard output.
+    pub fn standard(rt: &HostRuntime) -> Output {
+        Output::to(Goal::Output(rt.stdout()))
+    }
+
     /// The file of a name, or standard output where none is named or the name is `-`.
     pub(crate) fn open(rt: &HostRuntime, name: Option<&str>) -> Result<Output, ErrorKind> {
-        let goal = match name {
-            None | Some("-") => Goal::Output(rt.stdout()),
-            Some(name) => goal_of(rt, name)?,
-        };
-        Ok(Output {
-            goal,
-            written: 0,
-            refusal: None,
-        })
+        match name {
+            None | Some("-") => Ok(Output::standard(rt)),
+            Some(name) => Ok(Output::to(goal_of(rt, name)?)),
+        }
     }
 
     /// Whether nobody reads any more what is written.
@@ -58,85 +48,78 @@ impl Output {
         self.refusal == Some(ErrorKind::BrokenPipe)
     }
 
-    /// Puts a whole report in its place; else the reason why that can't be done, and the file that is named is as it was.
-    pub(crate) fn put_in_place(&self, rt: &HostRuntime) -> Result<(), ErrorKind> {
-        let put = match &self.goal {
-            Goal::Beside { file, made, name } => put(rt, file, made, name),
-            Goal::Output(_) | Goal::Device(_) => Ok(()),
-        };
-        if put.is_err() {
-            self.leave(rt);
+    /// Puts a whole report in its place. Where that can't be done, the part file stays, and the error names it.
+    pub(crate) fn put_in_place(&mut self, rt: &HostRuntime) -> Result<(), Unplaced<'_>> {
+        match &mut self.goal {
+            Goal::Part { file, part, name } => match put(rt, file, part, name) {
+                Ok(()) => Ok(()),
+                Err(reason) => Err(Unplaced {
+                    reason,
+                    kept: Some(part.as_str()),
+                }),
+            },
+            Goal::InPlace { file, begun } => match emptied(file, begun) {
+                Ok(()) => Ok(()),
+                Err(error) => Err(Unplaced {
+                    reason: error.kind(),
+                    kept: None,
+                }),
+            },
+            Goal::Output(_) | Goal::Errors(_) | Goal::Stream(_) => Ok(()),
         }
-        put
     }
 
-    /// Leaves the file that is named as it was.
+    /// Leaves the named file as it was.
     pub(crate) fn leave(&self, rt: &HostRuntime) {
-        if let Goal::Beside { made, .. } = &self.goal {
-            let _ = fs::remove_file(rt, made.as_str());
+        if let Goal::Part { part, .. } = &self.goal {
+            let _ = fs::remove_file(rt, part.as_str());
         }
     }
 }
 
-/// Gives a file that the system has taken whole the name of another.
-fn put(rt: &HostRuntime, file: &File, made: &str, name: &str) -> Result<(), ErrorKind> {
-    match file.sync_all() {
-        Ok(()) => match fs::rename(rt, made, name) {
-            Ok(()) => Ok(()),
-            Err(error) => Err(error.kind()),
-        },
+/// Gives a part file that the system has taken whole the name of the file, or else copies it there.
+fn put(rt: &HostRuntime, file: &File, part: &str, name: &str) -> Result<(), ErrorKind> {
+    if let Err(error) = file.sync_all() {
+        return Err(error.kind());
+    }
+    if fs::rename(rt, part, name).is_ok() {
+        return Ok(());
+    }
+    match fs::copy(rt, part, name) {
+        Ok(_) => {
+            let _ = fs::remove_file(rt, part);
+            Ok(())
+        }
         Err(error) => Err(error.kind()),
     }
 }
 
-/// A file beside the one that is named, or what is named and is no file.
-fn goal_of(rt: &HostRuntime, name: &str) -> Result<Goal, ErrorKind> {
-    let place = match fs::canonicalize(rt, name) {
-        Ok(path) => copied(rt, path.as_str())?,
-        Err(error) if error.kind() == ErrorKind::NotFound => copied(rt, name)?,
-        Err(error) => return Err(error.kind()),
-    };
-    match fs::metadata(rt, place.as_str()) {
-        Ok(metadata) if metadata.is_dir() => Err(ErrorKind::IsADirectory),
-        Ok(metadata) if !metadata.is_file() => match File::options().write(true).open(rt, name) {
-            Ok(file) => Ok(Goal::Device(file)),
-            Err(error) => Err(error.kind()),
-        },
-        _ => beside(rt, place),
+/// Empties a file that is written in place, before its first bytes.
+fn emptied(file: &File, begun: &mut bool) -> io::Result<()> {
+    if !*begun {
+        file.set_len(0)?;
+        *begun = true;
     }
+    Ok(())
 }
 
-/// A new file beside the one that is named.
-fn beside(rt: &HostRuntime, name: String) -> Result<Goal, ErrorKind> {
-    for number in 0..MOST_NAMES {
-        let Ok(made) = format!(in rt.alloc(); "{name}.part{number}") else {
-            return Err(ErrorKind::OutOfMemory);
-        };
-        match File::create_new(rt, made.as_str()) {
-            Ok(file) => return Ok(Goal::Beside { file, made, name }),
-            Err(error) if error.kind() == ErrorKind::AlreadyExists => {}
-            Err(error) => return Err(error.kind()),
+/// Writes bytes where they go.
+fn write_to(goal: &mut Goal, buf: &[u8]) -> io::Result<usize> {
+    match goal {
+        Goal::Output(out) => out.write(buf),
+        Goal::Errors(out) => out.write(buf),
+        Goal::Stream(file) => file.write(buf),
+        Goal::InPlace { file, begun } => {
+            emptied(file, begun)?;
+            file.write(buf)
         }
-    }
-    Err(ErrorKind::AlreadyExists)
-}
-
-/// A text of its own.
-fn copied(rt: &HostRuntime, text: &str) -> Result<String, ErrorKind> {
-    match String::from_str(rt.alloc(), text) {
-        Ok(copy) => Ok(copy),
-        Err(_) => Err(ErrorKind::OutOfMemory),
+        Goal::Part { file, .. } => file.write(buf),
     }
 }
 
 impl Write for Output {
     fn write(&mut self, buf: &[u8]) -> io::Result<usize> {
-        let written = match &mut self.goal {
-            Goal::Output(out) => out.write(buf),
-            Goal::Device(file) => file.write(buf),
-            Goal::Beside { file, .. } => file.write(buf),
-        };
-        match written {
+        match write_to(&mut self.goal, buf) {
             Ok(count) => {
                 self.written = self.written.saturating_add(count as u128);
                 Ok(count)

@@ -1,8 +1,7 @@
 //! Texts that are asked for.
 use crate::output::Output;
-use ea_messages::{FAULTS, Fault, fault_named};
 use ea_bytes::StdOut;
-use ea_messages::{Outcome, say, show};
+use ea_messages::{FAULTS, Fault, Outcome, fault_named, say, show};
 use ea_options::CommandFault;
 use std::alloc::{AllocError, Global};
 

@@ -2,25 +2,26 @@
 //! they leave. Whatever the schedule, the answer is that of one thread.
 #![tactic(auto)]
 
-mod run;
-mod worker;
 mod laws;
-
+mod run;
 mod settings;
+mod worker;
 
+pub use ea_paths::{
+    Answer, arrivals_alone, arrivals_alone_by, solve_alone, solve_alone_by, unwind, without_walks,
+};
+pub use ea_search::{Finished, Open, finish, finish_in_order};
+pub use laws::{finish_may_begin, ground_is_laid, nothing_open_is_lost, times_are_fifo};
+pub use run::crew::Crew;
+pub use run::ground::Ground;
+pub use run::problem::Posed;
+pub use run::solve_calls::{solve, solve_arrivals, solve_by};
+pub use run::solved::Solved;
+pub use settings::{Pace, Settings};
 pub use worker::company::{Company, Member};
 pub use worker::counters::Counters;
-pub use run::crew::Crew;
-pub use ea_paths::{Answer, arrivals_alone, arrivals_alone_by, solve_alone, solve_alone_by, unwind, without_walks};
-pub use ea_search::{Finished, Open, finish, finish_in_order};
 pub use worker::gate::{Gate, NoGate};
-pub use run::ground::Ground;
 pub use worker::home_heaps::Homing;
-pub use laws::{finish_may_begin, ground_is_laid, nothing_open_is_lost, times_are_fifo};
 pub use worker::means::Means;
-pub use run::problem::Posed;
-pub use settings::{Pace, Settings};
-pub use run::solved::Solved;
-pub use run::solve_calls::{solve, solve_arrivals, solve_by};
 pub use worker::turn::{Flow, Hand, Turn, TurnKind};
 pub use worker::work_loop::{WorkerEnd, work};

@@ -15,14 +15,12 @@ ghost use Rattle.ea_blocks.specs.Borrowed.{texts_now};
 ghost use Rattle.ea_blocks.specs.Streams.{DenotesWhole, GivesWhole};
 ghost use Rattle.ea_input.specs.StreamFaults.{IsStreamFault};
 
-use ea_blocks::{FaultKind, InputFault};
-use crate::plain_lines::{ArcNumbers, leading_arc};
 use crate::number_ranges::{numeral, within};
-use ea_blocks::{LineReader, read_text};
-use ea_blocks::{StreamFault, read_device};
-use ea_blocks::{Way, way_of};
-use ea_base::{MOST_ARCS, MOST_NODES};
-use ea_base::{RawArc, RawGraph};
+use crate::plain_lines::{ArcNumbers, leading_arc};
+use ea_base::{MOST_ARCS, MOST_NODES, RawArc, RawGraph};
+use ea_blocks::{
+    FaultKind, InputFault, LineReader, StreamFault, Way, read_device, read_text, way_of,
+};
 use ea_bytes as text;
 use ea_bytes::ByteIn;
 use std::alloc::Global;

@@ -3,10 +3,9 @@ ghost use Rattle.std.specs.Prelude.{◌≡◌, ◌∷◌, map};
 ghost use Rattle.ea_blocks.specs.Borrowed.{texts_now};
 ghost use Rattle.ea_input.specs.Table as spec;
 
-use ea_blocks::FaultKind;
 use crate::number_ranges::{numeral, within, within_wide};
-use ea_base::{HORIZON, MOST_PERIOD, MOST_STEPS};
-use ea_base::RawKind;
+use ea_base::{HORIZON, MOST_PERIOD, MOST_STEPS, RawKind};
+use ea_blocks::FaultKind;
 
 /// Two fields as numbers.
 #[tactic(auto, unfolding(crate::specs::Table::two_read))]

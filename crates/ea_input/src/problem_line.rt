@@ -3,9 +3,9 @@ ghost use Rattle.std.specs.Prelude.{◌≡◌, ◌∷◌, [], map, codes};
 ghost use Rattle.ea_input.specs.Listing as spec;
 ghost use Rattle.ea_blocks.specs.Borrowed.{result_now, texts_now};
 
-use ea_blocks::FaultKind;
 use crate::number_ranges::{numeral, within};
 use ea_base::MOST_STARTS;
+use ea_blocks::FaultKind;
 
 /// What a line says.
 #[derive(Clone, Copy)]

@@ -15,12 +15,10 @@ ghost use Rattle.ea_blocks.specs.Borrowed.{texts_now};
 ghost use Rattle.ea_blocks.specs.Streams.{DenotesWhole, GivesWhole};
 ghost use Rattle.ea_input.specs.StreamFaults.{IsStreamFault};
 
-use ea_blocks::{FaultKind, InputFault};
 use crate::problem_line::{ListLine, only_number, problem_line};
-use ea_blocks::BlockReader;
-use ea_blocks::{LineReader, read_text};
-use ea_blocks::{StreamFault, read_device};
-use ea_blocks::way_of;
+use ea_blocks::{
+    BlockReader, FaultKind, InputFault, LineReader, StreamFault, read_device, read_text, way_of,
+};
 use ea_bytes as text;
 use ea_bytes::ByteIn;
 use std::alloc::Global;

@@ -5,9 +5,9 @@ ghost use Rattle.ea_blocks.specs.Borrowed.{texts_now};
 ghost use Rattle.ea_blocks.specs.Fault.{within};
 ghost use Rattle.ea_input.specs.StepLines as spec;
 
-use ea_blocks::FaultKind;
 use crate::number_ranges::numeral;
 use ea_base::{HORIZON, MOST_PERIOD, MOST_SPEED};
+use ea_blocks::FaultKind;
 
 /// A class that has steps: whether they are trips, or else speeds; its period; and how many steps there are.
 #[derive(Clone, Copy)]

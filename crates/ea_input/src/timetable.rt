@@ -16,18 +16,15 @@ ghost use Rattle.ea_blocks.specs.Borrowed.{texts_now};
 ghost use Rattle.ea_blocks.specs.Streams.{DenotesWhole, GivesWhole};
 ghost use Rattle.ea_input.specs.StreamFaults.{IsStreamFault};
 
-use ea_blocks::{FaultKind, InputFault};
 use crate::kind_lines::{kind_of, two_read};
-use crate::problem_line::after_kind;
-use ea_blocks::BlockReader;
-use crate::plain_lines::{leading_entry, leading_step};
 use crate::number_ranges::{numeral, within};
-use ea_blocks::{LineReader, read_text};
+use crate::plain_lines::{leading_entry, leading_step};
+use crate::problem_line::after_kind;
 use crate::step_lines::{StepClass, step_of, step_within};
-use ea_blocks::{StreamFault, read_device};
-use ea_blocks::way_of;
-use ea_base::{MOST_ARCS, MOST_CLASSES};
-use ea_base::{RawKind, RawTable};
+use ea_base::{MOST_ARCS, MOST_CLASSES, RawKind, RawTable};
+use ea_blocks::{
+    BlockReader, FaultKind, InputFault, LineReader, StreamFault, read_device, read_text, way_of,
+};
 use ea_bytes as text;
 use ea_bytes::ByteIn;
 use std::alloc::Global;

@@ -5,7 +5,6 @@ ghost use Rattle.ea_road.specs.Queries.{IsSource};
 ghost use Rattle.ea_base.specs.declared.limits.TheConstants.{HORIZON};
 
 use ea_base::HORIZON;
-
 use ea_road::{Query, Source};
 use std::alloc::{AllocError, Global};
 

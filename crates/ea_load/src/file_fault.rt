@@ -3,7 +3,6 @@ ghost use Rattle.std.specs.Prelude.{◌≡◌, Some};
 ghost use Rattle.ea_load.specs.FileNames.{file_word};
 
 use ea_blocks::InputFault;
-
 use ea_bytes::ReadFault;
 use std::alloc::AllocError;
 use std::fmt;

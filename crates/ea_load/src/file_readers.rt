@@ -11,11 +11,10 @@ ghost use Rattle.ea_load.specs.Files.{IsFaultAs, IsFaultIfThere, IsFaultIn, IsFi
 ghost use Rattle.ea_load.specs.Given.{IsTableOf, no_table as none_given};
 
 use crate::file_fault::{FileFault, FileWord};
-use ea_base::{RawGraph, RawTable};
+use ea_base::{MOST_BYTES, RawGraph, RawTable};
 use ea_blocks::{FaultKind, InputFault};
 use ea_bytes::{ByteIn, ReadFault, read_all};
 use ea_input::{read_gr, read_ss, read_tp};
-use ea_base::MOST_BYTES;
 use std::alloc::Global;
 
 /// All bytes of a file.

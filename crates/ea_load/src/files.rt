@@ -9,8 +9,8 @@ ghost use Rattle.ea_load.specs.Given.{AreGiven, Given, IsRoadOf};
 
 use crate::file_fault::{FileFault, FileWord};
 use crate::file_readers::{read_graph, read_sources};
-use crate::road::{Road, read_road};
 use crate::parallel_readers::{read_graph_by, read_pairs_by, read_road_by};
+use crate::road::{Road, read_road};
 use ea_bytes::ByteIn;
 use std::alloc::Global;
 use std::thread::Threads;

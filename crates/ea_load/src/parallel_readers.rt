@@ -14,14 +14,13 @@ ghost use Rattle.ea_load.specs.Given.{AreGiven, Given, IsRoadOf, IsTableOf, give
 ghost use Rattle.ea_load.specs.Sound.{IsSound};
 
 use crate::file_fault::{FileFault, FileWord};
-use crate::files::RunFiles;
 use crate::file_readers::{fault_of, no_table, read_fault_of};
+use crate::files::RunFiles;
 use crate::road::{Road, classed_arcs};
-use ea_base::{RawGraph, RawTable};
+use ea_base::{MOST_BYTES, RawGraph, RawTable};
 use ea_blocks::StreamFault;
 use ea_bytes::ByteIn;
 use ea_input::{read_gr_from, read_p2p_from, read_ss_from, read_tp_from};
-use ea_base::MOST_BYTES;
 use ea_road::Network;
 use ea_travel_times::Timetables;
 use std::alloc::{AllocError, Global};

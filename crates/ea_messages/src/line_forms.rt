@@ -1,7 +1,7 @@
 //! What a line of a file has to be, told by the line that is at fault.
-use ea_load::FileWord;
 use ea_blocks::FaultKind;
 use ea_bytes::first_field;
+use ea_load::FileWord;
 
 const GR_PROBLEM: &str =
     "the problem line is `p sp N M`: N nodes, 1 to 67108864, and M arcs, 0 to 268435456";

@@ -4,13 +4,12 @@ ghost use Rattle.std.specs.List.{flat_map};
 ghost use Rattle.ea_messages.specs.Said;
 ghost use Rattle.ea_messages.specs.Said.{IsSaid, IsShown, IsUnshown, asked_text, line_of, status_of, plain_line, file_line, text_line, written_line, check_line, command_line, command_status, answer_line, answer_status, input_line, input_status, read_line, read_status, refused_line, refused_status};
 
-use ea_load::AnswerFault;
-use ea_check::CheckFault;
-use ea_load::FileWord;
 use ea_blocks::{FaultKind, InputFault};
 use ea_bytes::{ByteOut, ReadFault};
-use ea_report::write_pieces;
+use ea_check::CheckFault;
+use ea_load::{AnswerFault, FileWord};
 use ea_options::CommandFault;
+use ea_report::write_pieces;
 use itoa::Buffer;
 
 /// What the program has to tell beside a report.

@@ -5,7 +5,9 @@ ghost use Rattle.ea_options.specs.Bad.{IsBad};
 use crate::commands::{check_command, pairs_command, rank_command, run_command};
 use crate::values::{number_of_text, text_of};
 use clap::ArgMatches;
-use ea_base::{HORIZON, LEAST_HEAPS, MOST_AT_ONCE, MOST_BATCH, MOST_HEAPS, MOST_TURNS, MOST_WORKERS};
+use ea_base::{
+    HORIZON, LEAST_HEAPS, MOST_AT_ONCE, MOST_BATCH, MOST_HEAPS, MOST_TURNS, MOST_WORKERS,
+};
 use std::alloc::Global;
 use std::convert::AsStr;
 

@@ -8,7 +8,9 @@ ghost use Rattle.ea_options.specs.Meaning.{options_of};
 use crate::options::RunOptions;
 use crate::values::{chosen_number, has_flag, option_number};
 use clap::ArgMatches;
-use ea_base::{HORIZON, LEAST_HEAPS, MOST_AT_ONCE, MOST_BATCH, MOST_HEAPS, MOST_TURNS, MOST_WORKERS};
+use ea_base::{
+    HORIZON, LEAST_HEAPS, MOST_AT_ONCE, MOST_BATCH, MOST_HEAPS, MOST_TURNS, MOST_WORKERS,
+};
 
 /// How many workers, problems and entries go at once; none leaves it to the program.
 #[derive(Clone, Copy)]

@@ -4,8 +4,8 @@ ghost use Rattle.ea_road.specs.Roads.{IsNode};
 ghost use Rattle.ea_search.specs.Answers.{Answered, answer_of, arrival_of, walk_of};
 ghost use Rattle.ea_paths.specs.Stored.{IsStoredAnswer};
 
-use ea_search::Link;
 use ea_road::NONE;
+use ea_search::Link;
 use std::alloc::{AllocError, Global};
 use std::marker::Model;
 

@@ -3,11 +3,10 @@ ghost use Rattle.std.specs.Prelude.{◌≡◌, length, IsTrue};
 ghost use Rattle.ea_road.specs.Roads.{IsNode};
 ghost use Rattle.ea_paths.specs.Replayed.{StayAfter};
 
-use ea_search::{Link, NO_LEVEL};
 use crate::log_replay::{place_of, relevel};
 use crate::ties::Ties;
-use ea_search::Waiting;
 use ea_road::Network;
+use ea_search::{Link, NO_LEVEL, Waiting};
 
 /// Passes a node's level on to a head whose link is by an arc from the node. False where that was given up.
 fn pass_to_head(

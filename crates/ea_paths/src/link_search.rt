@@ -11,13 +11,9 @@ ghost use Rattle.ea_paths.specs.Offers.{IsOne, IsSpent, IsSpread, MeetsBound, Of
 ghost use Rattle.ea_search.specs.Underway.{IsFinished, bound_of};
 
 use crate::answer::Answer;
-use ea_search::Finished;
-use ea_search::{Link, NO_LEVEL};
-use ea_search::Open;
-use ea_search::{AHEAD, touch_heads, touch_nodes};
-use ea_search::Waiting;
 use ea_base::HORIZON;
 use ea_road::{Arc, Network, Query, Source};
+use ea_search::{AHEAD, Finished, Link, NO_LEVEL, Open, Waiting, touch_heads, touch_nodes};
 use ea_travel_times::TravelTimes;
 
 /// Offers a link to a node, which keeps the one of fewer arcs, and of these the one by the lower number.

@@ -12,14 +12,12 @@ ghost use Rattle.ea_paths.specs.Replayed.{AreSettled, IsSeedLink};
 ghost use Rattle.ea_search.specs.Scans.{AwaitsScans, IsPlaced, MeetsAll};
 ghost use Rattle.ea_search.specs.Underway.{bound_of};
 
-use ea_search::{Link, NO_LEVEL, NO_LINK};
-use crate::repair::mend_waiting;
-use ea_search::Noted;
-use crate::log_replay::{number_of, replay};
-use crate::ties::Ties;
 use crate::link_search::{link_all, sow};
-use ea_search::Waiting;
+use crate::log_replay::{number_of, replay};
+use crate::repair::mend_waiting;
+use crate::ties::Ties;
 use ea_road::{Network, Query, Source};
+use ea_search::{Link, NO_LEVEL, NO_LINK, Noted, Waiting};
 use ea_travel_times::TravelTimes;
 
 /// Links the sources that depart at their nodes' labels, over whatever links there are.

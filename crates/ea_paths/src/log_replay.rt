@@ -7,12 +7,10 @@ ghost use Rattle.ea_search.specs.Notes.{by_none, notes_in};
 ghost use Rattle.ea_paths.specs.Replayed.{AreAfter, AreReplayed, HaveOneArc, IsFollowed, IsReachedAgain};
 ghost use Rattle.ea_search.specs.Scans.{IsPlaced};
 
-use ea_search::{Link, NO_LEVEL};
-use ea_search::{Note, note_in};
 use crate::level_updates::pass_on;
 use crate::ties::Ties;
-use ea_search::Waiting;
 use ea_road::Network;
+use ea_search::{Link, NO_LEVEL, Note, Waiting, note_in};
 
 /// Where a node's link stands among so many.
 pub(crate) fn place_of(node: u32, count: usize) -> Option<usize>

@@ -6,11 +6,10 @@ ghost use Rattle.ea_paths.specs.Mended.{AreMended, AreReady, IsReady};
 ghost use Rattle.ea_search.specs.Links.{link};
 ghost use Rattle.ea_paths.specs.Offers.{IsSpent, IsSpread, Offers};
 
-use ea_search::{Link, NO_LEVEL};
 use crate::link_search::spread;
-use ea_search::Waiting;
 use ea_base::HORIZON;
 use ea_road::Network;
+use ea_search::{Link, NO_LEVEL, Waiting};
 use ea_travel_times::TravelTimes;
 
 /// Of so many nodes one is mended at most. Beyond that it may cost less to find all links anew.

@@ -10,20 +10,14 @@ ghost use Rattle.ea_search.specs.Scans.{AwaitsScans};
 ghost use Rattle.ea_search.specs.Underway.{IsFinished};
 
 use crate::answer::Answer;
-use ea_search::finish_noted;
-use ea_search::{Frontier, empty_lists};
-use ea_search::NO_LINK;
-use crate::log_links::link_noted;
-use ea_search::Listed;
-use ea_search::Noted;
-use ea_search::Open;
-use ea_search::search;
-use ea_search::{Reached, Table};
-use crate::ties::Ties;
 use crate::link_search::link_all;
-use ea_search::Waiting;
-use ea_search::Words;
+use crate::log_links::link_noted;
+use crate::ties::Ties;
 use ea_road::{NONE, Network, Query};
+use ea_search::{
+    Frontier, Listed, NO_LINK, Noted, Open, Reached, Table, Waiting, Words, empty_lists,
+    finish_noted, search,
+};
 use ea_travel_times::TravelTimes;
 use std::alloc::{AllocError, Global};
 use std::marker::Model;

@@ -15,9 +15,9 @@ ghost use Rattle.ea_rank.specs.Tallies.{added};
 
 use crate::event::Record;
 use crate::run::Run;
+use ea_base::HORIZON;
 use ea_pool::OutOfMemory;
 use ea_road::laws::fixed_labels_are_least;
-use ea_base::HORIZON;
 use ea_road::{Network, Query};
 use ea_travel_times::{ArrivalFunction, Profiles, TravelTimes};
 use rand_core::Rng;

@@ -13,14 +13,13 @@ ghost use Rattle.ea_load.specs.Asked.{IsAnswered, IsFailed, files_of};
 ghost use Rattle.ea_load.specs.Posed.{AreProblems, times_on};
 ghost use Rattle.ea_rank_command.specs.Ranks.{AddsRanks, AreRanks, HasOneSource, IsRanking, IsRankingCut, StopsRanks, heaps_of, rank_asks, rank_line};
 
-use ea_load::AnswerFault;
-use ea_load::{Road, departures_fit, read_run, run_queries};
+use ea_base::{Silent, Watch};
 use ea_bytes::{ByteIn, ByteOut};
+use ea_load::{AnswerFault, Road, departures_fit, read_run, run_queries};
+use ea_options::RunOptions;
 use ea_rank::{Summary, ranks, record_run};
 use ea_report::{Direct, WriteFault};
 use ea_road::{Query, Source};
-use ea_base::{Silent, Watch};
-use ea_options::RunOptions;
 use itoa::Buffer;
 use rand_core::SeedableRng;
 use rand_xoshiro::Xoshiro256PlusPlus;

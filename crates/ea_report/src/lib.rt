@@ -7,12 +7,12 @@ mod pending_text;
 mod report;
 mod sender;
 mod stats;
+mod text_pieces;
 mod walk_texts;
-mod pieces;
 
 pub use direct_text::Direct;
 pub use lines::push_node;
 pub use report::{ReportOptions, WriteFault, WriteFaultKind, write_problem};
 pub use stats::{Totals, write_stats};
+pub use text_pieces::write_pieces;
 pub use walk_texts::ArcTexts;
-pub use pieces::write_pieces;

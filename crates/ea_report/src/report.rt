@@ -16,9 +16,9 @@ use crate::lines::{push_node, push_pair, push_source};
 use crate::pending_text::Pending;
 use crate::sender::send;
 use crate::walk_texts::ArcTexts;
+use ea_bytes::ByteOut;
 use ea_paths::Answer;
 use ea_road::{Network, Query, Source};
-use ea_bytes::ByteOut;
 use std::alloc::Global;
 use thiserror::Error;
 

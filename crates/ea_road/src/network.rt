@@ -4,8 +4,8 @@ ghost use Rattle.ea_road.specs.Roads.{AreSideBySide, FitsNodes, IsArc, IsNetwork
 
 use crate::arc::Arc;
 use crate::arc_list::ArcList;
-use crate::tail_index::{Room, Sums, index_by_tail, numbers_to, sums_of, without_tails};
 use crate::leaving_arc::LeavingArc;
+use crate::tail_index::{Room, Sums, index_by_tail, numbers_to, sums_of, without_tails};
 use ea_base::{MOST_ARCS, MOST_NODES};
 use std::alloc::{AllocError, Global};
 use std::marker::Model;

@@ -10,9 +10,9 @@ ghost use Rattle.ea_search.specs.Notes.{AreHad};
 ghost use Rattle.ea_search.specs.Scans.{AddsHad, AwaitsScans, FallsBy, IsHadAt, KeepsLess, KeepsMet, Scanned, number_at};
 ghost use Rattle.ea_search.specs.Underway.{IsFinished, IsUnderway, bound_of};
 
+use crate::labels::table::{Bare, Table};
 use crate::queue::open::Open;
 use crate::queue::open_list::Opens;
-use crate::labels::table::{Bare, Table};
 use ea_base::HORIZON;
 use ea_road::{Arc, NONE, Network, Query};
 use ea_travel_times::TravelTimes;

@@ -1,8 +1,8 @@
 //! Reads of memory ahead of the scans that need it. The loads of each loop do not wait for one another, so that many of
 //! them are under way at once, the more the less there is to do for each. Of the numbers that come back nothing is promised.
 
-use crate::link::Link;
 use crate::labels::table::{Table, touched};
+use crate::link::Link;
 use ea_road::{LeavingArc, Network};
 
 /// How many nodes are read ahead at once.

@@ -8,8 +8,7 @@ ghost use Rattle.ea_travel_times.specs.Trips.{AreTrips};
 use crate::HORIZON;
 use crate::steps::steps_from;
 use crate::timetable::Timetable;
-use ea_base::{MOST_PERIOD, MOST_SPEED};
-use ea_base::RawKind;
+use ea_base::{MOST_PERIOD, MOST_SPEED, RawKind};
 
 /// Whether the times of steps ascend.
 fn ascend(steps: &[(u64, u64)]) -> bool

@@ -6,13 +6,12 @@ ghost use Rattle.ea_options.specs.Limits.{AreOptions};
 ghost use Rattle.earliest.specs.Runs.{run_asks, pair_asks};
 
 use crate::reports::report_all;
-use ea_load::AnswerFault;
-use ea_batch::Watched;
-use ea_load::{departures_fit, pair_queries, read_run_by, read_pairs, run_queries};
-use ea_bytes::{ByteIn, ByteOut};
-use ea_report::Totals;
 use ea_base::{Silent, Watch};
+use ea_batch::Watched;
+use ea_bytes::{ByteIn, ByteOut};
+use ea_load::{AnswerFault, departures_fit, pair_queries, read_pairs, read_run_by, run_queries};
 use ea_options::RunOptions;
+use ea_report::Totals;
 use std::alloc::Global;
 use std::thread::Threads;
 

@@ -5,11 +5,10 @@ ghost use Rattle.ea_load.specs.Asked.{files_of};
 ghost use Rattle.ea_options.specs.Limits.{AreOptions};
 ghost use Rattle.earliest.specs.Checks.{IsJudged, IsUnjudged};
 
-use ea_load::AnswerFault;
-use ea_check::CheckFault;
-use ea_load::{departures_fit, read_report, read_run, run_queries};
-use ea_bytes::ByteIn;
 use ea_base::{Silent, Watch};
+use ea_bytes::ByteIn;
+use ea_check::CheckFault;
+use ea_load::{AnswerFault, departures_fit, read_report, read_run, run_queries};
 use ea_options::RunOptions;
 use std::alloc::Global;
 

@@ -6,15 +6,15 @@ ghost use Rattle.earliest.specs.Performed.{IsPerformed, outcome_by, performed_on
 
 use crate::answers::{answer_watched, pairs_watched};
 use crate::checks::check_watched;
-use ea_load::AnswerFault;
-use ea_check::CheckFault;
+use ea_base::Watch;
 use ea_batch::Watched;
 use ea_bytes::{ByteIn, ByteOut};
+use ea_check::CheckFault;
+use ea_load::AnswerFault;
 use ea_messages::{Opened, Outcome};
+use ea_options::Command;
 use ea_rank_command::rank_watched;
 use ea_report::Totals;
-use ea_base::Watch;
-use ea_options::Command;
 use std::alloc::Global;
 use std::thread::Threads;
 

@@ -3,20 +3,19 @@
 
 mod answers;
 mod checks;
-mod solver_choice;
-pub mod laws;
 mod commands;
+pub mod laws;
 mod reports;
+mod solver_choice;
 mod totals;
 
 pub use answers::{answer, answer_pairs};
 pub use checks::check_report;
-pub use ea_load::AnswerFault;
+pub use commands::{Performed, outcome_of, perform};
+pub use ea_base::{Silent, Watch};
 pub use ea_check::CheckFault;
-pub use ea_load::{FileFault, FileWord};
+pub use ea_load::{AnswerFault, FileFault, FileWord};
 pub use ea_messages::{Opened, Outcome, say, show};
+pub use ea_options::{BadValue, Command, CommandFault, RunOptions, asks_to_explain, bad_value_of};
 pub use ea_rank_command::rank_report;
 pub use ea_report::Totals;
-pub use ea_base::{Silent, Watch};
-pub use ea_options::{BadValue, Command, CommandFault, RunOptions, asks_to_explain, bad_value_of};
-pub use commands::{Performed, outcome_of, perform};

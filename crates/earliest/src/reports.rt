@@ -17,14 +17,13 @@ ghost use Rattle.earliest.specs.Workers.{settings_by};
 
 use crate::solver_choice::{Found, find, threads_at_once, workers_of};
 use crate::totals::{add_totals, no_totals};
-use ea_load::AnswerFault;
+use ea_base::Watch;
 use ea_batch::{Progress, Watched, report_ahead};
-use ea_load::Road;
 use ea_bytes::ByteOut;
+use ea_load::{AnswerFault, Road};
+use ea_options::RunOptions;
 use ea_report::{Totals, write_stats};
 use ea_road::Query;
-use ea_base::Watch;
-use ea_options::RunOptions;
 use std::alloc::Global;
 use std::thread::Threads;
 

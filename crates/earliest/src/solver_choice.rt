@@ -12,12 +12,14 @@ ghost use Rattle.ea_batch.specs.Solved.{AnswersOn, ArrivesOn};
 ghost use Rattle.earliest.specs.Workers.{AreAtHome, settings_with};
 
 use crate::totals::work_of;
-use ea_engine::{Answer, Company, Counters, Crew, Flow, Homing, NoGate, Settings, Turn, solve, solve_arrivals};
-use ea_load::Road;
 use ea_base::{MOST_AT_ONCE, MOST_TURNS, MOST_WORKERS};
+use ea_engine::{
+    Answer, Company, Counters, Crew, Flow, Homing, NoGate, Settings, Turn, solve, solve_arrivals,
+};
+use ea_load::Road;
+use ea_options::RunOptions;
 use ea_report::Totals;
 use ea_road::Query;
-use ea_options::RunOptions;
 use rand_core::{Rng, SeedableRng};
 use rand_xoshiro::Xoshiro256PlusPlus;
 use std::alloc::{AllocError, Global};

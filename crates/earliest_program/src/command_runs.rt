@@ -3,9 +3,12 @@ ghost use Rattle.ea_messages.specs.Named.{HasFiles};
 ghost use Rattle.ea_options.specs.Limits.{HasLimits};
 
 use crate::stored_run::stored;
-use ea_messages::FORMATS;
 use ea_bytes::StdOut;
-use ea_cli::{Line, Names, explain_fault, names_of, open_all, open_output, show_text, tell_end, tell_unopened, tells_progress};
+use ea_cli::{
+    Line, Names, explain_fault, names_of, open_all, open_output, show_text, tell_end,
+    tell_unopened, tells_progress,
+};
+use ea_messages::FORMATS;
 use earliest::{Command, Performed, outcome_of, perform};
 use std::thread::Threads;
 
@@ -63,7 +66,13 @@ fn carry_out_with<H: Threads + Sync>(
     };
     line.clear();
     let is_accepted = matches!(performed, Ok(Performed::Checked(Ok(()))));
-    let status = tell_end(rt, outcome_of(performed), &mut sources, &output, explains);
+    let status = tell_end(
+        rt,
+        outcome_of(performed),
+        &mut sources,
+        &mut output,
+        explains,
+    );
     if is_accepted && status == 0 && (is_asked || explains) {
         line.tell_checked();
     }

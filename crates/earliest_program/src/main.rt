@@ -1,11 +1,11 @@
 //! The program `earliest`: opens the files that its words name, and hands them to the calls of the library.
 #![tactic(auto)]
 
-mod runs;
-mod stored;
+mod command_runs;
+mod stored_run;
 
 use crate::command_runs::carry_out;
-use ea_cli::{refuse, tell, words_of};
+use ea_cli::{hold_descriptors, refuse, tell, words_of};
 use earliest::{Outcome, RunOptions, asks_to_explain};
 use std::io::IsTerminal;
 use std::process::ExitCode;
@@ -17,6 +17,7 @@ fn main(rt: HostRuntime) -> ExitCode {
 
 /// Does what the words ask for, and answers the status. Faults are explained where the words ask for it, and on a terminal.
 fn run<H: Threads + Sync>(rt: &HostRuntime, threads: &H) -> u8 {
+    let _held = hold_descriptors(rt);
     let words = match words_of(rt) {
         Ok(words) => words,
         Err(fault) => return tell(rt, &Outcome::Command(fault)),

@@ -3,7 +3,6 @@ ghost use Rattle.std.specs.Prelude.{◌≤◌};
 ghost use Rattle.ea_options.specs.Limits.{AreOptions};
 
 use ea_blocks::{FaultKind, InputFault};
-
 use ea_bytes::{ReadFault, StdIn, StdOut};
 use earliest::{AnswerFault, CheckFault, FileWord, RunOptions, check_report, rank_report};
 use std::alloc::Global;

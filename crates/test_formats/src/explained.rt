@@ -1,8 +1,8 @@
 //! Texts that no clause speaks of.
 use crate::asserts::assert_none_wrong;
-use ea_messages::*;
-use ea_load::FileWord;
 use ea_blocks::FaultKind;
+use ea_load::FileWord;
+use ea_messages::*;
 use std::io::ErrorKind;
 
 /// Whether a word names the fault of this number and name.

@@ -2,13 +2,13 @@
 ghost use Rattle.ea_report.specs.Asked.{IsOf};
 
 use crate::counts::taken;
-use ea_paths::{Answer, arrivals_alone, solve_alone};
-use ea_search::Open;
 use ea_blocks::{FaultKind, InputFault};
 use ea_bytes::StdOut;
 use ea_input::{read_gr, read_p2p, read_ss, read_tp};
+use ea_paths::{Answer, arrivals_alone, solve_alone};
 use ea_report::{ReportOptions, write_problem};
 use ea_road::{Arc, Network, Query, Source, is_problem};
+use ea_search::Open;
 use ea_travel_times::Timetables;
 use std::alloc::{AllocError, Global};
 use std::io::{self, Write};

@@ -1,10 +1,10 @@
 ghost use Rattle.std.specs.Prelude.{◌≡◌, ◌<◌, ◌≤◌};
 
 use crate::asserts::{assert_none_wrong, assert_that};
-use ea_paths::{Answer, solve_alone};
 use ea_base::RawGraph;
 use ea_bytes::{ByteOut, Device, StdOut};
 use ea_input::read_gr;
+use ea_paths::{Answer, solve_alone};
 use ea_report::*;
 use ea_road::{Network, Query, Source, arcs_of, is_problem};
 use ea_travel_times::Timetables;

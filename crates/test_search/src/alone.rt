@@ -2,10 +2,10 @@ ghost use Rattle.std.specs.Prelude.{◌≡◌, ◌+◌, ◌<◌, ◌^◌};
 
 use crate::asserts::{assert_none_wrong, assert_that};
 use crate::refused::given::{four_nodes, from_first};
-use ea_search::*;
-use ea_paths::*;
 use ea_base::{HORIZON, RawKind};
+use ea_paths::*;
 use ea_road::{Network, Query, Source, is_problem};
+use ea_search::*;
 use ea_travel_times::Timetables;
 use std::alloc::{AllocError, Global};
 use std::test::Fail;

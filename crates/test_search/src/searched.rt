@@ -4,8 +4,8 @@ ghost use Rattle.ea_road.specs.Queries.{IsSource};
 
 use crate::alone::found;
 use crate::asserts::assert_none_wrong;
-use ea_paths::{Answer, Search};
 use ea_base::RawKind;
+use ea_paths::{Answer, Search};
 use ea_road::{Arc, Network, Query, Source, is_problem};
 use ea_travel_times::Timetables;
 use rand_core::{Rng, SeedableRng};

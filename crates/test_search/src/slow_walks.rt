@@ -3,9 +3,9 @@ ghost use Rattle.std.specs.Prelude.{◌<◌};
 
 use crate::alone::from_sources;
 use crate::asserts::assert_that;
-use ea_search::*;
 use ea_paths::*;
 use ea_road::NONE;
+use ea_search::*;
 use std::alloc::{AllocError, Global};
 use std::test::Fail;
 use test_support::networks::Row;

@@ -6,9 +6,11 @@ ghost use Rattle.ea_pool.specs.Seats.{account_of, IsSeatOf};
 ghost use Rattle.ea_base.specs.declared.limits.TheConstants.{SHARES};
 
 use crate::asserts::{assert_none_wrong, assert_that};
-use ea_labels::{LabelSeat, Labels, Offered};
-use ea_pool::{Batch, ClosedPool, Entry, MOST_IN_BATCH, OutOfMemory, Pool, PoolSeat, Popped, PoppedSome, Solo};
 use ea_base::HORIZON;
+use ea_labels::{LabelSeat, Labels, Offered};
+use ea_pool::{
+    Batch, ClosedPool, Entry, MOST_IN_BATCH, OutOfMemory, Pool, PoolSeat, Popped, PoppedSome, Solo,
+};
 use ea_road::{AnyPair, NONE};
 use std::alloc::{Allocator, Global};
 use std::test::Fail;

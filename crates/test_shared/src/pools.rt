@@ -5,7 +5,10 @@ ghost use Rattle.ea_pool.specs.Seats.{account_of, IsSeatOf};
 
 use crate::asserts::{assert_none_wrong, assert_that};
 use crate::heaps::{Step, entry, gives_four, key_at, wrong_in_solo, wrong_step_alone};
-use ea_pool::{Batch, Buckets, ClosedPool, Entry, EntryHeap, LeastHeap, OpenHeap, OutOfMemory, Pool, PoolSeat, Popped, PushRefused, Solo};
+use ea_pool::{
+    Batch, Buckets, ClosedPool, Entry, EntryHeap, LeastHeap, OpenHeap, OutOfMemory, Pool, PoolSeat,
+    Popped, PushRefused, Solo,
+};
 use ea_road::{AnyPair, Known};
 use std::alloc::Global;
 use std::test::Fail;

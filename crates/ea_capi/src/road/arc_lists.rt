@@ -11,14 +11,13 @@ ghost use Rattle.ea_load.specs.Texts.{IsTableFault, text_if_any};
 ghost use Rattle.ea_capi.specs.Lists.{AreEven, IsMade, IsNoRoad, IsNoRoadWith, IsRoadOfLists, IsRoadWith, arc_lists, arcs_to};
 
 use crate::checks::refusal;
-use crate::handle::handle::Handle;
 use crate::fault_numbers::{Fault, LENGTHS_DIFFER, OUT_OF_MEMORY, OUT_OF_RANGE, tell};
+use crate::handle::handle::Handle;
 use crate::road::roads::keep;
-use ea_load::{FileFault, FileWord, Road};
-use ea_base::RawTable;
+use ea_base::{MOST_ARCS, RawTable};
 use ea_blocks::{FaultKind, InputFault};
 use ea_input::read_tp;
-use ea_base::MOST_ARCS;
+use ea_load::{FileFault, FileWord, Road};
 use ea_road::{Arc, Network};
 use ea_travel_times::Timetables;
 use std::alloc::{AllocError, Global};

@@ -4,9 +4,9 @@ ghost use Rattle.ea_road.specs.Roads.{top_class};
 ghost use Rattle.ea_capi.specs.Roads.{IsKept, IsRead};
 ghost use Rattle.ea_capi.specs.States.{road_in};
 
+use crate::fault_numbers::{DONE, Fault, OUT_OF_MEMORY, tell};
 use crate::handle::content::{Content, Terrain};
 use crate::handle::handle::Handle;
-use crate::fault_numbers::{DONE, Fault, OUT_OF_MEMORY, tell};
 use ea_load::{Road, road_of_texts};
 use std::alloc::{AllocError, Global};
 use std::sync::Arc;

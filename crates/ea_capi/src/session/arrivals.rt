@@ -7,9 +7,9 @@ ghost use Rattle.ea_search.specs.Answers.{arrival_of};
 ghost use Rattle.ea_capi.specs.Calls.{AreTold, IsTold};
 ghost use Rattle.ea_capi.specs.States.{session_in};
 
+use crate::fault_numbers::{DONE, NO_SEARCH, NO_SUCH_NODE, NOT_ASKED, ROOM_TOO_SMALL};
 use crate::handle::content::Content;
 use crate::handle::handle::Handle;
-use crate::fault_numbers::{DONE, NO_SEARCH, NO_SUCH_NODE, NOT_ASKED, ROOM_TOO_SMALL};
 use ea_paths::Answer;
 use ea_road::NONE;
 use std::alloc::Global;

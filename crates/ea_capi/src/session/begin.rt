@@ -3,9 +3,9 @@ ghost use Rattle.std.specs.Prelude.{◌≡◌, IfErr, IfOk, None, Some, nat_lt};
 ghost use Rattle.ea_capi.specs.Calls.{IsBegun, IsHeld, IsNew, IsThere};
 ghost use Rattle.ea_capi.specs.States.{road_in};
 
+use crate::fault_numbers::{DONE, NO_ROAD, OUT_OF_MEMORY};
 use crate::handle::content::{Content, Session};
 use crate::handle::handle::Handle;
-use crate::fault_numbers::{DONE, NO_ROAD, OUT_OF_MEMORY};
 use std::alloc::{AllocError, Global};
 
 /// A search on the road of a content: none where it is no road, an error where memory is refused.

@@ -6,9 +6,9 @@ ghost use Rattle.ea_capi.specs.Sessions.{IsStart, starts};
 ghost use Rattle.ea_capi.specs.Calls.{AreGoodStarts, AreStarts, IsDone, IsDoneOrScarce, IsFound, IsPair, IsQueried, from_starts, from_to};
 ghost use Rattle.ea_capi.specs.States.{road_of, session_in};
 
+use crate::fault_numbers::{DONE, LENGTHS_DIFFER, NO_SEARCH, NO_SUCH_NODE, OUT_OF_MEMORY};
 use crate::handle::content::{Content, Session};
 use crate::handle::handle::Handle;
-use crate::fault_numbers::{DONE, LENGTHS_DIFFER, NO_SEARCH, NO_SUCH_NODE, OUT_OF_MEMORY};
 use ea_base::HORIZON;
 use ea_road::{Query, Source};
 use std::alloc::{AllocError, Global};

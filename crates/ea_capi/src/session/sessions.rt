@@ -7,11 +7,11 @@ ghost use Rattle.ea_search.specs.Answers.{HasArrivals, IsAnswer};
 ghost use Rattle.ea_capi.specs.Sessions.{IsAnswered, IsSame, IsStart, answers_on};
 ghost use Rattle.ea_capi.specs.States.{road_of};
 
-use crate::handle::content::{Session, Terrain};
 use crate::fault_numbers::{BEYOND_HORIZON, NO_SUCH_NODE};
+use crate::handle::content::{Session, Terrain};
+use ea_base::HORIZON;
 use ea_load::Road;
 use ea_paths::Search;
-use ea_base::HORIZON;
 use ea_road::{Query, Source};
 use std::alloc::{AllocError, Global};
 use std::sync::Arc;

@@ -4,11 +4,11 @@ ghost use Rattle.ea_search.specs.Answers.{walk_of};
 ghost use Rattle.ea_capi.specs.Calls.{IsWalked, IsWhyNot, walks_told};
 ghost use Rattle.ea_capi.specs.States.{session_in};
 
-use crate::handle::content::Content;
-use crate::handle::handle::Handle;
 use crate::fault_numbers::{
     DONE, NO_SEARCH, NO_SUCH_NODE, NO_WALKS, NOT_ASKED, NOT_REACHED, OUT_OF_MEMORY, ROOM_TOO_SMALL,
 };
+use crate::handle::content::Content;
+use crate::handle::handle::Handle;
 use ea_paths::Answer;
 use std::alloc::Global;
 

@@ -5,8 +5,8 @@ ghost use Rattle.ea_check.specs.Form.{AreArcNumbers, IsTime, IsWalkLine, SaysSou
 
 use crate::form::number_count::count_numbers;
 use ea_base::HORIZON;
-use ea_road::{NONE, Source};
 use ea_bytes::{first_field, number};
+use ea_road::{NONE, Source};
 
 /// The fields of a line of three fields.
 fn three_fields(text: &[u8]) -> Option<(&[u8], &[u8], &[u8])>

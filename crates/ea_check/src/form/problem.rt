@@ -7,8 +7,8 @@ ghost use Rattle.ea_check.specs.Aheads.{most_lines};
 
 use crate::fault::CheckFault;
 use crate::form::line::{Ahead, look_ahead};
-use crate::form::reported::{Reported, SaidLine, WalkLine};
 use crate::form::line_form::{is_walk_line, says_source, says_walk, time_said};
+use crate::form::reported::{Reported, SaidLine, WalkLine};
 use ea_road::{NONE, Source};
 use std::alloc::Global;
 

@@ -8,8 +8,8 @@ ghost use Rattle.ea_bytes.specs.Text.{fields_of};
 ghost use Rattle.ea_check.specs.Form.{AreShort, arcs_of};
 
 use crate::form::walk_arcs::read_arcs;
-use ea_search::Link;
 use ea_report::ArcTexts;
+use ea_search::Link;
 use std::alloc::{AllocError, Global};
 
 /// Whether the arcs are those that the links of a node lead along.

@@ -9,13 +9,13 @@ ghost use Rattle.ea_check.specs.Starts.{AreOrdered};
 ghost use Rattle.ea_check.specs.Nodes.{IsFirstOther, IsOtherAt};
 ghost use Rattle.ea_check.specs.Verdicts.{AreUnimproved, Improves, IsFirst, IsNotLeast, IsReported, IsTask, IsVerdict, IsWellFormed, reported_time};
 
-use crate::judge::canonical_walk::Comparing;
 use crate::fault::CheckFault;
 use crate::form::reported::Reported;
+use crate::judge::canonical_walk::Comparing;
 use crate::judge::walk_sources::attains;
-use ea_search::{Link, NO_LEVEL};
 use ea_base::HORIZON;
 use ea_road::{NONE, Network, Query, Source};
+use ea_search::{Link, NO_LEVEL};
 use ea_travel_times::TravelTimes;
 use std::alloc::Global;
 

@@ -11,7 +11,6 @@ ghost use Rattle.ea_check.specs.Verdicts.{IsTask};
 ghost use Rattle.ea_check.specs.declared.judge.walk_sources.Side.TheVariants.{Here, Before, Beyond};
 
 use ea_road::{Network, Query, Source, run_walk};
-
 use ea_travel_times::TravelTimes;
 use std::alloc::{AllocError, Global};
 

@@ -3,14 +3,14 @@ ghost use Rattle.std.specs.Prelude.{◌≡◌, ◌*◌, [], IfOk};
 ghost use Rattle.ea_engine.specs.Limits.{AreSettings};
 ghost use Rattle.ea_engine.specs.Reserved.{AreArrays, AreRooms, AreUnfilled};
 
-use crate::worker::means::Seats;
 use crate::run::ran::Results;
 use crate::run::row::Place;
 use crate::settings::Settings;
-use ea_search::Open;
+use crate::worker::means::Seats;
 use ea_labels::Labels;
 use ea_pool::{EntryHeap, LeastHeap, OpenHeap, Pool};
 use ea_road::Known;
+use ea_search::Open;
 use rand_core::Rng;
 use std::alloc::{AllocError, Global};
 

@@ -9,12 +9,12 @@ ghost use Rattle.ea_engine.specs.Problems.{IsPosed};
 ghost use Rattle.ea_engine.specs.Seated.{tables, AreSeatsOf};
 
 use crate::run::drained::drain;
-use crate::worker::means::Seats;
 use crate::run::problem::Posed;
-use ea_search::Open;
+use crate::worker::means::Seats;
 use ea_labels::Labels;
 use ea_pool::{EntryHeap, Pool};
 use ea_road::Known;
+use ea_search::Open;
 use std::alloc::Global;
 
 /// A table of labels, and the nodes that are to be scanned.

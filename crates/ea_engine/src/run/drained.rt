@@ -2,8 +2,8 @@
 ghost use Rattle.std.specs.Prelude.{◌≡◌, ℕ, ◌<◌, ◌≤◌, ◌+◌, ◌^◌, length, Contains};
 ghost use Rattle.ea_pool.specs.declared.heap.entry.Entry.{Entry};
 
-use ea_search::Open;
 use ea_pool::{ClosedPool, EntryHeap};
+use ea_search::Open;
 use std::alloc::Global;
 
 /// Lets the node of each entry that is left wait, and tells how many are left.

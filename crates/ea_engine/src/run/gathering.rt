@@ -14,17 +14,17 @@ ghost use Rattle.ea_engine.specs.Rowed.{IsFirstEnd, IsDoneRow, AreGathered, IsDo
 ghost use Rattle.ea_engine.specs.Seated.{tables, AreSeatsOf};
 ghost use Rattle.ea_engine.specs.Worked.{hand_size};
 
-use crate::worker::means::Seats;
 use crate::run::problem::Posed;
 use crate::run::ran::Results;
 use crate::run::row::Place;
 use crate::run::seeds::Seeds;
+use crate::worker::means::Seats;
 use crate::worker::turn::Hand;
 use crate::worker::work_loop::WorkerEnd;
-use ea_search::Open;
 use ea_labels::Labels;
 use ea_pool::{Batch, Entry, EntryHeap, LeastHeap, Pool};
 use ea_road::Known;
+use ea_search::Open;
 use std::alloc::Global;
 
 /// What is gathered of the workers that are done: their seats joined to one of each kind, the nodes of what they hand

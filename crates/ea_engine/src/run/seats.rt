@@ -6,8 +6,8 @@ ghost use Rattle.ea_engine.specs.Rows.{IsSeated, IsSeatedRow};
 ghost use Rattle.ea_engine.specs.Seated.{tables, AreSeatsOf};
 ghost use Rattle.ea_engine.specs.Splits.{HasGiven};
 
-use crate::worker::means::{Means, Seats};
 use crate::run::row::{Place, Ready};
+use crate::worker::means::{Means, Seats};
 use ea_labels::Labels;
 use ea_pool::{EntryHeap, Pool};
 use ea_road::Known;

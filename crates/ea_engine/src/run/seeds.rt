@@ -14,12 +14,12 @@ ghost use Rattle.ea_engine.specs.Seeds.{seeded_by, back_by, AreSeeds, HasPushed,
 ghost use Rattle.ea_engine.specs.Seeds.{Lowers, Sows, SowsSeed};
 
 use crate::run::ground::Ground;
-use crate::worker::means::Seats;
 use crate::run::problem::Posed;
-use ea_search::Open;
+use crate::worker::means::Seats;
 use ea_labels::Offered;
 use ea_pool::{Entry, EntryHeap, Pool, PoolSeat};
 use ea_road::{Known, Source};
+use ea_search::Open;
 use ea_travel_times::TravelTimes;
 use std::alloc::Global;
 

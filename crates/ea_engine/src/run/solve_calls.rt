@@ -7,10 +7,10 @@ ghost use Rattle.ea_engine.specs.Limits.{AreSettings};
 ghost use Rattle.ea_engine.specs.Runs.{IsRunOf, ran_of};
 
 use crate::run::crew::Crew;
-use crate::worker::gate::Gate;
-use crate::run::ran::{Ran, Results};
 use crate::run::known_run::{Ended, run_named};
+use crate::run::ran::{Ran, Results};
 use crate::run::solved::Solved;
+use crate::worker::gate::Gate;
 use crate::worker::turn::{Flow, Turn};
 use ea_paths::{Answer, unwind, without_walks};
 use ea_road::{Network, Query};

@@ -1,6 +1,6 @@
 //! What a run answers.
-use crate::worker::counters::Counters;
 use crate::run::ran::{Ran, Results};
+use crate::worker::counters::Counters;
 use ea_paths::Answer;
 
 /// The earliest arrivals, and how the run went that found them.

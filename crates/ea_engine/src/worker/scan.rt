@@ -10,12 +10,12 @@ ghost use Rattle.ea_engine.specs.Worked.{OnlySaw, Progress};
 ghost use Rattle.ea_engine.specs.Scans.{stops_scan, lowered_by, pushes_by, LeavesFew};
 
 use crate::run::ground::Ground;
-use crate::worker::means::Means;
 use crate::run::problem::Posed;
+use crate::worker::means::Means;
 use crate::worker::push::push_fresh;
+use ea_base::HORIZON;
 use ea_labels::{LabelSeat, Offered};
 use ea_pool::{Batch, Entry, EntryHeap};
-use ea_base::HORIZON;
 use ea_road::{Arc, Known, Leaving};
 use ea_travel_times::TravelTimes;
 use rand_core::Rng;

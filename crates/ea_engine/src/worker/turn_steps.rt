@@ -16,13 +16,13 @@ ghost use Rattle.ea_engine.specs.Turns.{is_refused};
 ghost use Rattle.ea_engine.specs.Words.{after_words};
 ghost use Rattle.ea_engine.specs.Worked.{IsTurn};
 
-use crate::worker::prefetch::read_ahead;
 use crate::run::ground::Ground;
-use crate::worker::means::Means;
 use crate::run::problem::Posed;
+use crate::worker::means::Means;
+use crate::worker::prefetch::read_ahead;
 use crate::worker::push::push_fresh;
-use crate::worker::visit::{idle_turn, visit};
 use crate::worker::turn::{Lists, TurnEnd, TurnKind};
+use crate::worker::visit::{idle_turn, visit};
 use ea_pool::{Batch, EntryHeap, Pool, PoolSeat, PoppedSome};
 use ea_road::Known;
 use ea_travel_times::TravelTimes;

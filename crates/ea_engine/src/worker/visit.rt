@@ -15,8 +15,8 @@ ghost use Rattle.ea_engine.specs.Turns.{is_idle, is_refused, is_leave, IsShaped,
 ghost use Rattle.ea_engine.specs.Worked.{kit, Progress, IsBrokenAs, IsLeftAs};
 
 use crate::run::ground::Ground;
-use crate::worker::means::Means;
 use crate::run::problem::Posed;
+use crate::worker::means::Means;
 use crate::worker::scan::scan_entry;
 use crate::worker::turn::{Flow, Turn, TurnEnd, TurnKind};
 use ea_labels::{LabelSeat, Labels};

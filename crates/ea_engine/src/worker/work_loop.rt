@@ -6,14 +6,14 @@ ghost use Rattle.ea_engine.specs.Seated.{AreSeatsOf, kit_of, kit_left};
 ghost use Rattle.ea_engine.specs.Turns.{is_idle, is_refused, is_leave};
 ghost use Rattle.ea_engine.specs.Worked.{IsWork};
 
-use crate::worker::counters::Counters;
-use crate::worker::gate::Gate;
 use crate::run::ground::Ground;
-use crate::worker::means::Means;
 use crate::run::problem::Posed;
 use crate::settings::Pace;
-use crate::worker::turn_steps::take_turn;
+use crate::worker::counters::Counters;
+use crate::worker::gate::Gate;
+use crate::worker::means::Means;
 use crate::worker::turn::{Flow, Hand, Lists, Turn, TurnKind};
+use crate::worker::turn_steps::take_turn;
 use ea_labels::LabelSeat;
 use ea_pool::{EntryHeap, LeastHeap, PoolSeat};
 use ea_road::Known;

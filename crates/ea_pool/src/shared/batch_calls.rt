@@ -11,8 +11,8 @@ ghost use Rattle.ea_pool.specs.Seats.{account_of, heaps_of, IsSeatOf};
 ghost use Rattle.ea_pool.specs.Tries.{LookedAt, WasBusy, MissedHeap, Missed, TookThere, TookAtTry, TookLeast, TookLesser};
 
 use crate::SHARES;
-use crate::heap::batch::{Batch, pop_some, push_all};
 use crate::draws::{draw_first, draw_second, draw_try, pick};
+use crate::heap::batch::{Batch, pop_some, push_all};
 use crate::heap::entry_heap::EntryHeap;
 use crate::shared::pool::Pool;
 use crate::shared::reply::{PoppedSome, PushAllRefused};

@@ -4,9 +4,9 @@ ghost use Rattle.ea_pool.specs.Entries.{SameEntries, AreKnown};
 ghost use Rattle.ea_pool.specs.Pools.{Opened, IsRunEnd};
 ghost use Rattle.ea_pool.specs.Seats.{account_of, heaps_of, IsSeatOf};
 
-use crate::shared::closed_pool::ClosedPool;
 use crate::heap::entry_heap::{EntryHeap, OpenHeap, Slot};
 use crate::heap::least_heap::LeastHeap;
+use crate::shared::closed_pool::ClosedPool;
 use crate::shared::pool::Pool;
 use crate::shared::seat::PoolSeat;
 use crate::shared::words::{EMPTY, MOST_IN_POOL, WORDS_APART};

@@ -1,8 +1,8 @@
 //! Heaps that threads share without a lock: each lies in a slot of a table, behind a word. They are used as those of a
 //! MultiQueue (Rihani, Sanders, Dementiev 2015): a push goes to a heap drawn at random, a pop to the better of two.
-use crate::shared::account::SeatMemory;
 use crate::heap::entry_heap::{EntryHeap, Slot};
 use crate::heap::least_heap::LeastHeap;
+use crate::shared::account::SeatMemory;
 use crate::shared::rules::PoolRule;
 use atomic_table::Table;
 use ea_road::Known;

@@ -2,8 +2,8 @@
 ghost use Rattle.ea_pool.specs.Plays.{IsPoolState, Looked, Taken, GavePushed, GavePopped, GaveBack};
 ghost use Rattle.ea_pool.specs.States.{first_state, nobody, left_of, newcomer, joined};
 
-use crate::shared::account::SeatMemory;
 use crate::heap::entry_heap::{EntryHeap, Slot};
+use crate::shared::account::SeatMemory;
 use atomic_table::{Join, Play, Split, TableRule};
 use ea_road::Known;
 use std::marker::PhantomData;

@@ -2,9 +2,9 @@
 ghost use Rattle.std.specs.Prelude.{◌≡◌};
 ghost use Rattle.ea_pool.specs.Seats.{account_of};
 
-use crate::shared::account::SeatMemory;
 use crate::heap::entry_heap::{EntryHeap, Slot};
 use crate::heap::least_heap::LeastHeap;
+use crate::shared::account::SeatMemory;
 use std::alloc::{Allocator, Global};
 use std::marker::{Model, PhantomData};
 

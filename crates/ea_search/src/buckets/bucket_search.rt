@@ -13,8 +13,8 @@ ghost use Rattle.ea_search.specs.Scans.{AwaitsScans, FallsBy};
 ghost use Rattle.ea_search.specs.Underway.{bound_of};
 
 use crate::buckets::candidates::Candidates;
-use crate::finishing_pass::{latest, scan, start};
 use crate::buckets::frontier::Frontier;
+use crate::finishing_pass::{latest, scan, start};
 use crate::labels::table::Table;
 use ea_base::HORIZON;
 use ea_road::{Network, Query};

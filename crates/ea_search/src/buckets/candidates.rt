@@ -9,8 +9,8 @@ ghost use Rattle.ea_search.specs.Scans.{number_at};
 ghost use Rattle.ea_search.specs.Underway.{bound_of};
 
 use crate::finishing_pass::lower;
-use crate::queue::open_list::Opens;
 use crate::labels::table::Table;
+use crate::queue::open_list::Opens;
 use ea_base::HORIZON;
 use ea_road::{Arc, Network};
 use ea_travel_times::TravelTimes;

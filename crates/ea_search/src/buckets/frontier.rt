@@ -3,10 +3,10 @@ ghost use Rattle.std.specs.Prelude.{◌≡◌, ℕ, ◌+◌, ◌<◌, ◌≤◌,
 ghost use Rattle.ea_search.specs.Frontiers.{AreEntries, HaveNone, HasNone, KeepsWaiting, Puts, Takes, WaitsAt};
 ghost use Rattle.ea_search.specs.Underway.{bound_of};
 
-use crate::queue::open::Open;
-use crate::queue::open_list::Opens;
 use crate::labels::table::Table;
 use crate::prefetch::{AHEAD, touch_entries, touch_first_arcs};
+use crate::queue::open::Open;
+use crate::queue::open_list::Opens;
 use ea_road::{Network, window_bits};
 use std::alloc::{AllocError, Global};
 use std::marker::Model;

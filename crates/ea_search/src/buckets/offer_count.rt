@@ -1,10 +1,10 @@
 //! How many times a search offers to nodes: what the width of its windows changes.
 ghost use Rattle.ea_road.specs.Queries.{IsProblem};
 
-use crate::buckets::frontier::{Frontier, empty_lists};
-use crate::queue::open::Open;
 use crate::buckets::bucket_search::search;
+use crate::buckets::frontier::{Frontier, empty_lists};
 use crate::labels::table::{Table, touched};
+use crate::queue::open::Open;
 use ea_base::HORIZON;
 use ea_road::{NONE, Network, Query};
 use ea_travel_times::TravelTimes;

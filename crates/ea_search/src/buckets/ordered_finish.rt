@@ -6,11 +6,11 @@ ghost use Rattle.ea_search.specs.Frontiers.{HaveNone};
 ghost use Rattle.ea_search.specs.Scans.{FallsBy};
 ghost use Rattle.ea_search.specs.Underway.{IsFinished, IsUnderway};
 
-use crate::finishing_pass::{Finished, finish};
-use crate::buckets::frontier::{Frontier, empty_lists};
-use crate::queue::open::Open;
 use crate::buckets::bucket_search::search_on;
+use crate::buckets::frontier::{Frontier, empty_lists};
+use crate::finishing_pass::{Finished, finish};
 use crate::labels::table::Bare;
+use crate::queue::open::Open;
 use ea_road::{Network, Query};
 use ea_travel_times::TravelTimes;
 use std::alloc::Global;

@@ -2,8 +2,8 @@
 ghost use Rattle.std.specs.Prelude.{◌≡◌, [], ◌∷◌, ◌++◌, true, IsTrue};
 ghost use Rattle.ea_search.specs.Notes.{notes_in};
 
-use crate::log::note::{NODES, Note, PLACES, word_of};
 use crate::labels::table::{Table, touched};
+use crate::log::note::{NODES, Note, PLACES, word_of};
 use crate::log::word_list::Words;
 use ea_base::HORIZON;
 

@@ -8,7 +8,10 @@ ghost use Rattle.ea_pool.specs.Seats.{account_of, IsSeatOf};
 use crate::asserts::{assert_none_wrong, assert_that};
 use crate::heaps::{add, entry};
 use crate::refused::pool::count;
-use ea_pool::{Batch, Buckets, ClosedPool, EntryHeap, LeastHeap, OpenHeap, Pool, PoolSeat, PoppedSome, PushAllRefused};
+use ea_pool::{
+    Batch, Buckets, ClosedPool, EntryHeap, LeastHeap, OpenHeap, Pool, PoolSeat, PoppedSome,
+    PushAllRefused,
+};
 use ea_road::AnyPair;
 use linked_list_allocator::LocalHeap;
 use std::alloc::{AllocError, Allocator, Global};

@@ -2,7 +2,7 @@ use Rattle.std.proofs.Common.{refl, []}
 use Rattle.ea_report.specs.Delivery.{all_sent}
 use Rattle.ea_report.specs.Deliverers.{direct_delivery}
 use Rattle.ea_report.proofs.Pieces.{delivery_starts, delivery_ends}
-use Rattle.ea_report.proofs.pieces.write_pieces.Goals as goal
+use Rattle.ea_report.proofs.text_pieces.write_pieces.Goals as goal
 
 pub returns-in-Ok-clause-ok : goal.returns-in-Ok-clause-ok
 returns-in-Ok-clause-ok g c =
