@@ -15,8 +15,12 @@ NOBODY = 65534
 
 
 def read(*path):
-    with open(os.path.join(*path), "rb") as file:
-        return file.read()
+    """What a file has; none where it isn't there."""
+    try:
+        with open(os.path.join(*path), "rb") as file:
+            return file.read()
+    except FileNotFoundError:
+        return None
 
 
 REPORT = read(EXAMPLES, "four-nodes.report")
@@ -66,7 +70,8 @@ def closed(program, folder):
     for numbers in ((0,), (1,), (2,), (0, 1), (1, 2), (0, 1, 2)):
         status = subprocess.run([program, "run", *FILES, "-o", out, "--progress"], cwd=EXAMPLES, preexec_fn=close(*numbers), timeout=60, **bare).returncode
         yield f"descriptors {numbers} closed", (status, read(out)), (0, REPORT)
-        os.remove(out)
+        if os.path.exists(out):
+            os.remove(out)
     run = subprocess.run([program, "run", "-", FILES[1]], cwd=EXAMPLES, preexec_fn=close(0), stdout=subprocess.PIPE, stderr=subprocess.PIPE, timeout=60)
     yield "- without standard input", (run.returncode, run.stdout, run.stderr), (1, b"", b"earliest: gr 0: 1 NoProblemLine\n")
 
@@ -99,7 +104,8 @@ def named(program, folder):
         os.chmod(name, mode)
         status = ran(program, ["run", *inputs, "-o", name])
         yield f"permissions {mode:o}", (status, read(name), stat.S_IMODE(os.stat(name).st_mode)), ((0, b"", b""), REPORT, mode)
-        os.remove(name)
+        if os.path.exists(name):
+            os.remove(name)
     yield "no part file is left", [name for name in os.listdir(place) if ".part" in name], []
 
 
@@ -138,7 +144,8 @@ def parts(program, folder):
         run.communicate()
         yield f"a part file after signal {ending}", sorted(os.listdir(place)), ["report.part0"]
         yield "the next run takes it over", (ran(program, words), sorted(os.listdir(place)), read(name)), ((0, b"", b""), ["report"], REPORT)
-        os.remove(name)
+        if os.path.exists(name):
+            os.remove(name)
     first, writer = begun(program, folder, name)
     yield "a run beside another", (ran(program, words), sorted(os.listdir(place)), read(name)), ((0, b"", b""), ["report", "report.part0"], REPORT)
     yield "the other one goes on", (ended(first, writer), sorted(os.listdir(place)), read(name)), ((0, b"", b""), ["report"], REPORT)
