@@ -22,6 +22,7 @@ import people
 import progress
 import road_network
 import scripts
+import terminal
 import threads
 import travel_times
 
@@ -151,6 +152,7 @@ def run_each(program):
     results += at_once.results(program)
     results += threads.results(program)
     results += scripts.results(program)
+    results += terminal.results(program)
     results += documents.results(program)
     return results + list(large.results(program, EXAMPLES))
 

@@ -1,5 +1,6 @@
 //! What is said after the line of a fault: what it means and what to do.
 use crate::files::{Sources, Unopened};
+use crate::harmless::shown_word;
 use crate::source::{SHOWN, Source};
 use ea_blocks::InputFault;
 use ea_bytes::{ReadFault, without_return};
@@ -17,7 +18,9 @@ fn remark(rt: &HostRuntime, text: &str) {
 /// Says something of a file.
 fn remark_on(rt: &HostRuntime, name: &str, text: &str) {
     let name = if name == "-" { "standard input" } else { name };
-    let _ = eprintln!(rt; "  {name}: {text}");
+    if let Some(name) = shown_word(rt, name) {
+        let _ = eprintln!(rt; "  {name}: {text}");
+    }
 }
 
 /// Why a file can't be opened.
@@ -31,9 +34,11 @@ pub(crate) fn explain_words(rt: &HostRuntime, words: &[String]) {
         None => remark(rt, "- is standard input, which one file alone can be"),
         Some(bad) => {
             let (option, value, least, most) = (bad.option, bad.value, bad.least, bad.most);
-            let _ = eprintln!(rt;
-                "  --{option} {value}: it has to be a whole number from {least} to {most}"
-            );
+            if let Some(shown) = shown_word(rt, value) {
+                let _ = eprintln!(rt;
+                    "  --{option} {shown}: it has to be a whole number from {least} to {most}"
+                );
+            }
             if value.contains(':') {
                 remark(
                     rt,
@@ -60,7 +65,7 @@ fn shown(rt: &HostRuntime, line: &[u8]) -> Option<String> {
 
 /// Shows a line of a file, and answers it where it can be read again.
 fn show_line(rt: &HostRuntime, source: &mut Source<'_>, number: u64) -> Option<Vec<u8>> {
-    let name = source.name;
+    let name = shown_word(rt, source.name)?;
     let line = source.line(rt.alloc(), number)?;
     let text = shown(rt, &line)?;
     let _ = eprintln!(rt; "  {name}, line {number}: {text}");

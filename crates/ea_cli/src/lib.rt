@@ -5,6 +5,7 @@ mod arguments;
 mod descriptors;
 mod explanations;
 mod files;
+mod harmless;
 mod messages;
 mod output;
 mod pages;

@@ -1,6 +1,7 @@
 //! How it is told what a command came to, and with which status.
 use crate::explanations::{explain_outcome, explain_unopened, explain_words, explain_write};
 use crate::files::{Sources, Unopened};
+use crate::harmless::{shown_lines, shown_word};
 use crate::output::Output;
 use crate::pages::show_text;
 use ea_bytes::StdOut;
@@ -15,7 +16,24 @@ const LEFT: u8 = 4;
 pub fn tell(rt: &HostRuntime, outcome: &Outcome) -> u8 {
     match outcome.asked_text() {
         Some(text) => show_text(rt, text),
-        None => say(outcome, &mut StdOut::new(rt.stderr())),
+        None => {
+            let mut errors = StdOut::new(rt.stderr());
+            match shown_fault(rt, outcome) {
+                Some(shown) => say(&shown, &mut errors),
+                None => say(outcome, &mut errors),
+            }
+        }
+    }
+}
+
+/// Refused words as a terminal may be shown them; none if they are shown as they are.
+fn shown_fault(rt: &HostRuntime, outcome: &Outcome) -> Option<Outcome> {
+    match outcome {
+        Outcome::Command(CommandFault::Words { help: false, text }) => {
+            let text = shown_lines(rt, text)?;
+            Some(Outcome::Command(CommandFault::Words { help: false, text }))
+        }
+        _ => None,
     }
 }
 
@@ -70,7 +88,7 @@ fn tell_put(rt: &HostRuntime, output: &mut Output, explains: bool) -> u8 {
         Ok(()) => 0,
         Err(unplaced) => {
             let reason = unplaced.reason;
-            if let Some(kept) = unplaced.kept {
+            if let Some(kept) = unplaced.kept.and_then(|kept| shown_word(rt, kept)) {
                 let _ = eprintln!(rt; "earliest: the whole report is in {kept}");
             }
             let status = tell(rt, &Outcome::Answer(AnswerFault::Write { written }));
