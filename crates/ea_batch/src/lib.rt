@@ -1,4 +1,4 @@
-//! Reports of problems by searches of one thread: one after the other, or made ahead by several threads.
+//! Reports of many problems by searches of one thread, made ahead by several threads and sent in order.
 #![tactic(auto)]
 
 mod draft;

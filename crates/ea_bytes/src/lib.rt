@@ -1,4 +1,4 @@
-//! Bytes from devices, and texts as lines, fields and numbers.
+//! Bytes from and to devices, and texts as lines, fields and numbers.
 #![tactic(auto)]
 
 mod blocks;

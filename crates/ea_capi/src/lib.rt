@@ -1,4 +1,4 @@
-//! The calls for C: roads and searches behind handles.
+//! The calls for C: a library for programs that are not Rattle.
 #![tactic(auto)]
 
 mod checks;

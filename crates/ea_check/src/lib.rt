@@ -1,4 +1,4 @@
-//! The checker of reports: whether a report is right, and if not, its first fault.
+//! The checker of reports: whether a report is right, or its first fault.
 #![tactic(auto)]
 
 mod checking;

@@ -1,5 +1,6 @@
-//! Earliest arrivals by several threads: workers lower labels and push what is to be scanned, and one thread finishes what
-//! they leave. Whatever the schedule, the answer is that of one thread.
+//! The search of several threads: workers on shared labels and heaps, and one thread that finishes.
+//!
+//! Whatever the schedule, the answer is that of one thread.
 #![tactic(auto)]
 
 mod laws;

@@ -1,6 +1,7 @@
-//! Work on the parts of a row, each in a thread of its own, where one thread starts all others. `std::thread` has the same calls, and
-//! halves the row: two threads start others at the same moment then, which Linux often puts on one processor, where they stay for
-//! as long as 30 ms while another processor has nothing to do.
+//! Work on the parts of a row, by threads that one thread starts.
+//!
+//! One thread starts all others. The calls of `std::thread` halve the row: two threads start others at the same moment then, which Linux
+//! often puts on one processor, where they stay for as long as 30 ms while another processor has nothing to do.
 #![tactic(auto)]
 
 mod beside_join;

@@ -1,4 +1,4 @@
-//! The texts of graphs, sources, pairs and timetables, read exactly or refused exactly.
+//! The formats: graphs, sources, pairs and timetables, read exactly or refused exactly.
 #![tactic(auto)]
 
 mod graph;

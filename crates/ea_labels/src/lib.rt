@@ -1,4 +1,6 @@
-//! Least times per node, shared by threads: one atomic word per node, which is only lowered.
+//! Labels that threads share: the least time of each node.
+//!
+//! A node has one atomic word, which is only lowered.
 #![tactic(auto)]
 
 mod labels;

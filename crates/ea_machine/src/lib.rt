@@ -1,4 +1,4 @@
-//! What both shared tables need of lists, in proofs alone: totals over members, places, and runs of events.
+//! Lemmas on the machines of shared tables: totals over members, places of lists, runs of events.
 #![tactic(auto)]
 
 ghost use Rattle.std.specs.Prelude.{◌≡◌, ℕ, ◌+◌, ◌<◌, List, length, slice_set, slice_index_or};

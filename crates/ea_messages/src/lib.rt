@@ -1,4 +1,4 @@
-//! What a command comes to, as people are told: its line and exit status, what a fault means, the formats on one page.
+//! What people are told: the line and exit status of each outcome, what a fault means, the formats on one page.
 #![tactic(auto)]
 
 mod advice;

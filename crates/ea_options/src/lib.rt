@@ -1,4 +1,4 @@
-//! The command line of `earliest`: what its words ask for, and the texts that explain them.
+//! The command line: what its words ask for, and the values of options.
 #![tactic(auto)]
 
 mod arguments;

@@ -1,4 +1,6 @@
-//! Heaps of entries: for one thread, and shared by threads without a lock.
+//! Heaps of entries: for one thread, and shared by threads.
+//!
+//! Shared heaps take no lock.
 #![tactic(auto)]
 
 mod draws;

@@ -1,4 +1,4 @@
-//! The rank errors of the runs that files ask for, written source by source.
+//! Rank errors of the runs that files ask for, from files to lines.
 #![tactic(auto)]
 
 mod ranking;

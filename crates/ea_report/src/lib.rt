@@ -1,4 +1,4 @@
-//! Reports as text.
+//! The report's text, and its writer.
 #![tactic(auto)]
 
 mod direct_text;

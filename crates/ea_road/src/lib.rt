@@ -1,4 +1,4 @@
-//! Road networks: arcs by their tails, queries, walks, and the laws of earliest arrivals.
+//! The network: arcs by their tails, queries, walks, and the laws of earliest arrivals.
 #![tactic(auto)]
 
 mod arc;

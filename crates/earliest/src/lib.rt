@@ -1,4 +1,4 @@
-//! Earliest arrivals from files to reports: the calls that the program `earliest` makes.
+//! From files to reports: the calls that the program makes.
 #![tactic(auto)]
 
 mod answers;

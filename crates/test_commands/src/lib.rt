@@ -1,5 +1,4 @@
-//! Tests of the calls that the program makes: the worked examples from files to reports, failing devices, checked reports and rank
-//! errors.
+//! Tests of the calls that the program makes: worked examples, failing devices.
 #![tactic(auto)]
 
 #[cfg(test)]

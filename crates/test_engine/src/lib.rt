@@ -1,5 +1,4 @@
-//! Tests of whole runs: the worked examples, many small networks beside one thread, inputs of the size of real use, and runs
-//! whose memory is refused.
+//! Tests of runs by several workers.
 #![tactic(auto)]
 
 #[cfg(test)]

@@ -1,4 +1,4 @@
-//! Tests of what is read: texts and their lines, the four files, the words of the command line and their explanations.
+//! Tests of what is read: texts, the files, the command line, explanations.
 #![tactic(auto)]
 
 #[cfg(test)]

@@ -1,5 +1,4 @@
-//! Tests of the calls that the program makes where memory is refused: they take all of the process's memory but for a few bytes,
-//! before a call or in the middle of it.
+//! Tests of these calls where memory is refused.
 #![tactic(auto)]
 
 #[cfg(test)]

@@ -1,4 +1,4 @@
-//! Tests of what is told of answers: reports, the checker of reports, and recorded runs with their rank errors.
+//! Tests of reports, their checker, and rank errors.
 #![tactic(auto)]
 
 #[cfg(test)]

@@ -1,5 +1,4 @@
-//! Tests of the parts of a run: networks and travel times, and one thread's searches, where memory is refused, at the size of real
-//! use, and one after the other on the same arrays.
+//! Tests of networks, travel times, and searches of one thread.
 #![tactic(auto)]
 
 #[cfg(test)]

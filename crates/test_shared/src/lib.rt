@@ -1,4 +1,4 @@
-//! Tests of tables and heaps: of one thread and shared by threads, where memory is refused, and at the size of real use.
+//! Tests of labels and heaps, for one thread and shared.
 #![tactic(auto)]
 
 #[cfg(test)]

@@ -1,5 +1,6 @@
-//! What tests are given: small networks with a query, generators whose words are known, and a process without memory. No program
-//! needs it.
+//! What tests are given: small networks, generators whose words are known, a process without memory.
+//!
+//! No program needs it.
 #![tactic(auto)]
 
 pub mod constant;
