@@ -1,5 +1,5 @@
-"""What the documents show: each block of README.md and docs/ whose first line begins with `$ ` is run, in a folder that has
-bin/earliest, examples/ and tools/ as the repository has, and has to give what stands there.
+"""What the documents show: each block of README.md, docs/, docs/guide/ and docs/design/ whose first line begins with `$ ` is run, in a
+folder that has bin/earliest, examples/ and tools/ as the repository has, and has to give what stands there.
 
 A line that begins with `$ ` is a command, and a `\\` at its end goes on in the next one. What follows is all that it writes, to standard output
 and then to standard error; of what is shown as `..` any lines may stand there. A command ends with status 0, or with N where it ends in
@@ -16,7 +16,9 @@ ROOT = os.path.normpath(os.path.join(os.path.dirname(os.path.abspath(__file__)),
 
 def documents():
     """The names of the documents."""
-    return ["README.md", *sorted(os.path.join("docs", name) for name in os.listdir(os.path.join(ROOT, "docs")) if name.endswith(".md"))]
+    folders = [os.path.join("docs", part) for part in ("", "guide", "design") if os.path.isdir(os.path.join(ROOT, "docs", part))]
+    pages = [os.path.join(folder, name) for folder in folders for name in sorted(os.listdir(os.path.join(ROOT, folder))) if name.endswith(".md")]
+    return ["README.md", *map(os.path.normpath, pages)]
 
 
 def commands(text):
