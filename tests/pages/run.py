@@ -1,13 +1,16 @@
-"""Tests the pages: python3 tests/pages/run.py [PROGRAM]; the program is not used.
+"""Tests the pages: python3 tests/pages/run.py [PROGRAM]
 
-What a page names has to be there: crates, files, scripts, functions, links. What a page counts has to be what the code has. The last line
-is `N passed, M failed`.
+What a page names has to be there: crates, files, scripts, functions, links. What a page counts has to be what the code has. With a program,
+its exit statuses have to be those of the page on the life of a run. The last line is `N passed, M failed`.
 """
 import glob
 import importlib.util
 import os
 import re
+import resource
+import subprocess
 import sys
+import tempfile
 from urllib.parse import unquote
 
 sys.dont_write_bytecode = True
@@ -239,17 +242,63 @@ def decisions_are_short():
     yield "the index has each decision once", sorted(index) == sorted(entries)
 
 
-def main():
+def status(program, *words, **how):
+    """The exit status of the program."""
+    examples = os.path.join(ROOT, "examples")
+    return subprocess.run([program, *words], cwd=examples, stdin=subprocess.DEVNULL, stdout=how.get("out", subprocess.DEVNULL),
+                          stderr=subprocess.DEVNULL, timeout=60, preexec_fn=how.get("before")).returncode
+
+
+def little_memory():
+    """Leaves the process hardly any memory."""
+    resource.setrlimit(resource.RLIMIT_DATA, (2**20, 2**20))
+
+
+def statuses(program):
+    """How a run ends early, by what happens as the page on the life of a run says it."""
+    run = ("run", "four-nodes.gr", "four-nodes.ss")
+    with tempfile.TemporaryDirectory(prefix="pages-") as room:
+        wrong = os.path.join(room, "wrong")
+        for content in ("p sp 4\n", "s 1 1\n"):
+            with open(wrong, "w", encoding="ascii") as file:
+                file.write(content)
+            if content.startswith("p"):
+                yield "a text has a fault", status(program, "run", wrong, "four-nodes.ss")
+            else:
+                yield "a report is refused", status(program, "check", "four-nodes.gr", "four-nodes.ss", wrong)
+        yield "a file can't be opened", status(program, "run", os.path.join(room, "none.gr"), "four-nodes.ss")
+        yield "a file can't be read", status(program, "run", room, "four-nodes.ss")
+    yield "words that ask for nothing", status(program, "walk")
+    yield "a departure is beyond the horizon", status(program, "run", "joint-gap.gr", "joint-gap.ss", "--depart", "1", "--gap", "281474976710655")
+    yield "memory is refused", status(program, "run", *["x" * 100_000] * 15, before=little_memory)
+    with open("/dev/full", "wb") as full:
+        yield "the output can't be written", status(program, *run, out=full)
+
+
+def runs_end_so(program):
+    """The exit statuses of the page on the life of a run are the program's."""
+    said = {what: int(number) for what, _, number in rows("docs/design/life-of-a-run.md", 3) if number.isdigit()}
+    came = dict(statuses(program))
+    yield "life-of-a-run.md: how a run ends early, each once", sorted(said) == sorted(came)
+    for what, number in came.items():
+        yield f"life-of-a-run.md: {what}: status {number}", said.get(what) == number
+
+
+def main(words):
     passed = failed = 0
-    for check in (decisions_are_there, constants_are_equal, numbers_in_prose, names_are_there, identifiers_are_there, links_lead_somewhere,
-                  crates_say_one_thing, pages_are_short, words_are_plain, run_is_drawn, decisions_are_short):
-        for name, is_well in check():
+    checks = [decisions_are_there, constants_are_equal, numbers_in_prose, names_are_there, identifiers_are_there, links_lead_somewhere,
+              crates_say_one_thing, pages_are_short, words_are_plain, run_is_drawn, decisions_are_short]
+    found_by = [(check.__name__, check()) for check in checks]
+    if words:
+        found_by.append((runs_end_so.__name__, runs_end_so(os.path.abspath(words[0]))))
+    for check, results in found_by:
+        for name, is_well in results:
             passed, failed = passed + is_well, failed + (not is_well)
             if not is_well:
-                print(f"FAILED {check.__name__}: {name}")
+                print(f"FAILED {check}: {name}")
     print(f"{passed} passed, {failed} failed")
     return 1 if failed else 0
 
 
 if __name__ == "__main__":
-    sys.exit(main())
+    sys.exit(main(sys.argv[1:]))
