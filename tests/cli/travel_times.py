@@ -1,5 +1,5 @@
 """Speeds and trips through the program: worked values, faults with their lines, and random texts of timetables beside a reader
-and arrivals of one's own, which go line by line and time by time as docs/input.md and docs/travel-times.md say it."""
+and arrivals of one's own, which go line by line and time by time as docs/guide/formats.md and docs/guide/travel-times.md say it."""
 import os
 import random
 import subprocess

@@ -44,7 +44,7 @@ def numbered():
     for name, number in re.findall(r"pub const (\w+): u32 = (\d+);", crate):
         if name in told:
             yield f"the header's {name}", told[name], int(number)
-    limits = read("crates", "ea_limits", "src", "lib.rt")
+    limits = read("crates", "ea_base", "src", "limits.rt")
     last = re.search(r"pub const HORIZON: u64 = ([\d_]+);", limits)[1].replace("_", "")
     yield "the header's last time", f"EARLIEST_HORIZON UINT64_C({last})\n" in header, True
     for name, number in told.items():

@@ -1,4 +1,5 @@
-//! The program `earliest`: opens the files that its words name, and hands them to the calls of the library.
+//! The program: `main`.
+//! It opens the files that its words name, and hands them to the calls of the library.
 #![tactic(auto)]
 
 mod command_runs;
