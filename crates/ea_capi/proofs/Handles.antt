@@ -31,8 +31,8 @@ use Rattle.std.specs.declared.option.Option.{Option}
 use Rattle.std.specs.declared.option.Option.TheVariants.{None, Some}
 use Rattle.std.proofs.GlobalToken.{dealloc_token-Testable}
 use Rattle.ea_capi.specs.Held.{held}
-use Rattle.ea_capi.specs.contracts.handle.Handle as handle
-use Rattle.ea_capi.specs.contracts.content.Content as content
+use Rattle.ea_capi.specs.contracts.handle.handle.Handle as handle
+use Rattle.ea_capi.specs.contracts.handle.content.Content as content
 use Rattle.ea_capi.proofs.Values.{both}
 
 abbrev pub R : RattleType

@@ -18,7 +18,7 @@ pub struct Handle {
 
 impl Model for Handle {
     ghost use Rattle.ea_capi.specs.Held.{held};
-    ghost use Rattle.ea_capi.specs.contracts.content.Content.{the_row as content_row};
+    ghost use Rattle.ea_capi.specs.contracts.handle.content.Content.{the_row as content_row};
 
     ghost also_owns = { λ h. held content_row h.alloc h.at h.value };
 }

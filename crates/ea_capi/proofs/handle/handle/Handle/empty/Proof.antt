@@ -24,8 +24,8 @@ use Rattle.std.specs.declared.option.Option.{Option}
 use Rattle.std.specs.declared.option.Option.TheVariants.{None}
 use Rattle.ea_capi.proofs.Values.{both}
 use Rattle.ea_capi.proofs.Handles.{R, Z, Handle, handle_good, handle_in}
-use Rattle.ea_capi.specs.contracts.handle.Handle.empty.{ended, clauses}
-use Rattle.ea_capi.specs.contracts.handle.Handle.empty.Key.{name as #self}
+use Rattle.ea_capi.specs.contracts.handle.handle.Handle.empty.{ended, clauses}
+use Rattle.ea_capi.specs.contracts.handle.handle.Handle.empty.Key.{name as #self}
 use Rattle.ea_capi.proofs.handle.handle.Handle.empty.Statement.{statement}
 use Rattle.ea_capi.proofs.handle.handle.Handle.empty.Code as code
 

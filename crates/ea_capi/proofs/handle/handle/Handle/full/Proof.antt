@@ -24,8 +24,8 @@ use Rattle.std.specs.declared.option.Option.{Option}
 use Rattle.std.specs.declared.option.Option.TheVariants.{Some}
 use Rattle.ea_capi.proofs.Values.{both, Loose, loose_good, loose_out}
 use Rattle.ea_capi.proofs.Handles.{R, Z, Handle, handle_good, handle_in}
-use Rattle.ea_capi.specs.contracts.handle.Handle.full.{ended, clauses}
-use Rattle.ea_capi.specs.contracts.handle.Handle.full.Key.{name as #self}
+use Rattle.ea_capi.specs.contracts.handle.handle.Handle.full.{ended, clauses}
+use Rattle.ea_capi.specs.contracts.handle.handle.Handle.full.Key.{name as #self}
 use Rattle.ea_capi.proofs.handle.handle.Handle.full.Statement.{statement}
 use Rattle.ea_capi.proofs.handle.handle.Handle.full.Code as code
 

@@ -31,8 +31,8 @@ use Rattle.std.specs.declared.option.Option.{Option}
 use Rattle.std.specs.declared.option.Option.TheVariants.{None, Some}
 use Rattle.ea_capi.proofs.Values.{both, Loose, loose_good, loose_in}
 use Rattle.ea_capi.proofs.Handles.{R, Z, Handle, handle_good, handle_out, either_held}
-use Rattle.ea_capi.specs.contracts.handle.Handle.«open».{ended, clauses}
-use Rattle.ea_capi.specs.contracts.handle.Handle.«open».Key.{name as #self}
+use Rattle.ea_capi.specs.contracts.handle.handle.Handle.«open».{ended, clauses}
+use Rattle.ea_capi.specs.contracts.handle.handle.Handle.«open».Key.{name as #self}
 use Rattle.ea_capi.proofs.handle.handle.Handle.«open».Statement.{statement}
 use Rattle.ea_capi.proofs.handle.handle.Handle.«open».Code as code
 

@@ -35,8 +35,8 @@ use Rattle.std.proofs.raw_atomic.Walks.{proved_at, leaves}
 use Rattle.ea_capi.proofs.Values.{both, loose_good, loose_in}
 use Rattle.std_alloc.specs.contracts.boxed.Box.into_raw_with_allocator as callee
 use Rattle.std_alloc.proofs.boxed.Box.into_raw_with_allocator.Met.{met}
-use Rattle.ea_capi.specs.contracts.loose.Loose.of.{ended, clauses}
-use Rattle.ea_capi.specs.contracts.loose.Loose.of.Key.{name as #self}
+use Rattle.ea_capi.specs.contracts.handle.raw_box.Loose.of.{ended, clauses}
+use Rattle.ea_capi.specs.contracts.handle.raw_box.Loose.of.Key.{name as #self}
 use Rattle.ea_capi.proofs.handle.raw_box.Loose.of.Statement.{statement}
 use Rattle.ea_capi.proofs.handle.raw_box.Loose.of.Code as code
 
