@@ -1,4 +1,4 @@
-"""Speeds and trips through the program: worked values, faults with their lines, and random texts of timetables beside a reader
+"""Speeds, trips and points through the program: worked values, faults with their lines, and random texts of timetables beside a reader
 and arrivals of one's own, which go line by line and time by time as docs/guide/formats.md and docs/guide/travel-times.md say it."""
 import os
 import random
@@ -24,6 +24,11 @@ VALUES = (
     ("next-departure, weight 0", "trips 10 2/v 2 0/v 7 4", 0, {2: 2, 7: 11, 8: 12, HORIZON: None}),
     ("last-departure", "trips 0 2/v 2 0/v 7 4", 3, {0: 5, 3: 14, 7: 14, 8: None}),
     ("equal-arrivals", "trips 0 2/v 2 9/v 7 4", 1, {2: 12, 3: 12, 7: 12}),
+    ("points-values", "points 100 2/v 10 0/v 30 40", 3, {10: 13, 11: 16, 20: 43, 30: 73, 31: 73, 40: 78, 70: 93, 109: 112, 110: 113}),
+    ("points-values, without a period", "points 0 2/v 10 0/v 30 40", 3, {0: 3, 10: 13, 30: 73, 1000: 1043}),
+    ("points at the limits", "points 0 2/v 0 4294967296/v 281474976710655 0", 4294967295, {0: 8589934591, 281470681743360: None, HORIZON: None, 4294967296: 12884836350}),
+    ("one point", "points 10 1/v 7 5", 1, {0: 6, 6: 12, 7: 13, HORIZON - 6: HORIZON, HORIZON - 5: None}),
+    ("points a period apart at most", "points 4294967296 2/v 0 4294967296/v 4294967295 4294967295", 0, {0: 4294967296, 2147483648: 6442450943}),
 )
 
 # Texts of timetables of a network with one arc, with the line and the number of their fault; none where they have none.
@@ -67,6 +72,14 @@ TEXTS = (
     ("step-ranges", "p tp 1 0/k 1 trips 4294967297 1", (2, 6)),
     ("step-ranges", "p tp 1 0/k 1 speeds 10", (2, 4)),
     ("step-ranges", "p tp 0 0/k 1 speeds 10 1", (2, 7)),
+    ("points-faults", "p tp 1 0/k 1 points 100 2/v 10 50/v 30 20", (4, 6)),
+    ("points-faults", "p tp 1 0/k 1 points 100 2/v 10 0/v 30 200", (4, 6)),
+    ("points-faults", "p tp 1 0/k 1 points 100 2/v 10 0/v 100 0", (4, 6)),
+    ("points-faults", "p tp 1 0/k 1 points 100 2/v 10 0", (0, 8)),
+    ("points-faults", "p tp 1 0/k 1 points 4294967297 1", (2, 6)),
+    ("points-faults", "p tp 1 0/k 1 points 100 0", (2, 6)),
+    ("points-faults", "p tp 1 0/k 1 points 100", (2, 4)),
+    ("points-faults", "p tp 1 0/k 1 points 100 1/v 99 4294967296", None),
 )
 
 # A network, its timetables, one source, words, and the report.
@@ -136,7 +149,12 @@ FORMS = {
     "rush": (6, lambda v: [(0, HORIZON - 1), ((v[1:2] or [0])[0] + 1, HORIZON), (0, 2**32)]),
     "speeds": (5, lambda v: [(1, 2**32), (1, 65536)]),
     "trips": (5, lambda v: [(0, 2**32), (1, 65536)]),
+    "points": (5, lambda v: [(0, 2**32), (1, 65536)]),
 }
+
+
+# The kinds that have steps.
+STEPPED = ("speeds", "trips", "points")
 
 
 class Table:
@@ -162,7 +180,7 @@ class Table:
         if number > self.announced[0]:
             raise Fault(7)
         self.kinds.append([fields[2], *found[1:], []])
-        self.due = found[2] if fields[2] in ("speeds", "trips") else 0
+        self.due = found[2] if fields[2] in STEPPED else 0
 
     def entry(self, fields):
         if len(fields) != 3:
@@ -181,7 +199,7 @@ class Table:
             raise Fault(6)
         if name == "speeds" and (value > 1000000 or (self.due == 1 and value == 0 and not any(speed for _, speed in steps))):
             raise Fault(6)
-        if name == "trips" and (value > 2**32 or (steps and time + value < sum(steps[-1])) or (period and self.due == 1 and steps and time + value > period + sum(steps[0]))):
+        if name != "speeds" and (value > 2**32 or (steps and time + value < sum(steps[-1])) or (period and self.due == 1 and steps and time + value > period + sum(steps[0]))):
             raise Fault(6)
         steps.append((time, value))
         self.due -= 1
@@ -245,6 +263,11 @@ def arrive(kind, weight, departure):
             moved += [speed for begins, speed in steps if begins <= time % period][-1]
             time += 1
         return time
+    if name == "points":
+        time = departure % period if period else departure
+        around = [(at - period, value) for at, value in steps] + steps + [(at + period, value) for at, value in steps] if period else [(-1, steps[0][1]), *steps, (2**49, steps[-1][1])]
+        (early, first), (late, last) = next(pair for pair in zip(around, around[1:]) if pair[0][0] <= time < pair[1][0])
+        return departure + weight + (first * (late - time) + last * (time - early)) // (late - early)
     rides = [(time + turn * period, extra) for turn in range(departure // (period or HORIZON) + 2) for time, extra in steps if period or turn == 0]
     return min([time + weight + extra for time, extra in rides if time >= departure], default=None)
 
@@ -253,10 +276,10 @@ def some_text(words, arcs):
     """A text of timetables, most often one without a fault."""
     lines, kinds = [], words.randint(0, 4)
     for number in range(1, kinds + 1):
-        name = words.choice(["plain", "every", "closed", "rush"] + ["speeds", "trips"] * 4)
-        if name in ("speeds", "trips"):
+        name = words.choice(["plain", "every", "closed", "rush"] + list(STEPPED) * 3)
+        if name in STEPPED:
             count, period = words.randint(1, 5), words.randint(5, 40)
-            if name == "trips" and words.random() < 0.3:
+            if name != "speeds" and words.random() < 0.3:
                 period = 0
             times = sorted(words.sample(range(period or 60), count))
             if name == "speeds":
@@ -294,7 +317,7 @@ def spoilt(words, lines):
         elif change == 1:
             lines.insert(place, lines[place])
         elif change == 2:
-            fields[words.randrange(len(fields))] = words.choice(["0", "1", "7", "007", "39", "40", "x", "-1", "99999999999999999999999", "speeds", "v"])
+            fields[words.randrange(len(fields))] = words.choice(["0", "1", "7", "007", "39", "40", "x", "-1", "99999999999999999999999", "speeds", "points", "v"])
             lines[place] = " ".join(fields)
         elif change == 3:
             lines[place] = "\t".join(fields) + words.choice(["", " ", "\r", " 1"])

@@ -36,6 +36,13 @@ pub enum RawKind {
         first: usize,
         count: usize,
     },
+    /// At once, and it takes the value of a function of the departure beside the weight: `count` points from the one at `first` on, each a
+    /// time of each period, or a time where the period is 0, and the value then; between two points the straight line, rounded down.
+    Points {
+        period: u64,
+        first: usize,
+        count: usize,
+    },
 }
 
 /// The kinds of a timetable, numbered from 1 on; the arcs that are given a class, each with

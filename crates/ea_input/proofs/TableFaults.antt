@@ -6,7 +6,7 @@ use Rattle.std.specs.Str.{bytes_eq}
 use Rattle.ea_bytes.specs.Text.{is_comment, is_silent}
 use Rattle.ea_blocks.specs.Fault.{◌>>=◌}
 use Rattle.ea_input.specs.Listing.{after_kinds}
-use Rattle.ea_input.specs.Table.{Table, IsTableProblem, IsKindLine, IsAssignedLine, TableRead, no_table, with_line, size_read, size_of, problem_line, plain_of, every_of, every_read, closed_of, closed_read, rush_of, rush_read, speeds_of, speeds_read, trips_of, trips_read, kind_of, kind_line, assigned_of, assigned_line, step_line, table_line, table_step, table_end, after_said, IsKind, class_of, steps_from, last_kind, run_in, due_in}
+use Rattle.ea_input.specs.Table.{Table, IsTableProblem, IsKindLine, IsAssignedLine, TableRead, no_table, with_line, size_read, size_of, problem_line, plain_of, every_of, every_read, closed_of, closed_read, rush_of, rush_read, speeds_of, speeds_read, trips_of, trips_read, points_of, points_read, kind_of, kind_line, assigned_of, assigned_line, step_line, table_line, table_step, table_end, after_said, IsKind, class_of, steps_from, last_kind, run_in, due_in}
 use Rattle.ea_input.specs.StepLines as step_lines
 use Rattle.ea_input.specs.StepLines.{Run, no_run, due, IsStepLine, least_time, most_time, least_value, most_value, step_of, step_read}
 use Rattle.ea_input.specs.Checks.{Line, Before, before_of, begins_with, value_of, line_fault, end_fault, line_checks, first_failing, run_begun, run_told, run_after, run_of_lines}
@@ -16,7 +16,7 @@ use Rattle.ea_input.proofs.Said.{same_word, is_word}
 use Rattle.ea_blocks.proofs.Cuts.{two_ways}
 use Rattle.ea_input.proofs.TableSaid.{Says, line_says}
 use Rattle.ea_input.proofs.Faults.{Matches, Follows}
-use Rattle.ea_input.proofs.TableForms.{size_form, plain_form, every_form, closed_form, rush_form, speeds_form, trips_form, step_form, assigned_form}
+use Rattle.ea_input.proofs.TableForms.{size_form, plain_form, every_form, closed_form, rush_form, speeds_form, trips_form, points_form, step_form, assigned_form}
 use Rattle.ea_input.proofs.LastKind.{last_more}
 use Rattle.std.proofs.lemmas.Bool.{le-ltb}
 use Rattle.std.proofs.lemmas.List.{drop_all, drop-append-le}
@@ -25,7 +25,7 @@ use Rattle.ea_input.proofs.Matching.{bind_matches, count_matches, numbers_match,
 use Rattle.ea_blocks.specs.declared.fault.FaultKind.{FaultKind}
 use Rattle.ea_blocks.specs.declared.fault.FaultKind.TheVariants.{TooManyLines, TooFewLines}
 use Rattle.ea_base.specs.declared.timetable.RawKind.{RawKind}
-use Rattle.ea_base.specs.declared.timetable.RawKind.TheVariants.{Plain, Every, Closed, Rush, Speeds, Trips}
+use Rattle.ea_base.specs.declared.timetable.RawKind.TheVariants.{Plain, Every, Closed, Rush, Speeds, Trips, Points}
 use Rattle.ea_input.specs.declared.timetable.TableSize.{TableSize}
 use Rattle.ea_input.specs.declared.timetable.TableLine.{TableLine}
 use Rattle.ea_input.specs.declared.timetable.TableLine.TheVariants.{Silent, Problem, Kind, Assigned, Step}
@@ -141,9 +141,18 @@ trips_matches arcs count run before line j (x ∷ y ∷ z ∷ rest) small =
     let long : (length (codes "k" ∷ j ∷ codes "trips" ∷ x ∷ y ∷ z ∷ rest) == 5) ≡ false = grind (arith, tests) in
     (Plain, count_matches _ _ _ long)
 
-unnamed_matches : (arcs : ℕ) (count : List ℕ → ℕ) (run : Run) (before : ℕ) (line : Line) (kinds : ℕ) (j name : List ℕ) (fields : Line) → bytes_eq name (codes "plain") ≡ false → bytes_eq name (codes "every") ≡ false → bytes_eq name (codes "closed") ≡ false → bytes_eq name (codes "rush") ≡ false → bytes_eq name (codes "speeds") ≡ false → bytes_eq name (codes "trips") ≡ false → KindMatches arcs count run before line kinds (j ∷ name ∷ fields)
+points_matches : (arcs : ℕ) (count : List ℕ → ℕ) (run : Run) (before : ℕ) (line : Line) (j : List ℕ) (fields : Line) → count (codes "k") + 1 < 2 ^ 64 → KindMatches arcs count run before line (table_kinds line) (j ∷ codes "points" ∷ fields)
+unfolding kind_of points_of
+points_matches arcs count run before line j [] small = (Plain, refl)
+points_matches arcs count run before line j (x ∷ []) small = (Plain, refl)
+points_matches arcs count run before line j (x ∷ y ∷ []) small = (Points (value_of x) before (value_of y), item_matches _ _ (table_kinds line) (count (codes "k")) (points_read (count (codes "k") + 1) before j x y) _ Kind (points_form (count (codes "k") + 1) before j x y small))
+points_matches arcs count run before line j (x ∷ y ∷ z ∷ rest) small =
+    let long : (length (codes "k" ∷ j ∷ codes "points" ∷ x ∷ y ∷ z ∷ rest) == 5) ≡ false = grind (arith, tests) in
+    (Plain, count_matches _ _ _ long)
+
+unnamed_matches : (arcs : ℕ) (count : List ℕ → ℕ) (run : Run) (before : ℕ) (line : Line) (kinds : ℕ) (j name : List ℕ) (fields : Line) → bytes_eq name (codes "plain") ≡ false → bytes_eq name (codes "every") ≡ false → bytes_eq name (codes "closed") ≡ false → bytes_eq name (codes "rush") ≡ false → bytes_eq name (codes "speeds") ≡ false → bytes_eq name (codes "trips") ≡ false → bytes_eq name (codes "points") ≡ false → KindMatches arcs count run before line kinds (j ∷ name ∷ fields)
 unfolding kind_of
-unnamed_matches arcs count run before line kinds j name fields p e c r s t = (Plain, rw (p, e, c, r, s, t) refl)
+unnamed_matches arcs count run before line kinds j name fields p e c r s t u = (Plain, rw (p, e, c, r, s, t, u) refl)
 
 kind_matches : (arcs : ℕ) (count : List ℕ → ℕ) (run : Run) (before : ℕ) (line : Line) (fields : Line) → count (codes "k") + 1 < 2 ^ 64 → KindMatches arcs count run before line (table_kinds line) fields
 unfolding kind_of
@@ -163,7 +172,10 @@ kind_matches arcs count run before line (j ∷ name ∷ fields) small =
               | inl s ↦ subst P (sym (same_word name (codes "speeds") s)) (speeds_matches arcs count run before line j fields small)
               | inr no_s ↦ elim (two_ways (bytes_eq name (codes "trips"))) [
                 | inl t ↦ subst P (sym (same_word name (codes "trips") t)) (trips_matches arcs count run before line j fields small)
-                | inr no_t ↦ unnamed_matches arcs count run before line (table_kinds line) j name fields no_p no_e no_c no_r no_s no_t
+                | inr no_t ↦ elim (two_ways (bytes_eq name (codes "points"))) [
+                  | inl u ↦ subst P (sym (same_word name (codes "points") u)) (points_matches arcs count run before line j fields small)
+                  | inr no_u ↦ unnamed_matches arcs count run before line (table_kinds line) j name fields no_p no_e no_c no_r no_s no_t no_u
+                ]
               ]
             ]
           ]
@@ -255,6 +267,7 @@ run_more run (first ∷ lines) line = run_more (run_after run first) lines line
 abbrev first_of : RawKind → ℕ
 first_of (Speeds period first count) = first
 first_of (Trips period first count) = first
+first_of (Points period first count) = first
 first_of kind = 0
 
 -- What a kind is told by, where steps were told.
@@ -278,18 +291,21 @@ kind_begins j [] (Closed lo hi) steps is = absurd is
 kind_begins j [] (Rush lo hi extra) steps is = absurd is
 kind_begins j [] (Speeds period first count) steps is = absurd is
 kind_begins j [] (Trips period first count) steps is = absurd is
+kind_begins j [] (Points period first count) steps is = absurd is
 kind_begins j (name ∷ []) Plain steps is = (refl, omega arith)
 kind_begins j (name ∷ []) (Every p o) steps is = absurd is
 kind_begins j (name ∷ []) (Closed lo hi) steps is = absurd is
 kind_begins j (name ∷ []) (Rush lo hi extra) steps is = absurd is
 kind_begins j (name ∷ []) (Speeds period first count) steps is = absurd is
 kind_begins j (name ∷ []) (Trips period first count) steps is = absurd is
+kind_begins j (name ∷ []) (Points period first count) steps is = absurd is
 kind_begins j (name ∷ a ∷ []) Plain steps is = absurd is
 kind_begins j (name ∷ a ∷ []) (Every p o) steps is = absurd is
 kind_begins j (name ∷ a ∷ []) (Closed lo hi) steps is = absurd is
 kind_begins j (name ∷ a ∷ []) (Rush lo hi extra) steps is = absurd is
 kind_begins j (name ∷ a ∷ []) (Speeds period first count) steps is = absurd is
 kind_begins j (name ∷ a ∷ []) (Trips period first count) steps is = absurd is
+kind_begins j (name ∷ a ∷ []) (Points period first count) steps is = absurd is
 kind_begins j (name ∷ a ∷ b ∷ []) Plain steps is = absurd is
 kind_begins j (name ∷ a ∷ b ∷ []) (Every p o) steps is = rw (is.0) (refl, omega arith)
 kind_begins j (name ∷ a ∷ b ∷ []) (Closed lo hi) steps is = rw (is.0) (refl, omega arith)
@@ -298,18 +314,22 @@ kind_begins j (name ∷ a ∷ b ∷ []) (Speeds period first count) steps is =
     rw (is.0) (same_begun false (value_of a) period (value_of b) count first steps (number_is 1 4294967296 a period is.1) (number_is 1 65536 b count is.2) (omega (arith, is.3)), omega (arith, is.3))
 kind_begins j (name ∷ a ∷ b ∷ []) (Trips period first count) steps is =
     rw (is.0) (same_begun true (value_of a) period (value_of b) count first steps (number_is 0 4294967296 a period is.1) (number_is 1 65536 b count is.2) (omega (arith, is.3)), omega (arith, is.3))
+kind_begins j (name ∷ a ∷ b ∷ []) (Points period first count) steps is =
+    rw (is.0) (same_begun true (value_of a) period (value_of b) count first steps (number_is 0 4294967296 a period is.1) (number_is 1 65536 b count is.2) (omega (arith, is.3)), omega (arith, is.3))
 kind_begins j (name ∷ a ∷ b ∷ c ∷ []) Plain steps is = absurd is
 kind_begins j (name ∷ a ∷ b ∷ c ∷ []) (Every p o) steps is = absurd is
 kind_begins j (name ∷ a ∷ b ∷ c ∷ []) (Closed lo hi) steps is = absurd is
 kind_begins j (name ∷ a ∷ b ∷ c ∷ []) (Rush lo hi extra) steps is = (refl, omega arith)
 kind_begins j (name ∷ a ∷ b ∷ c ∷ []) (Speeds period first count) steps is = absurd is
 kind_begins j (name ∷ a ∷ b ∷ c ∷ []) (Trips period first count) steps is = absurd is
+kind_begins j (name ∷ a ∷ b ∷ c ∷ []) (Points period first count) steps is = absurd is
 kind_begins j (name ∷ a ∷ b ∷ c ∷ d ∷ rest) Plain steps is = absurd is
 kind_begins j (name ∷ a ∷ b ∷ c ∷ d ∷ rest) (Every p o) steps is = absurd is
 kind_begins j (name ∷ a ∷ b ∷ c ∷ d ∷ rest) (Closed lo hi) steps is = absurd is
 kind_begins j (name ∷ a ∷ b ∷ c ∷ d ∷ rest) (Rush lo hi extra) steps is = absurd is
 kind_begins j (name ∷ a ∷ b ∷ c ∷ d ∷ rest) (Speeds period first count) steps is = absurd is
 kind_begins j (name ∷ a ∷ b ∷ c ∷ d ∷ rest) (Trips period first count) steps is = absurd is
+kind_begins j (name ∷ a ∷ b ∷ c ∷ d ∷ rest) (Points period first count) steps is = absurd is
 
 line_begins : (number : ℕ) (line : Line) (kind : RawKind) (steps : List (ℕ × ℕ)) → IsKindLine number (length steps) line kind → Begins line kind steps
 line_begins number [] kind steps is = absurd is
@@ -324,6 +344,7 @@ from_more (Closed lo hi) steps step some low = absurd (omega (arith, some))
 from_more (Rush lo hi extra) steps step some low = absurd (omega (arith, some))
 from_more (Speeds period first count) steps step some low = drop-append-le first steps (step ∷ []) low
 from_more (Trips period first count) steps step some low = drop-append-le first steps (step ∷ []) low
+from_more (Points period first count) steps step some low = drop-append-le first steps (step ∷ []) low
 
 some_due : (run : Run) → 0 < due run → 0 < run.class.count
 some_due run some = omega arith

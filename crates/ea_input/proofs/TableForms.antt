@@ -5,13 +5,13 @@ use Rattle.std.specs.Prelude.{Result, Ok, Err, codes}
 use Rattle.ea_blocks.specs.Fault.{◌>>=◌, numeral, within}
 use Rattle.ea_input.specs.Checks.{is_number, value_of, lies_in}
 use Rattle.ea_input.specs.Formats.{interval_ranges, step_ranges}
-use Rattle.ea_input.specs.Table.{size_read, two_read, interval_within, numbered, plain_of, every_within, every_read, closed_within, closed_read, rush_within, rush_read, speeds_within, speeds_read, trips_within, trips_read, assigned_within, assigned_of}
+use Rattle.ea_input.specs.Table.{size_read, two_read, interval_within, numbered, plain_of, every_within, every_read, closed_within, closed_read, rush_within, rush_read, speeds_within, speeds_read, trips_within, trips_read, points_within, points_read, assigned_within, assigned_of}
 use Rattle.ea_input.specs.StepLines.{Run, least_time, most_time, least_value, most_value, step_within, step_read}
 use Rattle.ea_input.proofs.TableSaid.{time_small, value_small}
 use Rattle.ea_input.proofs.Forms.{tested, number_then, within_then, within_last}
 use Rattle.ea_blocks.specs.declared.fault.FaultKind.{FaultKind}
 use Rattle.ea_blocks.specs.declared.fault.FaultKind.TheVariants.{BadNumber, OutOfRange}
-use Rattle.ea_base.specs.declared.timetable.RawKind.TheVariants.{Plain, Every, Closed, Rush, Speeds, Trips}
+use Rattle.ea_base.specs.declared.timetable.RawKind.TheVariants.{Plain, Every, Closed, Rush, Speeds, Trips, Points}
 
 bind_assoc : {A B C : Type 0} (r : Result A FaultKind) (f : A → Result B FaultKind) (g : B → Result C FaultKind) → ((r >>= f) >>= g) ≡ (r >>= λ x. f x >>= g)
 bind_assoc (Ok x) f g = refl
@@ -70,6 +70,12 @@ pub trips_form : (number before : ℕ) (j p c : List ℕ) → number < 2 ^ 64
     → trips_read number before j p c ≡ tested (list_all is_number (j ∷ p ∷ c ∷ [])) (list_all (λ fits. fits) (lies_in number number j ∷ lies_in 0 4294967296 p ∷ lies_in 1 65536 c ∷ [])) (Trips (value_of p) before (value_of c))
 unfolding trips_read trips_within
 trips_form number before j p c small =
+    number_then j _ _ _ (two_then p c _ true _ (within_then number number (value_of j) _ _ _ small (λ a b. within_then 0 4294967296 (value_of p) _ _ _ (lit< tt) (λ low high. within_last 1 65536 (value_of c) _ (lit< tt)))))
+
+pub points_form : (number before : ℕ) (j p c : List ℕ) → number < 2 ^ 64
+    → points_read number before j p c ≡ tested (list_all is_number (j ∷ p ∷ c ∷ [])) (list_all (λ fits. fits) (lies_in number number j ∷ lies_in 0 4294967296 p ∷ lies_in 1 65536 c ∷ [])) (Points (value_of p) before (value_of c))
+unfolding points_read points_within
+points_form number before j p c small =
     number_then j _ _ _ (two_then p c _ true _ (within_then number number (value_of j) _ _ _ small (λ a b. within_then 0 4294967296 (value_of p) _ _ _ (lit< tt) (λ low high. within_last 1 65536 (value_of c) _ (lit< tt)))))
 
 pub step_form : (run : Run) (t x : List ℕ) → step_read run t x ≡ tested (list_all is_number (t ∷ x ∷ [])) (list_all (λ fits. fits) (step_ranges run (codes "v" ∷ t ∷ x ∷ []))) (value_of t, value_of x)

@@ -7,7 +7,7 @@ use Rattle.ea_bytes.specs.Text.{is_comment, is_silent}
 use Rattle.ea_blocks.specs.Fault.{◌>>=◌, numeral, within}
 use Rattle.ea_input.specs.Range.{IsNumberIn}
 use Rattle.ea_input.specs.Listing.{after_kinds}
-use Rattle.ea_input.specs.Table.{Table, IsTableProblem, IsKind, IsKindLine, IsAssignedLine, TableRead, size_read, size_of, problem_line, two_read, interval_within, numbered, plain_of, every_within, every_read, every_of, closed_within, closed_read, closed_of, rush_within, rush_read, rush_of, speeds_within, speeds_read, speeds_of, trips_within, trips_read, trips_of, kind_of, kind_line, assigned_within, assigned_of, assigned_line, step_line, run_in, due_in, table_line}
+use Rattle.ea_input.specs.Table.{Table, IsTableProblem, IsKind, IsKindLine, IsAssignedLine, TableRead, size_read, size_of, problem_line, two_read, interval_within, numbered, plain_of, every_within, every_read, every_of, closed_within, closed_read, closed_of, rush_within, rush_read, rush_of, speeds_within, speeds_read, speeds_of, trips_within, trips_read, trips_of, points_within, points_read, points_of, kind_of, kind_line, assigned_within, assigned_of, assigned_line, step_line, run_in, due_in, table_line}
 use Rattle.ea_input.specs.StepLines.{Run, due, has_steps, is_last, first_step, arrives, least_time, most_time, least_value, most_value, IsStepLine, step_within, step_read, step_of}
 use Rattle.ea_input.proofs.Numbered.{bind_ok, guard_ok, number_found, numeral_of, within_of}
 use Rattle.ea_input.proofs.Said.{same_word, choice_ok}
@@ -15,7 +15,7 @@ use Rattle.ea_input.proofs.Items.{after_kinds_ok, after_kinds_of}
 use Rattle.ea_blocks.specs.declared.fault.FaultKind.{FaultKind}
 use Rattle.ea_blocks.specs.declared.fault.FaultKind.TheVariants.{TooFewLines, TooManyLines}
 use Rattle.ea_base.specs.declared.timetable.RawKind.{RawKind}
-use Rattle.ea_base.specs.declared.timetable.RawKind.TheVariants.{Plain, Every, Closed, Rush, Speeds, Trips}
+use Rattle.ea_base.specs.declared.timetable.RawKind.TheVariants.{Plain, Every, Closed, Rush, Speeds, Trips, Points}
 use Rattle.ea_input.specs.declared.timetable.TableSize.{TableSize}
 use Rattle.ea_input.specs.declared.timetable.TableLine.{TableLine}
 use Rattle.ea_input.specs.declared.timetable.TableLine.TheVariants.{Silent, Problem, Kind, Assigned, Step}
@@ -147,6 +147,21 @@ trips_ok number before j name (p ∷ c ∷ []) kind small w e =
     (found_at number m.0 at.0 j small m.1 at.1, subst (λ (k : RawKind). IsKind before (name ∷ p ∷ c ∷ []) k) same (w, number_found 0 4294967296 p n.0.0 period.0 (lit< tt) numbers.0 period.1, number_found 1 65536 c n.0.1 count.0 (lit< tt) numbers.1 count.1, refl))
 trips_ok number before j name (p ∷ c ∷ x ∷ rest) kind small w e = cc
 
+points_ok : (number before : ℕ) (j name : List ℕ) (others : List (List ℕ)) (kind : RawKind) → number < 2 ^ 64 → name ≡ codes "points" → points_of number before j others ≡ Ok kind → Numbered number j × IsKind before (name ∷ others) kind
+unfolding points_of points_read points_within
+points_ok number before j name [] kind small w e = cc
+points_ok number before j name (p ∷ []) kind small w e = cc
+points_ok number before j name (p ∷ c ∷ []) kind small w e =
+    let m = bind_ok (numeral j) _ kind e in
+    let n = bind_ok (two_read p c) _ kind m.2 in
+    let numbers = two_read_ok p c n.0 n.1 in
+    let at = bind_ok (within number number m.0) _ kind n.2 in
+    let period = bind_ok (within 0 4294967296 n.0.0) _ kind at.2 in
+    let count = bind_ok (within 1 65536 n.0.1) _ kind period.2 in
+    let same : Points period.0 before count.0 ≡ kind = cc (count.2) in
+    (found_at number m.0 at.0 j small m.1 at.1, subst (λ (k : RawKind). IsKind before (name ∷ p ∷ c ∷ []) k) same (w, number_found 0 4294967296 p n.0.0 period.0 (lit< tt) numbers.0 period.1, number_found 1 65536 c n.0.1 count.0 (lit< tt) numbers.1 count.1, refl))
+points_ok number before j name (p ∷ c ∷ x ∷ rest) kind small w e = cc
+
 named_ok : (number before : ℕ) (j name : List ℕ) (others : List (List ℕ)) (kind : RawKind) → number < 2 ^ 64 → kind_of number before (j ∷ name ∷ others) ≡ Ok kind → Numbered number j × IsKind before (name ∷ others) kind
 unfolding kind_of
 named_ok number before j name others kind small e = elim (choice_ok (bytes_eq name (codes "plain")) _ _ (Ok kind) e) [
@@ -161,7 +176,10 @@ named_ok number before j name others kind small e = elim (choice_ok (bytes_eq na
           | inl t ↦ speeds_ok number before j name others kind small (same_word name (codes "speeds") t.0) t.1
           | inr t ↦ elim (choice_ok (bytes_eq name (codes "trips")) _ _ (Ok kind) t.1) [
             | inl u ↦ trips_ok number before j name others kind small (same_word name (codes "trips") u.0) u.1
-            | inr u ↦ cc (u.1)
+            | inr u ↦ elim (choice_ok (bytes_eq name (codes "points")) _ _ (Ok kind) u.1) [
+              | inl v ↦ points_ok number before j name others kind small (same_word name (codes "points") v.0) v.1
+              | inr v ↦ cc (v.1)
+            ]
           ]
         ]
       ]
@@ -214,6 +232,12 @@ trips_takes number before j p c period first count small is one two begins =
     let at = at_of number j small is in
     rw (at.0, two_read_of p c period count (numeral_of 0 4294967296 p period (lit< tt) one) (numeral_of 1 65536 c count (lit< tt) two), at.1, within_of 0 4294967296 period one.1 one.2, within_of 1 65536 count two.1 two.2, begins) refl
 
+points_takes : (number before : ℕ) (j p c : List ℕ) (period first count : ℕ) → number < 2 ^ 64 → Numbered number j → IsNumberIn 0 4294967296 p period → IsNumberIn 1 65536 c count → first ≡ before → points_of number before j (p ∷ c ∷ []) ≡ Ok (Points period first count)
+unfolding points_of points_read points_within
+points_takes number before j p c period first count small is one two begins =
+    let at = at_of number j small is in
+    rw (at.0, two_read_of p c period count (numeral_of 0 4294967296 p period (lit< tt) one) (numeral_of 1 65536 c count (lit< tt) two), at.1, within_of 0 4294967296 period one.1 one.2, within_of 1 65536 count two.1 two.2, begins) refl
+
 kind_takes : (number before : ℕ) (j : List ℕ) (fields : List (List ℕ)) (kind : RawKind) → number < 2 ^ 64 → Numbered number j → IsKind before fields kind → kind_of number before (j ∷ fields) ≡ Ok kind
 unfolding kind_of
 kind_takes number before j [] Plain small at is = absurd is
@@ -222,36 +246,42 @@ kind_takes number before j [] (Closed lo hi) small at is = absurd is
 kind_takes number before j [] (Rush lo hi extra) small at is = absurd is
 kind_takes number before j [] (Speeds period first count) small at is = absurd is
 kind_takes number before j [] (Trips period first count) small at is = absurd is
+kind_takes number before j [] (Points period first count) small at is = absurd is
 kind_takes number before j (name ∷ []) Plain small at is = rw is (plain_takes number j small at)
 kind_takes number before j (name ∷ []) (Every p o) small at is = absurd is
 kind_takes number before j (name ∷ []) (Closed lo hi) small at is = absurd is
 kind_takes number before j (name ∷ []) (Rush lo hi extra) small at is = absurd is
 kind_takes number before j (name ∷ []) (Speeds period first count) small at is = absurd is
 kind_takes number before j (name ∷ []) (Trips period first count) small at is = absurd is
+kind_takes number before j (name ∷ []) (Points period first count) small at is = absurd is
 kind_takes number before j (name ∷ a ∷ []) Plain small at is = absurd is
 kind_takes number before j (name ∷ a ∷ []) (Every p o) small at is = absurd is
 kind_takes number before j (name ∷ a ∷ []) (Closed lo hi) small at is = absurd is
 kind_takes number before j (name ∷ a ∷ []) (Rush lo hi extra) small at is = absurd is
 kind_takes number before j (name ∷ a ∷ []) (Speeds period first count) small at is = absurd is
 kind_takes number before j (name ∷ a ∷ []) (Trips period first count) small at is = absurd is
+kind_takes number before j (name ∷ a ∷ []) (Points period first count) small at is = absurd is
 kind_takes number before j (name ∷ a ∷ b ∷ []) Plain small at is = absurd is
 kind_takes number before j (name ∷ a ∷ b ∷ []) (Every p o) small at is = rw (is.0) (every_takes number j a b p o small at is.1 is.2)
 kind_takes number before j (name ∷ a ∷ b ∷ []) (Closed lo hi) small at is = rw (is.0) (closed_takes number j a b lo hi small at is.1 is.2)
 kind_takes number before j (name ∷ a ∷ b ∷ []) (Rush lo hi extra) small at is = absurd is
 kind_takes number before j (name ∷ a ∷ b ∷ []) (Speeds period first count) small at is = rw (is.0) (speeds_takes number before j a b period first count small at is.1 is.2 is.3)
 kind_takes number before j (name ∷ a ∷ b ∷ []) (Trips period first count) small at is = rw (is.0) (trips_takes number before j a b period first count small at is.1 is.2 is.3)
+kind_takes number before j (name ∷ a ∷ b ∷ []) (Points period first count) small at is = rw (is.0) (points_takes number before j a b period first count small at is.1 is.2 is.3)
 kind_takes number before j (name ∷ a ∷ b ∷ c ∷ []) Plain small at is = absurd is
 kind_takes number before j (name ∷ a ∷ b ∷ c ∷ []) (Every p o) small at is = absurd is
 kind_takes number before j (name ∷ a ∷ b ∷ c ∷ []) (Closed lo hi) small at is = absurd is
 kind_takes number before j (name ∷ a ∷ b ∷ c ∷ []) (Rush lo hi extra) small at is = rw (is.0) (rush_takes number j a b c lo hi extra small at is.1 is.2 is.3)
 kind_takes number before j (name ∷ a ∷ b ∷ c ∷ []) (Speeds period first count) small at is = absurd is
 kind_takes number before j (name ∷ a ∷ b ∷ c ∷ []) (Trips period first count) small at is = absurd is
+kind_takes number before j (name ∷ a ∷ b ∷ c ∷ []) (Points period first count) small at is = absurd is
 kind_takes number before j (name ∷ a ∷ b ∷ c ∷ d ∷ rest) Plain small at is = absurd is
 kind_takes number before j (name ∷ a ∷ b ∷ c ∷ d ∷ rest) (Every p o) small at is = absurd is
 kind_takes number before j (name ∷ a ∷ b ∷ c ∷ d ∷ rest) (Closed lo hi) small at is = absurd is
 kind_takes number before j (name ∷ a ∷ b ∷ c ∷ d ∷ rest) (Rush lo hi extra) small at is = absurd is
 kind_takes number before j (name ∷ a ∷ b ∷ c ∷ d ∷ rest) (Speeds period first count) small at is = absurd is
 kind_takes number before j (name ∷ a ∷ b ∷ c ∷ d ∷ rest) (Trips period first count) small at is = absurd is
+kind_takes number before j (name ∷ a ∷ b ∷ c ∷ d ∷ rest) (Points period first count) small at is = absurd is
 
 -- ---- sizes and assignments
 

@@ -50,7 +50,8 @@ words_fit (word ∷ words) (field ∷ fields) = bytes_eq field word && words_fit
 abbrev pub run_begun : Line → Run
 run_begun (k ∷ j ∷ name ∷ p ∷ n ∷ []) =
     if bytes_eq name (codes "speeds") then record { class = record { trips = false; period = value_of p; count = value_of n }; steps = [] } else
-    (if bytes_eq name (codes "trips") then record { class = record { trips = true; period = value_of p; count = value_of n }; steps = [] } else no_run)
+    (if bytes_eq name (codes "trips") then record { class = record { trips = true; period = value_of p; count = value_of n }; steps = [] } else
+    (if bytes_eq name (codes "points") then record { class = record { trips = true; period = value_of p; count = value_of n }; steps = [] } else no_run))
 run_begun _ = no_run
 
 -- The same after the step of a line `v T X`.

@@ -83,10 +83,10 @@ table_assigned _ = 0
 
 -- The third field of a line `k J ..` is a kind's name, where there is one.
 abbrev pub kind_name_fits : Line → Bool
-kind_name_fits (k ∷ j ∷ name ∷ fields) = list_any (bytes_eq name) (codes "plain" ∷ codes "every" ∷ codes "closed" ∷ codes "rush" ∷ codes "speeds" ∷ codes "trips" ∷ [])
+kind_name_fits (k ∷ j ∷ name ∷ fields) = list_any (bytes_eq name) (codes "plain" ∷ codes "every" ∷ codes "closed" ∷ codes "rush" ∷ codes "speeds" ∷ codes "trips" ∷ codes "points" ∷ [])
 kind_name_fits _ = true
 
--- `k J plain`, `k J every P O`, `k J closed B E`, `k J rush B E X`, `k J speeds P N`, `k J trips P N`
+-- `k J plain`, `k J every P O`, `k J closed B E`, `k J rush B E X`, `k J speeds P N`, `k J trips P N`, `k J points P N`
 abbrev pub kind_fields : Line → ℕ
 kind_fields (k ∷ j ∷ name ∷ fields) =
     if bytes_eq name (codes "plain") then 3 else

@@ -14,7 +14,7 @@ use Rattle.ea_blocks.specs.declared.fault.FaultKind.{FaultKind}
 use Rattle.ea_blocks.specs.declared.fault.FaultKind.TheVariants.{NoProblemLine, SecondProblemLine, UnknownLine, FieldCount, TooManyLines, TooFewLines, BadKind}
 use Rattle.ea_blocks.specs.declared.fault.InputFault.{InputFault}
 use Rattle.ea_base.specs.declared.timetable.RawKind.{RawKind}
-use Rattle.ea_base.specs.declared.timetable.RawKind.TheVariants.{Plain, Every, Closed, Rush, Speeds, Trips}
+use Rattle.ea_base.specs.declared.timetable.RawKind.TheVariants.{Plain, Every, Closed, Rush, Speeds, Trips, Points}
 use Rattle.ea_input.specs.declared.timetable.TableSize.{TableSize}
 use Rattle.ea_input.specs.declared.timetable.TableLine.{TableLine}
 use Rattle.ea_input.specs.declared.timetable.TableLine.TheVariants.{Silent, Problem, Kind, Assigned, Step}
@@ -44,12 +44,14 @@ with_step table step = record table { steps = table.steps ++ step ∷ [] }
 abbrev pub class_of : RawKind → StepClass
 class_of (Speeds period first count) = record { trips = false; period = period; count = count }
 class_of (Trips period first count) = record { trips = true; period = period; count = count }
+class_of (Points period first count) = record { trips = true; period = period; count = count }
 class_of kind = no_run.class
 
 -- The steps from a kind's first one on.
 abbrev pub steps_from : RawKind → List (ℕ × ℕ) → List (ℕ × ℕ)
 steps_from (Speeds period first count) steps = drop first steps
 steps_from (Trips period first count) steps = drop first steps
+steps_from (Points period first count) steps = drop first steps
 steps_from kind steps = []
 
 abbrev pub last_kind : List RawKind → RawKind
@@ -83,6 +85,8 @@ IsKind before (name ∷ p ∷ n ∷ []) (Speeds period first count) =
     (name ≡ codes "speeds") × IsNumberIn 1 MOST_PERIOD p period × IsNumberIn 1 MOST_STEPS n count × (first ≡ before)
 IsKind before (name ∷ p ∷ n ∷ []) (Trips period first count) =
     (name ≡ codes "trips") × IsNumberIn 0 MOST_PERIOD p period × IsNumberIn 1 MOST_STEPS n count × (first ≡ before)
+IsKind before (name ∷ p ∷ n ∷ []) (Points period first count) =
+    (name ≡ codes "points") × IsNumberIn 0 MOST_PERIOD p period × IsNumberIn 1 MOST_STEPS n count × (first ≡ before)
 IsKind before _ kind = ⊥
 
 -- A line `k J ..` of the kind with this number, behind so many steps.
@@ -238,15 +242,32 @@ trips_within number before j p n = do
   count ← within 1 MOST_STEPS n
   Ok (Trips period before count)
 
+unfoldable pub points_within : ℕ → ℕ → ℕ → ℕ → ℕ → Result RawKind FaultKind
+points_within number before j p n = do
+  j ← within number number j
+  period ← within 0 MOST_PERIOD p
+  count ← within 1 MOST_STEPS n
+  Ok (Points period before count)
+
 unfoldable pub trips_read : ℕ → ℕ → List ℕ → List ℕ → List ℕ → Result RawKind FaultKind
 trips_read number before j p n = do
   j ← numeral j
   numbers ← two_read p n
   trips_within number before j numbers.0 numbers.1
 
+unfoldable pub points_read : ℕ → ℕ → List ℕ → List ℕ → List ℕ → Result RawKind FaultKind
+points_read number before j p n = do
+  j ← numeral j
+  numbers ← two_read p n
+  points_within number before j numbers.0 numbers.1
+
 unfoldable pub trips_of : ℕ → ℕ → List ℕ → List (List ℕ) → Result RawKind FaultKind
 trips_of number before j (p ∷ n ∷ []) = trips_read number before j p n
 trips_of number before j _ = Err FieldCount
+
+unfoldable pub points_of : ℕ → ℕ → List ℕ → List (List ℕ) → Result RawKind FaultKind
+points_of number before j (p ∷ n ∷ []) = points_read number before j p n
+points_of number before j _ = Err FieldCount
 
 -- The fields behind `k`, behind so many steps.
 unfoldable pub kind_of : ℕ → ℕ → List (List ℕ) → Result RawKind FaultKind
@@ -258,7 +279,8 @@ kind_of number before (j ∷ name ∷ fields) =
     (if bytes_eq name (codes "closed") then closed_of number j fields else
     (if bytes_eq name (codes "rush") then rush_of number j fields else
     (if bytes_eq name (codes "speeds") then speeds_of number before j fields else
-    (if bytes_eq name (codes "trips") then trips_of number before j fields else Err BadKind)))))
+    (if bytes_eq name (codes "trips") then trips_of number before j fields else
+    (if bytes_eq name (codes "points") then points_of number before j fields else Err BadKind))))))
 
 -- The fields behind `k`, after so many kinds and so many steps, where so many steps are due.
 unfoldable pub kind_line : Option TableSize → ℕ → ℕ → ℕ → List (List ℕ) → Result TableLine FaultKind

@@ -4,7 +4,7 @@ use Rattle.std.proofs.Common.{Bool, true, false, cond}
 use Rattle.std.specs.Str.{bytes_eq}
 use Rattle.ea_blocks.specs.Fault.{◌>>=◌}
 use Rattle.ea_input.specs.Listing.{after_kinds}
-use Rattle.ea_input.specs.Table.{TableRead, size_of, problem_line, plain_of, every_of, closed_of, rush_of, speeds_of, trips_of, kind_of, kind_line, assigned_of, assigned_line, step_line, due_in, run_in, table_line, table_step, after_said}
+use Rattle.ea_input.specs.Table.{TableRead, size_of, problem_line, plain_of, every_of, closed_of, rush_of, speeds_of, trips_of, points_of, kind_of, kind_line, assigned_of, assigned_line, step_line, due_in, run_in, table_line, table_step, after_said}
 use Rattle.ea_input.specs.StepLines.{Run, step_of}
 use Rattle.ea_blocks.specs.declared.fault.FaultKind.TheVariants.{BadKind}
 use Rattle.ea_input.specs.declared.timetable.TableSize.{TableSize}
@@ -68,12 +68,19 @@ trips_of-front number before j (p ∷ []) = refl
 trips_of-front number before j (p ∷ n ∷ []) = refl
 trips_of-front number before j (p ∷ n ∷ x ∷ rest) = refl
 
+points_of-front : (number before : ℕ) (j : List ℕ) (fields : List (List ℕ)) → points_of number before j (take 4 fields) ≡ points_of number before j fields
+unfolding points_of
+points_of-front number before j [] = refl
+points_of-front number before j (p ∷ []) = refl
+points_of-front number before j (p ∷ n ∷ []) = refl
+points_of-front number before j (p ∷ n ∷ x ∷ rest) = refl
+
 kind_of-front : (number before : ℕ) (fields : List (List ℕ)) → kind_of number before (take 6 fields) ≡ kind_of number before fields
 unfolding kind_of
 kind_of-front number before [] = refl
 kind_of-front number before (j ∷ []) = refl
 kind_of-front number before (j ∷ name ∷ fields) =
-    rw (plain_of-front number j fields, every_of-front number j fields, closed_of-front number j fields, rush_of-front number j fields, speeds_of-front number before j fields, trips_of-front number before j fields) refl
+    rw (plain_of-front number j fields, every_of-front number j fields, closed_of-front number j fields, rush_of-front number j fields, speeds_of-front number before j fields, trips_of-front number before j fields, points_of-front number before j fields) refl
 
 kind_line-front : (size : Option TableSize) (due count before : ℕ) (fields : List (List ℕ)) → kind_line size due count before (take 6 fields) ≡ kind_line size due count before fields
 unfolding kind_line

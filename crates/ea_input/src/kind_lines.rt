@@ -247,6 +247,56 @@ fn trips_of(
     }
 }
 
+#[tactic(auto, unfolding(crate::specs::Table::points_within))]
+fn points_within(
+    number: u64,
+    before: usize,
+    found: u128,
+    period: u128,
+    count: u128,
+) -> Result<RawKind, FaultKind>
+    ensures { result ≡ spec.points_within number before found period count }
+{
+    within_wide(number, number, found)?;
+    let period = within_wide(0, MOST_PERIOD, period)?;
+    let count = within(1, MOST_STEPS, count)?;
+    Ok(RawKind::Points {
+        period,
+        first: before,
+        count: count as usize,
+    })
+}
+
+#[tactic(auto, unfolding(crate::specs::Table::points_read))]
+fn points_read(
+    number: u64,
+    before: usize,
+    field: &[u8],
+    period: &[u8],
+    count: &[u8],
+) -> Result<RawKind, FaultKind>
+    ensures { result ≡ spec.points_read number before field.now period.now count.now }
+{
+    let found = numeral(field)?;
+    let (period, count) = two_read(period, count)?;
+    points_within(number, before, found, period, count)
+}
+
+#[tactic(auto, unfolding(crate::specs::Table::points_of))]
+fn points_of(
+    number: u64,
+    before: usize,
+    field: &[u8],
+    others: &[&[u8]],
+) -> Result<RawKind, FaultKind>
+    ensures { result ≡ spec.points_of number before field.now (map (λ field. field.now) others.now) }
+{
+    match others {
+        [period, count] => points_read(number, before, field, period, count),
+        _ => Err(FaultKind::FieldCount),
+    }
+}
+
 /// The kind of a class's number, a kind's name and the fields behind it, after so many steps.
 #[tactic(auto, unfolding(crate::specs::Table::kind_of))]
 fn kind_named(
@@ -270,6 +320,8 @@ fn kind_named(
         speeds_of(number, before, field, others)
     } else if name == b"trips".as_slice() {
         trips_of(number, before, field, others)
+    } else if name == b"points".as_slice() {
+        points_of(number, before, field, others)
     } else {
         Err(FaultKind::BadKind)
     }

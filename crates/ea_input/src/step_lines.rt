@@ -1,4 +1,4 @@
-//! Lines of steps: the speeds and the trips of a class, one after the other.
+//! Lines of steps: the speeds, trips or points of a class, one after the other.
 ghost use Rattle.std.specs.Prelude.{◌≡◌, ◌≤◌, ◌==◌, ◌+◌, ◌-◌, IfOk, length, min, slice_index_or};
 ghost use Rattle.std.specs.List.{list_all};
 ghost use Rattle.ea_blocks.specs.Borrowed.{texts_now};
@@ -9,7 +9,8 @@ use crate::number_ranges::numeral;
 use ea_base::{HORIZON, MOST_PERIOD, MOST_SPEED};
 use ea_blocks::FaultKind;
 
-/// A class that has steps: whether they are trips, or else speeds; its period; and how many steps there are.
+/// A class that has steps: whether they are trips or points, which have the same ranges, or else speeds; its period; and how many steps
+/// there are.
 #[derive(Clone, Copy)]
 pub struct StepClass {
     pub trips: bool,

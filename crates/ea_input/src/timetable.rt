@@ -232,6 +232,11 @@ fn class_of(kind: RawKind) -> StepClass
             period,
             count,
         },
+        RawKind::Points { period, count, .. } => StepClass {
+            trips: true,
+            period,
+            count,
+        },
         _ => StepClass {
             trips: false,
             period: 0,
@@ -254,6 +259,7 @@ fn steps_from(kind: RawKind, steps: &[(u64, u64)]) -> &[(u64, u64)]
     match kind {
         RawKind::Speeds { first, .. } => steps_behind(steps, first),
         RawKind::Trips { first, .. } => steps_behind(steps, first),
+        RawKind::Points { first, .. } => steps_behind(steps, first),
         _ => &[],
     }
 }

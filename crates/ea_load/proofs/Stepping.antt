@@ -6,7 +6,7 @@ use Rattle.std.proofs.lemmas.Bool.Decides.{leb_tells, nat_tests}
 use Rattle.std.proofs.lemmas.Bool.{lt-ltb}
 use Rattle.std.proofs.lemmas.List.{take_all, length-drop, drop_all, drop-append-le, take-append-le, get_or_append_left, get_or_push}
 use Rattle.ea_base.specs.declared.timetable.RawKind.{RawKind}
-use Rattle.ea_base.specs.declared.timetable.RawKind.TheVariants.{Plain, Every, Closed, Rush, Speeds, Trips}
+use Rattle.ea_base.specs.declared.timetable.RawKind.TheVariants.{Plain, Every, Closed, Rush, Speeds, Trips, Points}
 use Rattle.ea_input.specs.StepLines.{Run, due, has_steps, is_last, stands_still, step_before, first_step, arrives, least_time, most_time, least_value, most_value, IsStepLine}
 use Rattle.ea_input.specs.Table.{Table, nothing, IsKind, IsKindLine, IsTableAfter, AreTableLines, class_of, steps_from, last_kind, run_in}
 use Rattle.ea_input.proofs.LastKind.{last_more}
@@ -246,6 +246,7 @@ trips_more period count steps step part room ranges = record {
 abbrev IsPart : List (ℕ × ℕ) → RawKind → Type 0
 IsPart steps (Speeds period first count) = (first ≤ length steps) × PartSpeeds period count (drop first steps)
 IsPart steps (Trips period first count) = (first ≤ length steps) × PartTrips period count (drop first steps)
+IsPart steps (Points period first count) = (first ≤ length steps) × PartTrips period count (drop first steps)
 IsPart steps kind = IsTrue (is_kind kind)
 
 every_fits : (period offset : ℕ) → period ≤ 4294967296 → 1 ≤ period → offset ≤ period - 1 → IsTrue (is_kind (Every period offset))
@@ -296,36 +297,42 @@ kind_begins [] (Closed lo hi) steps h = absurd h
 kind_begins [] (Rush lo hi extra) steps h = absurd h
 kind_begins [] (Speeds period first count) steps h = absurd h
 kind_begins [] (Trips period first count) steps h = absurd h
+kind_begins [] (Points period first count) steps h = absurd h
 kind_begins (name ∷ []) Plain steps h = refl
 kind_begins (name ∷ []) (Every period offset) steps h = absurd h
 kind_begins (name ∷ []) (Closed lo hi) steps h = absurd h
 kind_begins (name ∷ []) (Rush lo hi extra) steps h = absurd h
 kind_begins (name ∷ []) (Speeds period first count) steps h = absurd h
 kind_begins (name ∷ []) (Trips period first count) steps h = absurd h
+kind_begins (name ∷ []) (Points period first count) steps h = absurd h
 kind_begins (name ∷ a ∷ []) Plain steps h = absurd h
 kind_begins (name ∷ a ∷ []) (Every period offset) steps h = absurd h
 kind_begins (name ∷ a ∷ []) (Closed lo hi) steps h = absurd h
 kind_begins (name ∷ a ∷ []) (Rush lo hi extra) steps h = absurd h
 kind_begins (name ∷ a ∷ []) (Speeds period first count) steps h = absurd h
 kind_begins (name ∷ a ∷ []) (Trips period first count) steps h = absurd h
+kind_begins (name ∷ a ∷ []) (Points period first count) steps h = absurd h
 kind_begins (name ∷ a ∷ b ∷ []) Plain steps h = absurd h
 kind_begins (name ∷ a ∷ b ∷ []) (Every period offset) steps h = every_fits period offset h.1.2 h.1.1 h.2.2
 kind_begins (name ∷ a ∷ b ∷ []) (Closed lo hi) steps h = closed_fits lo hi h.2.1 h.2.2
 kind_begins (name ∷ a ∷ b ∷ []) (Rush lo hi extra) steps h = absurd h
 kind_begins (name ∷ a ∷ b ∷ []) (Speeds period first count) steps h = speeds_begin period first count steps h.1.1 h.1.2 h.2.1 h.3
 kind_begins (name ∷ a ∷ b ∷ []) (Trips period first count) steps h = trips_begin period first count steps h.1.2 h.2.1 h.3
+kind_begins (name ∷ a ∷ b ∷ []) (Points period first count) steps h = trips_begin period first count steps h.1.2 h.2.1 h.3
 kind_begins (name ∷ a ∷ b ∷ c ∷ []) Plain steps h = absurd h
 kind_begins (name ∷ a ∷ b ∷ c ∷ []) (Every period offset) steps h = absurd h
 kind_begins (name ∷ a ∷ b ∷ c ∷ []) (Closed lo hi) steps h = absurd h
 kind_begins (name ∷ a ∷ b ∷ c ∷ []) (Rush lo hi extra) steps h = rush_fits lo hi extra h.2.1 h.2.2 h.3.2
 kind_begins (name ∷ a ∷ b ∷ c ∷ []) (Speeds period first count) steps h = absurd h
 kind_begins (name ∷ a ∷ b ∷ c ∷ []) (Trips period first count) steps h = absurd h
+kind_begins (name ∷ a ∷ b ∷ c ∷ []) (Points period first count) steps h = absurd h
 kind_begins (name ∷ a ∷ b ∷ c ∷ d ∷ rest) Plain steps h = absurd h
 kind_begins (name ∷ a ∷ b ∷ c ∷ d ∷ rest) (Every period offset) steps h = absurd h
 kind_begins (name ∷ a ∷ b ∷ c ∷ d ∷ rest) (Closed lo hi) steps h = absurd h
 kind_begins (name ∷ a ∷ b ∷ c ∷ d ∷ rest) (Rush lo hi extra) steps h = absurd h
 kind_begins (name ∷ a ∷ b ∷ c ∷ d ∷ rest) (Speeds period first count) steps h = absurd h
 kind_begins (name ∷ a ∷ b ∷ c ∷ d ∷ rest) (Trips period first count) steps h = absurd h
+kind_begins (name ∷ a ∷ b ∷ c ∷ d ∷ rest) (Points period first count) steps h = absurd h
 
 line_begins : (number : ℕ) (line : List (List ℕ)) (kind : RawKind) (steps : List (ℕ × ℕ)) → IsKindLine number (length steps) line kind → IsPart steps kind
 line_begins number [] kind steps h = absurd h
@@ -374,6 +381,9 @@ whole (Speeds period first count) steps part none =
 whole (Trips period first count) steps part none =
     let told = all_told first count steps part.0 part.1.few none in
     (told.0, subst (λ (xs : List (ℕ × ℕ)). AreTrips period xs) (sym told.2) (trips_whole period count (drop first steps) part.1 told.1))
+whole (Points period first count) steps part none =
+    let told = all_told first count steps part.0 part.1.few none in
+    (told.0, subst (λ (xs : List (ℕ × ℕ)). AreTrips period xs) (sym told.2) (trips_whole period count (drop first steps) part.1 told.1))
 
 -- One more step leaves the classes before the last one as they are.
 run_stays : (first count : ℕ) (steps : List (ℕ × ℕ)) (step : ℕ × ℕ) → first + count ≤ length steps → take count (drop first (and_one steps step)) ≡ take count (drop first steps)
@@ -388,6 +398,7 @@ class_stays (Closed lo hi) steps step is = is
 class_stays (Rush lo hi extra) steps step is = is
 class_stays (Speeds period first count) steps step is = (omega (arith, is.0, longer steps step), subst (λ (xs : List (ℕ × ℕ)). AreSpeeds period xs) (sym (run_stays first count steps step is.0)) is.1)
 class_stays (Trips period first count) steps step is = (omega (arith, is.0, longer steps step), subst (λ (xs : List (ℕ × ℕ)). AreTrips period xs) (sym (run_stays first count steps step is.0)) is.1)
+class_stays (Points period first count) steps step is = (omega (arith, is.0, longer steps step), subst (λ (xs : List (ℕ × ℕ)). AreTrips period xs) (sym (run_stays first count steps step is.0)) is.1)
 
 line_ranges : (run : Run) (line : List (List ℕ)) (step : ℕ × ℕ) → IsStepLine run line step → Ranges run step
 line_ranges run [] step is = absurd is
@@ -404,6 +415,8 @@ part_more (Rush lo hi extra) steps step part some ranges = part
 part_more (Speeds period first count) steps step part some ranges =
     (omega (arith, part.0, longer steps step), subst (λ (xs : List (ℕ × ℕ)). PartSpeeds period count xs) (sym (drop-append-le first steps (step ∷ []) part.0)) (speeds_more period count (drop first steps) step part.1 (omega (arith, some)) ranges))
 part_more (Trips period first count) steps step part some ranges =
+    (omega (arith, part.0, longer steps step), subst (λ (xs : List (ℕ × ℕ)). PartTrips period count xs) (sym (drop-append-le first steps (step ∷ []) part.0)) (trips_more period count (drop first steps) step part.1 (omega (arith, some)) ranges))
+part_more (Points period first count) steps step part some ranges =
     (omega (arith, part.0, longer steps step), subst (λ (xs : List (ℕ × ℕ)). PartTrips period count xs) (sym (drop-append-le first steps (step ∷ []) part.0)) (trips_more period count (drop first steps) step part.1 (omega (arith, some)) ranges))
 
 -- ---- all kinds

@@ -28,7 +28,8 @@ lines. Times are whole numbers up to 281474976710655, in whatever unit the weigh
   k J rush B E X    left from B until before E it takes X longer; later none arrives before those
   k J speeds P N    speeds by the time modulo P, in thousandths of the full one, at which it takes W; N lines v follow
   k J trips P N     departures, each arriving X + W later, modulo P, or once each where P is 0; N lines v follow
-  v T X             from T on the speed is X (0 to 1000000), or a trip leaves at T and takes X more; T rises
+  k J points P N    X longer than W, by straight lines from point to point, modulo P where it isn't 0; N lines v follow
+  v T X             from T on the speed is X (0 to 1000000), or a trip leaves or a point lies at T with X more; T rises
 
 The report that `run` and `pairs` write
   s S D             a problem from source S, departing at D

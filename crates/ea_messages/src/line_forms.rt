@@ -35,16 +35,16 @@ const TP_PROBLEM: &str =
     "the problem line is `p tp K T`: K timetables, 0 to 65535, and T lines `t E J`, 0 to 268435456";
 
 const TP_KIND: &str =
-    "a timetable is `k J KIND ..`, J counting from 1: plain; every P O; closed B E; rush B E X; speeds P N; trips P N (see `earliest formats`)";
+    "a timetable is `k J KIND ..`, J counting from 1: plain; every P O; closed B E; rush B E X; speeds P N; trips P N; points P N (see `earliest formats`)";
 
 const TP_ARC: &str =
     "`t E J` gives arc E timetable J; E is 1 to the network's number of arcs, and J is 0 to K of the problem line";
 
 const TP_VALUE: &str =
-    "`v T X` is the next step of the timetable of kind speeds or trips before it: times T rise, speeds X are at most 1000000, and no trip arrives before an earlier one (see `earliest formats`)";
+    "`v T X` is the next step of the timetable of kind speeds, trips or points before it: times T rise, speeds X are at most 1000000, and no T + X is less than the one before (see `earliest formats`)";
 
 const TP_DUE: &str =
-    "a line `v T X` is due here: the timetable of kind speeds or trips before it announces N of them, which come before any other line";
+    "a line `v T X` is due here: the timetable of kind speeds, trips or points before it announces N of them, which come before any other line";
 
 const TP_UNDUE: &str =
     "no line `v T X` is due here: the timetable before it has all N that it announces, or its kind has none";

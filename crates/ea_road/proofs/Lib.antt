@@ -20,3 +20,4 @@ pub mod Walked
 pub mod Assigning
 pub mod ArcLists
 pub mod Numbering
+pub mod Turning

@@ -8,3 +8,4 @@ pub mod Index
 pub mod Assigned
 pub mod Windows
 pub mod ArcLists
+pub mod Turned

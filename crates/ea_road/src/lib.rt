@@ -12,6 +12,7 @@ mod problem;
 mod query;
 mod source;
 mod tail_index;
+mod turned_arcs;
 mod walk;
 mod window;
 
@@ -21,7 +22,7 @@ pub use arcs_of_graph::arcs_of;
 pub use ea_base::{HORIZON, RawArc, RawGraph, RawKind, RawTable};
 pub use ea_travel_times::{
     Arrival, ArrivalFunction, Profile, ProfileList, Profiles, StepTable, Timetable, Timetables,
-    TravelTimes,
+    TravelTimes, Turned,
 };
 pub use known::{AnyPair, Known};
 pub use leaving_arc::LeavingArc;

@@ -1,11 +1,13 @@
 ghost use Rattle.std.specs.Prelude.{◌≡◌, ◌≤◌, ◌<◌, ◌↔◌, IfOk, IsTrue, length, map};
 ghost use Rattle.ea_road.specs.Index.{AreSums, AreSumsAndNumbers, IsRoom};
+ghost use Rattle.ea_road.specs.Turned.{turned_roads};
 ghost use Rattle.ea_road.specs.Roads.{AreSideBySide, FitsNodes, IsArc, IsNetwork, IsNode, leaving, mean_weight, top_class, without_tail};
 
 use crate::arc::Arc;
 use crate::arc_list::ArcList;
 use crate::leaving_arc::LeavingArc;
 use crate::tail_index::{Room, Sums, index_by_tail, numbers_to, sums_of, without_tails};
+use crate::turned_arcs::turned_arcs;
 use ea_base::{MOST_ARCS, MOST_NODES};
 use std::alloc::{AllocError, Global};
 use std::marker::Model;
@@ -94,6 +96,15 @@ impl Network {
         let (sums, numbers) = sums?;
         let by_tail = by_tail?;
         Ok(indexed(nodes, arcs, sums, Room { numbers, by_tail }))
+    }
+
+    /// The network with every arc turned round: it leads from the head to the tail, with its number, weight and class. An error comes only
+    /// if memory for the arcs or for their index was refused.
+    pub fn turned(&self, alloc: Global) -> Result<Network, AllocError>
+        ensures { IfOk result (λ network. network ≡ turned_roads self.now) }
+    {
+        let arcs = turned_arcs(alloc, self.arcs())?;
+        Network::new(alloc, self.nodes(), arcs)
     }
 
     /// Whether so many nodes and these arcs make a network: 1 to 67,108,864 nodes, at most 268,435,456 arcs, and each

@@ -3,7 +3,8 @@ use Rattle.std.proofs.Common.{◌≡◌, false, ℕ, ◌+◌, ◌<◌, ◌≤◌
 use Rattle.std.specs.Prelude.{IsTrue, Some, slice_get}
 use Rattle.std.specs.List.{IsAmong}
 use Rattle.ea_base.specs.declared.timetable.RawKind.{RawKind}
-use Rattle.ea_base.specs.declared.timetable.RawKind.TheVariants.{Plain, Every, Closed, Rush, Speeds, Trips}
+use Rattle.ea_base.specs.declared.timetable.RawKind.TheVariants.{Plain, Every, Closed, Rush, Speeds, Trips, Points}
+use Rattle.ea_travel_times.specs.Points.{ArePoints, IsArrivalByPoints}
 use Rattle.ea_travel_times.specs.Speeds.{AreSpeeds, IsArrivalBySpeeds, speed_at}
 use Rattle.ea_travel_times.specs.Timetables.{AreFit, ClassAnswers, IsClass, KindAnswers, is_class, is_kind, run_of}
 use Rattle.ea_travel_times.specs.Trips.{AreTrips, IsArrivalByTrips}
@@ -14,11 +15,17 @@ speeds_fit steps kind period first count fits is = subst (IsClass steps) is fits
 pub trips_fit : (steps : List (ℕ × ℕ)) (kind : RawKind) (period first count : ℕ) → IsClass steps kind → kind ≡ Trips period first count → (first + count ≤ length steps) × AreTrips period (run_of steps first count)
 trips_fit steps kind period first count fits is = subst (IsClass steps) is fits
 
+pub points_fit : (steps : List (ℕ × ℕ)) (kind : RawKind) (period first count : ℕ) → IsClass steps kind → kind ≡ Points period first count → (first + count ≤ length steps) × ArePoints period (run_of steps first count)
+points_fit steps kind period first count fits is = subst (IsClass steps) is fits
+
 pub speeds_answer : (steps : List (ℕ × ℕ)) (kind : RawKind) (period first count weight departure arrival : ℕ) → kind ≡ Speeds period first count → IsArrivalBySpeeds (speed_at (run_of steps first count) period) weight departure arrival → ClassAnswers steps kind weight departure arrival
 speeds_answer steps kind period first count weight departure arrival is answer = subst (λ (k : RawKind). ClassAnswers steps k weight departure arrival) (sym is) answer
 
 pub trips_answer : (steps : List (ℕ × ℕ)) (kind : RawKind) (period first count weight departure arrival : ℕ) → kind ≡ Trips period first count → IsArrivalByTrips period (run_of steps first count) weight departure arrival → ClassAnswers steps kind weight departure arrival
 trips_answer steps kind period first count weight departure arrival is answer = subst (λ (k : RawKind). ClassAnswers steps k weight departure arrival) (sym is) answer
+
+pub points_answer : (steps : List (ℕ × ℕ)) (kind : RawKind) (period first count weight departure arrival : ℕ) → kind ≡ Points period first count → IsArrivalByPoints period (run_of steps first count) weight departure arrival → ClassAnswers steps kind weight departure arrival
+points_answer steps kind period first count weight departure arrival is answer = subst (λ (k : RawKind). ClassAnswers steps k weight departure arrival) (sym is) answer
 
 pub no_speeds : (period first count : ℕ) → AreSpeeds period (run_of [] first count) → ⊥
 no_speeds period first count are = omega (arith, are.some, length-take count (drop first (none)), length-drop first none)
@@ -33,6 +40,7 @@ few_answer steps (Closed lo hi) weight departure arrival answer = answer
 few_answer steps (Rush lo hi extra) weight departure arrival answer = answer
 few_answer steps (Speeds period first count) weight departure arrival answer = absurd answer
 few_answer steps (Trips period first count) weight departure arrival answer = absurd answer
+few_answer steps (Points period first count) weight departure arrival answer = absurd answer
 
 -- the kind at a place of a list that is fit
 class_of : (kinds : List RawKind) (steps : List (ℕ × ℕ)) (place : ℕ) (kind : RawKind) → AreFit kinds steps → slice_get kinds place ≡ Some kind → IsClass steps kind
@@ -42,6 +50,7 @@ class_of kinds steps place (Closed lo hi) fit at = fit.classes place (Closed lo 
 class_of kinds steps place (Rush lo hi extra) fit at = fit.classes place (Rush lo hi extra) at
 class_of kinds steps place (Speeds period first count) fit at = fit.speeds place period first count at
 class_of kinds steps place (Trips period first count) fit at = fit.trips place period first count at
+class_of kinds steps place (Points period first count) fit at = fit.points place period first count at
 
 get_of : (kinds : List RawKind) (place : ℕ) (d : RawKind) → place < length kinds → slice_get kinds place ≡ Some (get_or kinds place d)
 get_of [] place d below = absurd (omega (arith, below))
@@ -63,6 +72,7 @@ few_class (Closed lo hi) is = is
 few_class (Rush lo hi extra) is = is
 few_class (Speeds period first count) is = cc
 few_class (Trips period first count) is = cc
+few_class (Points period first count) is = cc
 
 -- kinds that have no steps are fit with no steps
 pub fit_of_few : (kinds : List RawKind) → ((kind : RawKind) → IsAmong kinds kind → IsTrue (is_kind kind)) → AreFit kinds []
@@ -70,6 +80,7 @@ fit_of_few kinds each = record {
   classes = λ place kind at. few_class kind (few place kind at);
   speeds = λ place period first count at. not_true (few place (Speeds period first count) at);
   trips = λ place period first count at. not_true (few place (Trips period first count) at);
+  points = λ place period first count at. not_true (few place (Points period first count) at);
 }
   where
     not_true : {A : Type 0} → IsTrue false → A

@@ -3,7 +3,7 @@ use Rattle.std.proofs.Common.{◌≡◌, ℕ, zero, suc, ◌+◌, ◌-◌, ◌<�
 use Rattle.std.specs.Prelude.{IsTrue, Some, slice_get}
 use Rattle.std.proofs.lemmas.Bool.Decides.{leb_tells}
 use Rattle.ea_base.specs.declared.timetable.RawKind.{RawKind}
-use Rattle.ea_base.specs.declared.timetable.RawKind.TheVariants.{Plain, Every, Closed, Rush, Speeds, Trips}
+use Rattle.ea_base.specs.declared.timetable.RawKind.TheVariants.{Plain, Every, Closed, Rush, Speeds, Trips, Points}
 use Rattle.ea_travel_times.specs.Timetables.{AreFit, IsClass, is_class}
 use Rattle.ea_travel_times.proofs.Classes.{among_of}
 
@@ -21,12 +21,14 @@ is_class_of steps (Closed lo hi) is = is
 is_class_of steps (Rush lo hi extra) is = is
 is_class_of steps (Speeds period first count) is = refl
 is_class_of steps (Trips period first count) is = refl
+is_class_of steps (Points period first count) is = refl
 
 pub fit_of_each : (kinds : List RawKind) (steps : List (ℕ × ℕ)) (count : ℕ) → length kinds ≤ count → ((place : ℕ) (kind : RawKind) → place < count → slice_get kinds place ≡ Some kind → IsClass steps kind) → AreFit kinds steps
 fit_of_each kinds steps count all each = record {
   classes = λ place kind at. is_class_of steps kind (one place kind at);
   speeds = λ place period first number at. one place (Speeds period first number) at;
   trips = λ place period first number at. one place (Trips period first number) at;
+  points = λ place period first number at. one place (Points period first number) at;
 }
   where
     one : (place : ℕ) (kind : RawKind) → slice_get kinds place ≡ Some kind → IsClass steps kind

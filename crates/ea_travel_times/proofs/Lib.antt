@@ -7,3 +7,4 @@ pub mod RunSums
 pub mod Classes
 pub mod FoundFit
 pub mod Turns
+pub mod Latest

@@ -3,7 +3,7 @@ use Rattle.std.proofs.Common.{ℕ, ◌+◌, ◌-◌, ◌%◌, ◌<◌, ◌≤◌
 use Rattle.std.specs.Prelude.{IsTrue}
 use Rattle.std.proofs.lemmas.Bool.Decides.{leb_tells, nat_tests}
 use Rattle.ea_base.specs.declared.timetable.RawKind.{RawKind}
-use Rattle.ea_base.specs.declared.timetable.RawKind.TheVariants.{Plain, Every, Closed, Rush, Speeds, Trips}
+use Rattle.ea_base.specs.declared.timetable.RawKind.TheVariants.{Plain, Every, Closed, Rush, Speeds, Trips, Points}
 use Rattle.ea_travel_times.specs.Answers.{IsFifo}
 use Rattle.ea_travel_times.specs.Timetables.{is_kind, KindAnswers, IsNextTime}
 use Rattle.ea_travel_times.specs.Times.{next_this_turn, next_turn}
@@ -27,6 +27,7 @@ kind_has_answer (Closed lo hi) weight departure range = (_, refl)
 kind_has_answer (Rush lo hi extra) weight departure range = (_, refl)
 kind_has_answer (Speeds period first count) weight departure range = cc
 kind_has_answer (Trips period first count) weight departure range = cc
+kind_has_answer (Points period first count) weight departure range = cc
 
 closed_not_before : (lo hi weight departure arrival : ℕ) → KindAnswers (Closed lo hi) weight departure arrival → departure ≤ arrival
 closed_not_before lo hi weight departure arrival answer = grind (arith, nat_tests)
@@ -41,6 +42,7 @@ kind_not_before (Closed lo hi) weight departure arrival answer = closed_not_befo
 kind_not_before (Rush lo hi extra) weight departure arrival answer = rush_not_before lo hi extra weight departure arrival answer
 kind_not_before (Speeds period first count) weight departure arrival answer = absurd answer
 kind_not_before (Trips period first count) weight departure arrival answer = absurd answer
+kind_not_before (Points period first count) weight departure arrival answer = absurd answer
 
 closed_in_order : (lo hi weight departure later arrival next : ℕ) → KindAnswers (Closed lo hi) weight departure arrival → KindAnswers (Closed lo hi) weight later next → departure ≤ later → arrival ≤ next
 closed_in_order lo hi weight departure later arrival next answer other order = grind (arith, nat_tests)
@@ -63,6 +65,7 @@ kind_in_order (Rush lo hi extra) weight departure later arrival next answer othe
     rush_in_order lo hi extra weight departure later arrival next answer other order
 kind_in_order (Speeds period first count) weight departure later arrival next answer other order = absurd answer
 kind_in_order (Trips period first count) weight departure later arrival next answer other order = absurd answer
+kind_in_order (Points period first count) weight departure later arrival next answer other order = absurd answer
 
 -- a kind with its numbers in range is first in, first out
 pub kind_is_fifo : (kind : RawKind) (classes : ℕ) → IsTrue (is_kind kind) → IsFifo (λ class weight departure arrival. KindAnswers kind weight departure arrival) classes

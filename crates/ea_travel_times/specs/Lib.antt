@@ -1,8 +1,13 @@
 pub mod Answers
+pub mod Departures
+pub mod TurnedTimes
+pub mod TurnedLaws
 pub mod Speeds
 pub mod Trips
 pub mod SpeedLaws
 pub mod TripLaws
+pub mod Points
+pub mod PointLaws
 pub mod Timetables
 pub mod Truncated
 pub mod Times

@@ -1,10 +1,12 @@
 -- A list of timetables is first in, first out.
-use Rattle.std.proofs.Common.{◌≡◌, ℕ, zero, suc, ◌⊎◌, inl, inr, List, [], ◌∷◌, get_or, refl}
+use Rattle.std.proofs.Common.{◌≡◌, ℕ, zero, suc, ◌⊎◌, inl, inr, List, [], ◌∷◌, get_or, refl, arith}
 use Rattle.std.specs.Prelude.{Some, slice_get}
 use Rattle.ea_base.specs.declared.timetable.RawKind.{RawKind}
-use Rattle.ea_base.specs.declared.timetable.RawKind.TheVariants.{Plain, Every, Closed, Rush, Speeds, Trips}
+use Rattle.ea_base.specs.declared.timetable.RawKind.TheVariants.{Plain, Every, Closed, Rush, Speeds, Trips, Points}
 use Rattle.ea_travel_times.specs.Answers.{IsFifo}
 use Rattle.ea_travel_times.specs.KindLaws.{kind_is_fifo}
+use Rattle.ea_travel_times.specs.PointLaws.{points_have_answer, points_in_order}
+use Rattle.ea_travel_times.specs.Points.{ArePoints, IsArrivalByPoints}
 use Rattle.ea_travel_times.specs.SpeedLaws.{speeds_have_answer, speeds_in_order}
 use Rattle.ea_travel_times.specs.Speeds.{IsArrivalBySpeeds, speed_at}
 use Rattle.ea_travel_times.specs.TimetableLists.{kind_of, TimetablesAnswer}
@@ -26,6 +28,13 @@ trips_are_fifo period steps classes are = record {
   in_order = λ class weight departure later arrival next question other answer that order. trips_in_order period steps weight departure later arrival next are answer that order;
 }
 
+pub points_are_fifo : (period : ℕ) (steps : List (ℕ × ℕ)) (classes : ℕ) → ArePoints period steps → IsFifo (λ class weight departure arrival. IsArrivalByPoints period steps weight departure arrival) classes
+points_are_fifo period steps classes are = record {
+  has_answer = λ class weight departure question. points_have_answer period steps are weight departure;
+  not_before = λ class weight departure arrival question answer. omega (arith, answer.2);
+  in_order = λ class weight departure later arrival next question other answer that order. points_in_order period steps are weight departure later arrival next answer that order;
+}
+
 -- a class by itself, whose kind stands at a place or is plain
 abbrev FitsAt : List RawKind → RawKind → Type 0
 FitsAt kinds kind = ((place : ℕ) × (slice_get kinds place ≡ Some kind)) ⊎ (kind ≡ Plain)
@@ -41,6 +50,8 @@ class_is_fifo kinds steps (Rush lo hi extra) classes fit (inr is) = cc
 class_is_fifo kinds steps (Speeds period first count) classes fit at = speeds_are_fifo (speed_at (run_of steps first count) period) classes
 class_is_fifo kinds steps (Trips period first count) classes fit (inl at) = trips_are_fifo period (run_of steps first count) classes (fit.trips at.0 period first count at.1).1
 class_is_fifo kinds steps (Trips period first count) classes fit (inr is) = cc
+class_is_fifo kinds steps (Points period first count) classes fit (inl at) = points_are_fifo period (run_of steps first count) classes (fit.points at.0 period first count at.1).1
+class_is_fifo kinds steps (Points period first count) classes fit (inr is) = cc
 
 -- what a class reads is the kind at its place, or plain
 found_at : (kinds : List RawKind) (place : ℕ) → (slice_get kinds place ≡ Some (get_or kinds place Plain)) ⊎ (get_or kinds place Plain ≡ Plain)

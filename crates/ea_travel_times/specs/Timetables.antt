@@ -2,9 +2,10 @@
 use Rattle.std.specs.Prelude.{◌≡◌, ℕ, List, Some, IsTrue, length, slice_get, take, drop, ◌+◌, ◌%◌, ◌^◌, ◌≤◌, max, Bool, true, false, ◌&&◌, nat_lt, nat_le, if◌then◌else◌}
 use Rattle.ea_base.specs.declared.limits.TheConstants.{HORIZON}
 use Rattle.ea_base.specs.declared.timetable.RawKind.{RawKind}
+use Rattle.ea_travel_times.specs.Points.{ArePoints, IsArrivalByPoints}
 use Rattle.ea_travel_times.specs.Speeds.{AreSpeeds, IsArrivalBySpeeds, speed_at}
 use Rattle.ea_travel_times.specs.Trips.{AreTrips, IsArrivalByTrips}
-use Rattle.ea_base.specs.declared.timetable.RawKind.TheVariants.{Plain, Every, Closed, Rush, Speeds, Trips}
+use Rattle.ea_base.specs.declared.timetable.RawKind.TheVariants.{Plain, Every, Closed, Rush, Speeds, Trips, Points}
 
 -- The ranges of the numbers of a kind that has no steps.
 abbrev pub is_kind : RawKind → Bool
@@ -14,6 +15,7 @@ is_kind (Closed lo hi) = nat_lt lo hi && nat_le hi HORIZON
 is_kind (Rush lo hi extra) = nat_lt lo hi && nat_le hi HORIZON && nat_le extra (2 ^ 32)
 is_kind (Speeds period first count) = false
 is_kind (Trips period first count) = false
+is_kind (Points period first count) = false
 
 -- The least time at or after the departure that leaves the offset when divided by the period.
 pub record IsNextTime (period offset departure time : ℕ) : Type 0 where
@@ -32,6 +34,14 @@ KindAnswers (Rush lo hi extra) weight departure arrival =
     arrival ≡ (if nat_lt departure lo then departure + weight else (if nat_lt departure hi then departure + weight + extra else max (departure + weight) (hi + weight + extra)))
 KindAnswers (Speeds period first count) weight departure arrival = ⊥
 KindAnswers (Trips period first count) weight departure arrival = ⊥
+KindAnswers (Points period first count) weight departure arrival = ⊥
+
+-- A kind has steps.
+abbrev pub has_run : RawKind → Bool
+has_run (Speeds period first count) = true
+has_run (Trips period first count) = true
+has_run (Points period first count) = true
+has_run kind = false
 
 -- The steps of a class: so many from one of them on.
 abbrev pub run_of : List (ℕ × ℕ) → ℕ → ℕ → List (ℕ × ℕ)
@@ -43,18 +53,22 @@ ClassAnswers steps (Speeds period first count) weight departure arrival =
     IsArrivalBySpeeds (speed_at (run_of steps first count) period) weight departure arrival
 ClassAnswers steps (Trips period first count) weight departure arrival =
     IsArrivalByTrips period (run_of steps first count) weight departure arrival
+ClassAnswers steps (Points period first count) weight departure arrival =
+    IsArrivalByPoints period (run_of steps first count) weight departure arrival
 ClassAnswers steps kind weight departure arrival = KindAnswers kind weight departure arrival
 
 -- A kind that has steps, or whose numbers are in their ranges.
 abbrev pub is_class : RawKind → Bool
 is_class (Speeds period first count) = true
 is_class (Trips period first count) = true
+is_class (Points period first count) = true
 is_class kind = is_kind kind
 
 -- The condition of a kind whose steps are among these.
 abbrev pub IsClass : List (ℕ × ℕ) → RawKind → Type 0
 IsClass steps (Speeds period first count) = (first + count ≤ length steps) × AreSpeeds period (run_of steps first count)
 IsClass steps (Trips period first count) = (first + count ≤ length steps) × AreTrips period (run_of steps first count)
+IsClass steps (Points period first count) = (first + count ≤ length steps) × ArePoints period (run_of steps first count)
 IsClass steps kind = IsTrue (is_kind kind)
 
 -- Kinds whose numbers are in their ranges, with the steps of those that have some.
@@ -62,3 +76,4 @@ pub record AreFit (kinds : List RawKind) (steps : List (ℕ × ℕ)) : Type 0 wh
   pub classes : (place : ℕ) (kind : RawKind) → slice_get kinds place ≡ Some kind → IsTrue (is_class kind)
   pub speeds : (place period first count : ℕ) → slice_get kinds place ≡ Some (Speeds period first count) → (first + count ≤ length steps) × AreSpeeds period (run_of steps first count)
   pub trips : (place period first count : ℕ) → slice_get kinds place ≡ Some (Trips period first count) → (first + count ≤ length steps) × AreTrips period (run_of steps first count)
+  pub points : (place period first count : ℕ) → slice_get kinds place ≡ Some (Points period first count) → (first + count ≤ length steps) × ArePoints period (run_of steps first count)

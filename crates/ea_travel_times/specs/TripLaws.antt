@@ -32,7 +32,7 @@ module _ (period : ℕ) (steps : List (ℕ × ℕ)) (are : AreTrips period steps
         absurd (omega (arith, up, rest, order))
   ]
 
-  later_arrives : (place later : ℕ) → place ≤ later → later < length steps → time_at steps place + value_at steps place ≤ time_at steps later + value_at steps later
+  pub later_arrives : (place later : ℕ) → place ≤ later → later < length steps → time_at steps place + value_at steps place ≤ time_at steps later + value_at steps later
   later_arrives place later order below =
       let same : place + (later - place) ≡ later = omega arith in
       rw same at (grows (λ at. time_at steps at + value_at steps at) (length steps) place (later - place) are.in_order (omega (arith, below)))

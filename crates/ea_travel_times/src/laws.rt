@@ -2,6 +2,7 @@
 ghost use Rattle.std.specs.Prelude.{◌≡◌, ◌≤◌, ◌+◌, ◌-◌, ◌^◌, ℕ};
 ghost use Rattle.std.specs.Prelude.{List};
 ghost use Rattle.ea_travel_times.specs.Answers.{IsFifo};
+ghost use Rattle.ea_travel_times.specs.Points.{ArePoints, IsArrivalByPoints};
 ghost use Rattle.ea_travel_times.specs.Speeds.{IsArrivalBySpeeds, speed_sum};
 ghost use Rattle.ea_travel_times.specs.StepLists.{steps_in};
 ghost use Rattle.ea_travel_times.specs.TimetableLists.{TimetablesAnswer};
@@ -43,6 +44,13 @@ pub fn speeds_are_fifo()
 pub fn trips_are_fifo()
     ensures { (period : ℕ) (steps : List (ℕ × ℕ)) (classes : ℕ) → AreTrips period steps → IsFifo
         (λ class weight departure arrival. IsArrivalByTrips period steps weight departure arrival)
+        classes }
+{}
+
+/// Travel times by points of which none lets who leaves later arrive earlier are first in, first out.
+pub fn points_are_fifo()
+    ensures { (period : ℕ) (steps : List (ℕ × ℕ)) (classes : ℕ) → ArePoints period steps → IsFifo
+        (λ class weight departure arrival. IsArrivalByPoints period steps weight departure arrival)
         classes }
 {}
 

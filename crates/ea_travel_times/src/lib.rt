@@ -1,8 +1,10 @@
-//! Travel times that depend on the departure: timetables, speeds, trips, and profiles of a caller.
+//! Travel times that depend on the departure: timetables, speeds, trips, points, and profiles of a caller.
 #![tactic(auto)]
 
 mod arrival_function;
+mod latest_departures;
 pub mod laws;
+mod points;
 mod profile;
 mod profile_list;
 mod profiles;
@@ -12,6 +14,7 @@ mod steps;
 mod timetable;
 mod timetables;
 mod travel_times;
+mod turned;
 
 pub use arrival_function::ArrivalFunction;
 pub use ea_base::HORIZON;
@@ -22,3 +25,4 @@ pub use step_table::StepTable;
 pub use timetable::Timetable;
 pub use timetables::Timetables;
 pub use travel_times::TravelTimes;
+pub use turned::Turned;

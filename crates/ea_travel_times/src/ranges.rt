@@ -169,6 +169,20 @@ fn fits_one(kind: RawKind, steps: &[(u64, u64)]) -> bool
             }
             are_trips(period, steps_from(steps, first, count))
         }
+        RawKind::Points {
+            period,
+            first,
+            count,
+        } => {
+            if first > steps.len() {
+                return false;
+            }
+            if count > steps.len() - first {
+                return false;
+            }
+            // Points are in the ranges of trips.
+            are_trips(period, steps_from(steps, first, count))
+        }
         _ => Timetable::fits(kind),
     }
 }

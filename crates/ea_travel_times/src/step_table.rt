@@ -1,10 +1,12 @@
 //! The steps of all classes of a list of timetables.
 ghost use Rattle.std.specs.Prelude.{◌≡◌, ◌≤◌, ◌<◌, ◌+◌, ◌^◌, IfOk, length};
 ghost use Rattle.ea_base.specs.declared.limits.TheConstants.{HORIZON};
+ghost use Rattle.ea_travel_times.specs.Points.{ArePoints, IsArrivalByPoints};
 ghost use Rattle.ea_travel_times.specs.Speeds.{AreSpeeds, AreSums, IsArrivalBySpeeds, speed_at};
 ghost use Rattle.ea_travel_times.specs.Timetables.{run_of};
 ghost use Rattle.ea_travel_times.specs.Trips.{AreTrips, IsArrivalByTrips};
 
+use crate::points::arrive_by_points;
 use crate::steps::{arrive_by_speeds, arrive_by_trips, steps_from, sums_from, sums_of};
 use std::alloc::{AllocError, Global};
 
@@ -64,5 +66,25 @@ impl StepTable {
     {
         let steps = steps_from(&self.list, first, count);
         arrive_by_trips(steps, period, weight, departure)
+    }
+
+    /// The arrival by the points of a class, likewise.
+    pub(crate) fn by_points(
+        &self,
+        period: u64,
+        first: usize,
+        count: usize,
+        weight: u64,
+        departure: u64,
+    ) -> u64
+        requires inside { first + count ≤ length self.now.list.items }
+        requires points { ArePoints period (run_of self.now.list.items first count) }
+        requires weight { weight < 2 ^ 32 }
+        requires departure { departure ≤ HORIZON }
+        ensures { IsArrivalByPoints period (run_of self.now.list.items first count)
+            weight departure result }
+    {
+        let steps = steps_from(&self.list, first, count);
+        arrive_by_points(steps, period, weight, departure)
     }
 }

@@ -56,7 +56,7 @@ pub(crate) fn sums_of(alloc: Global, steps: &[(u64, u64)]) -> Result<Vec<u64>, A
 }
 
 /// The place, by halves, before which the last step is before a time and at which the step is not.
-fn steps_before(steps: &[(u64, u64)], time: u64) -> usize
+pub(crate) fn steps_before(steps: &[(u64, u64)], time: u64) -> usize
     ensures inside { result ≤ length steps.now }
     ensures before { 0 < result → time_at steps.now (result - 1) < time }
     ensures after { result < length steps.now → time ≤ time_at steps.now result }
@@ -218,7 +218,7 @@ fn ride(begin: u64, step: (u64, u64), weight: u64) -> u64
 }
 
 /// How far a departure is in its period, all of it where there is none.
-fn phase_of(period: u64, departure: u64) -> u64
+pub(crate) fn phase_of(period: u64, departure: u64) -> u64
     ensures { result ≡ departure % period }
 {
     if period == 0 {

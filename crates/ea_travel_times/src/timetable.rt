@@ -3,6 +3,7 @@ ghost use Rattle.ea_travel_times.specs.Timetables.{is_kind, KindAnswers, IsNextT
 ghost use Rattle.ea_base.specs.declared.limits.TheConstants.{HORIZON};
 
 use crate::HORIZON;
+use crate::latest_departures::latest_by;
 use crate::travel_times::TravelTimes;
 use ea_base::RawKind;
 
@@ -26,7 +27,7 @@ impl Timetable {
             RawKind::Rush { lo, hi, extra } => {
                 lo < hi && hi <= HORIZON && extra <= 4_294_967_296
             }
-            RawKind::Speeds { .. } | RawKind::Trips { .. } => false,
+            RawKind::Speeds { .. } | RawKind::Trips { .. } | RawKind::Points { .. } => false,
         }
     }
 
@@ -63,6 +64,10 @@ impl TravelTimes for Timetable {
         Timetable::arrive(self, weight, departure)
     }
 
+    fn latest(&self, _class: u32, weight: u64, arrival: u64) -> Option<u64> {
+        latest_by(self.kind, weight, arrival)
+    }
+
     ghost fifo = { λ table. kind_is_fifo table.kind 4294967295 table.in_range };
 }
 
@@ -93,7 +98,7 @@ pub(crate) fn arrive_by(kind: RawKind, weight: u64, departure: u64) -> u64
                 (departure + weight).max(hi + weight + extra)
             }
         }
-        RawKind::Speeds { .. } | RawKind::Trips { .. } => departure,
+        RawKind::Speeds { .. } | RawKind::Trips { .. } | RawKind::Points { .. } => departure,
     }
 }
 

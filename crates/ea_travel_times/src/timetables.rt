@@ -4,9 +4,10 @@ ghost use Rattle.ea_base.specs.declared.timetable.RawKind.{RawKind};
 ghost use Rattle.ea_base.specs.declared.limits.TheConstants.{HORIZON};
 ghost use Rattle.ea_travel_times.specs.Answers.{IsQuestion};
 ghost use Rattle.ea_travel_times.specs.StepLists.{steps_in};
-ghost use Rattle.ea_travel_times.specs.TimetableLists.{TimetablesAnswer};
-ghost use Rattle.ea_travel_times.specs.Timetables.{AreFit, ClassAnswers, IsClass, is_kind};
+ghost use Rattle.ea_travel_times.specs.TimetableLists.{TimetablesAnswer, kind_of};
+ghost use Rattle.ea_travel_times.specs.Timetables.{AreFit, ClassAnswers, IsClass, has_run, is_kind};
 
+use crate::latest_departures::latest_by;
 use crate::ranges::all_fit;
 use crate::step_table::StepTable;
 use crate::timetable::arrive_by;
@@ -77,6 +78,16 @@ impl Timetables {
         self.list.len()
     }
 
+    /// The kind of a class above 0.
+    fn kind_at(&self, class: u32) -> RawKind
+        requires from_one { 0 < class }
+        requires to_last { class ≤ length self.now.list.items }
+        ensures is { kind_of self.now.list.items class ≡ result }
+        ensures fits { IsClass (steps_in self.now.steps) result }
+    {
+        self.list[class as usize - 1]
+    }
+
     /// When an arc of a class and a weight arrives that is left at a departure.
     #[inline(always)]
     pub fn arrive(&self, class: u32, weight: u64, departure: u64) -> u64
@@ -110,6 +121,16 @@ fn arrive_in(
     arrive_of(steps, list[class as usize - 1], weight, departure)
 }
 
+/// Whether a kind has steps.
+fn has_steps(kind: RawKind) -> bool
+    ensures { result ≡ has_run kind }
+{
+    matches!(
+        kind,
+        RawKind::Speeds { .. } | RawKind::Trips { .. } | RawKind::Points { .. }
+    )
+}
+
 /// The arrival of a kind, with the steps of those that have some.
 #[inline(always)]
 fn arrive_of(steps: &Option<StepTable>, kind: RawKind, weight: u64, departure: u64) -> u64
@@ -119,7 +140,7 @@ fn arrive_of(steps: &Option<StepTable>, kind: RawKind, weight: u64, departure: u
     ensures { ClassAnswers (steps_in steps.now) kind weight departure result }
 {
     match kind {
-        RawKind::Speeds { .. } | RawKind::Trips { .. } => {
+        RawKind::Speeds { .. } | RawKind::Trips { .. } | RawKind::Points { .. } => {
             arrive_by_steps(steps, kind, weight, departure)
         }
         _ => arrive_by(kind, weight, departure),
@@ -151,6 +172,14 @@ fn arrive_by_steps(steps: &Option<StepTable>, kind: RawKind, weight: u64, depart
             Some(table) => table.by_trips(period, first, count, weight, departure),
             None => departure,
         },
+        RawKind::Points {
+            period,
+            first,
+            count,
+        } => match steps {
+            Some(table) => table.by_points(period, first, count, weight, departure),
+            None => departure,
+        },
         _ => arrive_by(kind, weight, departure),
     }
 }
@@ -169,6 +198,17 @@ impl TravelTimes for Timetables {
     #[inline(always)]
     fn arrive(&self, class: u32, weight: u64, departure: u64) -> u64 {
         Timetables::arrive(self, class, weight, departure)
+    }
+
+    fn latest(&self, class: u32, weight: u64, arrival: u64) -> Option<u64> {
+        if class == 0 {
+            return latest_by(RawKind::Plain, weight, arrival);
+        }
+        let kind = self.kind_at(class);
+        if has_steps(kind) {
+            return self.latest_by_halves(class, weight, arrival);
+        }
+        latest_by(kind, weight, arrival)
     }
 
     ghost fifo = { λ times.

@@ -195,7 +195,7 @@ const WANTED: [Line; 32] = [
         FileWord::Tp,
         FaultKind::BadKind,
         b"k 1 never",
-        "a timetable is `k J KIND ..`, J counting from 1: plain; every P O; closed B E; rush B E X; speeds P N; trips P N (see `earliest formats`)",
+        "a timetable is `k J KIND ..`, J counting from 1: plain; every P O; closed B E; rush B E X; speeds P N; trips P N; points P N (see `earliest formats`)",
     ),
     (
         FileWord::Tp,
@@ -207,7 +207,7 @@ const WANTED: [Line; 32] = [
         FileWord::Tp,
         FaultKind::OutOfRange,
         b"v 9 1000001",
-        "`v T X` is the next step of the timetable of kind speeds or trips before it: times T rise, speeds X are at most 1000000, and no trip arrives before an earlier one (see `earliest formats`)",
+        "`v T X` is the next step of the timetable of kind speeds, trips or points before it: times T rise, speeds X are at most 1000000, and no T + X is less than the one before (see `earliest formats`)",
     ),
     (
         FileWord::Tp,
@@ -219,7 +219,7 @@ const WANTED: [Line; 32] = [
         FileWord::Tp,
         FaultKind::TooFewLines,
         b"t 9 1",
-        "a line `v T X` is due here: the timetable of kind speeds or trips before it announces N of them, which come before any other line",
+        "a line `v T X` is due here: the timetable of kind speeds, trips or points before it announces N of them, which come before any other line",
     ),
     (
         FileWord::Tp,

@@ -1,0 +1,8 @@
+use Rattle.std.proofs.Common.{◌∙◌, ap, subst, ℕ, List, take, drop}
+use Rattle.ea_travel_times.specs.Points.{IsArrivalByPoints}
+use Rattle.ea_travel_times.proofs.step_table.StepTable.by_points.Goals as goal
+
+pub returns : goal.returns
+returns c =
+    let steps = c.steps_from-steps.ensures ∙ ap (λ (xs : List (ℕ × ℕ)). take c.args.count (drop c.args.first xs)) c.deref.ensures.value in
+    subst (λ (xs : List (ℕ × ℕ)). IsArrivalByPoints c.args.period xs c.args.weight c.args.departure c.arrive_by_points.result) steps c.arrive_by_points.ensures
