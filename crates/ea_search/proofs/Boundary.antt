@@ -1,4 +1,4 @@
--- A table that is under way, by its entries and by its labels, says the same.
+-- A table that is under way by bounds is under way by labels, and the reverse.
 use Rattle.std.proofs.Common.{◌≡◌, ◌≢◌, ℕ, ◌<◌, ◌≤◌, List, Option, Some, None, [], length, Contains, refl, sym, ◌∙◌, subst, ◌⊎◌, inl, inr, arith}
 use Rattle.ea_road.specs.declared.arc.Arc.{Arc}
 use Rattle.ea_road.specs.declared.TheConstants.{NONE}

@@ -1,4 +1,4 @@
--- What lowering labels and scanning arcs does to a table that is under way.
+-- How lowering labels and scanning arcs change a table that is under way.
 use Rattle.std.proofs.Common.{◌≡◌, ◌≢◌, ℕ, zero, suc, ◌+◌, ◌-◌, ◌<◌, ◌≤◌, List, Option, [], ◌∷◌, ◌++◌, length, get_or, set, replicate, sum, Contains, Some, None, refl, sym, ◌∙◌, ap, subst, ◌⊎◌, inl, inr, arith}
 use Rattle.std.specs.List.{IsAmong}
 use Rattle.std.proofs.lemmas.Bool.{cases_lt, cases_eq}
@@ -99,7 +99,7 @@ pub bound_of_label : (table : List ℕ) (node : ℕ) → IsNode (length table) n
 bound_of_label table node is_node =
     bound_of-at table node is_node.from_one ∙ get_or_default table (node - 1) NONE 0 (omega (arith, is_node.from_one, is_node.to_last))
 
--- where labels fall, the limit falls
+-- if labels fall, the limit falls
 pub limit-lower : (target : Option ℕ) (table table' : List ℕ) → ((v : ℕ) → bound_of table' v ≤ bound_of table v) → limit target (bound_of table') ≤ limit target (bound_of table)
 limit-lower None table table' lower = omega arith
 limit-lower (Some t) table table' lower = lower t
@@ -118,7 +118,7 @@ KeepsMet-then table table' table'' met met' met'' low low' one two v u k same_v 
     let two_u = low' u in
     two v u k (omega arith) (omega arith) (one v u k (omega arith) (omega arith) has)
 
--- what was met is met where labels fell elsewhere
+-- what was met stays met if labels fell elsewhere
 pub IsMet-still : (roads : Roads) (table table' : List ℕ) (met met' : ℕ → ℕ → ℕ → Type 0) (u n v a : ℕ) → bound_of table' v ≤ bound_of table v → bound_of table' u ≡ bound_of table u → KeepsMet table met table' met' → IsMet roads table met u n v a → IsMet roads table' met' u n v a
 IsMet-still roads table table' met met' u n v a low same_u still was = (
   omega (arith, was.0),
@@ -499,7 +499,7 @@ AwaitsScansFrom-none roads answers target met waits = record {
   settled = λ v there. (let e = bound_of-none roads.nodes v in absurd (omega arith));
 }
 
--- what waits may be said in another way
+-- the waiting nodes may be given by an equivalent predicate
 pub AwaitsScansFrom-moved : (roads : Roads) (answers : ℕ → ℕ → ℕ → ℕ → Type 0) (sources : List Source) (target : Option ℕ) (table : List ℕ) (met : ℕ → ℕ → ℕ → Type 0) (before waits : ℕ → Type 0) → AwaitsScansFrom roads answers sources target table met before → ((v : ℕ) → before v → waits v) → AwaitsScansFrom roads answers sources target table met waits
 AwaitsScansFrom-moved roads answers sources target table met before waits under moved = record {
   places = under.places;

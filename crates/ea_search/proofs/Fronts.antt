@@ -14,7 +14,7 @@ Entries = List (ℕ × ℕ)
 abbrev count : List Entries → ℕ
 count lists = sum_by (λ (list : Entries). length list) lists
 
--- what is in one of the lists where one was replaced
+-- membership in the lists after one was replaced
 in_replaced : (lists : List Entries) (place : ℕ) (list : Entries) (x : ℕ × ℕ) → place < length lists → Contains list x → IsIn (set lists place list) x
 in_replaced lists place list x inside has =
     let P : Entries → Type 0 = λ l. Contains l x in
@@ -197,13 +197,12 @@ module _ (label : ℕ → ℕ) where
     | inr other ↦ inr other
   ]
 
--- lists of which each is empty
--- a node that waits in a list, or is another
+-- A list without entries, or its first entry; a waiting node is the first or a later one.
 first_or_later : (x v : ℕ) (xs : List ℕ) → Contains (x ∷ xs) v → (x ≡ v) ⊎ Contains xs v
 first_or_later x v xs (zero, lt, e) = inl e
 first_or_later x v xs (suc i, lt, e) = inr (i, omega (arith, lt), e)
 
--- a node that waited in the list has an entry at its label now, and what else waited goes on waiting
+-- a node of the waiting list now has an entry with its label, and other waiting nodes still wait
 pub waiting_moved : (label : ℕ → ℕ) (node : ℕ) (first middle last : Frontage) (time : ℕ) → first.todo.waiting ≡ node ∷ middle.todo.waiting → middle.lists ≡ first.lists → time ≡ label node → Puts (time, node) middle last
     → (v : ℕ) → WaitsAt first label v → WaitsAt last label v
 waiting_moved label node first middle last time taken same is puts v waits = elim waits [
@@ -237,7 +236,7 @@ pushed_none f held after new is empty none =
     let last : count (f new ∷ []) ≡ 0 = rw empty refl in
     rw (is, map-append) (omega (arith, sums, last, none))
 
--- where memory was refused, the node waits in the list
+-- if memory was refused, the node waits in the list
 pub refused_puts : (lists : List Entries) (todo after : Worklist) (e : ℕ × ℕ) → (after.nodes ≡ todo.nodes) × (after.walks ≡ todo.walks) → Contains after.waiting e.1 → ((v : ℕ) → Contains todo.waiting v → Contains after.waiting v) → Puts e (record { lists = lists; todo = todo }) (record { lists = lists; todo = after })
 refused_puts lists todo after e room there kept = record {
   more = omega arith;
@@ -250,7 +249,7 @@ refused_puts lists todo after e room there kept = record {
   walks = room.1;
 }
 
--- the same of what holds the lists
+-- the same for a list of structures that hold the lists
 module _ {X : Type 0} (f : X → Entries) (held : List X) (place : ℕ) (before after : X) (inside : place < length held) (was : before ≡ get_or held place before) where
   list_at : get_or (map f held) place [] ≡ f before
   list_at = get_or-map f held place before [] inside ∙ ap f (sym was)

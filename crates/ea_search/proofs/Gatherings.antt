@@ -200,7 +200,7 @@ Offered-more entries c table table' table'' waits waits' waits'' met met' met'' 
     ]
 
 module _ (roads : Roads) (answers : ℕ → ℕ → ℕ → ℕ → Type 0) (table : List ℕ) where
-  -- what is had by an arc is reached, where labels are
+  -- a node whose label has an arc is reached, if labels are
   pub had_is_reached : (sources : List Source) (last : ℕ) (c : Candidate) → last ≤ HORIZON → ((v : ℕ) → bound_of table v ≢ NONE → Reaches roads answers sources v (bound_of table v)) → IsHadBy roads answers table last c → Reaches roads answers sources c.node c.time
   had_is_reached sources last c within reached had = reaches_step roads answers sources c.from (bound_of table c.from) had.number c.node c.time (reached c.from (omega (arith, had.in_time, within))) had.step
 
@@ -223,7 +223,7 @@ module _ (roads : Roads) (answers : ℕ → ℕ → ℕ → ℕ → Type 0) (tab
         record { number = new.1; placed = subst R from new.2; in_time = subst Q from (omega arith); step = subst P from (subst S at_label new.3) })
   ]
 
-  -- a node whose arcs were looked at is pending
+  -- a node whose arcs were gathered is pending
   pub gathered_is_pending : (node time : ℕ) (numbers : List ℕ) (entries entries' : List Candidate) → time ≡ bound_of table node → ((n : ℕ) (arc : Arc) → IsArc roads n arc → arc.tail ≡ node → Contains numbers n) → Gathered roads answers node time numbers table entries entries' → IsPending roads answers table entries' node
   gathered_is_pending node time numbers entries entries' at_label every gathered number head arrival step =
       let P : ℕ → Type 0 = λ t. Step roads answers node t number head arrival in
@@ -245,7 +245,7 @@ module _ (roads : Roads) (answers : ℕ → ℕ → ℕ → ℕ → Type 0) (tab
         record { from = fell.0; departure = bound_of table fell.0; number = by.number; in_time = by.in_time; step = by.step };
   }
 
-  -- by which arcs labels are had then
+  -- the arcs from which labels are had afterwards
   pub AreHad-offered : (last : ℕ) (entries : List Candidate) (table' : List ℕ) (waits waits' : ℕ → Type 0) (met had met' had' : ℕ → ℕ → ℕ → Type 0) → last ≤ HORIZON → AreHadBy roads answers table last entries → Offered entries table waits met had table' waits' met' had' → AreHad roads answers table had → AreHad roads answers table' had'
   AreHad-offered last entries table' waits waits' met had met' had' within had_by offered before =
       AreHad-adds roads answers table table' had had' (IsCandidate entries table') offered.lower offered.adds
@@ -328,7 +328,7 @@ next_node (Some e) old new nodes many takes =
     let taken = takes (λ v. v) in
     record { from_one = taken.node.0; to_last = omega (arith, taken.node.1, many) }
 
--- what has a label after the limit, or after the horizon, needs no scan
+-- a node with a label after the limit or the horizon needs no scan
 pub AwaitsScansFrom-late : (roads : Roads) (answers : ℕ → ℕ → ℕ → ℕ → Type 0) (sources : List Source) (target : Option ℕ) (table : List ℕ) (met : ℕ → ℕ → ℕ → Type 0) (last : ℕ) (before waits : ℕ → Type 0) → AwaitsScansFrom roads answers sources target table met before → ((v : ℕ) → before v → waits v ⊎ (last < bound_of table v)) → (limit target (bound_of table) ≤ last) ⊎ (HORIZON ≤ last) → AwaitsScansFrom roads answers sources target table met waits
 AwaitsScansFrom-late roads answers sources target table met last before waits under taken enough = record {
   places = under.places;
@@ -347,8 +347,8 @@ AwaitsScansFrom-late roads answers sources target table met last before waits un
   ];
 }
 
--- An entry and the hand were taken up, and what was gathered was offered: what waits then, or is the node that found no room, is all
--- that is left to do.
+-- An entry and the hand were taken up, and the candidates were offered: only waiting nodes, and the node that
+-- found no room, are left to scan.
 pub AwaitsScansFrom-hand : (roads : Roads) (answers : ℕ → ℕ → ℕ → ℕ → Type 0) (sources : List Source) (target : Option ℕ) (table : List ℕ) (last : ℕ) (entry : ℕ × ℕ) (old middle new : Frontage) (crowded : Option ℕ) (entries : List Candidate) (table' : List ℕ) (waits' : ℕ → Type 0) (met had met' had' : ℕ → ℕ → ℕ → Type 0) → last ≡ min (limit target (bound_of table)) HORIZON → AwaitsScansFrom roads answers sources target table met (WaitsAt old (bound_of table)) → Takes (bound_of table) entry old middle → Empties roads answers table last entry middle new entries crowded → Offered entries table (WaitsAt new (bound_of table)) met had table' waits' met' had' → AwaitsScansFrom roads answers sources target table' met' (λ v. (crowded ≡ Some v) ⊎ waits' v)
 AwaitsScansFrom-hand roads answers sources target table last entry old middle new crowded entries table' waits' met had met' had' is_last under takes emptied offered =
     AwaitsScansFrom-offered roads answers table sources target last entries table' (λ v. crowded ≡ Some v) (WaitsAt new (bound_of table)) waits' met had met' had' (omega (arith, is_last))

@@ -1,4 +1,4 @@
--- By which arcs labels are had, where labels fall.
+-- The arcs from which labels are had, while labels fall.
 use Rattle.std.proofs.Common.{◌≡◌, ℕ, ◌≤◌, List, sym, subst, inl, inr, arith}
 use Rattle.std.proofs.lemmas.Bool.{cases_eq}
 use Rattle.ea_base.specs.declared.limits.TheConstants.{HORIZON}
@@ -15,7 +15,7 @@ KeepsLess-lower node time table table' waits waits' lowers v = elim (cases_eq v 
 ]
 
 module _ (roads : Roads) (answers : ℕ → ℕ → ℕ → ℕ → Type 0) where
-  -- a label that stays is had still
+  -- a label that stays keeps its arcs
   pub IsHad-still : (table table' : List ℕ) (v u k : ℕ) → bound_of table' v ≡ bound_of table v → bound_of table' u ≤ bound_of table u → IsHad roads answers table v u k → IsHad roads answers table' v u k
   IsHad-still table table' v u k same low had =
       let P : ℕ → Type 0 = λ x. Step roads answers u had.departure had.number v x in
@@ -27,7 +27,7 @@ module _ (roads : Roads) (answers : ℕ → ℕ → ℕ → ℕ → Type 0) wher
     | inr is_new ↦ news v u k is_new
   ]
 
-  -- a label that was lowered by an arc is had by it
+  -- a label that was lowered by an arc has that arc
   pub had_at : (table table' : List ℕ) (node from place time departure number : ℕ) → IsPlaced roads from place number → bound_of table from ≤ departure → departure ≤ HORIZON → Step roads answers from departure number node time → ((v : ℕ) → bound_of table' v ≤ bound_of table v) → (v u k : ℕ) → IsHadAt node from place time table' v u k → IsHad roads answers table' v u k
   had_at table table' node from place time departure number placed later within step low v u k is =
       let P : ℕ → Type 0 = λ x. Step roads answers from departure number node x in

@@ -1,4 +1,4 @@
--- Labels and links that are put back as they were at first.
+-- Labels and links after a reset.
 use Rattle.std.proofs.Common.{◌≡◌, ℕ, zero, suc, ◌<◌, ◌≤◌, Bool, List, length, replicate, refl, ◌∙◌, sym, ap, inl, inr, arith}
 use Rattle.std.specs.Prelude.{if◌then◌else◌}
 use Rattle.std.proofs.lemmas.Bool.{cases_lt}
@@ -25,7 +25,7 @@ no_link_outside links (suc k) outside = get_or_past links k no_link (elim (cases
   | inr past ↦ past
 ])
 
--- where no node has a label, or a link, all is as it was at first
+-- if no node has a label or a link, the arrays are as at first
 pub no_labels : (table : List ℕ) → ((v : ℕ) → bound_of table v ≡ NONE) → table ≡ replicate (length table) NONE
 unfolding bound_of
 no_labels table none =

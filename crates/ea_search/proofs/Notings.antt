@@ -1,11 +1,11 @@
--- What is known of arcs after some notes, and after one more.
+-- What is known of arcs after one more note.
 use Rattle.std.proofs.Common.{◌≡◌, ◌≢◌, ℕ, Bool, true, false, List, [], ◌∷◌, ◌++◌, refl, sym, ◌∙◌, subst, ◌⊎◌, inl, inr}
 use Rattle.std.proofs.lemmas.Bool.{cases_Bool, false≢true}
 use Rattle.ea_search.specs.declared.log.note.Note.{Note}
 use Rattle.ea_search.specs.Notes.{and_had, and_met, by_none, had_after, met_after}
 use Rattle.ea_search.specs.Scans.{IsArcOf}
 
--- what all notes but the last say, and the last
+-- what the last note says, and the others
 pub had-last : (notes : List Note) (note : Note) (had : ℕ → ℕ → ℕ → Type 0) (v u k : ℕ) → had_after (notes ++ note ∷ []) had v u k → and_had note (had_after notes had) v u k
 had-last [] note had v u k by = by
 had-last (first ∷ notes) note had v u k by = had-last notes note (and_had first had) v u k by

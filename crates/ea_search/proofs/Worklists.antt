@@ -8,7 +8,7 @@ use Rattle.std.proofs.lemmas.List.Sums.{sum_by-set, sum_by-append, sum_by-cons, 
 use Rattle.std.proofs.lemmas.List.Folds.{sum_by-replicate}
 use Rattle.ea_search.specs.Worklist.{is_marked, IsWorklist}
 
--- how often v stands in a list
+-- how often v is in a list
 abbrev pub times : ℕ → List ℕ → ℕ
 times v xs = count_by (λ x. x == v) xs
 
@@ -25,7 +25,7 @@ Contains-cons_cases x y xs h = from_place h.0 h.1 h.2
 times-cons : (v x : ℕ) (xs : List ℕ) → times v (x ∷ xs) ≡ cond (x == v) 1 0 + times v xs
 times-cons v x xs = sum_by-cons (λ (y : ℕ). cond (y == v) 1 0) x xs
 
--- what stands in a list stands there once or more
+-- what is in a list occurs at least once
 pub times-contains : (v : ℕ) (xs : List ℕ) → 0 < times v xs → Contains xs v
 times-contains v [] h = absurd (omega arith)
 times-contains v (x ∷ xs) h = elim (eqb_tells x v) [

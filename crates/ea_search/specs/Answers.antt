@@ -9,8 +9,8 @@ use Rattle.ea_road.specs.Levels.{IsCanonical}
 use Rattle.ea_search.specs.declared.link.Link.{Link}
 use Rattle.ea_search.specs.Links.{linked_walk}
 
--- What determines the arrivals and the walks of an answer: the labels and the links of its nodes. The target is the node
--- that is asked alone. An answer may be without walks.
+-- The labels and links that determine the arrivals and walks of an answer, and the target of a pair query. An
+-- answer may have no walks.
 pub record Answered : Type 0 where
   pub nodes : ℕ
   pub target : Option ℕ
@@ -29,8 +29,8 @@ arrival_of answer node = time_of (label_of answer.labels node)
 abbrev pub walk_of : Answered → ℕ → Option (List ℕ)
 walk_of answer node = if label_of answer.labels node == NONE then None else Some (linked_walk answer.links node)
 
--- The answer of a network, travel times and a query: for each asked node its least arrival, none exactly where no walk
--- reaches it within the horizon.
+-- The answer of a network, travel times and a query: for each asked node its least arrival; none exactly if
+-- no walk reaches it within the horizon.
 pub record HasArrivals
     (roads : Roads)
     (answers : ℕ → ℕ → ℕ → ℕ → Type 0)
@@ -41,7 +41,7 @@ pub record HasArrivals
   pub target : answer.target ≡ query.target
   pub least : (node : ℕ) → IsNode roads.nodes node → IsAsked query node → IsLeast roads answers query.sources node (arrival_of answer node)
 
--- And for each asked node that is reached its canonical walk over the least arrivals, which attains its arrival.
+-- For each asked node that is reached, also its canonical walk over the least arrivals.
 pub record IsAnswer
     (roads : Roads)
     (answers : ℕ → ℕ → ℕ → ℕ → Type 0)

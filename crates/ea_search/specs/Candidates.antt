@@ -1,4 +1,4 @@
--- Times that scans would offer to nodes, before they are offered, and what offering them does.
+-- Candidates: arrivals of scans before they are offered, and the effect of offering them.
 use Rattle.std.specs.Prelude.{◌≡◌, ℕ, ◌<◌, ◌≤◌, List, Option, Some, length, Contains, ◌⊎◌}
 use Rattle.ea_road.specs.Roads.{Roads}
 use Rattle.ea_search.specs.declared.buckets.candidates.Candidate.{Candidate}
@@ -11,8 +11,9 @@ abbrev pub IsAmongThem : Roads → List Candidate → ℕ → ℕ → ℕ → �
 IsAmongThem roads candidates from number head arrival =
     (place : ℕ) × IsPlaced roads from place number × Contains candidates (record { time = arrival; node = head; from = from; place = place })
 
--- The arcs of these numbers from a node, left at a departure, were looked at: what was there stays, what came is an arrival by an
--- arc from there, and each arrival is later than the bound of the arc's head, or it is there.
+-- The arcs with these numbers from a node, left at a departure, were gathered: earlier candidates stay, new
+-- ones are arrivals by such an arc, and each arrival is a candidate or later than the bound of the arc's
+-- head.
 pub record Gathered
     (roads : Roads)
     (answers : ℕ → ℕ → ℕ → ℕ → Type 0)
@@ -24,11 +25,12 @@ pub record Gathered
   pub came : (c : Candidate) → Contains after c → Contains before c ⊎ ((c.from ≡ node) × (number : ℕ) × IsPlaced roads node c.place number × Step roads answers node departure number c.node c.time)
   pub passed : (number head arrival : ℕ) → Contains numbers number → Step roads answers node departure number head arrival → (bound_of table head < arrival) ⊎ IsAmongThem roads after node number head arrival
 
--- Each arc from the node, left at its label, arrives later than the bound of its head, or the arrival is among the candidates.
+-- Each arc from the node, left at its label, arrives later than the bound of its head, or its arrival is a
+-- candidate.
 abbrev pub IsPending : Roads → (ℕ → ℕ → ℕ → ℕ → Type 0) → List ℕ → List Candidate → ℕ → Type 0
 IsPending roads answers table candidates node = (number head arrival : ℕ) → Step roads answers node (bound_of table node) number head arrival → (bound_of table head < arrival) ⊎ IsAmongThem roads candidates node number head arrival
 
--- A candidate's time is an arrival by an arc that is left at its tail's label, and no later than a time.
+-- A candidate's time is an arrival by an arc left at its tail's label, which is at most a time.
 pub record IsHadBy
     (roads : Roads)
     (answers : ℕ → ℕ → ℕ → ℕ → Type 0)
@@ -44,7 +46,7 @@ pub record IsHadBy
 abbrev pub AreHadBy : Roads → (ℕ → ℕ → ℕ → ℕ → Type 0) → List ℕ → ℕ → List Candidate → Type 0
 AreHadBy roads answers table last candidates = (c : Candidate) → Contains candidates c → IsHadBy roads answers table last c
 
--- An entry was taken up: where it is of its node's label, and that is no later than a time, the node is pending.
+-- An entry was taken up: if it is not stale and at most a time, the node is pending.
 pub record TakesUp
     (roads : Roads)
     (answers : ℕ → ℕ → ℕ → ℕ → Type 0)
@@ -57,8 +59,8 @@ pub record TakesUp
   pub had : AreHadBy roads answers table last before → AreHadBy roads answers table last after
   pub pending : (node : ℕ) → entry ≡ (bound_of table node, node) → IsPending roads answers table after node ⊎ (last < bound_of table node)
 
--- An entry and those of the hand were taken out: what waited is pending, waits still, has a label after a time, or is the node
--- for whose arcs there was no room.
+-- An entry and the hand were taken out: each node that waited is pending, still waits, has a label after a
+-- time, or is the node whose candidates didn't fit.
 pub record Empties
     (roads : Roads)
     (answers : ℕ → ℕ → ℕ → ℕ → Type 0)
@@ -76,11 +78,12 @@ pub record Empties
   pub nodes : after.todo.nodes ≡ before.todo.nodes
   pub walks : after.todo.walks ≡ before.todo.walks
 
--- A label is the time of a candidate, which is of this arc.
+-- A label is the time of a candidate with this arc.
 abbrev pub IsCandidate : List Candidate → List ℕ → ℕ → ℕ → ℕ → Type 0
 IsCandidate candidates table node from place = Contains candidates (record { time = bound_of table node; node = node; from = from; place = place })
 
--- Candidates were offered to their nodes: labels only fell, each to the time of a candidate, and each node whose label fell waits.
+-- Candidates were offered to their nodes: labels only fell, each to a candidate's time, and each node whose
+-- label fell waits.
 pub record Offered
     (candidates : List Candidate)
     (table : List ℕ)

@@ -15,7 +15,7 @@ AreStarts nodes sources = (source : Source) → IsAmong sources source → IsNod
 abbrev pub no_link : Link
 no_link = record { level = NO_LEVEL; arc = 0; from = 0 }
 
--- The links at first: one for each node where there is room for walks.
+-- The links at first: one for each node if there is room for walks.
 abbrev pub no_links : ℕ → Bool → List Link
 no_links nodes walks = replicate (if walks then nodes else 0) no_link
 
@@ -24,18 +24,18 @@ unfoldable pub link : List Link → ℕ → Link
 link links zero = no_link
 link links (suc place) = slice_index_or links place no_link
 
--- The arcs that one finds by going back along so many links from a node, first arc first.
+-- The arcs found by following up to this number of links back from a node, first arc first.
 unfoldable pub walk_along : List Link → ℕ → ℕ → List ℕ
 walk_along links zero node = []
 walk_along links (suc count) node = walk_along links count (link links node).from ++ (link links node).arc ∷ []
 
--- The arcs that the links of a node lead along.
+-- The arcs of the walk along the links of a node.
 unfoldable pub linked_walk : List Link → ℕ → List ℕ
 linked_walk links node = walk_along links (link links node).level node
 
--- A node's link, over any times of nodes: it has no level where no tight arcs lead to it from a source at its time. Else it
--- has its level, and above level 0 the lowest-numbered tight arc from a node one level below. Then the links from it lead
--- along its canonical walk.
+-- A node's link, for any times of nodes. It has no level if no tight arcs lead from a source at its time to
+-- the node. Else it has the node's level and, above level 0, the lowest-numbered tight arc from a node one
+-- level below. The links from it then follow its canonical walk.
 pub record IsLinked
     (roads : Roads)
     (answers : ℕ → ℕ → ℕ → ℕ → Type 0)

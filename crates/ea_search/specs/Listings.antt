@@ -1,4 +1,4 @@
--- The nodes that a search reached, as it lists them, and the arrays that it uses again.
+-- The nodes that a search listed as reached, and the arrays that the next search reuses.
 use Rattle.std.specs.Prelude.{◌≡◌, ◌≢◌, ℕ, Bool, true, false, List, [], length, Contains, ◌⊎◌, if◌then◌else◌}
 use Rattle.ea_road.specs.declared.TheConstants.{NONE}
 use Rattle.ea_search.specs.declared.link.Link.{Link}
@@ -19,7 +19,7 @@ nothing = record { nodes = []; all = false }
 abbrev pub IsListed : Listing → ℕ → Type 0
 IsListed listing node = (listing.all ≡ true) ⊎ Contains listing.nodes node
 
--- What was listed still is.
+-- What was listed stays listed.
 abbrev pub KeepsListed : (ℕ → Type 0) → (ℕ → Type 0) → Type 0
 KeepsListed before after = (node : ℕ) → before node → after node
 
@@ -31,13 +31,14 @@ AreLabelsListed table listed = (node : ℕ) → bound_of table node ≢ NONE →
 abbrev pub AreLinksListed : List Link → (ℕ → Type 0) → Type 0
 AreLinksListed links listed = (node : ℕ) → (link links node ≡ no_link) ⊎ listed node
 
--- For how many nodes a search has room, whether for walks too, and its last answer.
+-- How many nodes a search has room for, whether it has room for walks, and its last answer.
 pub record Searched : Type 0 where
   pub nodes : ℕ
   pub walks : Bool
   pub answer : Answered
 
--- The arrays of a search can be used again: nobody waits, and what was written for the last answer is at listed nodes.
+-- The arrays of a search can be reused: no node waits, and everything that the last search wrote is at listed
+-- nodes.
 pub record CanSearch (waiting : Ring) (walks : Bool) (answer : Answered) (listing : Listing) (lists : List (List (ℕ × ℕ))) : Type 0 where
   pub nobody : waiting.waiting ≡ []
   pub labels : length answer.labels ≡ waiting.nodes

@@ -1,4 +1,4 @@
--- What a search notes: the arcs by which labels fell, or were reached again.
+-- The log of a search: the arcs by which labels fell or were met.
 use Rattle.std.specs.Prelude.{◌≡◌, ◌≢◌, ℕ, ◌≤◌, ◌%◌, ◌/◌, nat_eq, map, false, List, [], ◌∷◌, ◌⊎◌}
 use Rattle.ea_base.specs.declared.limits.TheConstants.{HORIZON}
 use Rattle.ea_road.specs.Roads.{Roads}
@@ -7,7 +7,8 @@ use Rattle.ea_search.specs.declared.log.note.TheConstants.{AGAIN, NODES, PLACE}
 use Rattle.ea_search.specs.Scans.{Step, IsPlaced}
 use Rattle.ea_search.specs.Underway.{bound_of}
 
--- The note of a word: the node, the arc's tail, whether the label was reached again, and the place of the arc, from the lowest bits on.
+-- The note in a word, from the lowest bits on: the node, the arc's tail, whether the label was met, and the
+-- arc's place.
 abbrev pub note_in : ℕ → Note
 note_in word = record {
   node = word % NODES;
@@ -23,11 +24,11 @@ notes_in words = map note_in words
 abbrev pub IsNoteOf : Note → ℕ → ℕ → ℕ → Type 0
 IsNoteOf note node from place = (node ≡ note.node) × (from ≡ note.from) × (place ≡ note.place)
 
--- By which arcs nodes have their labels, after one note more: a label that fell is had by that arc alone.
+-- The arcs from which nodes have their labels, after one more note: a label that fell has only that arc.
 abbrev pub and_had : Note → (ℕ → ℕ → ℕ → Type 0) → ℕ → ℕ → ℕ → Type 0
 and_had note had node from place = IsNoteOf note node from place ⊎ ((note.again ≡ false → node ≢ note.node) × had node from place)
 
--- By which arcs labels were met since the labels of the arcs' tails fell last, after one note more.
+-- The arcs by which labels were met since the labels of their tails last fell, after one more note.
 abbrev pub and_met : Note → (ℕ → ℕ → ℕ → Type 0) → ℕ → ℕ → ℕ → Type 0
 and_met note met node from place = IsNoteOf note node from place ⊎ ((note.again ≡ false → (node ≢ note.node) × (from ≢ note.node)) × met node from place)
 
@@ -44,7 +45,7 @@ met_after (note ∷ notes) met = met_after notes (and_met note met)
 abbrev pub by_none : ℕ → ℕ → ℕ → Type 0
 by_none node from place = ⊥
 
--- A node's label is the arrival by an arc that is left at a label which the arc's tail has, or had before it fell.
+-- A node's label is the arrival by an arc left at its tail's label, or at an earlier label of the tail.
 pub record IsHad
     (roads : Roads)
     (answers : ℕ → ℕ → ℕ → ℕ → Type 0)

@@ -1,4 +1,4 @@
--- What scanning a node does to a table and to the nodes that wait.
+-- How a scan of a node changes a table and the waiting nodes.
 use Rattle.std.specs.Prelude.{◌≡◌, ◌≢◌, ℕ, ◌<◌, ◌≤◌, List, Option, length, slice_index_or, Contains, min, ◌⊎◌}
 use Rattle.std.specs.List.{IsAmong}
 use Rattle.ea_base.specs.declared.limits.TheConstants.{HORIZON}
@@ -11,7 +11,8 @@ use Rattle.ea_road.specs.Queries.{Asking}
 use Rattle.ea_road.specs.Labels.{limit}
 use Rattle.ea_search.specs.Underway.{bound_of}
 
--- The arc of the number leads from one node to another, and left at a departure it arrives within the horizon.
+-- The arc with this number leads from one node to another; left at a departure, it arrives within the
+-- horizon.
 pub record Step
     (roads : Roads)
     (answers : ℕ → ℕ → ℕ → ℕ → Type 0)
@@ -36,7 +37,8 @@ IsPlaced roads from place number = (place < length (leaving roads from)) × (num
 abbrev pub IsArcOf : ℕ → ℕ → ℕ → ℕ → ℕ → ℕ → Type 0
 IsArcOf node from place v u k = (v ≡ node) × (u ≡ from) × (k ≡ place)
 
--- An arrival is no earlier than the bound of its arc's head; where it is that bound, the label was met by the arc.
+-- An arrival is no earlier than the bound of its arc's head; if it equals the bound, the label was met by the
+-- arc.
 abbrev pub IsMet : Roads → List ℕ → (ℕ → ℕ → ℕ → Type 0) → ℕ → ℕ → ℕ → ℕ → Type 0
 IsMet roads table met from number head arrival =
     (bound_of table head ≤ arrival) × (bound_of table head ≡ arrival → (place : ℕ) × IsPlaced roads from place number × met head from place)
@@ -45,20 +47,20 @@ IsMet roads table met from number head arrival =
 abbrev pub MeetsAll : Roads → (ℕ → ℕ → ℕ → ℕ → Type 0) → List ℕ → (ℕ → ℕ → ℕ → Type 0) → ℕ → ℕ → Type 0
 MeetsAll roads answers table met node time = (number head arrival : ℕ) → Step roads answers node time number head arrival → IsMet roads table met node number head arrival
 
--- What was met is met still, but for arcs at whose ends a label fell.
+-- What was met stays met, except for arcs at whose ends a label fell.
 abbrev pub KeepsMet : List ℕ → (ℕ → ℕ → ℕ → Type 0) → List ℕ → (ℕ → ℕ → ℕ → Type 0) → Type 0
 KeepsMet table met table' met' = (node from place : ℕ) → bound_of table' node ≡ bound_of table node → bound_of table' from ≡ bound_of table from → met node from place → met' node from place
 
--- Labels that didn't fall are had by the arcs by which they were had, or by new ones; others by new ones.
+-- A label that didn't fall has the arcs that it had, or new ones; a label that fell has new ones.
 abbrev pub AddsHad : (ℕ → ℕ → ℕ → Type 0) → List ℕ → (ℕ → ℕ → ℕ → Type 0) → List ℕ → (ℕ → ℕ → ℕ → Type 0) → Type 0
 AddsHad new table had table' had' = (node from place : ℕ) → had' node from place → ((bound_of table' node ≡ bound_of table node) × had node from place) ⊎ new node from place
 
--- A label is this time, and had by this arc.
+-- A label is this time, and has this arc.
 abbrev pub IsHadAt : ℕ → ℕ → ℕ → ℕ → List ℕ → ℕ → ℕ → ℕ → Type 0
 IsHadAt node from place time table v u k = IsArcOf node from place v u k × (bound_of table node ≡ time)
 
--- A time was offered to a node: its label is the less of both, and where it fell the node waits to be scanned. What waited
--- before waits still.
+-- A time was offered to a node: its label is the lesser of both, and if it fell, the node waits. Waiting
+-- nodes still wait.
 pub record KeepsLess
     (node time : ℕ)
     (table : List ℕ)
@@ -72,8 +74,8 @@ pub record KeepsLess
   pub opened : time < bound_of table node → waits' node
   pub kept : (other : ℕ) → waits other → waits' other
 
--- From a node, left at a departure, the arcs of these numbers were followed: labels only fell, each to an arrival from
--- there, and each node whose label fell waits.
+-- The arcs with these numbers from a node were relaxed at a departure: labels only fell, each to an arrival
+-- by one of them, and each node whose label fell waits.
 pub record Scanned
     (roads : Roads)
     (answers : ℕ → ℕ → ℕ → ℕ → Type 0)
@@ -93,8 +95,8 @@ pub record Scanned
   pub meets : bound_of table' node ≡ bound_of table node → (number head arrival : ℕ) → Contains numbers number → Step roads answers node departure number head arrival → IsMet roads table' met' node number head arrival
   pub still : KeepsMet table met table' met'
 
--- What is left to do is at the nodes that wait, for some sources and some target: the form of `IsUnderway` in which the pass
--- is proved, however the nodes wait.
+-- Only the waiting nodes are left to scan, for these sources and this target. `IsUnderway` in the form in
+-- which the pass is proved, for any kind of waiting list.
 pub record AwaitsScansFrom
     (roads : Roads)
     (answers : ℕ → ℕ → ℕ → ℕ → Type 0)
@@ -109,11 +111,11 @@ pub record AwaitsScansFrom
   pub started : (s : Source) → IsAmong sources s → bound_of table s.node ≤ s.departure
   pub settled : (v : ℕ) → bound_of table v ≢ NONE → MeetsAll roads answers table met v (bound_of table v) ⊎ (waits v ⊎ (limit target (bound_of table) < bound_of table v))
 
--- So it is for the sources and the target of a query.
+-- The same for the sources and the target of a query.
 abbrev pub AwaitsScans : Roads → (ℕ → ℕ → ℕ → ℕ → Type 0) → Asking → List ℕ → (ℕ → ℕ → ℕ → Type 0) → (ℕ → Type 0) → Type 0
 AwaitsScans roads answers query table met waits = AwaitsScansFrom roads answers query.sources query.target table met waits
 
--- An arc that is left no later than a time arrives at the node.
+-- An arc that arrives at the node and is left no later than a time.
 pub record IsLeftBy
     (roads : Roads)
     (answers : ℕ → ℕ → ℕ → ℕ → Type 0)
@@ -125,7 +127,7 @@ pub record IsLeftBy
   pub in_time : departure ≤ last
   pub step : Step roads answers from departure number node arrival
 
--- Nodes' labels only fell, each to an arrival along an arc that is left no later than a time.
+-- Labels only fell, each to an arrival by an arc left no later than a time.
 pub record FallsBy
     (roads : Roads)
     (answers : ℕ → ℕ → ℕ → ℕ → Type 0)

@@ -1,4 +1,4 @@
--- A table of labels and the nodes that wait to be scanned: what holds before, during and after the finishing pass.
+-- A table of labels and the waiting nodes: what holds before, during and after the finishing pass.
 use Rattle.std.specs.Prelude.{◌≡◌, ◌≢◌, ℕ, zero, suc, ◌<◌, ◌≤◌, List, [], length, slice_index_or, Contains, ◌⊎◌}
 use Rattle.std.specs.List.{IsAmong}
 use Rattle.ea_road.specs.declared.TheConstants.{NONE}
@@ -9,8 +9,8 @@ use Rattle.ea_road.specs.Arrivals.{Reaches}
 use Rattle.ea_road.specs.Labels.{IsFixed, Satisfies, label_of, limit}
 use Rattle.ea_search.specs.Worklist.{Worklist}
 
--- Each source's label is at most its departure, each label is reached, and each node that has a label is satisfied at it,
--- or waits, or, in a pair query, its label is above the target's.
+-- Each source's label is at most its departure, each label is reached, and each node with a label is
+-- satisfied, waits, or, in a pair query, has a label above the target's.
 pub record IsUnderwayBy
     (roads : Roads)
     (answers : ℕ → ℕ → ℕ → ℕ → Type 0)
@@ -23,7 +23,7 @@ pub record IsUnderwayBy
   pub settled : (node : ℕ) → IsNode roads.nodes node → label node ≢ NONE
       → Satisfies roads answers label node (label node) ⊎ Contains waiting node ⊎ (limit query.target label < label node)
 
--- So it is with the labels of a table, which has a place for each node.
+-- The same for the labels of a table with a place for each node.
 pub record IsUnderway
     (roads : Roads)
     (answers : ℕ → ℕ → ℕ → ℕ → Type 0)
@@ -33,7 +33,8 @@ pub record IsUnderway
   pub places : length table ≡ roads.nodes
   pub labels : IsUnderwayBy roads answers query (label_of table) waiting
 
--- The table's labels are fixed, so they are the least arrivals, up to the target's label in a pair query; nobody waits.
+-- The labels are fixed, so they are the least arrivals, in a pair query up to the target's label; no node
+-- waits.
 pub record IsFinished
     (roads : Roads)
     (answers : ℕ → ℕ → ℕ → ℕ → Type 0)
@@ -46,8 +47,8 @@ pub record IsFinished
   pub nobody : todo.waiting ≡ []
   pub room : todo.nodes ≡ roads.nodes
 
--- The bound that a table holds for a node's arrival: its label, and NONE for what is no node. What the finishing pass does
--- is said by bounds, and what it promises by labels, which are the same for nodes.
+-- The bound for a node's arrival: its label, or NONE for a number that is no node's. The finishing pass is
+-- specified with bounds and promises labels; both are equal for nodes.
 unfoldable pub bound_of : List ℕ → ℕ → ℕ
 bound_of table zero = NONE
 bound_of table (suc place) = slice_index_or table place NONE

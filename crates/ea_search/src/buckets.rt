@@ -1,4 +1,4 @@
-//! Nodes in buckets of times, and searches that take them from there.
+//! The bucket queue, and the searches that pop from it.
 
 pub mod bucket_search;
 pub mod candidates;

@@ -17,16 +17,16 @@ use ea_base::HORIZON;
 use ea_road::{Arc, NONE, Network, Query};
 use ea_travel_times::TravelTimes;
 
-/// A table of labels, the first that of node 1, and a list in which nobody waits.
+/// A table of labels, the first that of node 1, and an empty list of waiting nodes.
 #[derive(Drop)]
 pub struct Finished {
-    /// A place for each node, the first that of node 1: its label, or NONE.
+    /// The label of each node, the first that of node 1; NONE if it has none.
     pub table: Vec<u64>,
-    /// The list, with the storage for walks where these are asked for.
+    /// The waiting nodes, with the storage for walks if walks are asked for.
     pub todo: Open,
 }
 
-/// Offers a source's node its departure: a label above it falls to it, and the node is opened.
+/// Offers a source's node its departure: if its label is above it, the label falls and the node is opened.
 pub fn start<L: Table, W: Opens>(table: &mut L, todo: &mut W, node: u32, departure: u64)
     requires node { (0 < node) × (node ≤ (W.room todo.old).nodes) }
     requires in_time { departure ≤ HORIZON }
@@ -47,8 +47,8 @@ pub fn start<L: Table, W: Opens>(table: &mut L, todo: &mut W, node: u32, departu
     }
 }
 
-/// Offers a node the arrival by an arc, which is the one at this place among those that leave its tail: a label above it falls to it,
-/// and the node is opened.
+/// Offers a node the arrival by an arc: if its label is above it, the label falls and the node is opened.
+/// `place` is the arc's place among the arcs that leave its tail.
 pub fn lower<L: Table, W: Opens>(
     table: &mut L,
     todo: &mut W,
@@ -82,7 +82,7 @@ pub fn lower<L: Table, W: Opens>(
     }
 }
 
-/// Offers its head the arrival along one arc, which is the one at this place among those that leave its tail.
+/// Relaxes one arc. `place` is its place among the arcs that leave its tail.
 fn follow<T: TravelTimes, L: Table, W: Opens>(
     network: &Network,
     times: &T,
@@ -111,7 +111,8 @@ fn follow<T: TravelTimes, L: Table, W: Opens>(
         → AreLabelsListed (L.labels table.new) (L.lists table.new) }
 {
     network.keeps_limits();
-    // No arc arrives before it is left. Where all arcs are plain, a sum costs less than to look.
+    // An arc arrives no earlier than it is left. If all arcs are plain, computing the arrival costs less than
+    // this test.
     if network.top_class() > 0 {
         if table.label(arc.head) < departure {
             return;
@@ -123,7 +124,7 @@ fn follow<T: TravelTimes, L: Table, W: Opens>(
     }
 }
 
-/// Offers each head the arrival along the arcs from a node, left at its label. The arcs are read as they lie by tail.
+/// Relaxes the arcs that leave a node, left at its label. They are contiguous in memory.
 pub fn scan<T: TravelTimes, L: Table, W: Opens>(
     network: &Network,
     times: &T,
@@ -163,7 +164,7 @@ pub fn scan<T: TravelTimes, L: Table, W: Opens>(
     }
 }
 
-/// The label above which a label need not be least: the target's, and NONE where all nodes are asked.
+/// The bound above which labels need not be least: the target's label, or NONE if all nodes are asked.
 pub fn latest<L: Table>(target: Option<u32>, table: &L) -> u64
     requires { IfSome target (λ node. (0 < node) × (node ≤ length (L.labels table.now))) }
     ensures { result ≡ limit target (label_of (L.labels table.now)) }
@@ -174,7 +175,7 @@ pub fn latest<L: Table>(target: Option<u32>, table: &L) -> u64
     }
 }
 
-/// Scans waiting nodes at their labels, in the order in which they were opened, until nobody waits.
+/// Scans waiting nodes in the order in which they were opened, until no node waits.
 pub fn finish_noted<T: TravelTimes, L: Table>(
     network: &Network,
     times: &T,
@@ -211,12 +212,12 @@ pub fn finish_noted<T: TravelTimes, L: Table>(
     todo
 }
 
-/// Scans waiting nodes at their labels, in the order in which they were opened, until nobody waits. Then each label is
-/// the least arrival; in a pair query, each up to the target's, and no arc is followed that is left later than the label which
-/// the target has at first. It takes no memory.
+/// Scans waiting nodes in the order in which they were opened, until no node waits. Then each label is the
+/// least arrival; in a pair query, each label up to the target's is, and no arc is left later than the
+/// target's label at the start. Takes no memory.
 ///
-/// Labels are corrected until none is open: the method is of Dreyfus, An Appraisal of Some Shortest-Path Algorithms
-/// (Operations Research 17, 1969).
+/// A label-correcting method after Dreyfus, An Appraisal of Some Shortest-Path Algorithms (Operations
+/// Research 17, 1969).
 pub fn finish<T: TravelTimes>(
     network: &Network,
     times: &T,

@@ -1,4 +1,4 @@
-//! The labels of nodes while they are found, and the nodes that a search reached.
+//! The labels of nodes during a search, and the nodes that it reached.
 
 pub mod logged_table;
 pub mod reached_nodes;

@@ -1,17 +1,17 @@
-//! Reads of memory ahead of the scans that need it. The loads of each loop do not wait for one another, so that many of
-//! them are under way at once, the more the less there is to do for each. Of the numbers that come back nothing is promised.
+//! Prefetches for scans. The loads of a loop don't depend on one another, so that many overlap. The returned
+//! numbers only keep the loads alive; they have no meaning.
 
 use crate::labels::table::{Table, touched};
 use crate::link::Link;
 use ea_road::{LeavingArc, Network};
 
-/// How many nodes are read ahead at once.
+/// How many nodes are prefetched at once.
 pub const AHEAD: usize = 16;
 
-/// Some nodes, and 0 where there are fewer.
+/// AHEAD nodes, filled up with 0.
 pub type Nodes = [u32; AHEAD];
 
-/// The arcs from a node.
+/// The arcs that leave a node; none for a number that is no node's.
 fn arcs_from(network: &Network, node: u32) -> &[LeavingArc] {
     if 0 < node && node <= network.nodes() {
         return network.leaving(node).arcs;
@@ -19,7 +19,7 @@ fn arcs_from(network: &Network, node: u32) -> &[LeavingArc] {
     &[]
 }
 
-/// Reads the labels of entries' nodes, and where their arcs begin.
+/// Prefetches the labels and the offsets of the leaving arcs of entries' nodes.
 pub fn touch_entries<L: Table>(network: &Network, table: &L, entries: &[(u64, u32)]) -> u64 {
     let mut seen = 0;
     for entry in entries {
@@ -28,7 +28,7 @@ pub fn touch_entries<L: Table>(network: &Network, table: &L, entries: &[(u64, u3
     seen
 }
 
-/// Reads the first arcs from entries' nodes.
+/// Prefetches the first arc that leaves each entry's node.
 pub fn touch_first_arcs(network: &Network, entries: &[(u64, u32)]) -> u64 {
     let mut seen = 0;
     for entry in entries {
@@ -37,7 +37,7 @@ pub fn touch_first_arcs(network: &Network, entries: &[(u64, u32)]) -> u64 {
     seen
 }
 
-/// Reads the labels of nodes, and the first arcs from them.
+/// Prefetches the labels of nodes, and the first arc that leaves each.
 pub fn touch_nodes(network: &Network, table: &[u64], nodes: &Nodes) -> u64 {
     let mut seen = 0;
     for node in nodes {
@@ -49,7 +49,7 @@ pub fn touch_nodes(network: &Network, table: &[u64], nodes: &Nodes) -> u64 {
     seen
 }
 
-/// Reads the labels and the levels of the heads of the arcs from nodes.
+/// Prefetches the labels and levels of the heads of the arcs that leave nodes.
 pub fn touch_heads(network: &Network, table: &[u64], links: &[Link], nodes: &Nodes) -> u64 {
     let mut seen = 0;
     for node in nodes {

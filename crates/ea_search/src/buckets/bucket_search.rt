@@ -20,7 +20,7 @@ use ea_base::HORIZON;
 use ea_road::{Network, Query};
 use ea_travel_times::TravelTimes;
 
-/// Labels each source's node at most with its departure, and puts it on the frontier.
+/// Offers each source's node its departure, and pushes the nodes whose labels fell.
 fn begin<T: TravelTimes, L: Table>(
     network: &Network,
     times: &T,
@@ -44,8 +44,8 @@ fn begin<T: TravelTimes, L: Table>(
     }
 }
 
-/// Gathers what the scan of an entry's node offers, if the entry is of the node's label and that is no later than the last time.
-/// False where there may be no room for all.
+/// Gathers the candidates of an entry's node, unless the entry is stale or later than `last`. Returns false,
+/// and gathers nothing, if the candidates might not fit.
 fn take_up<T: TravelTimes, L: Table>(
     network: &Network,
     times: &T,
@@ -72,7 +72,8 @@ fn take_up<T: TravelTimes, L: Table>(
     true
 }
 
-/// Takes an entry and those of the hand up. A node for whose arcs there may be no room is answered, and the entries after it stay.
+/// Takes up `first` and the rest of the hand. If the candidates of a node might not fit, returns that node;
+/// later entries stay in the hand.
 fn take_hand_up<T: TravelTimes, L: Table>(
     network: &Network,
     times: &T,
@@ -103,8 +104,7 @@ fn take_hand_up<T: TravelTimes, L: Table>(
     None
 }
 
-/// Scans the nodes of the frontier at their labels, until it has no entry. What the scans of a hand offer is offered once all of it is
-/// gathered.
+/// Scans until the frontier is empty. The candidates of one hand are gathered first and then offered.
 fn exhaust<T: TravelTimes, L: Table>(
     network: &Network,
     times: &T,
@@ -152,7 +152,8 @@ fn exhaust<T: TravelTimes, L: Table>(
     }
 }
 
-/// A search from the sources, on a frontier without entries. Only nodes for which it finds no memory still wait then.
+/// Searches from the sources; the frontier has no entry at first. The nodes that still wait afterwards are
+/// those for which memory was refused.
 pub fn search<T: TravelTimes, L: Table>(
     network: &Network,
     times: &T,
@@ -177,8 +178,8 @@ pub fn search<T: TravelTimes, L: Table>(
     exhaust(network, times, query, table, frontier);
 }
 
-/// The search from a table as it stands, on a frontier in whose list the nodes wait that are open. Only nodes for which it
-/// finds no memory still wait then.
+/// Continues from the labels in the table; the open nodes wait in the frontier's list. The nodes that still
+/// wait afterwards are those for which memory was refused.
 pub fn search_on<T: TravelTimes, L: Table>(
     network: &Network,
     times: &T,

@@ -1,4 +1,4 @@
-//! Times that the scans of some nodes would offer, gathered before any is offered.
+//! Candidates: arrivals of several scans, gathered before any is offered.
 ghost use Rattle.std.specs.Prelude.{◌≡◌, ◌+◌, ◌<◌, ◌≤◌, [], ◌∷◌, ◌++◌, length, sum, Contains, IsTrue};
 ghost use Rattle.ea_base.specs.declared.limits.TheConstants.{HORIZON};
 ghost use Rattle.ea_road.specs.Roads.{IsArc, IsNode, leaving, top_class};
@@ -16,10 +16,10 @@ use ea_road::{Arc, Network};
 use ea_travel_times::TravelTimes;
 use std::marker::Model;
 
-/// For how many candidates there is room.
+/// The most candidates.
 const ROOM: usize = 128;
 
-/// A time that may be a node's label, and the arc by which it is had: its tail, and its place among those that leave the tail.
+/// An arrival at `node` by the arc from `from` at this place among its leaving arcs.
 #[derive(Clone, Copy, Drop)]
 struct Candidate {
     time: u64,
@@ -28,8 +28,8 @@ struct Candidate {
     place: usize,
 }
 
-/// Candidates for labels, in the order in which they were gathered. Whether one is above its node's label is
-/// found without a branch, since that would be guessed wrongly for many; of those that are left nearly all are offered.
+/// Candidates in the order in which they were gathered. Comparing a candidate with its node's label takes no
+/// branch: the branch would often be mispredicted. Nearly all that are kept are offered.
 #[derive(Drop)]
 pub struct Candidates {
     list: [Candidate; ROOM],
@@ -48,7 +48,7 @@ impl Model for Candidates {
 }
 
 impl Candidates {
-    /// None yet.
+    /// No candidates.
     pub fn none() -> Candidates
         ensures { result ≡ [] }
     {
@@ -64,7 +64,7 @@ impl Candidates {
         }
     }
 
-    /// Adds one whose time is at most the last.
+    /// Adds a candidate if its time is at most `last`.
     #[inline(always)]
     fn add(&mut self, candidate: Candidate, last: u64)
         requires { length self.old < 128 }
@@ -72,13 +72,14 @@ impl Candidates {
             → self.new ≡ self.old ++ candidate ∷ [] }
         ensures late { last < candidate.time → self.new ≡ self.old }
     {
-        // The rest is the count itself. It shows the compiler that the list's places aren't the count's, which stays in a register then.
+        // `count` is below ROOM, so the remainder is `count`. It lets the compiler keep `count` in a
+        // register.
         self.list[self.count % ROOM] = candidate;
         self.count += usize::from(candidate.time <= last);
     }
 
-    /// Looks at an arc that is left at a departure, the one at this place among those that leave its tail: its arrival is added where it is
-    /// no later than the label of its head.
+    /// Adds the arrival by one arc, left at `departure`, if it is no later than the label of the arc's head.
+    /// `place` is the arc's place among the arcs that leave its tail.
     #[inline(always)]
     fn look_at<T: TravelTimes, L: Table>(
         &mut self,
@@ -101,7 +102,8 @@ impl Candidates {
     {
         network.keeps_limits();
         let last = table.last(arc.head);
-        // No arc arrives before it is left. Where it is plain, a sum costs less than to look.
+        // An arc arrives no earlier than it is left. For a plain arc, computing the arrival costs less than
+        // this test.
         if arc.class > 0 {
             if last < departure {
                 return;
@@ -117,8 +119,8 @@ impl Candidates {
         self.add(candidate, last);
     }
 
-    /// Looks at the arcs from a node, left at its label. False where there may be no room for all their heads; then nothing is
-    /// changed.
+    /// Adds the arrivals by the arcs that leave a node, left at its label. Returns false, and changes
+    /// nothing, if they might not fit.
     #[inline(always)]
     pub fn gather<T: TravelTimes, L: Table>(
         &mut self,
@@ -154,7 +156,8 @@ impl Candidates {
         true
     }
 
-    /// Offers each to its node: a label above it falls to it, and the node is opened. Then there is none.
+    /// Offers each candidate to its node: if the node's label is above it, the label falls and the node is
+    /// opened. No candidate is left.
     pub fn offer<L: Table, W: Opens>(&mut self, table: &mut L, todo: &mut W)
         requires nodes { (c : Candidate) → Contains self.old c → IsNode (W.room todo.old).nodes c.node }
         requires in_time { (c : Candidate) → Contains self.old c → c.time ≤ HORIZON }

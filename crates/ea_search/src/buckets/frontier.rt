@@ -1,4 +1,4 @@
-//! Nodes by their labels, nearly the least first.
+//! The frontier: open nodes by their labels, nearly the least first.
 ghost use Rattle.std.specs.Prelude.{◌≡◌, ℕ, ◌+◌, ◌<◌, ◌≤◌, ◌∷◌, length, map, IfOk, IfSome, MatchOption};
 ghost use Rattle.ea_search.specs.Frontiers.{AreEntries, HaveNone, HasNone, KeepsWaiting, Puts, Takes, WaitsAt};
 ghost use Rattle.ea_search.specs.Underway.{bound_of};
@@ -11,36 +11,36 @@ use ea_road::{Network, window_bits};
 use std::alloc::{AllocError, Global};
 use std::marker::Model;
 
-/// The list of the entries that are scanned next, whose memory was read ahead.
+/// The list of the hand: the entries scanned next, whose memory is prefetched.
 const HAND: usize = 0;
 
 /// The list of the entries whose times lie in the window.
 const WINDOW: usize = 1;
 
-/// How many lists there are: the hand, the window, and one for each bit of a time.
+/// The number of lists: the hand, the window, and one for each bit of a time.
 const LISTS: usize = 66;
 
-/// Fewer entries are not worth reading ahead.
+/// Prefetching fewer entries doesn't pay.
 const FEW: usize = 4;
 
-/// Nodes whose labels fell, with their labels: a radix queue over windows of times. An entry's list is that of the highest
-/// bit in which its time differs from the window's, so that the entries of the window's list lie in no order; where that
-/// list is spent, the next one is spread over those below it. A node for which a list finds no memory waits in `todo`.
+/// A radix queue over windows of times; an entry is a label and its node. The highest bit in which an entry's
+/// time differs from the window's decides its list, so the window's list is unordered. When the window is
+/// empty, the next list is spread over the lower ones. A node whose push finds no memory waits in `todo`.
 #[derive(Drop)]
 pub struct Frontier {
     lists: Vec<Vec<(u64, u32)>>,
     todo: Open,
-    /// A time of the window.
+    /// Some time in the window.
     low: u64,
-    /// The bits in which times of a window may differ: so many last ones.
+    /// A mask of the low bits in which times of the window may differ.
     within: u64,
-    /// How many entries were taken since the window was made narrower.
+    /// The number of entries taken since the window last became narrower.
     drawn: u64,
-    /// How many entries of the window came from scans of it since then. No more nodes were scanned twice.
+    /// The number of entries that were pushed into the window since then. It bounds the nodes scanned twice.
     again: u64,
-    /// By how many bits the window is made narrower the next time.
+    /// By how many bits the window becomes narrower the next time.
     step: u32,
-    /// What was read ahead. It is looked at where nothing rests on it, so that no read is left out.
+    /// Consumed so that the compiler keeps the prefetch loads.
     seen: u64,
 }
 
@@ -56,7 +56,7 @@ impl Model for Frontier {
         × AreEntries f.todo.nodes (map (λ l. l.items) f.lists.items) };
 }
 
-/// Lists without an entry.
+/// Empty lists.
 pub fn empty_lists(alloc: Global) -> Result<Vec<Vec<(u64, u32)>>, AllocError>
     ensures length { IfOk result (λ lists. length lists.items ≡ 66) }
     ensures empty { IfOk result (λ lists. HaveNone (map (λ l. l.items) lists.items)) }
@@ -69,8 +69,8 @@ pub fn empty_lists(alloc: Global) -> Result<Vec<Vec<(u64, u32)>>, AllocError>
 }
 
 impl Frontier {
-    /// Lists, and a list of nodes that wait. The window is from a half to the whole of a width, and one time where that
-    /// is 0.
+    /// A frontier over these lists and waiting nodes. The window holds between half of `width` and `width`
+    /// times; if `width` is 0, one time.
     pub fn over(lists: Vec<Vec<(u64, u32)>>, todo: Open, width: u64) -> Frontier
         requires length { length lists.items ≡ 66 }
         requires entries { AreEntries todo.nodes (map (λ l. l.items) lists.items) }
@@ -88,7 +88,7 @@ impl Frontier {
         }
     }
 
-    /// The list in which a time belongs.
+    /// The list to which a time belongs.
     fn list_of(&self, time: u64) -> usize
         ensures { result < 66 }
     {
@@ -96,7 +96,7 @@ impl Frontier {
         WINDOW + 64 - differing.leading_zeros() as usize
     }
 
-    /// Puts an entry into a list.
+    /// Pushes an entry into a list; if memory is refused, the node waits in `todo`.
     fn put(&mut self, list: usize, time: u64, node: u32)
         requires list { list < 66 }
         requires node { (0 < node) × (node ≤ self.old.todo.nodes) }
@@ -108,7 +108,7 @@ impl Frontier {
         }
     }
 
-    /// Takes an entry out of a list.
+    /// Pops an entry of a list.
     fn pop(&mut self, list: usize) -> Option<(u64, u32)>
         requires { list < 66 }
         ensures { MatchOption result ((self.new ≡ self.old) × HasNone self.old.lists list)
@@ -117,7 +117,7 @@ impl Frontier {
         self.lists[list].pop()
     }
 
-    /// Takes an entry out of the lowest list that has one.
+    /// Pops an entry of the lowest list that has one.
     fn pop_lowest(&mut self) -> Option<(u64, u32)>
         ensures { MatchOption result ((self.new ≡ self.old) × HaveNone self.old.lists)
             (λ entry. (label : ℕ → ℕ) → Takes label entry self.old self.new) }
@@ -144,7 +144,7 @@ impl Frontier {
         }
     }
 
-    /// The least time of a list.
+    /// The least time in a list.
     fn least_of(&self, list: usize) -> u64
         requires { list < 66 }
     {
@@ -155,7 +155,7 @@ impl Frontier {
         least
     }
 
-    /// Moves the entries of a list to where they belong once the window is that of the least of their times.
+    /// Moves the window to the least time of a list, and its entries to the lists where they belong then.
     fn spread(&mut self, list: usize)
         requires { list < 66 }
         ensures { (label : ℕ → ℕ) → KeepsWaiting label self.old self.new }
@@ -170,7 +170,7 @@ impl Frontier {
         }
     }
 
-    /// The first list from the window's on that has an entry; the window's where none has.
+    /// The lowest list with an entry, the hand left out; the window if all are empty.
     fn lowest(&self) -> usize
         ensures { result < 66 }
     {
@@ -182,7 +182,7 @@ impl Frontier {
         WINDOW
     }
 
-    /// Spreads the next list, where the window has no entry.
+    /// If the window is empty, spreads the next list.
     fn advance(&mut self)
         ensures { (label : ℕ → ℕ) → KeepsWaiting label self.old self.new }
     {
@@ -192,7 +192,8 @@ impl Frontier {
         }
     }
 
-    /// Makes the window narrower, each time by more, where too many of its entries came from scans of it.
+    /// Narrows the window, each time by more bits, if too many of its entries were pushed by scans of the
+    /// window itself.
     fn narrow(&mut self)
         ensures { (label : ℕ → ℕ) → KeepsWaiting label self.old self.new }
     {
@@ -207,7 +208,7 @@ impl Frontier {
         self.spread(HAND);
     }
 
-    /// Moves entries from the window to the hand, but for those whose label fell since.
+    /// Moves entries from the window to the hand, and drops the stale ones.
     fn draw<L: Table>(&mut self, table: &L)
         requires { length (L.labels table.now) ≡ self.old.todo.nodes }
         ensures { KeepsWaiting (bound_of (L.labels table.now)) self.old self.new }
@@ -222,8 +223,8 @@ impl Frontier {
         }
     }
 
-    /// Fills the hand from a window that has many entries. Where the arcs of the hand's nodes begin, and the first of them, is read
-    /// ahead, so that many loads are under way at once.
+    /// Fills the hand if the window has enough entries. Prefetches the offsets and the first arc of each of
+    /// its nodes, so that many loads overlap.
     #[inline(never)]
     fn refill<L: Table>(&mut self, network: &Network, table: &L)
         requires { length (L.labels table.now) ≡ self.old.todo.nodes }
@@ -245,7 +246,7 @@ impl Frontier {
         self.seen ^= places ^ arcs;
     }
 
-    /// Takes an entry out, of nearly the least time; none where there is none, but for those whose label fell since.
+    /// Pops an entry of nearly the least time. None if only stale entries were left.
     #[inline(always)]
     pub fn take<L: Table>(&mut self, network: &Network, table: &L) -> Option<(u64, u32)>
         requires { length (L.labels table.now) ≡ self.old.todo.nodes }
@@ -260,7 +261,7 @@ impl Frontier {
         self.pop_lowest()
     }
 
-    /// Takes an entry out of the hand.
+    /// Pops an entry of the hand.
     #[inline(always)]
     pub fn take_drawn(&mut self) -> Option<(u64, u32)>
         ensures { MatchOption result (self.new ≡ self.old)
@@ -269,7 +270,7 @@ impl Frontier {
         self.pop(HAND)
     }
 
-    /// Takes the node that has waited longest in the list.
+    /// Takes the node that has waited longest in `todo`.
     fn take_waiting(&mut self) -> Option<u32>
         ensures lists { self.new.lists ≡ self.old.lists }
         ensures taken { MatchOption result (self.new ≡ self.old)
@@ -281,7 +282,7 @@ impl Frontier {
         self.todo.take()
     }
 
-    /// Puts the nodes that wait in the list among the entries, at their labels.
+    /// Pushes the nodes that wait in `todo`, with their labels.
     pub fn move_in<L: Table>(&mut self, table: &L)
         requires { length (L.labels table.now) ≡ self.old.todo.nodes }
         ensures rest { (node : ℕ) → WaitsAt self.old (bound_of (L.labels table.now)) node
@@ -299,7 +300,7 @@ impl Frontier {
         }
     }
 
-    /// The lists, and the nodes that wait.
+    /// The lists, and the waiting nodes.
     pub fn into_parts(self) -> (Vec<Vec<(u64, u32)>>, Open)
         ensures length { length result.0.items ≡ 66 }
         ensures lists { map (λ l. l.items) result.0.items ≡ self.lists }

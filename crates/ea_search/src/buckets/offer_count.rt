@@ -1,4 +1,4 @@
-//! How many times a search offers to nodes: what the width of its windows changes.
+//! Counting the offers of a search, to choose the width of its windows.
 ghost use Rattle.ea_road.specs.Queries.{IsProblem};
 
 use crate::buckets::bucket_search::search;
@@ -10,7 +10,7 @@ use ea_road::{NONE, Network, Query};
 use ea_travel_times::TravelTimes;
 use std::alloc::{AllocError, Global};
 
-/// Labels, and the offers are counted.
+/// Labels, and the number of offers.
 #[derive(Drop)]
 struct Counting {
     labels: Vec<u64>,
@@ -52,9 +52,9 @@ impl Table for Counting {
     }
 }
 
-/// How many times the search of one thread offers to nodes where its windows have this width. No more nodes are scanned, for each but
-/// a source's is opened by an offer. Windows of width 0 are single times, which is Dijkstra's method. The error comes only where
-/// memory is refused.
+/// The number of offers that the search of one thread makes with windows of this width. It bounds the scans:
+/// each node but the sources' is opened by an offer. Width 0 means single times, which is Dijkstra's
+/// algorithm. Fails only if memory is refused.
 pub fn count_offers<T: TravelTimes>(
     alloc: Global,
     network: &Network,

@@ -1,4 +1,4 @@
-//! The finishing pass in about the order of labels.
+//! The finishing pass in nearly the order of labels.
 ghost use Rattle.std.specs.Prelude.{◌≡◌, length, map};
 ghost use Rattle.ea_road.specs.Labels.{label_of, limit};
 ghost use Rattle.ea_road.specs.Queries.{IsProblem};
@@ -15,7 +15,7 @@ use ea_road::{Network, Query};
 use ea_travel_times::TravelTimes;
 use std::alloc::Global;
 
-/// Searches from the nodes that wait, on lists without entries, and finishes what is left then.
+/// Searches from the waiting nodes with empty lists, then finishes what is left.
 fn finish_on<T: TravelTimes>(
     network: &Network,
     times: &T,
@@ -44,9 +44,9 @@ fn finish_on<T: TravelTimes>(
     finish(network, times, query, bare.labels, todo)
 }
 
-/// As `finish`, but the waiting nodes are first searched in about the order of their labels, as `arrivals_alone` searches
-/// from the sources: so what was left open costs what one thread would take for it. What is left then is finished in the
-/// order of opening, which is nothing where memory suffices. Where it doesn't, the answer is the same.
+/// Like `finish`, but first searches from the waiting nodes in nearly the order of their labels, as
+/// `arrivals_alone` does from the sources; so open nodes cost no more than in a search by one thread. What
+/// memory didn't suffice for is then finished in the order of opening, with the same answer.
 pub fn finish_in_order<T: TravelTimes>(
     alloc: Global,
     network: &Network,

@@ -7,24 +7,24 @@ use crate::log::note::{NODES, Note, PLACES, word_of};
 use crate::log::word_list::Words;
 use ea_base::HORIZON;
 
-/// Labels, and by which arcs they fell or were reached again.
+/// Labels, and the log: the arcs by which labels fell or were met.
 #[derive(Drop)]
 pub struct Noted {
     pub labels: Vec<u64>,
-    /// A word for each note.
+    /// Each note in one word.
     pub notes: Words,
-    /// Whether nothing is missing from the notes: memory was not refused, and each note had room in a word.
+    /// Whether the log is complete: no memory was refused, and each note fitted into a word.
     pub whole: bool,
 }
 
 impl Noted {
-    /// Nothing is noted yet.
+    /// An empty log.
     pub fn new(labels: Vec<u64>, mut notes: Words) -> Noted
         requires { notes ≡ [] }
         ensures labels { result.labels.items ≡ labels.items }
         ensures notes { result.notes ≡ [] }
     {
-        // Labels of road networks fall little more often than once.
+        // Room for 5/4 of the nodes: labels of road networks fall little more often than once.
         let many = labels.len().saturating_add(labels.len() / 4);
         let whole = notes.reserve(many);
         Noted {
@@ -34,14 +34,14 @@ impl Noted {
         }
     }
 
-    /// Whether the notes tell all links, and so many that it costs less to follow them than to find the links anew.
+    /// Whether the log is complete, and replaying it costs less than finding the links anew.
     pub fn tell(&self) -> bool
         ensures { IsTrue result → self.now.whole ≡ true }
     {
         self.whole && self.notes.len() >= self.labels.len() / 4
     }
 
-    /// Notes an arc by which a label fell, or was reached again.
+    /// Notes an arc by which a label fell, or was met.
     #[inline(always)]
     fn note(&mut self, node: u32, from: u32, place: usize, again: bool)
         ensures labels { self.new.labels.items ≡ self.old.labels.items }

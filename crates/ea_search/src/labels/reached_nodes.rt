@@ -1,4 +1,4 @@
-//! The nodes that a search reached, so that what it wrote of them is put back before the next one.
+//! The nodes that a search reached, so that the next search resets only these.
 ghost use Rattle.std.specs.Prelude.{◌≡◌, ◌≢◌, ℕ, length, replicate};
 ghost use Rattle.ea_road.specs.declared.TheConstants.{NONE};
 ghost use Rattle.ea_search.specs.Links.{link, no_link};
@@ -10,10 +10,10 @@ use ea_road::NONE;
 use std::alloc::Global;
 use std::marker::Model;
 
-/// One node in so many is listed at most. Beyond that it costs less to put back all.
+/// At most one node in PART is listed. If more were, resetting all costs less.
 const PART: usize = 16;
 
-/// Nodes that were reached, each as often as its label fell. Where there are too many to list each, all count as listed.
+/// Reached nodes, one for each fall of a label. If there are too many, all nodes count as listed.
 #[derive(Drop)]
 pub struct Listed {
     nodes: Vec<u32>,
@@ -29,7 +29,7 @@ impl Model for Listed {
     ghost view = { λ l. record { nodes = l.nodes.items; all = l.all } };
 }
 
-/// Takes the label of a node away.
+/// Resets the label of a node.
 fn take_label(table: &mut [u64], node: u32)
     ensures places { length table.new ≡ length table.old }
     ensures taken { bound_of table.new node ≡ NONE }
@@ -43,7 +43,7 @@ fn take_label(table: &mut [u64], node: u32)
     }
 }
 
-/// Takes the link of a node away.
+/// Resets the link of a node.
 fn take_link(links: &mut [Link], node: u32)
     ensures places { length links.new ≡ length links.old }
     ensures taken { link links.new node ≡ no_link }
@@ -58,7 +58,7 @@ fn take_link(links: &mut [Link], node: u32)
 }
 
 impl Listed {
-    /// No node is listed, of so many.
+    /// No listed node, in a network with this number of nodes.
     pub fn new(alloc: Global, nodes: u32) -> Listed
         ensures { result ≡ nothing }
     {
@@ -94,7 +94,7 @@ impl Listed {
         self.all = true;
     }
 
-    /// Puts back what the listed nodes have of labels and links. Then no node is listed.
+    /// Resets the labels and links of the listed nodes, and empties the list.
     pub fn put_back(&mut self, table: &mut [u64], links: &mut [Link])
         requires labels { AreLabelsListed table.old (IsListed self.old) }
         requires links { AreLinksListed links.old (IsListed self.old) }

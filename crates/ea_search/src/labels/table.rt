@@ -1,4 +1,4 @@
-//! The labels of nodes while they are found, and what is noted of the nodes beside them.
+//! The labels of nodes during a search, and what is recorded beside them.
 ghost use Rattle.std.specs.Prelude.{◌≡◌, ◌≢◌, ℕ, ◌-◌, ◌<◌, ◌≤◌, ◌⊎◌, List, length, min, set};
 ghost use Rattle.ea_base.specs.declared.limits.TheConstants.{HORIZON};
 ghost use Rattle.ea_search.specs.Listings.{KeepsListed};
@@ -8,19 +8,20 @@ ghost use Rattle.ea_search.specs.Underway.{bound_of};
 use crate::labels::reached_nodes::Listed;
 use ea_base::HORIZON;
 
-/// Labels of nodes, and what is noted beside them, which is known where it is compiled: the nodes that were reached, and levels.
+/// Labels, and what is recorded beside them (reached nodes, a log), chosen at compile time.
 pub trait Table {
-    /// The label of each node, the first that of node 1; NONE where it has none.
+    /// The label of each node, the first that of node 1; NONE if it has none.
     ghost labels: { Self → List ℕ };
 
     /// Whether a node is listed as reached.
     ghost lists: { Self → ℕ → Type 0 };
 
-    /// By which arcs labels were met since the labels of the arcs' tails fell last: the node, the tail, and the place of the arc among
-    /// those that leave the tail, from 0. Where nothing is noted, all count as met.
+    /// The arcs by which labels were met since the labels of their tails last fell: the node, the tail, and
+    /// the arc's place from 0 among those that leave the tail. If nothing is recorded, every arc counts as
+    /// met.
     ghost met: { Self → ℕ → ℕ → ℕ → Type 0 };
 
-    /// By which arcs nodes have their labels. Where nothing is noted, it is none.
+    /// The arcs from which nodes have their labels. If nothing is recorded, no arc.
     ghost had: { Self → ℕ → ℕ → ℕ → Type 0 };
 
     /// The label of a node.
@@ -28,15 +29,15 @@ pub trait Table {
         requires { (0 < node) × (node ≤ length (labels self.now)) }
         ensures { result ≡ bound_of (labels self.now) node };
 
-    /// The latest time that the label of a node may fall to or is: the label, and HORIZON where there is none.
+    /// The latest time that an offer to a node may have: its label, or HORIZON if it has none.
     fn last(&self, node: u32) -> u64
         requires { (0 < node) × (node ≤ length (labels self.now)) }
         ensures { result ≡ min (bound_of (labels self.now) node) HORIZON };
 
-    /// Reads the label of a node ahead. Of the number nothing is promised.
+    /// Prefetches the label of a node. The returned number has no meaning.
     fn touch(&self, node: u32) -> u64;
 
-    /// The label of a source's node falls to a departure.
+    /// Lowers the label of a source's node to a departure.
     fn start(&mut self, node: u32, time: u64)
         requires node { (0 < node) × (node ≤ length (labels self.old)) }
         requires time { time ≤ HORIZON }
@@ -46,7 +47,7 @@ pub trait Table {
         ensures still { (v u k : ℕ) → v ≢ node → u ≢ node → met self.old v u k → met self.new v u k }
         ensures adds { (v u k : ℕ) → had self.new v u k → had self.old v u k };
 
-    /// The label of a node falls to a time, for the first time or again, by the arc at this place among those that leave a node.
+    /// Lowers the label of a node to a time, by the arc at this place among those that leave `from`.
     fn fall(&mut self, node: u32, time: u64, from: u32, place: usize)
         requires node { (0 < node) × (node ≤ length (labels self.old)) }
         requires time { time ≤ HORIZON }
@@ -58,7 +59,7 @@ pub trait Table {
         ensures adds { (v u k : ℕ) → had self.new v u k
             → IsArcOf node from place v u k ⊎ ((v ≢ node) × had self.old v u k) };
 
-    /// The label of a node is reached again, by the arc at this place among those that leave a node.
+    /// Meets the label of a node, by the arc at this place among those that leave `from`.
     fn meet(&mut self, node: u32, from: u32, place: usize)
         ensures labels { labels self.new ≡ labels self.old }
         ensures kept { KeepsListed (lists self.old) (lists self.new) }
@@ -68,7 +69,7 @@ pub trait Table {
             → IsArcOf node from place v u k ⊎ had self.old v u k };
 }
 
-/// The label of a node in a list, where the node is one.
+/// The label of a node in a list; 0 outside the list.
 pub fn touched(labels: &[u64], node: u32) -> u64 {
     match labels.get((node as usize).wrapping_sub(1)) {
         Some(label) => *label,
@@ -76,7 +77,7 @@ pub fn touched(labels: &[u64], node: u32) -> u64 {
     }
 }
 
-/// Labels, and nothing is noted.
+/// Labels, and no record beside them.
 #[derive(Drop)]
 pub struct Bare {
     pub labels: Vec<u64>,
@@ -118,7 +119,7 @@ impl Table for Bare {
     fn meet(&mut self, _node: u32, _from: u32, _place: usize) {}
 }
 
-/// Labels, and the nodes that have one are listed.
+/// Labels, with the reached nodes listed.
 #[derive(Drop)]
 pub struct Reached {
     pub labels: Vec<u64>,

@@ -1,31 +1,31 @@
-//! What a search for walks notes: by which arcs labels fell, or were reached again.
+//! The notes of a search for walks: the arcs by which labels fell or were met.
 ghost use Rattle.std.specs.Prelude.{◌≡◌, ◌<◌};
 ghost use Rattle.ea_search.specs.Notes.{note_in};
 
-/// By which arc a node's label fell, or was reached again.
+/// An arc by which a node's label fell, or was met.
 #[derive(Clone, Copy, Drop)]
 pub struct Note {
     pub node: u32,
     /// The tail of the arc.
     pub from: u32,
-    /// Which of the arcs that leave the tail it is, from 0.
+    /// The arc's place among those that leave the tail, from 0.
     pub place: u32,
-    /// Whether the label was reached again, and did not fall.
+    /// Whether the label was met and did not fall.
     pub again: bool,
 }
 
-/// A note's word has room for nodes below this number.
+/// Nodes from this number on don't fit into a note's word.
 pub const NODES: u64 = 67_108_864;
 
-/// Where a note's word tells whether the label was reached again.
+/// The bit of a note's word that says whether the label was met.
 pub const AGAIN: u64 = 4_503_599_627_370_496;
 
-/// Where the place begins in a note's word, and how many places it has room for.
+/// The bit at which the place begins in a note's word, and how many places fit.
 pub const PLACE: u64 = 9_007_199_254_740_992;
 
 pub const PLACES: u64 = 2_048;
 
-/// A note in one word, so that a search writes as little as it can.
+/// A note packed into one word, to write as little as possible.
 #[inline(always)]
 pub fn word_of(note: Note) -> u64
     requires node { note.node < NODES }
@@ -42,7 +42,7 @@ pub fn word_of(note: Note) -> u64
     }
 }
 
-/// The note of a word.
+/// The note in a word.
 #[inline(always)]
 pub fn note_in(word: u64) -> Note
     ensures { result ≡ note_in word }

@@ -1,11 +1,11 @@
-//! A list of words to whose end a search writes often.
+//! A list of words with a cheap push.
 ghost use Rattle.std.specs.Prelude.{◌≡◌, ◌∷◌, ◌++◌, [], length, IsTrue};
 
 use std::alloc::Global;
 use std::marker::Model;
 
-/// How many words beyond the last one are filled at once: as many as a cache holds well. A word that is then written finds its memory in
-/// the cache, where a list that only grows waits for it.
+/// How many words are filled at once beyond the last one: as many as the cache holds. A push then hits the
+/// cache, while in a list that only grows it would miss.
 const AHEAD: usize = 4_096;
 
 /// Words, in a list that is filled beyond them.
@@ -26,7 +26,7 @@ impl Model for Words {
 }
 
 impl Words {
-    /// None.
+    /// No words.
     pub fn none(alloc: Global) -> Words
         ensures { result ≡ [] }
     {
@@ -36,14 +36,14 @@ impl Words {
         }
     }
 
-    /// Takes memory for so many words. False where it was refused.
+    /// Reserves memory for `words` words. Returns false if it was refused.
     pub fn reserve(&mut self, many: usize) -> bool
         ensures { self.new ≡ self.old }
     {
         self.list.reserve(many).is_ok()
     }
 
-    /// Takes all out.
+    /// Removes all words.
     pub fn clear(&mut self)
         ensures { self.new ≡ [] }
     {
@@ -51,14 +51,14 @@ impl Words {
         self.count = 0;
     }
 
-    /// How many there are.
+    /// The number of words.
     pub fn len(&self) -> usize
         ensures { result ≡ length self.now }
     {
         self.count
     }
 
-    /// Puts a word at the end. False where memory was refused.
+    /// Appends a word. Returns false if memory was refused.
     #[inline(always)]
     pub fn push(&mut self, word: u64) -> bool
         ensures { IsTrue result → self.new ≡ self.old ++ word ∷ [] }
@@ -71,7 +71,7 @@ impl Words {
         self.push_more(word)
     }
 
-    /// Puts a word at the end, and fills the list beyond it.
+    /// Fills the list beyond its words, and appends a word.
     #[inline(never)]
     fn push_more(&mut self, word: u64) -> bool
         ensures { IsTrue result → self.new ≡ self.old ++ word ∷ [] }

@@ -8,7 +8,7 @@ use crate::queue::waiting::Waiting;
 use std::alloc::{AllocError, Global};
 use std::marker::Model;
 
-/// The nodes to scan, oldest first, each at most once, with all the storage that the finishing pass and the walks need.
+/// The open nodes, oldest first, each at most once, with the storage of the finishing pass and of walks.
 #[derive(Drop)]
 pub struct Open {
     waiting: Waiting,
@@ -30,7 +30,7 @@ impl Model for Open {
 }
 
 impl Open {
-    /// An empty list with room for every node, and for the walks to them. The error comes only where memory is refused.
+    /// An empty list with room for every node and for walks. Fails only if memory is refused.
     pub fn reserve(alloc: Global, nodes: u32) -> Result<Open, AllocError>
         ensures { IfOk result (λ todo.
             todo ≡ record { nodes = nodes; waiting = []; walks = true }) }
@@ -44,7 +44,7 @@ impl Open {
         })
     }
 
-    /// An empty list with room for every node, where no walks are asked for. The error comes only where memory is refused.
+    /// An empty list with room for every node, without storage for walks. Fails only if memory is refused.
     pub fn reserve_without_walks(alloc: Global, nodes: u32) -> Result<Open, AllocError>
         ensures { IfOk result (λ todo.
             todo ≡ record { nodes = nodes; waiting = []; walks = false }) }
@@ -57,14 +57,14 @@ impl Open {
         })
     }
 
-    /// How many nodes wait.
+    /// The number of waiting nodes.
     pub fn len(&self) -> usize
         ensures { result ≡ length self.now.waiting }
     {
         self.waiting.len()
     }
 
-    /// Puts a node at the end, unless it waits already.
+    /// Appends a node, unless it waits already.
     pub fn add(&mut self, node: u32)
         requires { (0 < node) × (node ≤ self.old.nodes) }
         ensures again { Contains self.old.waiting node → self.new ≡ self.old }
@@ -89,7 +89,7 @@ impl Open {
         self.waiting.take()
     }
 
-    /// The list, with storage for links that are as they were at first.
+    /// Joins a list and links, which are as they were at first.
     pub fn of(waiting: Waiting, links: Vec<Link>, walks: bool) -> Open
         requires { links.items ≡ no_links waiting.nodes walks }
         ensures { result
@@ -102,7 +102,7 @@ impl Open {
         }
     }
 
-    /// The list, and the storage for links as they were at first.
+    /// The list, and the links, as they were at first.
     pub fn into_parts(self) -> (Waiting, Vec<Link>)
         ensures nodes { result.0.nodes ≡ self.nodes }
         ensures waiting { result.0.waiting ≡ self.waiting }

@@ -1,16 +1,16 @@
-//! Where a node goes whose label fell, until it is scanned.
+//! Where nodes wait from the fall of their labels to their scans.
 ghost use Rattle.std.specs.Prelude.{◌≡◌, ℕ, ◌+◌, ◌<◌, ◌≤◌};
 ghost use Rattle.ea_search.specs.Worklist.{Room};
 
-/// A list of nodes that wait to be scanned.
+/// A list of nodes that wait for a scan.
 pub trait Opens {
-    /// For how many nodes there is room.
+    /// How many nodes there is room for, and whether for walks too.
     ghost room: { Self → Room };
 
-    /// Whether a node waits, where the labels are so.
+    /// Whether a node waits, for these labels.
     ghost waits: { Self → (ℕ → ℕ) → ℕ → Type 0 };
 
-    /// How much is still to be looked at.
+    /// The work that is left, which each scan lowers.
     ghost size: { Self → ℕ };
 
     /// Opens a node whose label fell to a time.

@@ -6,7 +6,7 @@ use std::alloc::{AllocError, Global};
 use std::collections::VecDeque;
 use std::marker::Model;
 
-/// The nodes that wait to be scanned, oldest first, each at most once.
+/// The waiting nodes, oldest first, each at most once.
 #[derive(Drop)]
 pub struct Waiting {
     queue: VecDeque<u32>,
@@ -35,14 +35,14 @@ impl Waiting {
         Ok(Waiting { queue, marked })
     }
 
-    /// How many nodes wait.
+    /// The number of waiting nodes.
     pub fn len(&self) -> usize
         ensures { result ≡ length self.now.waiting }
     {
         self.queue.len()
     }
 
-    /// Puts a node at the end, unless it waits already.
+    /// Appends a node, unless it waits already.
     pub fn add(&mut self, node: u32)
         requires { (0 < node) × (node ≤ self.old.nodes) }
         ensures again { Contains self.old.waiting node → self.new ≡ self.old }
@@ -62,7 +62,7 @@ impl Waiting {
         }
     }
 
-    /// Puts what may be a node at the end, unless it waits already. False where it is no node.
+    /// Appends a node, unless it waits already. Returns false if the number is no node's.
     pub fn wake(&mut self, node: u32) -> bool
         ensures nodes { self.new.nodes ≡ self.old.nodes }
         ensures inside { IsTrue result → Contains self.new.waiting node }
@@ -87,7 +87,7 @@ impl Waiting {
         Some(node)
     }
 
-    /// Some of the nodes that are taken next.
+    /// Some of the nodes that are taken next, for prefetching.
     pub fn next(&self) -> Nodes {
         let mut nodes = [0; AHEAD];
         for place in 0..AHEAD {

@@ -16,6 +16,6 @@ invariant-loop-node g l = record {
   listed : AreLabelsListed (g.L.Table.labels l.initial.table) (g.L.Table.lists l.initial.table) → AreLabelsListed (g.L.Table.labels l.table) (g.L.Table.lists l.table);
 }
 
--- each lowering takes one from the sum at least, and adds one waiting node at most
+-- each lowering takes at least one from the sum and adds at most one waiting node
 abbrev pub decreases-loop-node : goal.decreases-loop-node
 decreases-loop-node g l = sum (g.L.Table.labels l.table) + length l.todo.waiting

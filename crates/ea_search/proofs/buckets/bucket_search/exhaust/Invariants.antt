@@ -18,6 +18,6 @@ invariant-loop-entry g l = record {
   none : l.candidates ≡ [];
 }
 
--- each lowering takes one from the sum at least, and adds one entry at most
+-- each lowering takes at least one from the sum and adds at most one entry
 abbrev pub decreases-loop-entry : goal.decreases-loop-entry
 decreases-loop-entry g l = sum (g.L.Table.labels l.table) + entries_in l.frontier

@@ -6,7 +6,7 @@ use Rattle.ea_search.specs.Frontiers.{WaitsAt, entries_in}
 use Rattle.ea_search.specs.Underway.{bound_of}
 use Rattle.ea_search.proofs.buckets.bucket_search.take_hand_up.Given as goal
 
--- what waited, where the next entry is at hand
+-- what waited, with the next entry taken out
 abbrev pub invariant-loop-next : goal.invariant-loop-next
 invariant-loop-next g l = record {
   rest : (node : ℕ) → (l.fn.first ≡ (bound_of (g.L.Table.labels l.table) node, node)) ⊎ WaitsAt l.initial.frontier (bound_of (g.L.Table.labels l.table)) node

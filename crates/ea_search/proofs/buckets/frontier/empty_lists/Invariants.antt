@@ -1,7 +1,7 @@
 use Rattle.std.proofs.Common.{◌≡◌, ℕ, List, length, map, sum_by}
 use Rattle.ea_search.proofs.buckets.frontier.empty_lists.Given as goal
 
--- so many lists, and no entry in them
+-- the number of lists so far, and no entry in them
 abbrev pub invariant-adding : goal.invariant-adding
 invariant-adding l = record {
   many : length l.lists.items ≡ l.counter;
