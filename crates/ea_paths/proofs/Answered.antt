@@ -19,7 +19,7 @@ use Rattle.ea_search.specs.Links.{AreLinks, link, linked_walk}
 use Rattle.ea_paths.specs.Stored.{AreFollowable, IsStoredAnswer}
 use Rattle.ea_paths.proofs.Linkings.{link-node}
 
--- what a label that gives something says
+-- what an entry says that is present exactly if there is a label
 pub record Gives (A : Type 0) (label : ℕ) (given found : A) : Type 0 where
   pub some : label ≢ NONE
   pub same : given ≡ found

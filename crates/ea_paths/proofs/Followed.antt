@@ -1,4 +1,4 @@
--- Going back along links.
+-- Following links back.
 use Rattle.std.proofs.Common.{◌≡◌, ℕ, zero, suc, ◌+◌, List, [], ◌∷◌, ◌++◌, length, reverse, refl, sym, ◌∙◌, ap, arith, length-append}
 use Rattle.std.proofs.lemmas.List.{append_assoc, reverse-append}
 use Rattle.ea_search.specs.declared.link.Link.{Link}

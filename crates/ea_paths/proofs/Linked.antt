@@ -1,4 +1,5 @@
--- Where nobody waits, the links give the levels of nodes and their canonical walks, over the labels of the table.
+-- If no node waits, the links give the levels of nodes and their canonical walks, over the labels of the
+-- table.
 use Rattle.std.proofs.Common.{◌≡◌, ◌≢◌, ℕ, zero, suc, ◌+◌, ◌-◌, ◌<◌, ◌≤◌, List, [], length, refl, sym, ◌∙◌, ap, subst, ◌⊎◌, inl, inr, arith}
 use Rattle.std.specs.List.{IsAmong}
 use Rattle.std.proofs.lemmas.Bool.{cases_lt}
@@ -16,7 +17,7 @@ use Rattle.ea_search.specs.Links.{AreLinks, IsLinked, link, linked_walk, walk_al
 use Rattle.ea_paths.specs.Offers.{MeetsBound, IsSeed, Precedes, IsSpent, Linking, AreSown}
 use Rattle.ea_search.proofs.Entries.{bound_of_label}
 
--- Each link begins a walk or follows a tight arc from a lower level, none can be better, and there is room for a level more.
+-- Each link begins a walk or follows a tight arc from a lower level, none is better, and one more level fits.
 pub record Settled
     (roads : Roads)
     (answers : ℕ → ℕ → ℕ → ℕ → Type 0)
@@ -30,7 +31,7 @@ pub record Settled
   pub room : (v : ℕ) → (link links v).level < NO_LEVEL → (link links v).level + 1 < NO_LEVEL
   pub low : (v : ℕ) → (link links v).level ≤ NO_LEVEL
 
--- so it is where nobody waits
+-- links are settled if no node waits
 pub Settled-linking : (roads : Roads) (answers : ℕ → ℕ → ℕ → ℕ → Type 0) (sources : List Source) (table : List ℕ) (links : List Link) → roads.nodes < NO_LEVEL → Linking roads answers sources table links [] → Settled roads answers sources table links
 Settled-linking roads answers sources table links few linking = record {
   places = linking.places;
@@ -120,7 +121,7 @@ module _
       next_level : (tail number head : ℕ) → (link links tail).level < NO_LEVEL → MeetsBound roads answers table tail number head → (link links head).level ≤ (link links tail).level + 1
       next_level tail number head there tight = not_above (record { level = (link links tail).level + 1; arc = number; from = tail }) (link links head) (settled.spent tail there number head tight)
 
-      -- a node to which a chain leads has a level that is no higher
+      -- a node at the end of a chain has a level that is no higher
       record Linked (node count : ℕ) : Type 0 where
         there : (link links node).level < NO_LEVEL
         low : (link links node).level ≤ count

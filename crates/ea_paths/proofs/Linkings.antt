@@ -1,4 +1,4 @@
--- What offering links does.
+-- The effect of offering links.
 use Rattle.std.proofs.Common.{◌≡◌, ◌≢◌, ℕ, zero, suc, ◌+◌, ◌-◌, ◌<◌, ◌≤◌, cond, leb, List, [], ◌∷◌, length, get_or, set, replicate, Contains, refl, sym, ◌∙◌, ap, subst, ◌⊎◌, inl, inr, arith}
 use Rattle.std.specs.List.{IsAmong}
 use Rattle.std.proofs.lemmas.Bool.{cases_lt, cases_eq}
@@ -22,7 +22,7 @@ use Rattle.ea_search.proofs.Worklists.{Contains-cons_cases, Contains-cons}
 use Rattle.ea_search.proofs.Entries.{bound_of-at, step-head, step-answer}
 use Rattle.ea_search.proofs.Places.{link-at, link-set_same, link-set_other}
 
--- a level that is there belongs to a node
+-- a number with a level is a node's
 pub link-node : (links : List Link) (v : ℕ) → (link links v).level < NO_LEVEL → (0 < v) × (v ≤ length links)
 unfolding link
 link-node links zero h = absurd (omega arith)
@@ -244,7 +244,7 @@ link_item links v x h l read = get_or_read links (v - 1) x (omega arith) read no
 pub bound_of_item : (table : List ℕ) (v x : ℕ) → 0 < v → v ≤ length table → x ≡ get_or table (v - 1) x → x ≡ bound_of table v
 bound_of_item table v x h l read = get_or_read table (v - 1) x (omega arith) read NONE ∙ sym (bound_of-at table v h)
 
--- what the code reads of a node
+-- the node's link, as the code reads it
 pub link_read : (links : List Link) (v : ℕ) → 0 < v → v ≤ length links → get_or links (v - 1) (record { level = 0; arc = 0; from = 0 }) ≡ link links v
 link_read links v h l = sym (link-at links v h ∙ get_or_default links (v - 1) no_link (record { level = 0; arc = 0; from = 0 }) (omega arith))
 
@@ -265,7 +265,7 @@ MeetsBound-arc roads answers table u e d b arc is_arc tail answer left in_time a
       from_within = omega arith;
     }
 
--- what a tight arc says of the arrival along it
+-- the arrival by a tight arc
 pub tight-arrival : (roads : Roads) (answers : ℕ → ℕ → ℕ → ℕ → Type 0) (classes : ℕ) (table : List ℕ) (u e v d b : ℕ) (arc : Arc) → IsNetwork roads → top_class roads.arcs ≤ classes → IsFifo answers classes → IsArc roads e arc → d ≤ HORIZON → d ≡ bound_of table u → answers arc.class arc.weight d b → MeetsBound roads answers table u e v → (arc.head ≡ v) × (b ≡ bound_of table v) × (bound_of table v ≤ HORIZON)
 tight-arrival roads answers classes table u e v d b arc network classed fifo is_arc in_time at_u answer tight =
     let P : ℕ → Type 0 = λ x. answers arc.class arc.weight x (bound_of table v) in
@@ -296,7 +296,7 @@ passed-number roads answers table u level e n links same passed =
     let P : ℕ → Type 0 = λ x. (v : ℕ) → MeetsBound roads answers table u x v → Precedes (record { level = level; arc = x; from = u }) (link links v) → ⊥ in
     subst P same passed
 
--- sources stay sown where no level rises
+-- sources stay sown if no level rises
 pub AreSown-lower : (sources : List Source) (table : List ℕ) (links links' : List Link) (n : ℕ) → AreSown sources table links n → ((v : ℕ) → (link links' v).level ≤ (link links v).level) → AreSown sources table links' n
 AreSown-lower sources table links links' n sown lower k d l same =
     let low = lower (get_or sources k d).node in
@@ -344,7 +344,7 @@ module _ (roads : Roads) (answers : ℕ → ℕ → ℕ → ℕ → Type 0) (sou
     | inr tight ↦ tight.0.step.in_time
   ]
 
-  -- what has no label has no link
+  -- a node without a label has no link
   pub Linking-unlabelled : (links : List Link) (waiting : List ℕ) → Linking roads answers sources table links waiting → (v : ℕ) → bound_of table v ≡ NONE → link links v ≡ no_link
   Linking-unlabelled links waiting linking v none =
       let low = linking.low v in
@@ -372,7 +372,7 @@ module _ (roads : Roads) (answers : ℕ → ℕ → ℕ → ℕ → Type 0) (sou
       lower : (v : ℕ) → (link links' v).level ≤ (link links v).level
       lower = Offers-lower roads.nodes offer links links' waiting waiting' offers
 
-      -- good links stay good where levels fall
+      -- good links stay good if levels fall
       still : (v : ℕ) (l : Link) → IsGood links v l → IsGood links' v l
       still v l (inl seed) = inl seed
       still v l (inr tight) = inr (tight.0, (let low = lower l.from in let was = tight.1 in omega arith))
@@ -392,7 +392,7 @@ module _ (roads : Roads) (answers : ℕ → ℕ → ℕ → ℕ → Type 0) (sou
         | inr new ↦ (let low = small v (link links' v) new.0 in absurd (omega arith))
       ]
 
-      -- what a node had nothing to offer to, it has nothing to offer to now
+      -- a node from which nothing was left to offer has nothing to offer now
       spent_on : (w : ℕ) → IsSpent roads answers table links w ((link links w).level + 1) → IsSpent roads answers table links' w ((link links w).level + 1)
       spent_on w was e v tight better = elim (offers.each v) [
         | inl same ↦ (
@@ -480,7 +480,7 @@ module _ (roads : Roads) (answers : ℕ → ℕ → ℕ → ℕ → Type 0) (sou
           let P : ℕ → Type 0 = λ x. IsSeed sources table x in
           inl (ap (λ (x : Link). x.level) offer.1, subst P (sym offer.0) seed)
 
-  -- what sowing a source comes to
+  -- the effect of sowing a source
   pub record Sown (source : Source) (links links' : List Link) (waiting' : List ℕ) : Type 0 where
     pub linking : Linking roads answers sources table links' waiting'
     pub here : source.departure ≡ bound_of table source.node → (link links' source.node).level ≡ 0

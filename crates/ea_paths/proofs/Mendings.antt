@@ -1,4 +1,4 @@
--- How links are mended.
+-- Repairing links.
 use Rattle.std.proofs.Common.{◌≡◌, ℕ, zero, suc, ◌+◌, ◌-◌, ◌<◌, ◌≤◌, List, [], ◌∷◌, length, get_or, Contains, refl, sym, ◌∙◌, ap, subst, ◌⊎◌, inl, inr, arith}
 use Rattle.std.proofs.lemmas.Bool.{cases_lt}
 use Rattle.std.proofs.lemmas.List.{get_or_default, get_or_past}
@@ -14,11 +14,11 @@ use Rattle.ea_search.proofs.Worklists.{Contains-cons_cases}
 use Rattle.ea_paths.proofs.Linkings.{Offers-lower, Offers-passed}
 use Rattle.ea_search.proofs.Places.{link-at}
 
--- nobody waits in a list without length
+-- no node waits in a list of length 0
 pub nobody_in : (waiting : List ℕ) → length waiting ≡ 0 → (v : ℕ) → Contains waiting v → ⊥
 nobody_in waiting none v there = omega (arith, there.1)
 
--- what is no node has no level
+-- a number that is no node's has no level
 pub link-zero : (links : List Link) (v : ℕ) → v ≤ 0 → (link links v).level ≡ NO_LEVEL
 unfolding link
 link-zero links zero first = refl
@@ -29,13 +29,13 @@ unfolding link
 link-past links zero past = absurd (omega arith)
 link-past links (suc k) past = ap (λ (l : Link). l.level) (get_or_past links k no_link (omega arith))
 
--- what the code reads of the node after so many
+-- the link that the code reads at a place is the next node's
 pub link-next : (links : List Link) (place : ℕ) (default : Link) → place < length links → get_or links place default ≡ link links (place + 1)
 link-next links place default inside =
     let e : place + 1 - 1 ≡ place = omega arith in
     sym (link-at links (place + 1) (omega arith) ∙ ap (λ (k : ℕ). get_or links k no_link) e ∙ get_or_default links place no_link default inside)
 
--- what is no node needs no room above it
+-- a number that is no node's needs no room above it
 pub Ready-none : (links : List Link) (v : ℕ) → v ≤ 0 → IsReady (link links v)
 Ready-none links v first there = let none = link-zero links v first in absurd (omega arith)
 
@@ -54,11 +54,11 @@ Ready-all links count all each v there = elim (cases_lt count v) [
   | inr inside ↦ each v inside there
 ]
 
--- whether there is room is a matter of levels alone
+-- room above a link depends on levels alone
 pub Ready-same : (links links' : List Link) → ((v : ℕ) → (link links' v).level ≡ (link links v).level) → AreReady links → AreReady links'
 Ready-same links links' same ready v = let P : ℕ → Type 0 = λ n. n < NO_LEVEL → n + 1 < NO_LEVEL in subst P (sym (same v)) (ready v)
 
--- The node in front had room above it, and offered links: where a level fell the node waits.
+-- The node in front had room above it and offered links: each node whose level fell waits.
 pub Ready-mended : (nodes : ℕ) (offer : ℕ → Link → Type 0) (u : ℕ) (links links' : List Link) (waiting waiting' : List ℕ) → ((v : ℕ) → IsReady (link links v) ⊎ Contains (u ∷ waiting) v) → Offers nodes offer links waiting links' waiting' → IsReady (link links u) → (v : ℕ) → IsReady (link links' v) ⊎ Contains waiting' v
 Ready-mended nodes offer u links links' waiting waiting' before offers here v = elim (cases_lt (link links' v).level (link links v).level) [
   | inl fell ↦ inr (offers.fallen v fell)
@@ -100,7 +100,7 @@ module _ (roads : Roads) (answers : ℕ → ℕ → ℕ → ℕ → Type 0) (sou
           subst (Good v) (sym spread.2) (inr (spread.1, omega arith)))
     ]
 
-    -- what was passed before is passed still, or the arc's tail waits now
+    -- what was passed before stays passed, or the arc's tail waits now
     passed_still : (e w v level : ℕ) → level ≡ (link links w).level → (Precedes (record { level = (link links w).level + 1; arc = e; from = w }) (link links v) → ⊥) → Precedes (record { level = level + 1; arc = e; from = w }) (link links' v) → ⊥
     passed_still e w v level same was =
         let P : ℕ → Type 0 = λ n. Precedes (record { level = n + 1; arc = e; from = w }) (link links' v) → ⊥ in
@@ -139,7 +139,7 @@ module _ (roads : Roads) (answers : ℕ → ℕ → ℕ → ℕ → Type 0) (sou
             ])
       ]
 
-  -- where nobody waits and each link is ready
+  -- if no node waits and each link is ready
   pub Settled-mended : (links : List Link) (waiting : List ℕ) → waiting ≡ [] → AreMended roads answers sources table links waiting → AreReady links → Settled roads answers sources table links
   Settled-mended links waiting nobody mended ready = record {
     places = mended.places;

@@ -1,4 +1,4 @@
--- How links with the places of their arcs get the numbers of these, and what they are then.
+-- Replacing the places of arcs in links by the arcs' numbers.
 use Rattle.std.proofs.Common.{◌≡◌, ◌≢◌, ℕ, ◌+◌, ◌-◌, ◌<◌, ◌≤◌, List, length, set, Contains, refl, sym, ◌∙◌, ap, subst, ◌⊎◌, inl, inr, arith}
 use Rattle.std.proofs.lemmas.Bool.{cases_lt, cases_eq}
 use Rattle.ea_base.specs.declared.limits.TheConstants.{HORIZON}
@@ -19,7 +19,7 @@ use Rattle.ea_search.specs.Underway.{bound_of}
 use Rattle.ea_paths.proofs.Mendings.{link-past, link-zero}
 use Rattle.ea_search.proofs.Places.{link-set_same, link-set_other}
 
--- a place was written: the node after so many has what was written, and others what they had
+-- a place was written: its node has what was written, and others what they had
 pub link-set_next : (links : List Link) (place : ℕ) (x : Link) → place < length links → link (set links place x) (place + 1) ≡ x
 link-set_next links place x inside =
     let e : place + 1 - 1 ≡ place = omega arith in
@@ -31,7 +31,7 @@ link-set_else links place v x ne =
     subst (λ (k : ℕ). link (set links k x) v ≡ link links v) e (link-set_other links (place + 1) v x (omega arith) ne)
 
 module _ (roads : Roads) (links : List Link) where
-  -- a link that is by no arc stays
+  -- a link without an arc stays
   pub IsSettled-else : (v : ℕ) (l : Link) → l ≡ link links v → ((link links v).level < NO_LEVEL → (link links v).from ≢ 0 → ⊥) → IsSettled roads links v l
   IsSettled-else v l same never = record {
     level = ap (λ (l : Link). l.level) same;
@@ -51,7 +51,7 @@ module _ (roads : Roads) (links : List Link) where
     lower = λ _ _. (let P : Link → Type 0 = λ x. (link links x.from).level < x.level in subst P same lower);
   }
 
-  -- The links of the first so many nodes are settled, and the others are as they were.
+  -- The links up to a place are settled, and the others unchanged.
   pub record AreSettledTo (links' : List Link) (place : ℕ) : Type 0 where
     pub done : (v : ℕ) → v ≤ place → IsSettled roads links v (link links' v)
     pub rest : (v : ℕ) → place < v → link links' v ≡ link links v
@@ -102,7 +102,7 @@ module _
     (are_had : AreHad roads answers table had)
     (meet : (node : ℕ) → bound_of table node ≢ NONE → MeetsAll roads answers table met node (bound_of table node))
   where
-    -- An arc by which a label was had is tight, since it is left at the label of its tail in time.
+    -- An arc from which a label is had is tight, since it is left in time at its tail's label.
     had_tight : (v u k : ℕ) → had v u k → (0 < u) × MeetsBound roads answers table u (number_at roads u k) v
     had_tight v u k was =
         let is = are_had v u k was in
@@ -131,7 +131,7 @@ module _
         let is_tail = step.is_tail in
         (omega arith, subst Q (sym is.placed.1) (record { step = subst P same first; from_within = low }))
 
-    -- Links that were found by following the notes are mended, but for nodes that wait, once they are settled.
+    -- Links from the replay, once settled, are mended except for waiting nodes.
     module _ (sources : List Source) (links links' : List Link) (waiting : List ℕ) (places : length links' ≡ length links) (replayed : AreReplayed roads sources table had met links waiting) (settled : AreSettled roads links links') where
       abbrev Good : ℕ → Link → Type 0
       Good v l = ((l.level ≡ 0) × IsSeed sources table v) ⊎ (MeetsBound roads answers table l.from l.arc v × ((link links' l.from).level < l.level))
@@ -152,7 +152,7 @@ module _
             | inr was ↦ by_had v (omega arith) was
           ]
 
-      -- what does not precede a link with its number does not precede the settled link, where it is above level 0
+      -- what does not precede a link with its number does not precede the settled link, above level 0
       still : (v : ℕ) (x : Link) → 0 < x.level → x.level < NO_LEVEL → (Precedes x (with_number roads (link links v)) → ⊥) → Precedes x (link links' v) → ⊥
       still v x above room never =
           elim (cases_lt (link links v).level NO_LEVEL) [

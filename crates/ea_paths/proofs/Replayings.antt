@@ -1,4 +1,4 @@
--- How notes are followed.
+-- Replaying notes.
 use Rattle.std.proofs.Common.{◌≡◌, ◌≢◌, ℕ, ◌+◌, ◌-◌, ◌<◌, ◌≤◌, min, true, false, List, [], ◌∷◌, ◌++◌, length, get_or, set, Contains, refl, sym, ◌∙◌, ap, subst, ◌⊎◌, inl, inr, arith}
 use Rattle.std.proofs.lemmas.Bool.{cases_lt, cases_eq, cases_Bool, false≢true}
 use Rattle.std.proofs.lemmas.List.{append_assoc, length-set}
@@ -30,7 +30,7 @@ Precedes-above : (arc from : ℕ) (b : Link) → Precedes (record { level = b.le
 Precedes-above arc from b (inl less) = omega arith
 Precedes-above arc from b (inr same) = omega (arith, same.0)
 
--- what is put at the end of a list is in it
+-- entries appended to a list are in it
 pub Contains-two : (xs : List (ℕ × ℕ)) (a b : ℕ × ℕ) → Contains (xs ++ a ∷ b ∷ []) a × Contains (xs ++ a ∷ b ∷ []) b
 Contains-two xs a b =
     let one : (xs ++ a ∷ []) ++ b ∷ [] ≡ xs ++ a ∷ b ∷ [] = append_assoc xs (a ∷ []) (b ∷ []) in (
@@ -60,7 +60,7 @@ module _ (roads : Roads) (node : ℕ) (new : Link) (links : List Link) (waiting 
   at_node : link now node ≡ new
   at_node = link-set_same links node new first last
 
-  -- and is one that has had another arc
+  -- and it had another arc
   pub IsReachedAgain-taken : Precedes (with_number roads new) (with_number roads (link links node)) → ((tie : ℕ × ℕ) → Contains ties tie → Contains ties' tie) → (link links node).level ≢ 0 → Contains ties' (node, new.from) → Contains ties' (node, (link links node).from) → IsReachedAgain roads node new links waiting ties now waiting' ties'
   IsReachedAgain-taken better listed linked tied other =
       let level = ap (λ (l : Link). l.level) at_node in
@@ -78,7 +78,7 @@ module _ (roads : Roads) (node : ℕ) (new : Link) (links : List Link) (waiting 
         tied = inr (inr (linked, (tied, other)));
       }
 
-  -- or it is by the arc that it had
+  -- or the link keeps its arc
   pub IsReachedAgain-moved : (link links node).level ≢ 0 → HaveOneArc (link links node) new → ((link links node).level < new.level → AreWoken ties node waiting') → IsReachedAgain roads node new links waiting ties now waiting' ties
   IsReachedAgain-moved linked same woken =
       let level = ap (λ (l : Link). l.level) at_node in
@@ -112,7 +112,7 @@ module _ (roads : Roads) (node : ℕ) (new : Link) (links : List Link) (waiting 
 abbrev empty : Link
 empty = record { level = 0; arc = 0; from = 0 }
 
--- what the code makes of a note is its link
+-- the link that the code makes of a note
 pub link_of-read : (note : Note) (links : List Link) (place level arc : ℕ) → 0 < note.from → place ≡ note.from - 1 → place < length links → level ≡ min ((get_or links place empty).level + 1) NO_LEVEL → arc ≡ note.place → record { level = level; arc = arc; from = note.from } ≡ link_of note links
 link_of-read note links place level arc first at inside above same =
     let read : get_or links place empty ≡ link links note.from = ap (λ (k : ℕ). get_or links k empty) at ∙ link_read links note.from first (omega arith) in
@@ -128,12 +128,12 @@ IsFallen-set node new links first last = record {
   here = link-set_same links node new first last;
 }
 
--- what follows one note
+-- the effect of one note
 module _ (roads : Roads) (note : Note) (had met : ℕ → ℕ → ℕ → Type 0) (links links' : List Link) (waiting waiting' : List ℕ) (ties ties' : List (ℕ × ℕ)) where
   abbrev step : List Link → ℕ → ℕ → Link
   step xs u k = record { level = (link xs u).level + 1; arc = number_at roads u k; from = u }
 
-  -- nothing better comes of a level that did not fall
+  -- a level that did not fall gives nothing better
   still : (v u k : ℕ) → (link links u).level ≤ (link links' u).level → link links' v ≡ link links v → (Precedes (step links u k) (with_number roads (link links v)) → ⊥) → Precedes (step links' u k) (with_number roads (link links' v)) → ⊥
   still v u k low same was there =
       let P : Link → Type 0 = λ x. Precedes (step links u k) (with_number roads x) in
@@ -168,7 +168,7 @@ module _ (roads : Roads) (note : Note) (had met : ℕ → ℕ → ℕ → Type 0
     low_old : (v : ℕ) → link links' v ≡ link links v → (link links' v).level ≤ NO_LEVEL
     low_old v same = let level = ap (λ (l : Link). l.level) same in let was = before.low v in omega arith
 
-    -- the arc of the note gives no better link, where its tail is another node
+    -- the arc of the note gives no better link if its tail is another node
     by_note : (u k level : ℕ) → u ≡ note.from → k ≡ note.place → level ≡ (link links u).level + 1 → level < NO_LEVEL → (x : Link) → Precedes (record { level = level; arc = number_at roads u k; from = u }) x → ((link_of note links).level < NO_LEVEL) × Precedes (with_number roads (link_of note links)) x
     by_note u k level from place above room x better =
         let at : (link links note.from).level ≡ (link links u).level = ap (λ (n : ℕ). (link links n).level) (sym from) in
@@ -217,7 +217,7 @@ module _ (roads : Roads) (note : Note) (had met : ℕ → ℕ → ℕ → Type 0
           ]
         ]
 
-    -- a label was reached again
+    -- a label was met
     AreReplayed-again : ((v u k : ℕ) → met v u k → had v u k) → AreTied had links ties → note.again ≡ true → IsReachedAgain roads note.node (link_of note links) links waiting ties links' waiting' ties' → AreReplayed roads sources table (and_had note had) (and_met note met) links' waiting'
     AreReplayed-again included tied again reached = record {
       places = reached.places ∙ before.places;
@@ -290,7 +290,7 @@ module _ (roads : Roads) (note : Note) (had met : ℕ → ℕ → ℕ → Type 0
           ]
         ]
 
-    -- a note was followed
+    -- a note was replayed
     pub AreReplayed-followed : ((v u k : ℕ) → met v u k → had v u k) → AreTied had links ties → IsFollowed roads note links waiting ties links' waiting' ties' → AreReplayed roads sources table (and_had note had) (and_met note met) links' waiting'
     AreReplayed-followed included tied followed = elim (cases_Bool note.again) [
       | inl again ↦ AreReplayed-again included tied again (followed.again again)
@@ -299,7 +299,7 @@ module _ (roads : Roads) (note : Note) (had met : ℕ → ℕ → ℕ → Type 0
           subst (AreReplayed roads sources table (and_had note had) (and_met note met) links') (sym fell.1.0) (AreReplayed-fell falls fell.0))
     ]
 
-  -- what was listed before is listed still, where a label was reached again
+  -- what was listed stays listed if a label was met
   AreTied-again : AreTied had links ties → IsReachedAgain roads note.node (link_of note links) links waiting ties links' waiting' ties' → AreTied (and_had note had) links' ties'
   AreTied-again tied reached v u k by = elim (cases_eq v note.node) [
     | inl e ↦ (
@@ -342,7 +342,7 @@ module _ (roads : Roads) (note : Note) (had met : ℕ → ℕ → ℕ → Type 0
         ]
       ]
 
-  -- and where it fell
+  -- and if it fell
   AreTied-fell : AreTied had links ties → note.again ≡ false → IsFallen note.node (link_of note links) links links' → AreTied (and_had note had) links' ties
   AreTied-fell tied falls fell v u k by = elim by [
     | inl of ↦ (
@@ -365,7 +365,7 @@ module _ (roads : Roads) (note : Note) (had met : ℕ → ℕ → ℕ → Type 0
         subst (AreTied (and_had note had) links') (sym fell.1.1) (AreTied-fell tied falls fell.0))
   ]
 
--- a level was passed on: the node was reached once more by the arc of its link
+-- a level was passed on: the node was met again by the arc of its link
 module _ (roads : Roads) (note : Note) (notes : List Note) (links links' : List Link) (waiting waiting' : List ℕ) (ties ties' : List (ℕ × ℕ)) (again : note.again ≡ true) (same : HaveOneArc (link links note.node) (link_of note links)) (begun : (link links note.node).level ≢ 0) (linked : (link links note.node).level < NO_LEVEL) (reached : IsReachedAgain roads note.node (link_of note links) links waiting ties links' waiting' ties') where
   abbrev had : ℕ → ℕ → ℕ → Type 0
   had = had_after notes by_none
@@ -405,7 +405,7 @@ module _ (roads : Roads) (note : Note) (notes : List Note) (links links' : List 
             subst (λ (x : ℕ). had x u k) (sym of.0) (subst (λ (x : ℕ). had note.node u x) (same.1 ∙ sym of.2) (subst (λ (x : ℕ). had note.node x (link links note.node).arc) (same.0 ∙ sym of.1) by)))
       ]
 
--- so many notes were followed, and one more
+-- some notes were replayed, and one more
 pub AreAfter-more : (roads : Roads) (notes : List Note) (note : Note) (links links' : List Link) (waiting waiting' : List ℕ) (ties ties' : List (ℕ × ℕ)) → IsFollowed roads note links waiting ties links' waiting' ties' → (sources : List Source) (table : List ℕ) → AreAfter roads sources table notes links waiting ties → AreAfter roads sources table (notes ++ note ∷ []) links' waiting' ties'
 AreAfter-more roads notes note links links' waiting waiting' ties ties' followed sources table before =
     let after = AreReplayed-followed roads note (had_after notes by_none) (met_after notes by_none) links links' waiting waiting' ties ties' sources table before.0 (omega arith) (met-had notes by_none by_none (λ v u k by. by)) before.1 followed in (

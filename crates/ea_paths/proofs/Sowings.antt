@@ -1,4 +1,4 @@
--- What sowing all sources does, over whatever links there are.
+-- The effect of sowing all sources, over any links.
 use Rattle.std.proofs.Common.{◌≡◌, ℕ, ◌+◌, ◌<◌, ◌≤◌, List, replicate, Contains, refl, sym, ◌∙◌, ap, subst, ◌⊎◌, inl, inr, arith}
 use Rattle.std.specs.List.{IsAmong}
 use Rattle.std.proofs.lemmas.Bool.{cases_lt, cases_eq}
@@ -73,7 +73,7 @@ module _ (roads : Roads) (sources : List Source) (table : List ℕ) where
       | inr new ↦ inl (ap (λ (l : Link). l.level) new.0.1, (ap (λ (l : Link). l.from) new.0.1, new.0.0))
     ]
 
-    -- what did not precede does not precede now, since nothing but a seed came
+    -- what did not precede does not precede now, since only a seed was added
     still : (v : ℕ) (x : Link) → 0 < x.level → (Precedes x (with_number roads (link links v)) → ⊥) → Precedes x (with_number roads (link links' v)) → ⊥
     still v x above was = elim (offers.each v) [
       | inl same ↦ (

@@ -1,4 +1,4 @@
--- Links that are mended, on the way.
+-- Links during the repair.
 use Rattle.std.specs.Prelude.{◌≡◌, ℕ, ◌+◌, ◌<◌, ◌≤◌, List, length, Contains, ◌⊎◌}
 use Rattle.ea_road.specs.declared.source.Source.{Source}
 use Rattle.ea_road.specs.Roads.{Roads}
@@ -7,8 +7,8 @@ use Rattle.ea_search.specs.declared.link.TheConstants.{NO_LEVEL}
 use Rattle.ea_search.specs.Links.{link}
 use Rattle.ea_paths.specs.Offers.{IsSeed, Precedes, MeetsBound}
 
--- Each link with a level begins a walk at a source, or follows a tight arc from a lower level; and by no tight arc is there a
--- better one, but for those from nodes that wait.
+-- Each link with a level begins a walk at a source or follows a tight arc from a lower level; no tight arc
+-- gives a better one, except arcs from waiting nodes.
 pub record AreMended
     (roads : Roads)
     (answers : ℕ → ℕ → ℕ → ℕ → Type 0)
@@ -22,7 +22,7 @@ pub record AreMended
   pub linked : (v : ℕ) → (link links v).level < NO_LEVEL → (((link links v).level ≡ 0) × IsSeed sources table v) ⊎ (MeetsBound roads answers table (link links v).from (link links v).arc v × ((link links (link links v).from).level < (link links v).level))
   pub passed : (e u v : ℕ) → MeetsBound roads answers table u e v → (link links u).level + 1 < NO_LEVEL → (Precedes (record { level = (link links u).level + 1; arc = e; from = u }) (link links v) → ⊥) ⊎ Contains waiting u
 
--- There is room for a level above a link's own.
+-- One more level fits above a link's.
 abbrev pub IsReady : Link → Type 0
 IsReady l = l.level < NO_LEVEL → l.level + 1 < NO_LEVEL
 

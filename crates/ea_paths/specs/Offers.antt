@@ -1,4 +1,4 @@
--- How links are found: nodes offer links to their heads, and each node keeps what precedes.
+-- Finding links: nodes offer links to their heads, and each node keeps the one that precedes.
 use Rattle.std.specs.Prelude.{◌≡◌, ℕ, ◌+◌, ◌<◌, ◌≤◌, nat_le, List, length, slice_index_or, Contains, ◌⊎◌, sum_by, count_by}
 use Rattle.std.specs.List.{IsAmong}
 use Rattle.ea_base.specs.declared.limits.TheConstants.{HORIZON}
@@ -10,8 +10,8 @@ use Rattle.ea_search.specs.Underway.{bound_of}
 use Rattle.ea_search.specs.Scans.{Step}
 use Rattle.ea_search.specs.Links.{link, no_link}
 
--- Left at the bound of its tail, the arc arrives at the bound of its head, both within the horizon. It is the form of
--- `IsTight` for the bounds of a table, in which the links are proved.
+-- Left at the bound of its tail, the arc arrives at the bound of its head, both within the horizon: `IsTight`
+-- for the bounds of a table, as the proofs use it.
 pub record MeetsBound
     (roads : Roads)
     (answers : ℕ → ℕ → ℕ → ℕ → Type 0)
@@ -21,7 +21,7 @@ pub record MeetsBound
   pub step : Step roads answers node (bound_of table node) number head (bound_of table head)
   pub from_within : bound_of table node ≤ HORIZON
 
--- a source's departure is its node's label
+-- A source's departure is its node's label.
 pub record IsSeed (sources : List Source) (table : List ℕ) (node : ℕ) : Type 0 where
   pub source : Source
   pub among : IsAmong sources source
@@ -29,22 +29,22 @@ pub record IsSeed (sources : List Source) (table : List ℕ) (node : ℕ) : Type
   pub departs : source.departure ≡ bound_of table node
   pub within : source.departure ≤ HORIZON
 
--- fewer arcs, or as many and a lower number
+-- Fewer arcs, or as many and a lower number.
 abbrev pub Precedes : Link → Link → Type 0
 Precedes a b = (a.level < b.level) ⊎ ((a.level ≡ b.level) × (a.arc < b.arc))
 
--- how many nodes have no level
+-- The number of nodes without a level.
 abbrev pub unlinked : List Link → ℕ
 unlinked links = count_by (λ l. nat_le NO_LEVEL l.level) links
 
 abbrev pub levels : List Link → ℕ
 levels links = sum_by (λ l. l.level) links
 
--- no level is so high that the nodes without one could not all lie above it
+-- No level is so high that the nodes without one could not all lie above it.
 abbrev pub IsBounded : ℕ → List Link → Type 0
 IsBounded nodes links = (v : ℕ) → (link links v).level < NO_LEVEL → (link links v).level + unlinked links < nodes
 
--- Links were offered, and each node kept what precedes. Nodes whose level fell wait.
+-- Links were offered, and each node kept the one that precedes. Each node whose level fell waits.
 pub record Offers
     (nodes : ℕ)
     (offer : ℕ → Link → Type 0)
@@ -62,19 +62,19 @@ pub record Offers
   pub free : unlinked links' ≤ unlinked links
   pub bounded : ((v : ℕ) (l : Link) → offer v l → l.level + unlinked links ≤ nodes) → IsBounded nodes links → IsBounded nodes links'
 
--- one link for one node
+-- One link for one node.
 abbrev pub IsOne : ℕ → Link → ℕ → Link → Type 0
 IsOne v new w l = (w ≡ v) × (l ≡ new)
 
--- the links by tight arcs from a node, for nodes at this level
+-- The links by tight arcs from a node at this level.
 abbrev pub IsSpread : Roads → (ℕ → ℕ → ℕ → ℕ → Type 0) → List ℕ → ℕ → ℕ → ℕ → Link → Type 0
 IsSpread roads answers table u level v l = (e : ℕ) × MeetsBound roads answers table u e v × (l ≡ record { level = level; arc = e; from = u })
 
--- No tight arc from the node is still to be offered.
+-- No tight arc from the node is left to offer.
 abbrev pub IsSpent : Roads → (ℕ → ℕ → ℕ → ℕ → Type 0) → List ℕ → List Link → ℕ → ℕ → Type 0
 IsSpent roads answers table links u level = (e v : ℕ) → MeetsBound roads answers table u e v → Precedes (record { level = level; arc = e; from = u }) (link links v) → ⊥
 
--- what is left to do is at the waiting nodes
+-- Only the waiting nodes are left to process.
 pub record Linking
     (roads : Roads)
     (answers : ℕ → ℕ → ℕ → ℕ → Type 0)
@@ -91,6 +91,6 @@ pub record Linking
   pub low : (v : ℕ) → (link links v).level ≤ NO_LEVEL
   pub clean : (v : ℕ) → (link links v).level ≡ NO_LEVEL → link links v ≡ no_link
 
--- each of the first so many sources that departs at its node's label begins a walk
+-- Among this many first sources, each that departs at its node's label begins a walk.
 abbrev pub AreSown : List Source → List ℕ → List Link → ℕ → Type 0
 AreSown sources table links n = (k : ℕ) (d : Source) → k < n → (slice_index_or sources k d).departure ≡ bound_of table (slice_index_or sources k d).node → (link links (slice_index_or sources k d).node).level ≡ 0

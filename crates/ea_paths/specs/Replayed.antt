@@ -1,4 +1,4 @@
--- Links while notes are followed. They name an arc by its place among those that leave its tail, from 0.
+-- Links during the replay of the log. They name an arc by its place among those that leave its tail, from 0.
 use Rattle.std.specs.Prelude.{◌≡◌, ◌≢◌, ℕ, ◌+◌, ◌<◌, ◌≤◌, min, true, false, List, length, Contains, ◌⊎◌}
 use Rattle.ea_road.specs.declared.source.Source.{Source}
 use Rattle.ea_road.specs.Roads.{Roads, leaving}
@@ -14,8 +14,8 @@ use Rattle.ea_search.specs.Scans.{number_at}
 abbrev pub with_number : Roads → Link → Link
 with_number roads l = record { level = l.level; arc = number_at roads l.from l.arc; from = l.from }
 
--- Each link with a level begins a walk at a source, or is by an arc by which its node's label was had; and by none of the arcs by
--- which labels were met is there a better one, but for those from nodes that wait.
+-- Each link with a level begins a walk at a source or has an arc from which its node's label was had; no arc
+-- by which labels were met gives a better one, except arcs from waiting nodes.
 pub record AreReplayed
     (roads : Roads)
     (sources : List Source)
@@ -29,15 +29,16 @@ pub record AreReplayed
   pub linked : (v : ℕ) → (link links v).level < NO_LEVEL → (((link links v).level ≡ 0) × (((link links v).from ≡ 0) × IsSeed sources table v)) ⊎ had v (link links v).from (link links v).arc
   pub passed : (v u k : ℕ) → met v u k → (link links u).level + 1 < NO_LEVEL → (Precedes (record { level = (link links u).level + 1; arc = number_at roads u k; from = u }) (with_number roads (link links v)) → ⊥) ⊎ Contains waiting u
 
--- A node has one arc at most by which its label was had, that of its link, or it begins a walk, or it is listed with the arc's tail.
+-- A node has at most one arc from which its label was had, that of its link; or it begins a walk; or it is
+-- listed with the arc's tail.
 abbrev pub AreTied : (ℕ → ℕ → ℕ → Type 0) → List Link → List (ℕ × ℕ) → Type 0
 AreTied had links ties = (v u k : ℕ) → had v u k → ((link links v).level ≡ 0) ⊎ ((u ≡ (link links v).from) × (k ≡ (link links v).arc)) ⊎ Contains ties (v, u)
 
--- So are links after some notes, from whichever sources.
+-- What links are after some notes, from any sources.
 abbrev pub AreAfter : Roads → List Source → List ℕ → List Note → List Link → List ℕ → List (ℕ × ℕ) → Type 0
 AreAfter roads sources table notes links waiting ties = AreReplayed roads sources table (had_after notes by_none) (met_after notes by_none) links waiting × AreTied (had_after notes by_none) links ties
 
--- Whatever notes these links are after, from whichever sources, the others are so too.
+-- If these links are after some notes, from any sources, so are the others.
 abbrev pub StayAfter : List Link → List ℕ → List (ℕ × ℕ) → List Link → List ℕ → List (ℕ × ℕ) → Type 0
 StayAfter links waiting ties links' waiting' ties' = (roads : Roads) (sources : List Source) (table : List ℕ) (notes : List Note) → AreAfter roads sources table notes links waiting ties → AreAfter roads sources table notes links' waiting' ties'
 
@@ -45,14 +46,14 @@ StayAfter links waiting ties links' waiting' ties' = (roads : Roads) (sources : 
 abbrev pub AreWoken : List (ℕ × ℕ) → ℕ → List ℕ → Type 0
 AreWoken ties node waiting = (u : ℕ) → Contains ties (node, u) → Contains waiting u
 
--- Two links by one arc.
+-- Two links with the same arc.
 abbrev pub HaveOneArc : Link → Link → Type 0
 HaveOneArc a b = (a.from ≡ b.from) × (a.arc ≡ b.arc)
 
--- A node was reached again by the arc of a new link. It has that link now or the one from before, and the new one is no
--- better than what it has. What is better than that was better before too, unless both links are by one arc and the tails with
--- which the node is listed wait. Where the level fell the node waits, and where the node begins no walk and the links are by
--- two arcs it is listed with the tails of both.
+-- A node was met by the arc of a new link. It has the new link or its old one, and the new one is no better
+-- than what it has. What is better than that was better before, unless both links have the same arc and the
+-- tails with which the node is listed wait. If the level fell, the node waits. If the node begins no walk and
+-- the links have different arcs, it is listed with both tails.
 pub record IsReachedAgain
     (roads : Roads)
     (node : ℕ)
@@ -84,7 +85,7 @@ pub record IsFallen (node : ℕ) (new : Link) (links links' : List Link) : Type 
   pub others : (v : ℕ) → v ≢ node → link links' v ≡ link links v
   pub here : link links' node ≡ new
 
--- A note was followed: its node has a new link where the label fell, or was reached again.
+-- A note was replayed: its node's label fell and it has a new link, or the label was met.
 pub record IsFollowed
     (roads : Roads)
     (note : Note)
@@ -102,7 +103,8 @@ pub record IsFollowed
 abbrev pub IsSeedLink : List Source → List ℕ → ℕ → Link → Type 0
 IsSeedLink sources table v l = IsSeed sources table v × (l ≡ record { level = 0; arc = 0; from = 0 })
 
--- What a link with the place of its arc becomes: it has the arc's number, and its tail lies lower. One that begins a walk stays.
+-- A link with the place of its arc gets the arc's number, and its tail lies lower. A link that begins a walk
+-- stays.
 pub record IsSettled (roads : Roads) (links : List Link) (v : ℕ) (l : Link) : Type 0 where
   pub level : l.level ≡ (link links v).level
   pub begins : (link links v).from ≡ 0 → l ≡ link links v
@@ -110,6 +112,6 @@ pub record IsSettled (roads : Roads) (links : List Link) (v : ℕ) (l : Link) : 
   pub inside : (link links v).level < NO_LEVEL → (link links v).from ≢ 0 → (link links v).arc < length (leaving roads (link links v).from)
   pub lower : (link links v).level < NO_LEVEL → (link links v).from ≢ 0 → (link links (link links v).from).level < (link links v).level
 
--- So is each link.
+-- The same for each link.
 abbrev pub AreSettled : Roads → List Link → List Link → Type 0
 AreSettled roads links links' = (v : ℕ) → IsSettled roads links v (link links' v)

@@ -1,4 +1,4 @@
--- How an answer is stored: a label for each node, and where it has walks a link for each node, along which one comes back
+-- How an answer is stored: a label for each node and, if it has walks, a link for each node, which leads back
 -- to a source.
 use Rattle.std.specs.Prelude.{◌≡◌, ◌≢◌, ℕ, ◌+◌, ◌<◌, true, List, length}
 use Rattle.ea_road.specs.declared.TheConstants.{NONE}
@@ -10,7 +10,7 @@ use Rattle.ea_search.specs.declared.link.TheConstants.{NO_LEVEL}
 use Rattle.ea_search.specs.Links.{link}
 use Rattle.ea_search.specs.Answers.{Answered}
 
--- Each link but the first leads to a node one level below.
+-- Each link above level 0 leads to a node one level below.
 abbrev pub AreFollowable : List Link → Type 0
 AreFollowable links = (node : ℕ) → 0 < (link links node).level → (link links node).level < NO_LEVEL → IsNode (length links) (link links node).from × ((link links (link links node).from).level + 1 ≡ (link links node).level)
 

@@ -9,8 +9,8 @@ use ea_search::Link;
 use std::alloc::{AllocError, Global};
 use std::marker::Model;
 
-/// Earliest arrivals and, where they were asked for, the canonical walks that attain them. Contracts see it as one value:
-/// `arrival_of` and `walk_of` say what it gives for a node.
+/// Earliest arrivals and, if asked for, the canonical walks that attain them. In contracts it is one value,
+/// read by `arrival_of` and `walk_of`.
 #[derive(Drop)]
 pub struct Answer {
     nodes: u32,
@@ -74,8 +74,9 @@ impl Answer {
         self.nodes
     }
 
-    /// The link of each node, where the answer has walks: how its walk ends. Going back along links from an asked node that
-    /// is reached, its level in number, one comes over the arcs of its walk from the last to the first.
+    /// The link of each node, the first that of node 1; empty if the answer has no walks. From an asked node
+    /// that is reached, following as many links back as its level gives the arcs of its walk from last to
+    /// first.
     pub fn links(&self) -> &[Link]
         ensures links { result.now ≡ self.now.links }
         ensures stored { IsStoredAnswer self.now }
@@ -95,7 +96,7 @@ impl Answer {
             }
     }
 
-    /// The earliest arrival at an asked node; none where no walk reaches it within the horizon.
+    /// The earliest arrival at an asked node; none if no walk reaches it within the horizon.
     pub fn arrival(&self, node: u32) -> Option<u64>
         requires node { IsNode self.now.nodes node }
         requires asked { IsAskedBy self.now.target node }
@@ -105,8 +106,8 @@ impl Answer {
         if label == NONE { None } else { Some(label) }
     }
 
-    /// The numbers of the arcs of an asked node's canonical walk, first arc first; none where no walk reaches the node
-    /// within the horizon. Memory is refused only for the list that it gives.
+    /// The arc numbers of an asked node's canonical walk, first arc first; none if no walk reaches the node
+    /// within the horizon. Fails only if memory for the list is refused.
     pub fn walk(&self, alloc: Global, node: u32) -> Result<Option<Vec<u32>>, AllocError>
         requires node { IsNode self.now.nodes node }
         requires asked { IsAskedBy self.now.target node }

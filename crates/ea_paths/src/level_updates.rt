@@ -1,4 +1,4 @@
-//! Levels that change as notes are followed, passed on to the nodes that have their links by arcs from there.
+//! Changes of levels during the replay, passed on along links.
 ghost use Rattle.std.specs.Prelude.{◌≡◌, length, IsTrue};
 ghost use Rattle.ea_road.specs.Roads.{IsNode};
 ghost use Rattle.ea_paths.specs.Replayed.{StayAfter};
@@ -8,7 +8,8 @@ use crate::ties::Ties;
 use ea_road::Network;
 use ea_search::{Link, NO_LEVEL, Waiting};
 
-/// Passes a node's level on to a head whose link is by an arc from the node. False where that was given up.
+/// Passes a node's level to a head whose link has an arc from the node. Returns false if the replay is given
+/// up.
 fn pass_to_head(
     node: u32,
     head: u32,
@@ -44,7 +45,7 @@ fn pass_to_head(
     relevel(head, new, links, waiting, ties)
 }
 
-/// Passes a node's level on to the heads that have their links by its arcs. False where that was given up.
+/// Passes a node's level to the heads whose links have its arcs. Returns false if the replay is given up.
 fn pass_to_heads(
     network: &Network,
     node: u32,
@@ -68,7 +69,7 @@ fn pass_to_heads(
     true
 }
 
-/// What `pass_on` does where a level changed.
+/// The loop of `pass_on`, if some level changed.
 #[inline(never)]
 fn pass_on_all(
     network: &Network,
@@ -97,8 +98,8 @@ fn pass_on_all(
     false
 }
 
-/// Passes levels that changed on to the nodes that have their links by arcs from there, and so on, until none is left. False where
-/// that was given up; then links and nodes that wait are of no use.
+/// Passes changed levels on to the nodes whose links have arcs from there, until no change is left. Returns
+/// false if the replay is given up; then links and waiting nodes are useless.
 #[inline(always)]
 pub(crate) fn pass_on(
     network: &Network,

@@ -16,7 +16,7 @@ use ea_road::{Arc, Network, Query, Source};
 use ea_search::{AHEAD, Finished, Link, NO_LEVEL, Open, Waiting, touch_heads, touch_nodes};
 use ea_travel_times::TravelTimes;
 
-/// Offers a link to a node, which keeps the one of fewer arcs, and of these the one by the lower number.
+/// Offers a link to a node, which keeps the link of fewer arcs or, at a tie, of the lower arc number.
 fn relink(links: &mut [Link], waiting: &mut Waiting, node: u32, new: Link)
     requires node { (0 < node) × (node ≤ waiting.old.nodes) }
     requires level { new.level < NO_LEVEL }
@@ -36,7 +36,7 @@ fn relink(links: &mut [Link], waiting: &mut Waiting, node: u32, new: Link)
     }
 }
 
-/// Offers its head a link by one arc, where that arc is tight.
+/// Offers the head of an arc a link by it, if the arc is tight.
 pub(crate) fn pass<T: TravelTimes>(
     network: &Network,
     times: &T,
@@ -65,7 +65,7 @@ pub(crate) fn pass<T: TravelTimes>(
 {
     network.keeps_limits();
     let least = table[arc.head as usize - 1];
-    // No arc arrives before it is left.
+    // An arc arrives no earlier than it is left.
     if least < departure {
         return;
     }
@@ -75,7 +75,7 @@ pub(crate) fn pass<T: TravelTimes>(
     }
 }
 
-/// Offers each head a link by the tight arcs from a node. The arcs are read as they lie by tail.
+/// Offers each head a link by the tight arcs from a node. The arcs are contiguous in memory.
 pub(crate) fn spread<T: TravelTimes>(
     network: &Network,
     times: &T,
@@ -146,17 +146,17 @@ pub(crate) fn sow(table: &[u64], source: Source, links: &mut [Link], waiting: &m
     }
 }
 
-/// How far ahead memory was read of the nodes that wait.
+/// How far the prefetch of waiting nodes has come.
 #[derive(Drop)]
 struct Ahead {
-    /// How many nodes are taken before the next ones are read.
+    /// How many nodes are taken before the next prefetch.
     left: usize,
-    /// What was read. It is looked at where nothing rests on it, so that no read is left out.
+    /// Consumed so that the compiler keeps the prefetch loads.
     seen: u64,
 }
 
 impl Ahead {
-    /// Reads ahead what the nodes that wait will need, if it is time.
+    /// Prefetches what the waiting nodes will need, if it is time.
     fn look(&mut self, network: &Network, table: &[u64], links: &[Link], waiting: &Waiting) {
         if self.left > 0 && self.seen != u64::MAX {
             self.left -= 1;
@@ -170,7 +170,7 @@ impl Ahead {
     }
 }
 
-/// Finds the links of nodes, which are as they were at first. Then nobody waits, and what has no label has no link.
+/// Finds the links of nodes, which must be reset. Then no node waits, and no node without a label has a link.
 pub(crate) fn link_all<T: TravelTimes>(
     network: &Network,
     times: &T,
@@ -203,8 +203,8 @@ pub(crate) fn link_all<T: TravelTimes>(
     }
 }
 
-/// Finds the levels of nodes and the ends of their canonical walks, over the times of any table, be they least or
-/// not. It takes no memory.
+/// Finds the levels of nodes and the ends of their canonical walks, over the times of any table, even if they
+/// are not least. Takes no memory.
 pub fn find_links<T: TravelTimes>(
     network: &Network,
     times: &T,
@@ -225,7 +225,7 @@ pub fn find_links<T: TravelTimes>(
     links
 }
 
-/// The answer with its canonical walks. It takes no memory.
+/// The answer with its canonical walks. Takes no memory.
 pub fn unwind<T: TravelTimes>(
     network: &Network,
     times: &T,
@@ -244,7 +244,7 @@ pub fn unwind<T: TravelTimes>(
     Answer::new(nodes, query.target(), table, links, true)
 }
 
-/// The answer without walks, where these are not asked for.
+/// The answer without walks.
 pub fn without_walks<T: TravelTimes>(
     network: &Network,
     times: &T,

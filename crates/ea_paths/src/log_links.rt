@@ -1,4 +1,4 @@
-//! Walks from the notes of a search: the notes are followed, and links that they left are mended.
+//! Links from the log of a search: its notes are replayed, and the links repaired.
 ghost use Rattle.std.specs.Prelude.{◌≡◌, ◌≢◌, ◌⊎◌, ℕ, ◌<◌, ◌≤◌, [], false, true, length, replicate, Contains, IfSome, IsTrue, None};
 ghost use Rattle.ea_road.specs.Queries.{IsProblem};
 ghost use Rattle.ea_road.specs.declared.TheConstants.{NONE};
@@ -20,7 +20,7 @@ use ea_road::{Network, Query, Source};
 use ea_search::{Link, NO_LEVEL, NO_LINK, Noted, Waiting};
 use ea_travel_times::TravelTimes;
 
-/// Links the sources that depart at their nodes' labels, over whatever links there are.
+/// Links the sources that depart at their nodes' labels, over any links.
 fn sow_all(table: &[u64], sources: &[Source], links: &mut [Link], waiting: &mut Waiting)
     requires sources { AreStarts waiting.old.nodes sources.now }
     requires places { (length table.now ≡ waiting.old.nodes)
@@ -36,7 +36,7 @@ fn sow_all(table: &[u64], sources: &[Source], links: &mut [Link], waiting: &mut 
     }
 }
 
-/// The number of a link's arc. None where no arc is there, or its tail is no lower.
+/// The number of a link's arc. None if there is no such arc, or its tail's level is no lower.
 fn number_above_tail(network: &Network, links: &[Link], old: Link) -> Option<u32>
     requires by_arc { 0 < old.from }
     requires places { length links.now ≡ network.now.nodes }
@@ -52,8 +52,8 @@ fn number_above_tail(network: &Network, links: &[Link], old: Link) -> Option<u32
     number_of(network, old.from, old.arc)
 }
 
-/// Gives each link the number of its arc. False where a link has no such arc or no lower tail, or there is no room for a
-/// level above it.
+/// Gives each link the number of its arc. Returns false if a link has no such arc or no lower tail, or no
+/// level fits above it.
 fn settle(network: &Network, links: &mut [Link]) -> bool
     requires places { length links.old ≡ network.now.nodes }
     ensures places { length links.new ≡ length links.old }
@@ -79,8 +79,8 @@ fn settle(network: &Network, links: &mut [Link]) -> bool
     true
 }
 
-/// Finds the links of nodes from the notes of the search that gave the table its labels. False where it was given up;
-/// then links and nodes that wait are of no use.
+/// Finds the links of nodes from the log of the search that computed the labels. Returns false if it gives
+/// up; then links and waiting nodes are useless.
 fn link_by_notes<T: TravelTimes>(
     network: &Network,
     times: &T,
@@ -120,8 +120,8 @@ fn link_by_notes<T: TravelTimes>(
     mend_waiting(network, times, table, links, waiting)
 }
 
-/// What `link_all` finds, sooner where the notes of a search of all nodes tell it. In a pair query they don't: a node beyond the target may
-/// have a label by an arc that is not followed.
+/// Same result as `link_all`, by replaying the log if it is complete. Not for a pair query: a node beyond the
+/// target may have a label from an arc that is not followed.
 pub(crate) fn link_noted<T: TravelTimes>(
     network: &Network,
     times: &T,

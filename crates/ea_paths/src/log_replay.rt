@@ -1,4 +1,4 @@
-//! The notes of a search, followed in their order: links with arcs by which labels were had.
+//! Replaying the log of a search: each note's node gets a link with the note's arc.
 ghost use Rattle.std.specs.Prelude.{◌≡◌, ◌≢◌, ℕ, ◌-◌, ◌<◌, ◌≤◌, Contains, IfSome, List, length, IsTrue};
 ghost use Rattle.ea_road.specs.declared.source.Source.{Source};
 ghost use Rattle.ea_road.specs.Roads.{Roads};
@@ -12,7 +12,7 @@ use crate::ties::Ties;
 use ea_road::Network;
 use ea_search::{Link, NO_LEVEL, Note, Waiting, note_in};
 
-/// Where a node's link stands among so many.
+/// The index of a node's link among `count` links.
 pub(crate) fn place_of(node: u32, count: usize) -> Option<usize>
     ensures { IfSome result (λ place. (0 < node) × (place ≡ node - 1) × (place < count)) }
 {
@@ -30,8 +30,8 @@ pub(crate) fn number_of(network: &Network, from: u32, place: u32) -> Option<u32>
     network.leaving(from).numbers.get(place as usize).copied()
 }
 
-/// A node was reached again by the arc of its own link, from a tail whose level may be another by now: the node takes the
-/// level above that. False where that was given up.
+/// The node was met by the arc of its own link, whose tail may have changed its level: the node takes the
+/// level above the tail's. Returns false if the replay is given up.
 pub(crate) fn relevel(
     node: u32,
     new: Link,
@@ -63,8 +63,8 @@ pub(crate) fn relevel(
     true
 }
 
-/// Offers a node, which is tied, a link by an arc that its own link does not have. It keeps the one of fewer arcs, and of
-/// these the one by the lower number. False where that was given up.
+/// Offers a tied node a link by another arc than its own link's. It keeps the link of fewer arcs or, at a
+/// tie, of the lower arc number. Returns false if the replay is given up.
 fn choose(
     network: &Network,
     node: u32,
@@ -106,8 +106,8 @@ fn choose(
     true
 }
 
-/// A node was reached again by the arc of a new link, at the label that it had. False where it was given up. It stands
-/// apart, so that the loop over notes is short: nearly all of them are of labels that fell.
+/// A node was met by the arc of a new link. Returns false if the replay is given up. Not inlined, to keep the
+/// loop over notes short: in nearly all of them a label falls.
 #[inline(never)]
 fn tie(
     network: &Network,
@@ -139,7 +139,7 @@ fn tie(
     choose(network, node, new, links, waiting, ties)
 }
 
-/// The link by the arc of a note, to a level.
+/// The link by the arc of a note, with a level.
 #[inline(always)]
 fn link_by(note: Note, level: u32) -> Link
     ensures { result ≡ record { level = level; arc = note.place; from = note.from } }
@@ -151,8 +151,8 @@ fn link_by(note: Note, level: u32) -> Link
     }
 }
 
-/// Follows one note: a node whose label fell takes the link by the note's arc, whatever it had before. False where it was
-/// given up.
+/// Replays one note: a node whose label fell takes the link by the note's arc, whatever link it had. Returns
+/// false if the replay is given up.
 #[inline(always)]
 fn follow_note(
     network: &Network,
@@ -186,13 +186,13 @@ fn follow_note(
             ties,
         );
     }
-    // It is made here once more: what is handed to a call stands in memory, and would be waited for.
+    // Built a second time: the link handed to `tie` lies in memory, and copying it would wait for that store.
     links[place] = link_by(note, level);
     true
 }
 
-/// Follows notes in their order, from links that are begun at sources. False where it was given up; then links and nodes
-/// that wait are of no use.
+/// Replays notes in their order, from the links of sources. Returns false if it gives up; then links and
+/// waiting nodes are useless.
 pub(crate) fn replay(
     network: &Network,
     notes: &[u64],
@@ -215,7 +215,7 @@ pub(crate) fn replay(
         if !follow_note(network, note, links, waiting, ties) {
             return false;
         }
-        // At once, so that what later notes build on the heads is right.
+        // Before the next note, which may build on the heads.
         if !pass_on(network, links, waiting, ties) {
             return false;
         }

@@ -9,8 +9,8 @@ use ea_road::{Network, Query};
 use ea_travel_times::{ArrivalFunction, Profiles, TravelTimes};
 use std::alloc::{AllocError, Global};
 
-/// The earliest arrivals and their canonical walks, found by one thread. The error comes only where memory is refused for
-/// the arrays, before the search begins.
+/// The earliest arrivals and their canonical walks, found by one thread. Fails only if memory for the arrays
+/// is refused, before the search begins.
 pub fn solve_alone<T: TravelTimes>(
     alloc: Global,
     network: &Network,
@@ -24,7 +24,7 @@ pub fn solve_alone<T: TravelTimes>(
     Ok(search.find_walks(network, times, query).into_answer())
 }
 
-/// The earliest arrivals without walks, found by one thread. The error is that of `solve_alone`.
+/// The earliest arrivals without walks, found by one thread. Fails as `solve_alone` does.
 pub fn arrivals_alone<T: TravelTimes>(
     alloc: Global,
     network: &Network,
@@ -39,8 +39,8 @@ pub fn arrivals_alone<T: TravelTimes>(
     Ok(search.find_arrivals(network, times, query).into_answer())
 }
 
-/// `solve_alone` by a caller's closure from class, weight and departure to the arrival, for classes up to the greatest.
-/// The error is that of `solve_alone`.
+/// `solve_alone` with a caller's closure from class, weight and departure to the arrival, for classes up to
+/// the greatest. Fails as `solve_alone` does.
 pub fn solve_alone_by<F: ArrivalFunction + Drop>(
     alloc: Global,
     network: &Network,
@@ -58,7 +58,7 @@ pub fn solve_alone_by<F: ArrivalFunction + Drop>(
     solve_alone(alloc, network, &profiles, query)
 }
 
-/// `arrivals_alone` by a caller's closure. The error is that of `solve_alone`.
+/// `arrivals_alone` with a caller's closure. Fails as `solve_alone` does.
 pub fn arrivals_alone_by<F: ArrivalFunction + Drop>(
     alloc: Global,
     network: &Network,

@@ -1,4 +1,4 @@
-//! Links that are mended: those by arcs from nodes whose levels fell.
+//! Repairing links: those by arcs from nodes whose levels fell.
 ghost use Rattle.std.specs.Prelude.{◌≡◌, ℕ, ◌+◌, ◌<◌, ◌≤◌, [], List, length, IsTrue};
 ghost use Rattle.ea_road.specs.declared.source.Source.{Source};
 ghost use Rattle.ea_road.specs.Roads.{IsNode, top_class};
@@ -12,10 +12,10 @@ use ea_road::Network;
 use ea_search::{Link, NO_LEVEL, Waiting};
 use ea_travel_times::TravelTimes;
 
-/// Of so many nodes one is mended at most. Beyond that it may cost less to find all links anew.
+/// At most one node in PART is repaired. If more were, finding all links anew may cost less.
 const PART: usize = 2;
 
-/// Offers links by the arcs from a node, one level above it. False where there is no room for a level above it.
+/// Offers links by the arcs from a node, one level above it. Returns false if no level fits above it.
 fn mend<T: TravelTimes>(
     network: &Network,
     times: &T,
@@ -50,7 +50,7 @@ fn mend<T: TravelTimes>(
     true
 }
 
-/// Offers links by the arcs from the nodes that wait. False where there are too many of these, or no room for a level
+/// Offers links by the arcs from the waiting nodes. Returns false if there are too many, or no level fits
 /// above one of them.
 pub(crate) fn mend_waiting<T: TravelTimes>(
     network: &Network,

@@ -1,4 +1,4 @@
-//! The arrays of searches by one thread, which answer query after query.
+//! The arrays of searches by one thread, reused from query to query.
 ghost use Rattle.std.specs.Prelude.{◌≡◌, ℕ, [], true, false, None, Contains, length, map, replicate, if◌then◌else◌, IfOk};
 ghost use Rattle.ea_road.specs.Queries.{IsProblem};
 ghost use Rattle.ea_road.specs.declared.TheConstants.{NONE};
@@ -22,8 +22,8 @@ use ea_travel_times::TravelTimes;
 use std::alloc::{AllocError, Global};
 use std::marker::Model;
 
-/// The arrays of a search by one thread, with its last answer in them. They are reserved once and answer query after query:
-/// what a query costs follows the nodes that it and the one before it reach, not the size of the network.
+/// The arrays of a search by one thread, and its last answer. They are reserved once and reused. A query
+/// costs as much as the nodes that it and the query before reach, whatever the size of the network.
 #[derive(Drop)]
 pub struct Search {
     answer: Answer,
@@ -48,24 +48,26 @@ impl Model for Search {
         (map (λ l. l.items) s.lists.items) };
 }
 
-/// How many links there is room for.
+/// The number of links with or without walks.
 fn room_of(nodes: u32, walks: bool) -> usize
     ensures { result ≡ (if walks then nodes else 0) }
 {
     if walks { nodes as usize } else { 0 }
 }
 
-/// How wide the windows are where nothing is noted. In wider ones more nodes are scanned again, in narrower ones lists are spread more often.
+/// The width of windows in a search without a log. In wider windows more nodes are scanned twice, in narrower
+/// ones lists are spread more often.
 fn width_without_walks(network: &Network) -> u64 {
     network.mean_weight().saturating_mul(2)
 }
 
-/// The least mean weight for which windows of a search with notes are wide: below it many arcs come to a node at the same time, from
-/// nodes of different levels.
+/// The least mean weight at which a search with a log has wide windows. Below it, nodes are often met at the
+/// same time from nodes of different levels.
 const LARGE_MEAN: u64 = 8;
 
-/// How wide the windows of a search with notes are. Where a node is scanned too early in its window, its heads have a level from it that
-/// changes. Below a large mean weight that is so of many, whose levels all were mended, so the windows are mostly single times there.
+/// The width of windows in a search with a log. A node that is scanned too early in its window gives its
+/// heads levels that change later. With a small mean weight that happens to many nodes, and repairing their
+/// levels costs more than windows of single times.
 fn width_with_notes(network: &Network) -> u64 {
     let mean = network.mean_weight();
     if mean < LARGE_MEAN {
@@ -85,7 +87,7 @@ struct Arrays {
     ties: Ties,
 }
 
-/// Searches from the sources until each label is least, on a table without labels and lists without entries.
+/// Searches from the sources until each label is least, on a reset table and empty lists.
 fn find<T: TravelTimes, L: Table>(
     network: &Network,
     times: &T,
@@ -118,7 +120,7 @@ fn find<T: TravelTimes, L: Table>(
 }
 
 impl Search {
-    /// Arrays for so many nodes, with room for walks or without.
+    /// Arrays for this number of nodes, with room for walks or without.
     fn with_room(alloc: Global, nodes: u32, walks: bool) -> Result<Search, AllocError>
         ensures nodes { IfOk result (λ search. search.nodes ≡ nodes) }
         ensures walks { IfOk result (λ search. search.walks ≡ walks) }
@@ -139,7 +141,8 @@ impl Search {
         })
     }
 
-    /// Arrays for searches in networks of so many nodes, and for their walks. The error comes only where memory is refused.
+    /// Arrays for searches in networks of this number of nodes, and for their walks. Fails only if memory is
+    /// refused.
     pub fn reserve(alloc: Global, nodes: u32) -> Result<Search, AllocError>
         ensures nodes { IfOk result (λ search. search.nodes ≡ nodes) }
         ensures walks { IfOk result (λ search. search.walks ≡ true) }
@@ -147,7 +150,7 @@ impl Search {
         Search::with_room(alloc, nodes, true)
     }
 
-    /// Arrays for searches in networks of so many nodes, where no walks are asked for. The error comes only where memory is
+    /// Arrays for searches in networks of this number of nodes, without walks. Fails only if memory is
     /// refused.
     pub fn reserve_without_walks(alloc: Global, nodes: u32) -> Result<Search, AllocError>
         ensures nodes { IfOk result (λ search. search.nodes ≡ nodes) }
@@ -163,14 +166,14 @@ impl Search {
         &self.answer
     }
 
-    /// The last answer, without the arrays that the next query would need.
+    /// The last answer. Frees the other arrays.
     pub fn into_answer(self) -> Answer
         ensures { result ≡ self.answer }
     {
         self.answer
     }
 
-    /// The arrays as they were at first.
+    /// The arrays, reset.
     fn into_arrays(self) -> Arrays
         ensures labels { result.table.items ≡ replicate self.nodes NONE }
         ensures todo { result.todo
@@ -202,8 +205,8 @@ impl Search {
         }
     }
 
-    /// Answers a query without walks: the search is handed over and comes back with its answer. It takes no memory but what
-    /// the nodes that it reaches need; where that is refused, the search takes longer.
+    /// Answers a query without walks. The search is consumed and returned with its answer. Takes no memory
+    /// beyond what the reached nodes need; if that is refused, the search takes longer.
     pub fn find_arrivals<T: TravelTimes>(
         self,
         network: &Network,
@@ -244,7 +247,7 @@ impl Search {
         }
     }
 
-    /// Answers a query with its canonical walks. Else as `find_arrivals`.
+    /// Answers a query with its canonical walks. Else like `find_arrivals`.
     pub fn find_walks<T: TravelTimes>(self, network: &Network, times: &T, query: &Query) -> Search
         requires problem { IsProblem network.now (T.classes times.now) query.now }
         requires nodes { self.nodes ≡ network.now.nodes }
@@ -259,7 +262,7 @@ impl Search {
         }
     }
 
-    /// The walks to all nodes, by the notes of the search.
+    /// The walks to all nodes, from the log of the search.
     fn find_all_walks<T: TravelTimes>(self, network: &Network, times: &T, query: &Query) -> Search
         requires problem { IsProblem network.now (T.classes times.now) query.now }
         requires all { query.now.target ≡ None }
@@ -289,7 +292,7 @@ impl Search {
             &mut waiting,
             &mut ties,
         );
-        // What is made of the answer is about as long as all that is put back then.
+        // Resetting all costs about as much as reading the answer does.
         listed.add_all();
         let Noted { labels, notes, .. } = noted;
         Search {

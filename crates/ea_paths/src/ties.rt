@@ -1,17 +1,17 @@
-//! What is listed while notes are followed: nodes with several arcs at their labels, and nodes whose level changed.
+//! Lists for the replay: nodes with several arcs at their labels, and nodes whose level changed.
 ghost use Rattle.std.specs.Prelude.{◌≡◌, ℕ, ◌∷◌, ◌++◌, [], length, Contains, IsTrue};
 ghost use Rattle.ea_paths.specs.Replayed.{AreWoken};
 
 use ea_search::Waiting;
 use std::alloc::Global;
 
-/// Looks at entries of the list that are spent at most: so many for each node, and some more in any case. Beyond that it may cost less to
-/// find all links anew.
+/// The budget of looks at list entries is FOR_EACH for each node and IN_ANY_CASE more. Beyond it, finding all
+/// links anew may cost less.
 const FOR_EACH: usize = 16;
 
 const IN_ANY_CASE: usize = 65_536;
 
-/// A level that changes counts as so many looks, and one that rises as one more for each entry.
+/// A change of a level costs this many looks; a rise costs one more for each entry.
 const CHANGE: usize = 256;
 
 /// Nodes with several arcs at their labels, and nodes whose level changed.
@@ -19,15 +19,15 @@ const CHANGE: usize = 256;
 pub(crate) struct Ties {
     /// Nodes that have or had several arcs at their labels, each with the tail of such an arc.
     pub list: Vec<(u32, u32)>,
-    /// Nodes whose level changed, so that their heads may lie too low or too high. No answer rests on it, since levels are looked at
-    /// afterwards.
+    /// Nodes whose level changed, so that their heads may lie too low or too high. Correctness doesn't depend
+    /// on it: levels are checked afterwards.
     pub changed: Vec<u32>,
-    /// How many looks may still be spent.
+    /// The looks that are left in the budget.
     left: usize,
 }
 
 impl Ties {
-    /// Nothing is listed.
+    /// Empty lists.
     pub(crate) fn none(alloc: Global) -> Ties {
         Ties {
             list: Vec::new(alloc),
@@ -36,7 +36,7 @@ impl Ties {
         }
     }
 
-    /// Takes all out, before the notes of a search in a network of so many nodes are followed.
+    /// Empties the lists, before the replay in a network of this number of nodes.
     pub(crate) fn clear(&mut self, nodes: usize)
         ensures { self.new.list.items ≡ [] }
     {
@@ -45,7 +45,7 @@ impl Ties {
         self.left = nodes.saturating_mul(FOR_EACH).saturating_add(IN_ANY_CASE);
     }
 
-    /// Lists a node with the tails of two arcs. False where memory was refused.
+    /// Lists a node with the tails of two arcs. Returns false if memory was refused.
     pub(crate) fn tie(&mut self, node: u32, from: u32, other: u32) -> bool
         ensures { IsTrue result
             → self.new.list.items ≡ self.old.list.items ++ (node, from) ∷ (node, other) ∷ [] }
@@ -53,8 +53,8 @@ impl Ties {
         self.list.push((node, from)).is_ok() && self.list.push((node, other)).is_ok()
     }
 
-    /// Lists a node whose level changed, for so many looks and those of a change. False where memory was refused or too many would be
-    /// spent.
+    /// Lists a node whose level changed, at a cost of `looks` and those of a change. Returns false if memory
+    /// was refused or the budget is spent.
     fn change(&mut self, node: u32, looks: usize) -> bool
         ensures { self.new.list.items ≡ self.old.list.items }
     {
@@ -66,15 +66,16 @@ impl Ties {
         self.changed.push(node).is_ok()
     }
 
-    /// A node's level fell. False where memory was refused or too many looks would be spent.
+    /// Lists a node whose level fell. Returns false if memory was refused or the budget is spent.
     pub(crate) fn fall(&mut self, node: u32) -> bool
         ensures { self.new.list.items ≡ self.old.list.items }
     {
         self.change(node, 0)
     }
 
-    /// A node's level rose, so that another of its arcs may be better: the tails with which it is listed wait, to offer theirs again.
-    /// False where memory was refused, a tail is no node or too many looks would be spent.
+    /// A node's level rose, so that another of its arcs may be better: the tails with which it is listed
+    /// wait, to offer theirs again. Returns false if memory was refused, a tail is no node, or the budget is
+    /// spent.
     pub(crate) fn rise(&mut self, node: u32, waiting: &mut Waiting) -> bool
         ensures list { self.new.list.items ≡ self.old.list.items }
         ensures nodes { waiting.new.nodes ≡ waiting.old.nodes }

@@ -17,6 +17,6 @@ invariant-loop-node g l = record {
   nodes : l.waiting.nodes ≡ l.network.nodes;
 }
 
--- each better link takes one from the levels at least, and adds one waiting node at most
+-- each better link takes at least one from the levels and adds at most one waiting node
 abbrev pub decreases-loop-node : goal.decreases-loop-node
 decreases-loop-node g l = levels l.links + length l.waiting.waiting

@@ -13,7 +13,7 @@ link_by_notes-requires-clause-sources g c =
 pub link_by_notes-requires-clause-had : goal.link_by_notes-requires-clause-had
 link_by_notes-requires-clause-had g c v u k had = c.requires.had v u k (c.tell.ensures c.if-tell.true, had)
 
--- nobody waits, and no label is beyond a target
+-- no node waits, and no label is above a target's
 pub link_by_notes-requires-clause-met : goal.link_by_notes-requires-clause-met
 link_by_notes-requires-clause-met g c node has =
     let table = c.args.noted.now.labels.items in

@@ -13,11 +13,11 @@ use Rattle.ea_paths.proofs.log_links.settle.Goals as goal
 pub loop-place-init : goal.loop-place-init
 loop-place-init c = record { places = refl; ready = Ready-none c.args.links.now; settled = SettledTo-none c.args.network.now c.args.links.now }
 
--- what the code reads of a node
+-- the link of a node, as the code reads it
 abbrev none : Link
 none = record { level = 0; arc = 0; from = 0 }
 
--- one link more, which stays or gets the number of its arc
+-- one more link, which stays or gets the number of its arc
 module _ (network : Roads) (links links' : List Link) (place : ℕ) (inside : place < length links') (to : AreSettledTo network links links' place) where
   abbrev old : Link
   old = get_or links' place none

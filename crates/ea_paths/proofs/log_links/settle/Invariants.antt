@@ -4,7 +4,7 @@ use Rattle.ea_search.specs.Links.{link}
 use Rattle.ea_paths.proofs.Numbered.{AreSettledTo}
 use Rattle.ea_paths.proofs.log_links.settle.Given as goal
 
--- the links so far are settled, and there is room above each of them
+-- the links so far are settled, and one more level fits above each
 abbrev pub invariant-loop-place : goal.invariant-loop-place
 invariant-loop-place l = record {
   places : length l.links ≡ length l.initial.links;

@@ -4,7 +4,7 @@ use Rattle.ea_search.specs.Notes.{by_none, notes_in}
 use Rattle.ea_paths.specs.Replayed.{AreAfter, AreReplayed}
 use Rattle.ea_paths.proofs.log_replay.replay.Given as goal
 
--- the notes so far were followed
+-- the notes so far were replayed
 abbrev pub invariant-loop-word : goal.invariant-loop-word
 invariant-loop-word l = record {
   places : length l.links ≡ length l.initial.links;

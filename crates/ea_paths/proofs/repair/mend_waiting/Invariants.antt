@@ -4,7 +4,7 @@ use Rattle.ea_paths.specs.Mended.{AreMended, AreReady, IsReady}
 use Rattle.ea_search.specs.Links.{link}
 use Rattle.ea_paths.proofs.repair.mend_waiting.Given as goal
 
--- what was passed is passed still, and there is room above links, but for nodes that wait
+-- what was passed stays passed, and one more level fits above links, except for waiting nodes
 abbrev pub invariant-mending : goal.invariant-mending
 invariant-mending g l = record {
   places : length l.links ≡ length l.initial.links;

@@ -11,7 +11,7 @@ use Rattle.ea_paths.proofs.Linkings.{link_item}
 use Rattle.ea_paths.proofs.Followed.{along-zero, along-back, linked-walk}
 use Rattle.ea_paths.proofs.answer.Answer.walk.Goals as goal
 
--- a node with a label has the walk that its links lead along
+-- a node with a label has the walk along its links
 some_walk : (label : ℕ) (walk : List ℕ) → label ≢ NONE → (if label == NONE then None else Some walk) ≡ Some walk
 some_walk label walk some = by_test (label == NONE) refl
   where

@@ -3,7 +3,7 @@ use Rattle.ea_search.specs.declared.link.TheConstants.{NO_LEVEL}
 use Rattle.ea_search.specs.Links.{link, linked_walk, walk_along}
 use Rattle.ea_paths.proofs.answer.Answer.walk.Given as goal
 
--- going on from here gives the rest of the walk
+-- following links from here gives the rest of the walk
 abbrev pub invariant-back : goal.invariant-back
 invariant-back l = record {
   above : 0 < l.at;
