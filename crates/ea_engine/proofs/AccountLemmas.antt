@@ -1,4 +1,4 @@
--- Closed accounts: work keeps them, and so do seeds; two joined seats have one.
+-- Closed accounts: turns and seeds keep them closed, and joining two seats does.
 use Rattle.std.proofs.Common.{◌≡◌, ℕ, List, [], ◌∷◌, ◌++◌, map, sym, ap, arith, subst, inl, inr, ◌⊎◌}
 use Rattle.std.specs.Prelude.{Contains, All}
 use Rattle.std.specs.Option.{option_to_list}

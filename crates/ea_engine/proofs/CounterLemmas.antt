@@ -107,7 +107,7 @@ counters_same : {a b c d e f g h i j k l m n a' b' c' d' e' f' g' h' i' j' k' l'
     → counters_at a b c d e f g h i j k l m n ≡ counters_at a' b' c' d' e' f' g' h' i' j' k' l' m' n'
 counters_same p q r s t u v w x y z aa bb cc' = cc
 
--- the counters at the end, where so many of the entries that were lowered are fresh
+-- the counters at the end, with this many fresh entries
 pub AreCounters-closed : (batch : ℕ) (ts : List Told) (c : Counters) (unvisited fresh : ℕ) → AreTurnCounts ts c → fresh ≤ c.lowered
     → c.pops ≤ length ts → c.empty + c.busy ≤ c.pops → c.pushes ≤ lowered_in_all ts + length ts
     → (batch ≡ 1 → (c.pops ≡ length ts) × (c.pushes ≡ lowered_in_all ts) × (unvisited ≡ 0) × (fresh ≡ c.refused))

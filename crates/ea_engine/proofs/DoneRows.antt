@@ -35,13 +35,13 @@ get_or-map f [] k d e lt = absurd (omega (arith, lt))
 get_or-map f (x ∷ xs) zero d e lt = refl
 get_or-map f (x ∷ xs) (suc k) d e lt = get_or-map f xs k d e (omega (arith, lt))
 
--- what a vector holds whose slice was written
+-- the contents of a vector whose slice was written
 pub written : {X : Type 0} (n : ℕ) (xs ys : List X) → n ≡ length xs → length ys ≡ length xs → take n (ys ++ drop (length ys) xs) ≡ ys
 written n xs ys is same =
     let none = length-drop (length ys) xs in
     ap (λ zs. take n zs) (nothing_after ys (drop (length ys) xs) (omega arith)) ∙ take_all n ys (omega arith)
 
--- some element of a list that has one
+-- an element of a list that is not empty
 pub some_of : {X : Type 0} (xs : List X) → 0 < length xs → X
 some_of [] lt = absurd (omega (arith, lt))
 some_of (x ∷ xs) lt = x
@@ -156,7 +156,7 @@ module _ {K R T E : Type 0} (problem : Problem) (tables : Tables)
   seated_done rngs tracers row row' rng tracer seeded waiting a ran same =
       done_row a.main a.fresh rngs tracers row row' rng tracer a.seated ran (omega (arith, a.length_is)) same a.all_fresh seeded waiting a.seeds a.label_shares a.pool_shares
 
-  -- so the workers may start
+  -- the workers may start
   pub ready_row : (callable : T → Type 0) (rngs : List R) (tracers : List T) (row : List (Place K R T E)) (rng : R) (tracer : T) (seeded : ℕ) (waiting : List ℕ)
       → AreSeated problem tables seeded waiting rngs tracers row → All callable tracers → length row ≤ length tracers
       → IsReadyRow tables callable row
@@ -171,7 +171,7 @@ module _ {K R T E : Type 0} (problem : Problem) (tables : Tables)
       fits zero lower = a.seeds.fit
       fits (suc j) lower = (a.all_fresh j a.main (omega (arith, lower))).fit
 
-  -- what each worker reports
+  -- the report of each worker
   report_of : (p : Place K R T E) (end : WorkerEnd K R T E) (r : R) (t : T) (seats : Seats K E) → p ≡ place.Done end → Runs (place_of seats r t) p
       → IsReport shows problem.network problem.answers problem.query.sources pace (stream r) (stream end.rng) t end.tracer end.counters
   report_of p end r t seats done run =
@@ -192,7 +192,7 @@ module _ {K R T E : Type 0} (problem : Problem) (tables : Tables)
       rw (get_or-map (λ (e : WorkerEnd K R T E). e.rng) ends k end r among, get_or-map (λ (e : WorkerEnd K R T E). e.tracer) ends k end t among, get_or-map (λ (e : WorkerEnd K R T E). e.counters) ends k end c among)
       (report_of (get_or row' k d) (get_or ends k end) (get_or rngs k r) (get_or tracers k t) (get_or (a.main ∷ a.fresh) k a.main) at run)
 
-  -- what a worker tells that runs alone
+  -- what a worker that runs alone shows
   pub lone_of_row : (rngs : List R) (tracers : List T) (row row' : List (Place K R T E)) (ends : List (WorkerEnd K R T E)) (rng : R) (tracer : T) (seeded : ℕ) (waiting : List ℕ)
       → AreSeated problem tables seeded waiting rngs tracers row
       → IsRunRow problem tables stream shows pace row row' → length row ≡ 1 → row' ≡ all_done ends → length ends ≡ 1

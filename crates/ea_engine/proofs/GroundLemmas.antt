@@ -68,13 +68,13 @@ module _ (known : ℕ → ℕ → Type 0) (problem : Problem) (network : Roads) 
     };
   }
 
-  -- what is underway of the problem is so of the network, the travel times and the query
+  -- what is underway for the problem is so for the network, the travel times and the query
   pub underway_of : (table waiting : List ℕ) → IsUnderway problem.network problem.answers problem.query table waiting → IsUnderway network answers query table waiting
   underway_of table waiting u =
       subst (λ (n : Roads). IsUnderway n answers query table waiting) (sym named.network_is)
       (subst (λ (q : Asking). IsUnderway problem.network answers q table waiting) (sym named.query_is) (underway_here table waiting u))
 
-  -- and so are reports
+  -- and so for reports
   pub reports_of : {R T : Type 0} (stream : R → Stream) (shows : T → Turn → Flow → T → Type 0) (pace : Pace) (rngs rngs' : List R) (tracers tracers' : List T) (counters : List Counters)
       → AreReports stream shows problem.network problem.answers problem.query.sources pace rngs rngs' tracers tracers' counters
       → AreReports stream shows network answers query.sources pace rngs rngs' tracers tracers' counters

@@ -1,4 +1,4 @@
--- What a worker holds is known, and what a push leaves of it.
+-- The entries that a worker holds are known, also after a push.
 use Rattle.std.proofs.Common.{◌≡◌, ℕ, zero, suc, ◌<◌, ◌≤◌, List, [], ◌∷◌, ◌++◌, length, get_or, refl, sym, ap, subst, arith, Err, length-append}
 use Rattle.std.specs.Prelude.{reverse}
 use Rattle.rand_core.specs.Stream.{Stream, next_u64}
@@ -54,7 +54,7 @@ module _ (known : ℕ → ℕ → Type 0) where
       subst (λ n. IsNode n (get_or es place default).node) (sym is)
       (known_inside problem es posed all (get_or es place default) (place, inside, any_default es place (get_or es place default) default inside))
 
-  -- what a push leaves is known
+  -- the entries that a push leaves are known
   pub known_left : (e : PushAllRefused) (before after : ArrayVec Entry) (a b : Account)
       → MatchPushed (Err e) (PushesAll a before.items b × (after.items ≡ [])) (SameBooks a b × (after ≡ before)) (PushesFrom before.items after.items a b)
       → AreKnown known before.items → AreKnown known after.items

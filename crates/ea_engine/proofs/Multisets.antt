@@ -1,4 +1,4 @@
--- Entries that are in a list weigh something there, and the other way round.
+-- An entry is in a list exactly if its weight there is not 0.
 use Rattle.std.proofs.Common.{◌≡◌, zero, suc, ◌<◌, List, [], ◌∷◌, length, refl, sym, ap, arith, inl, inr, ◌⊎◌}
 use Rattle.std.specs.Prelude.{Contains}
 use mathlib.Core.Logic.{dite}
@@ -33,7 +33,7 @@ pub Contains-tail : {X : Type 0} (x : X) (xs : List X) (y : X) → Contains (x �
 Contains-tail x xs y (zero, lt, e) = inl e
 Contains-tail x xs y (suc i, lt, e) = inr (i, omega (arith, lt), e)
 
--- the same entries are as many
+-- the length is a total
 pub length-total : (xs : List Entry) → total (λ _. 1) xs ≡ length xs
 length-total [] = refl
 length-total (x ∷ xs) = omega (arith, length-total xs)

@@ -28,7 +28,7 @@ module _ (known : ℕ → ℕ → Type 0) (problem : Problem)
   bounded : (i : ℕ) (bound : Bound) → i < length history.bounds → get_or history.bounds i bound ≡ bound → label_of table bound.node ≤ bound.time
   bounded i bound lt at = subst (λ (b : Bound). label_of table b.node ≤ b.time) at (words_least known problem.network.nodes table history over.labels i bound lt)
 
-  -- the label of a node is at most what a bound says
+  -- the label of a node is at most each bound
   at_most : (node time : ℕ) → IsReachedBy history.bounds node time → label_of table node ≤ time
   at_most node time (i, bound, lt, at, (of, low)) = omega (arith, bounded i bound lt at, ap (label_of table) of, low)
 

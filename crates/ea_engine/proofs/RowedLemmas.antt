@@ -1,4 +1,4 @@
--- What is gathered of a row, one worker at a time.
+-- Gathering a row, one worker at a time.
 use Rattle.std.proofs.Common.{◌≡◌, ℕ, zero, suc, ◌+◌, ◌*◌, ◌<◌, ◌≤◌, ◌^◌, List, [], ◌∷◌, ◌++◌, map, length, All, refl, sym, ◌∙◌, ap, arith, length-append, subst}
 use Rattle.std.specs.Prelude.{sum_by}
 use Rattle.std.proofs.lemmas.List.{map-append, append-nil, append_assoc}
@@ -42,12 +42,12 @@ pub nothing_after : {X : Type 0} (xs ys : List X) → length ys ≡ 0 → xs ++ 
 nothing_after xs [] e = append-nil xs
 nothing_after xs (y ∷ ys) e = absurd (omega (arith, e))
 
--- where more was handed back somebody waits already, or it was handed back just now
+-- if more was handed back, a node waits already, or it was handed back just now
 pub waits_or : (waiting before more after : ℕ) → (0 < before → 0 < waiting) → after ≡ before + more → 0 < after → 0 < waiting + more
 waits_or waiting zero more after some is lt = omega (arith, is, lt)
 waits_or waiting (suc before) more after some is lt = omega (arith, some (omega arith))
 
--- so it is where the first worker's entries are kept
+-- the same after the first worker's entries are kept
 pub waits_first : (waiting back hand after : ℕ) → (0 < back → 0 < waiting) → after ≡ back + hand → 0 < after → 0 < waiting + hand
 waits_first waiting zero hand after some is lt = omega (arith, is, lt)
 waits_first waiting (suc back) hand after some is lt = omega (arith, some (omega arith))

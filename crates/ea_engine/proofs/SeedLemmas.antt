@@ -18,7 +18,7 @@ use Rattle.ea_engine.specs.Seeds.{IsForestalled, AreSeeds, KeepsSeed, SowsSeed}
 abbrev IsOf : List Source → Lowering → Type 0
 IsOf sources l = Any (λ s. (s.node ≡ l.node) × (s.departure ≡ l.to)) sources
 
--- So many of the sources before a place lowered a label, and these are all lowerings.
+-- This many of the sources before a place lowered a label, and these are all lowerings.
 pub record IsSown (sources : List Source) (place : ℕ) (lowerings : List Lowering) (count : ℕ) : Type 0 where
   pub seeds : AreSeeds (take place sources) count
   pub each : All (IsOf (take place sources)) lowerings

@@ -1,4 +1,4 @@
--- Turns whose tracer stays on.
+-- Turns whose tracer stays.
 use Rattle.std.proofs.Common.{◌≡◌, ℕ, ◌+◌, ◌≤◌, List, [], ◌∷◌, arith, inl, inr, subst, sym}
 use Rattle.std.proofs.lemmas.List.Elements.{All-nil, All-cons}
 use Rattle.std.specs.Prelude.{All}
@@ -18,7 +18,7 @@ late member idle is quiet = elim is.quiet [
   | inr few ↦ omega (arith, few, quiet)
 ]
 
--- A member that leaves as it may has had so many idle turns in a row, or looked.
+-- A member that leaves as it may has had enough consecutive idle turns, or looked.
 pub member_stays : (member : Member) (idle : ℕ) (kind : TurnKind) (number : ℕ) (flow : Flow) → IsIdleFor member idle → LeavesAs kind number member flow → StaysAs kind number (idle_with idle kind) flow
 member_stays member idle Empty number Go is leaves = tt
 member_stays member idle Busy number Go is leaves = tt
@@ -33,19 +33,19 @@ member_stays member idle Scanned number Leave is leaves = leaves.0
 member_stays member idle Refused number Leave is leaves = tt
 member_stays member idle Cut number Leave is leaves = leaves.0
 
--- Who goes on stays.
+-- A worker that continues stays.
 pub go_stays : (kind : TurnKind) (number idle : ℕ) (flow : Flow) → flow ≡ Go → StaysAs kind number idle flow
 go_stays kind number idle flow goes = subst (StaysAs kind number idle) (sym goes) tt
 
 module _ {T : Type 0} (shows : T → Turn → Flow → T → Type 0) where
-  -- A tracer that stays on at each turn, by what it keeps of the idle turns in a row, stays on.
+  -- A tracer stays if it stays at each turn, by an invariant over the consecutive idle turns.
   pub stays_on : (keeps : T → ℕ → Type 0) → ((p : T) (idle : ℕ) (t : Turn) (f : Flow) (q : T) → keeps p idle → shows p t f q → StaysAs t.kind t.number (idle_with idle t.kind) f × keeps q (idle_with idle t.kind)) → (idle : ℕ) (p : T) (ts : List Told) (q : T) → keeps p idle → FoldsTo (λ p t q. shows p t.0 t.1 q) p ts q → StaysOn idle ts
   stays_on keeps each idle p [] q kept run = tt
   stays_on keeps each idle p (t ∷ ts) q kept run =
       let one = each p idle t.0 t.1 run.0 kept run.1 in
       (one.0, stays_on keeps each (idle_with idle t.0.kind) run.0 ts q one.1 run.2)
 
-  -- A tracer that goes on at each turn never leaves.
+  -- A tracer that continues at each turn never leaves.
   pub goes_on : ((p : T) (t : Turn) (f : Flow) (q : T) → shows p t f q → f ≡ Go) → (p : T) (ts : List Told) (q : T) → FoldsTo (λ p t q. shows p t.0 t.1 q) p ts q → All (λ (t : Told). t.1 ≡ Go) ts
   goes_on each p [] q run = All-nil (λ (t : Told). t.1 ≡ Go)
   goes_on each p (t ∷ ts) q run = All-cons (λ (t : Told). t.1 ≡ Go) t ts (each p t.0 t.1 run.0 run.1) (goes_on each run.0 ts q run.2)

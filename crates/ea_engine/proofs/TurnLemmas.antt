@@ -77,7 +77,7 @@ IsLeftAs-fewer Scanned batch fresh fresh' e few left = omega (arith, few, left)
 IsLeftAs-fewer Refused batch fresh fresh' e few left = absurd (false≢true (sym e))
 IsLeftAs-fewer Cut batch fresh fresh' e few left = omega (arith, few, left)
 
--- of less than one nothing is left, unless a push was refused
+-- with batches of one entry nothing is left, unless a push was refused
 IsLeftAs-one : (k : TurnKind) (batch fresh : ℕ) → is_refused k ≡ false → IsLeftAs k batch fresh → fresh < batch
 IsLeftAs-one Empty batch fresh e left = left
 IsLeftAs-one Busy batch fresh e left = left
@@ -113,7 +113,7 @@ IsPoppingAs-visited Scanned key node pops e is few = few
 IsPoppingAs-visited Refused key node pops e is few = few
 IsPoppingAs-visited Cut key node pops e is few = few
 
--- a turn that popped an entry shows what the pop tells of this entry
+-- a turn that popped an entry shows what the pop says of this entry
 IsLoneAs-popped : (kind : HeapKind) (k : TurnKind) (heaps key node : ℕ) (a : Account) (e : Entry) → visited_as k key node ≡ e ∷ [] → (heaps ≡ 2 → IsFirstLeft kind e a) → IsLoneAs kind heaps a k (entry_at key node)
 IsLoneAs-popped kind Empty heaps key node a e is left = absurd (nil≢cons e [] is)
 IsLoneAs-popped kind Busy heaps key node a e is left = nil≢cons e [] is
@@ -140,8 +140,7 @@ not_busy_lone kind Scanned heaps a e lone = refl
 not_busy_lone kind Refused heaps a e lone = refl
 not_busy_lone kind Cut heaps a e lone = refl
 
--- what a pop brought is turned round
--- what heaps give stands in their order
+-- The popped entries, reversed; the order in which heaps give entries.
 in_order : (kind : HeapKind) (out content rest : List Entry) → Gives kind out content rest → ComeInOrder kind out
 in_order Least out content rest h = h.ascending
 in_order Buckets out content rest h = tt
@@ -170,7 +169,7 @@ took_by known kind reply.Busy heaps most i j old mid new a b seen last none h tu
 pub took_some : (known : ℕ → ℕ → Type 0) (kind : HeapKind) (heaps most : ℕ) (taken : List Entry) (a b : Account) → TookSome known kind heaps most taken a b → 0 < length taken
 took_some known kind heaps most taken a b t = omega (arith, t.some, ap length t.turned, length-reverse t.out)
 
--- the first one of what a pop brought is visited first
+-- the first of the popped entries is visited first
 pub out_is : (taken out rest : List Entry) (e : Entry) → taken ≡ reverse out → taken ≡ rest ++ e ∷ [] → out ≡ e ∷ reverse rest
 out_is taken out rest e turned next = sym (reverse-reverse out) ∙ ap reverse (sym turned ∙ next) ∙ reverse-append rest (e ∷ [])
 
@@ -179,7 +178,7 @@ face_above : (e : Entry) (es : List Entry) → IsLeastOf e es → e.key ≤ EMPT
 face_above e [] least low = low
 face_above e (x ∷ es) least low = omega (arith, least.0.0, face_above e es least.1 low)
 
--- so it is the least that a seat with all shares has left
+-- so it is the least of what a seat with all shares has left
 least_out : (known : ℕ → ℕ → Type 0) (kind : HeapKind) (heaps most : ℕ) (taken rest : List Entry) (a b : Account) (e : Entry) (t : TookSome known kind heaps most taken a b)
     → taken ≡ rest ++ e ∷ [] → e.key ≤ EMPTY → a.shares ≡ SHARES → heaps ≡ 2 → IsFirstLeft kind e a
 least_out known Buckets heaps most taken rest a b e t next low whole two =
@@ -321,7 +320,7 @@ module _ {kind : HeapKind} (problem : Problem) (batch heaps : ℕ) where
     lone = t.lone;
   }
 
--- a turn that visited an entry tells nothing of the heaps that it looked at
+-- a turn that visited an entry says nothing of the heaps that it inspected
 pub SawAs-visited : (k : TurnKind) (key node i j : ℕ) (before after : List (ℕ × ℕ)) (e : Entry) → visited_as k key node ≡ e ∷ [] → SawAs k i j before after
 SawAs-visited Empty key node i j before after e is = absurd (nil≢cons e [] is)
 SawAs-visited Busy key node i j before after e is = absurd (nil≢cons e [] is)
@@ -330,7 +329,7 @@ SawAs-visited Scanned key node i j before after e is = tt
 SawAs-visited Refused key node i j before after e is = tt
 SawAs-visited Cut key node i j before after e is = tt
 
--- what a pop looked at by two words that were drawn one after the other
+-- the heaps that a pop inspected, by two words drawn one after the other
 pub looked_by : (reply : PoppedSome) (w v u : Stream) (x y heaps : ℕ) (before after : List (ℕ × ℕ)) → (x, v) ≡ next_u64 w → (y, u) ≡ next_u64 v
     → MatchSome reply (Unit {0}) (LookedAt (first_draw heaps x) EMPTY (second_draw heaps x y) EMPTY before after) (WasBusy (first_draw heaps x) (second_draw heaps x y) before after)
     → MatchSome reply (Unit {0}) (LookedAt (first_heap heaps w) EMPTY (second_heap heaps w) EMPTY before after) (WasBusy (first_heap heaps w) (second_heap heaps w) before after)

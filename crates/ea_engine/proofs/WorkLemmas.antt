@@ -1,4 +1,4 @@
--- A worker's turns so far: what the loop of `work` keeps.
+-- A worker's turns so far: the invariant of the loop of `work`.
 use Rattle.std.proofs.Common.{◌≡◌, ℕ, ◌+◌, ◌*◌, ◌^◌, ◌<◌, ◌≤◌, Bool, true, false, ◌||◌, cond, List, [], ◌∷◌, ◌++◌, map, length, get_or, take, refl, sym, ◌∙◌, ap, arith, length-append, append_assoc, append-nil, zero-add, below_more, subst, None, Some, Option, inl, inr, ◌⊎◌}
 use Rattle.std.specs.Prelude.{Contains, IsSome, IfSome}
 use Rattle.std.specs.Option.{option_to_list}
@@ -125,7 +125,7 @@ record IsBare (k : Kit) : Type 0 where
   taken : length k.taken ≡ 0
   fresh : length k.fresh ≡ 0
 
--- a turn that found both heaps empty leaves the account as it was, where the worker holds nothing
+-- a turn that found both heaps empty leaves the account unchanged if the worker holds nothing
 still : (a b : Kit) (words : ℕ) → IsBare a → IsBare b → Progress a b [] words 0 → NothingLeft a.account → NothingLeft b.account
 still a b words bare bare' p nothing f = omega (
   arith,
@@ -145,16 +145,16 @@ still a b words bare bare' p nothing f = omega (
   nothing_in f b.taken bare'.taken,
 )
 
--- where nothing is left, no entry is
+-- if nothing is left, no entry is
 none_left : (a : Account) (e : Entry) → NothingLeft a → IsLeft e a → ⊥
 none_left a e nothing left = omega (arith, left, nothing (only e))
 
--- whatever heaps are, what comes first was left
+-- for each kind of heap, the first entry given was left
 left_first : (kind : HeapKind) (e : Entry) (a : Account) → IsFirstLeft kind e a → IsLeft e a
 left_first Least e a h = h.0
 left_first Buckets e a h = h
 
--- where a turn found two heaps empty, this one or one before it, nothing is left
+-- if a turn found two heaps empty, this one or one before it, nothing is left
 nothing_left : (kind : HeapKind) (k : TurnKind) (heaps n key node before : ℕ) (a b : Kit) (words : ℕ) → IsShapedAs k node key n → IsBare a → (is_refused k ≡ false → IsBare b) → Progress a b (visited_as k key node) words n
     → heaps ≡ 2 → IsLoneAs kind heaps a.account k (entry_at key node) → (0 < before → NothingLeft a.account) → 0 < before + cond (is_empty k) 1 0 → NothingLeft b.account
 nothing_left kind Empty heaps n key node before a b words shaped bare bare' p two lone known some = still a b words bare (bare' refl) (subst (λ m. Progress a b [] words m) shaped.2 p) (lone two)
@@ -164,7 +164,7 @@ nothing_left kind Scanned heaps n key node before a b words shaped bare bare' p 
 nothing_left kind Refused heaps n key node before a b words shaped bare bare' p two lone known some = absurd (none_left a.account _ (known (omega (arith, some))) (left_first kind (entry_at key node) _ (lone two)))
 nothing_left kind Cut heaps n key node before a b words shaped bare bare' p two lone known some = absurd (none_left a.account _ (known (omega (arith, some))) (left_first kind (entry_at key node) _ (lone two)))
 
--- where nothing is left, a turn finds two heaps empty
+-- if nothing is left, a turn finds two heaps empty
 empty_again : (kind : HeapKind) (k : TurnKind) (heaps key node : ℕ) (a : Account) → heaps ≡ 2 → IsLoneAs kind heaps a k (entry_at key node) → NothingLeft a → is_empty k ≡ true
 empty_again kind Empty heaps key node a two lone nothing = refl
 empty_again kind Busy heaps key node a two lone nothing = absurd lone
@@ -183,7 +183,7 @@ module _ (problem : Problem) where
   IsClosedAs-more bs cs hand hand' Scanned e stays held h = IsScanned-more bs cs stays problem e h
   IsClosedAs-more bs cs hand hand' Refused e stays held h = held e h
 
-  -- what was fresh by more bounds is so by fewer
+  -- what is fresh with more bounds is fresh with fewer
   IsFreshAs-less : (bs cs : List Bound) (k : TurnKind) (e : Entry) → ((b : Bound) → Contains bs b → Contains cs b) → IsFreshAs problem.query.target cs k e → IsFreshAs problem.query.target bs k e
   IsFreshAs-less bs cs Empty e stays h = tt
   IsFreshAs-less bs cs Busy e stays h = tt
@@ -292,7 +292,7 @@ module _ (problem : Problem) where
     SoFar-roomy from to pace tracer tracer' counters broken number idle ended h few =
         IsRoomy-few h.turns counters h.counted (omega (arith, h.number_is)) (omega (arith, h.few)) h.pops_few h.pushes_few
 
-    -- no turn list that is a proper part is over, nor is the whole one while the loop goes on
+    -- no proper prefix of the turn list is over, nor is the list while the loop continues
     not_over : (from to : Kit) (pace : Pace) (tracer tracer' : T) (counters : Counters) (broken : Option Entry) (number idle : ℕ)
         → (h : SoFar from to pace tracer tracer' counters broken number idle false) → idle < pace.patience → number < pace.turns → IsWorkDone pace h.turns → ⊥
     not_over from to pace tracer tracer' counters broken number idle h low more over = elim over [
@@ -402,7 +402,7 @@ module _ (problem : Problem) where
             (omega (arith, some, count_push is_empty h.turns (end.turn, flow)));
       }
 
-    -- so many of the entries that were lowered are pushed or fresh
+    -- this many of the lowered entries are pushed or fresh
     pushed_or_fresh : (a b : Kit) (visited : List Entry) (words lowered : ℕ) (p : Progress a b visited words lowered) → length a.fresh ≡ 0 → length p.pushed + length b.fresh ≡ lowered
     pushed_or_fresh a b visited words lowered p bare = omega (
       arith,

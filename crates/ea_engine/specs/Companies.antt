@@ -12,11 +12,12 @@ use Rattle.ea_engine.specs.Turns.{Told, is_idle}
 abbrev pub IsLook : ℕ → Type 0
 IsLook number = (256 ≤ number) × (number % 64 ≡ 0)
 
--- At a look, where 255 looks in a row found all others idle, or in a company with a limit.
+-- At a look, if all others were idle at 255 looks in a row before, or if the company has a limit.
 abbrev pub MayLeaveAt : ℕ → Member → Type 0
 MayLeaveAt number member = IsLook number × ((255 ≤ member.alone) ⊎ (member.company.now.most_falls < NO_LIMIT))
 
--- After a turn of each kind: where 384 idle turns in a row found no worker active; at such a look; or where a push was refused.
+-- After a turn of each kind: if no worker was active in 384 consecutive idle turns, at such a look, or after
+-- a refused push.
 abbrev pub MayLeaveAs : TurnKind → ℕ → Member → Type 0
 MayLeaveAs Empty number member = 384 ≤ member.quiet
 MayLeaveAs Busy number member = 384 ≤ member.quiet
@@ -25,7 +26,7 @@ MayLeaveAs Scanned number member = MayLeaveAt number member
 MayLeaveAs Refused number member = Unit {0}
 MayLeaveAs Cut number member = MayLeaveAt number member
 
--- A worker leaves after a refused push, and otherwise only where it may.
+-- A worker leaves after a refused push, and otherwise only if it may.
 abbrev pub LeavesAs : TurnKind → ℕ → Member → Flow → Type 0
 LeavesAs Empty number member Go = Unit {0}
 LeavesAs Busy number member Go = Unit {0}
@@ -35,17 +36,17 @@ LeavesAs Refused number member Go = ⊥
 LeavesAs Cut number member Go = Unit {0}
 LeavesAs kind number member Leave = MayLeaveAs kind number member
 
--- What a member counts is no more than the turns in a row that found nothing: none was quiet before the 128th of them.
+-- A member's counts are at most the consecutive turns without an entry; none of the first 128 counts as
+-- quiet.
 pub record IsIdleFor (member : Member) (turns : ℕ) : Type 0 where
   pub idle : member.idle ≤ turns
   pub quiet : (member.quiet ≡ 0) ⊎ (member.quiet + 127 ≤ turns)
 
--- how many turns in a row found nothing, after one more turn
+-- The number of consecutive turns without an entry, after one more turn.
 abbrev pub idle_with : ℕ → TurnKind → ℕ
 idle_with idle kind = if is_idle kind then idle + 1 else 0
 
--- A worker leaves after so many turns in a row that found nothing, the last one among them: after 512 of them; at a look; or where a
--- push was refused.
+-- A worker leaves after 512 consecutive turns without an entry, at a look, or after a refused push.
 abbrev pub LeavesAfter : TurnKind → ℕ → ℕ → Type 0
 LeavesAfter Empty number idle = 512 ≤ idle
 LeavesAfter Busy number idle = 512 ≤ idle
@@ -54,22 +55,22 @@ LeavesAfter Scanned number idle = IsLook number
 LeavesAfter Refused number idle = Unit {0}
 LeavesAfter Cut number idle = IsLook number
 
--- It goes on, or leaves after these.
+-- It continues, or leaves after these.
 abbrev pub StaysAs : TurnKind → ℕ → ℕ → Flow → Type 0
 StaysAs kind number idle Go = Unit {0}
 StaysAs kind number idle Leave = LeavesAfter kind number idle
 
--- Turn after turn it leaves just so, where so many in a row had found nothing before the first.
+-- Turn after turn it leaves only so, given the consecutive idle turns before the first.
 abbrev pub StaysOn : ℕ → List Told → Type 0
 StaysOn idle [] = Unit {0}
 StaysOn idle (t ∷ ts) = StaysAs t.0.kind t.0.number (idle_with idle t.0.kind) t.1 × StaysOn (idle_with idle t.0.kind) ts
 
--- What a member counts in a row stays.
+-- The counts of consecutive turns are unchanged.
 pub record KeepsCounts (old new : Member) : Type 0 where
   pub idle : new.idle ≡ old.idle
   pub quiet : new.quiet ≡ old.quiet
   pub alone : new.alone ≡ old.alone
 
--- At a look a member may find all others idle once more; no other turn counts for that.
+-- Only at a look may a member once more find all others idle.
 abbrev pub LooksOnce : ℕ → Member → Member → Type 0
 LooksOnce number old new = (new.alone ≤ old.alone) ⊎ (IsLook number × (new.alone ≤ old.alone + 1))

@@ -1,4 +1,4 @@
--- Seats that were just split off, and what a worker leaves that began with such seats.
+-- Fresh seats, and the results of a worker that began with them.
 use Rattle.std.specs.Prelude.{◌≡◌, ◌*◌, ◌<◌, ◌≤◌, ◌^◌, [], length}
 use Rattle.ea_base.specs.declared.limits.TheConstants.{MOST_BATCH}
 use Rattle.ea_engine.specs.declared.run.row.Place.{Place}
@@ -10,7 +10,7 @@ use Rattle.ea_engine.specs.Problems.{Problem}
 use Rattle.ea_engine.specs.Seated.{Tables, AreSeatsOf}
 use Rattle.ea_engine.specs.Worked.{IsHandInside, back_of, hand_size}
 
--- Seats that were just split off: one share each, and nothing done.
+-- Seats that were just split off: one share each, and no event.
 pub record AreFresh {K E : Type 0} (tables : Tables) (seats : Seats K E) : Type 0 where
   pub fit : AreSeatsOf tables seats.label_seat seats.pool_seat
   pub lowerings : seats.label_seat.history.lowerings ≡ []
@@ -20,7 +20,7 @@ pub record AreFresh {K E : Type 0} (tables : Tables) (seats : Seats K E) : Type 
   pub pool_share : seats.pool_seat.account.shares ≡ 1
 
 module _ {K R T E : Type 0} (problem : Problem) (tables : Tables) where
-  -- What a worker leaves that began with fresh seats.
+  -- The results of a worker that began with fresh seats.
   pub record IsEnd (end : WorkerEnd K R T E) : Type 0 where
     pub fit : AreSeatsOf tables end.label_seat end.pool_seat
     pub closed : IsClosedAccount problem end.label_seat.history end.pool_seat.account (back_of end.hand) end.hand.fresh.items

@@ -1,4 +1,4 @@
--- What is known of seats while a run goes on, where the node of each entry that was handed back waits.
+-- What is known of seats during a run, if the node of each entry that was handed back waits.
 use Rattle.std.specs.Prelude.{ℕ, List, ◌++◌, Contains}
 use Rattle.ea_labels.specs.declared.record.SeatRecord.{SeatRecord}
 use Rattle.ea_pool.specs.declared.heap.entry.Entry.{Entry}
@@ -19,7 +19,7 @@ pub record IsGathered
   pub closed : IsClosedAccount problem history account back refused
   pub waits : (entry : Entry) → Contains (back ++ refused) entry → Contains waiting entry.node
 
--- The same, where the nodes of a worker's hand don't wait yet.
+-- The same before the nodes of a worker's hand wait.
 pub record IsHanded
     (problem : Problem)
     (history : SeatRecord)

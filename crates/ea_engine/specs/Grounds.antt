@@ -1,4 +1,4 @@
--- What a worker reads, and when it is that of a problem.
+-- What workers read, and when it belongs to a problem.
 use Rattle.std.specs.Prelude.{◌≡◌, ℕ, ◌≤◌}
 use Rattle.ea_travel_times.specs.Answers.{IsFifo}
 use Rattle.ea_road.specs.Roads.{top_class}
@@ -6,7 +6,8 @@ use Rattle.ea_engine.specs.declared.run.ground.Ground.{Ground}
 use Rattle.ea_engine.specs.Problems.{Problem, IsPosed, IsNamed}
 use Rattle.ea_engine.specs.Seated.{Tables, tables}
 
--- The network, the travel times and the query are those of the problem, and the label table has a place for each node.
+-- The network, the travel times and the query are those of the problem, and the label table has a place for
+-- each node.
 pub record IsGround {K T E : Type 0} (known : ℕ → ℕ → Type 0) (problem : Problem) (answers : T → ℕ → ℕ → ℕ → ℕ → Type 0) (classes : T → ℕ) (ground : Ground K T E) : Type 0 where
   pub posed : IsPosed known problem
   pub named : IsNamed known problem ground.network.now (answers ground.times.now) ground.query.now

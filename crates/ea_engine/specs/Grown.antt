@@ -1,4 +1,4 @@
--- What joining one more worker adds to what is gathered.
+-- What joining one more worker adds to the gathered results.
 use Rattle.std.specs.Prelude.{◌≡◌, ◌+◌, ◌<◌, ◌≤◌, [], ◌∷◌, ◌++◌, Contains, length, vec_len}
 use Rattle.std.specs.Vec.{vec_capacity}
 use Rattle.ea_labels.specs.declared.record.Bound.{Bound}
@@ -18,13 +18,13 @@ pub record SameRoom {R F : Type 0} (before after : Results R F) : Type 0 where
   pub rngs : vec_capacity after.rngs ≡ vec_capacity before.rngs
   pub tracers : vec_capacity after.tracers ≡ vec_capacity before.tracers
 
--- The worker's counters, generator and tracer stand behind the others.
+-- The worker's counters, generator and tracer are appended.
 pub record AddsEnd {K R F E : Type 0} (end : WorkerEnd K R F E) (before after : Results R F) : Type 0 where
   pub counters : after.counters.items ≡ before.counters.items ++ end.counters ∷ []
   pub rngs : after.rngs.items ≡ before.rngs.items ++ end.rng ∷ []
   pub tracers : after.tracers.items ≡ before.tracers.items ++ end.tracer ∷ []
 
--- The worker's pushes, pops and returned entries are counted, and each seat has one share more.
+-- The worker's pushes, pops and returned entries are counted, and each seat has one more share.
 pub record Joins {K R F E : Type 0} (end : WorkerEnd K R F E) (before after : Gathering K R F E) : Type 0 where
   pub bounds : (b : Bound) → Contains before.seats.label_seat.history.bounds b → Contains after.seats.label_seat.history.bounds b
   pub pushed : length after.seats.pool_seat.account.pushed ≡ length before.seats.pool_seat.account.pushed + end.counters.pushed

@@ -1,4 +1,4 @@
--- What a worker holds: what a pop brought, and what a visit of the next entry comes to.
+-- What a worker holds after a pop, and the effect of visiting the next entry.
 use Rattle.std.specs.Prelude.{◌≡◌, ℕ, ◌^◌, ◌<◌, ◌≤◌, List, [], ◌∷◌, ◌++◌, length, reverse, Contains, IfSome}
 use Rattle.std.specs.Option.{option_to_list}
 use Rattle.ea_base.specs.declared.limits.TheConstants.{SHARES}
@@ -16,14 +16,14 @@ use Rattle.ea_engine.specs.Closed.{IsClosedTurn, IsFreshTurn}
 use Rattle.ea_engine.specs.Turns.{IsShaped, visited_in}
 use Rattle.ea_engine.specs.Worked.{Kit, Progress, IsBrokenAs, IsLeftAs}
 
--- heaps that give the least entry first give entries in ascending order
+-- Heaps that give the least entry first give entries in ascending order.
 abbrev pub ComeInOrder : HeapKind → List Entry → Type 0
 ComeInOrder Least entries = IsAscending entries
 ComeInOrder Buckets entries = Unit {0}
 
--- A pop from so many heaps of a kind brought known entries, at least one and at most so many, which stand with the first one
--- last. A seat with all shares pops what was left, and of two heaps the least of it; or with buckets, under a word that no key
--- that is left is below.
+-- A pop from this many heaps of a kind returned between one and `most` known entries, the first one last. If
+-- the seat has all shares, the entries were left in the pool: with two heaps of least entries the least is
+-- among them; with buckets they come under a word that no remaining key is below.
 pub record TookSome (known : ℕ → ℕ → Type 0) (kind : HeapKind) (heaps most : ℕ) (taken : List Entry) (before after : Account) : Type 0 where
   pub out : List Entry
   pub turned : taken ≡ reverse out
@@ -36,7 +36,7 @@ pub record TookSome (known : ℕ → ℕ → Type 0) (kind : HeapKind) (heaps mo
   pub word : ℕ
   pub lowest : IsLowest kind heaps word out before
 
--- The last one of the taken entries was visited, with batches of so many.
+-- The last of the taken entries was visited, with batches of this size.
 pub record IsVisit (problem : Problem) (batch : ℕ) (from to : Kit) (number : ℕ) (end : TurnEnd) : Type 0 where
   pub entry : Entry
   pub next : from.taken ≡ to.taken ++ entry ∷ []

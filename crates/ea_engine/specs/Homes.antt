@@ -1,21 +1,22 @@
--- Words that keep a worker mostly at its own heaps.
+-- Random words that mostly draw a worker's own heaps.
 use Rattle.std.specs.Prelude.{◌≡◌, ℕ, ◌+◌, ◌-◌, ◌*◌, ◌%◌, ◌^◌, ◌<◌, ◌==◌, nat_lt, List, slice_index, if◌then◌else◌}
 use Rattle.ea_engine.specs.declared.worker.home_heaps.Homing.{Homing}
 
--- the next of the worker's own words; where the word of the generator below is below 2^61, with so many times all heaps more as its last 28 bits say
+-- The next of the worker's words; if the word of the generator below is below 2^61, plus its last 28 bits
+-- times the number of heaps.
 unfoldable pub homing_step : {R : Type 0} → (R → ℕ × R) → Homing R → ℕ × Homing R
 homing_step step h =
     let drawn = step h.below in
     let own = slice_index h.words (h.place % 8) in
     (if nat_lt drawn.0 (2 ^ 61) then own + h.heaps * (drawn.0 % 2 ^ 28) else own, record { below = drawn.1; words = h.words; heaps = h.heaps; place = if nat_lt h.place 7 then h.place + 1 else 0 })
 
--- Words that draw a worker's own heaps in turn: as the first word of a pop or as a push's each draws the next of its heaps, and as
--- the second word of a pop it leads there from the one before.
+-- Words that draw a worker's own heaps in turn: as a push's word or the first of a pop, each draws the next
+-- own heap; as the second of a pop, it leads there from the one before.
 pub record AreOwn (worker workers heaps : ℕ) (words : List ℕ) : Type 0 where
   pub draws : (k : ℕ) → k < 8 → slice_index words k % (workers * heaps) ≡ worker * heaps + k % heaps
   pub leads : (k : ℕ) → k < 8 → slice_index words k % (workers * heaps - 1) ≡ (if k % heaps == 0 then workers * heaps - heaps else 0)
 
--- A worker's words, of which none was drawn yet, over a generator.
+-- A worker's words over a generator, before the first draw.
 pub record IsAtHome {R : Type 0} (below : R) (worker workers heaps : ℕ) (homing : Homing R) : Type 0 where
   pub below_is : homing.below ≡ below
   pub first : homing.place ≡ 0

@@ -15,11 +15,11 @@ pub record AreSettings (settings : Settings) : Type 0 where
   pub some_patience : 1 ≤ settings.patience
   pub patience : settings.patience ≤ MOST_PATIENCE
 
--- how each worker goes on
+-- The pace of each worker.
 abbrev pub pace_of : Settings → Pace
 pace_of settings = record { turns = settings.turns; batch = settings.batch; patience = settings.patience }
 
--- The limits of what a worker is given.
+-- The limits of a worker's pace.
 pub record IsPace (pace : Pace) : Type 0 where
   pub turns : pace.turns ≤ MOST_TURNS
   pub some_batch : 1 ≤ pace.batch

@@ -1,4 +1,4 @@
--- From the joined seats of all workers and the two closed tables to what is left to do.
+-- From the joined seats of all workers and the two closed tables to the open nodes.
 use Rattle.std.specs.Prelude.{◌≢◌, ℕ, ◌<◌, List, [], ◌∷◌, ◌++◌, Contains, ◌⊎◌}
 use Rattle.std.specs.List.{IsAmong}
 use Rattle.ea_road.specs.declared.TheConstants.{NONE}
@@ -14,8 +14,9 @@ use Rattle.ea_pool.specs.Entries.{SameEntries}
 use Rattle.ea_engine.specs.Problems.{Problem}
 use Rattle.ea_engine.specs.Closed.{entry_at, IsReachedBy, IsClosedAccount}
 
--- All seats are joined, to one record and one account, and both tables are closed, to a table of labels and to entries
--- that are left. Workers handed back popped entries, and workers and the caller handed back refused ones.
+-- All seats are joined to one record and one account, and both tables are closed: a table of labels, and the
+-- entries that are left. Workers handed back popped entries; workers and the seeding handed back refused
+-- ones.
 pub record AreJoinedAndClosed
     (known : ℕ → ℕ → Type 0)
     (problem : Problem)
@@ -28,7 +29,7 @@ pub record AreJoinedAndClosed
   pub entries : SameEntries account.pushed (account.popped ++ left)
   pub closed : IsClosedAccount problem history account back refused
 
--- Each labelled node is satisfied at its label, or its entry was left or handed back, or its label is above the limit.
+-- Each labelled node is satisfied, or its entry was left or handed back, or its label is above the limit.
 abbrev pub NothingOpenIsLost : (ℕ → ℕ → Type 0) → Problem → Type 0
 NothingOpenIsLost known problem =
     (table : List ℕ) (history : SeatRecord) (account : Account) (left back refused : List Entry)
@@ -42,7 +43,7 @@ NothingOpenIsLost known problem =
 abbrev pub AreOffered : List Source → SeatRecord → Type 0
 AreOffered sources history = (source : Source) → IsAmong sources source → IsReachedBy history.bounds source.node source.departure
 
--- So a finish may begin, where the node of each entry that was left or handed back waits.
+-- The finishing pass may begin if the node of each entry that was left or handed back waits.
 abbrev pub FinishMayBegin : (ℕ → ℕ → Type 0) → Problem → Type 0
 FinishMayBegin known problem =
     (table : List ℕ) (history : SeatRecord) (account : Account) (left back refused : List Entry) (waiting : List ℕ)

@@ -8,7 +8,7 @@ use Rattle.ea_road.specs.Queries.{Asking}
 use Rattle.ea_road.specs.Roads.{Roads, IsNode, IsNetwork}
 use Rattle.ea_pool.specs.declared.heap.entry.Entry.{Entry}
 
--- A network, what its travel times answer for a class, a weight and a departure, and a query.
+-- A network, the answers of its travel times for a class, a weight and a departure, and a query.
 pub record Problem : Type 1 where
   pub network : Roads
   pub answers : ℕ → ℕ → ℕ → ℕ → Type 0
@@ -33,8 +33,8 @@ pub record IsPosed (known : ℕ → ℕ → Type 0) (problem : Problem) : Type 0
   pub target_in : IfSome problem.query.target (λ node. IsNode problem.network.nodes node)
   pub names : (node time : ℕ) → known node time ↔ Reaches problem.network problem.answers problem.query.sources node time
 
--- The network and the query are those of the problem, the travel times answer what it says, and the known pairs are those
--- that some walk from a source attains.
+-- The network and the query are the problem's, the travel times give its answers, and the known pairs are
+-- those that some walk from a source attains.
 pub record IsNamed (known : ℕ → ℕ → Type 0) (problem : Problem) (network : Roads) (answers : ℕ → ℕ → ℕ → ℕ → Type 0) (query : Asking) : Type 0 where
   pub network_is : network ≡ problem.network
   pub query_is : query ≡ problem.query

@@ -11,7 +11,7 @@ use Rattle.ea_engine.specs.declared.worker.means.Seats.{Seats}
 use Rattle.ea_engine.specs.declared.run.ran.Results.{Results}
 use Rattle.ea_engine.specs.Seated.{Tables, tables, AreSeatsOf}
 
--- Nothing is left yet, and there is room for what so many workers leave.
+-- No results yet, and room for those of this many workers.
 pub record AreUnfilled {R T : Type 0} (workers : ℕ) (results : Results R T) : Type 0 where
   pub counters : results.counters.items ≡ []
   pub rngs : results.rngs.items ≡ []
@@ -20,7 +20,7 @@ pub record AreUnfilled {R T : Type 0} (workers : ℕ) (results : Results R T) : 
   pub rngs_room : workers ≤ vec_capacity results.rngs
   pub tracers_room : workers ≤ vec_capacity results.tracers
 
--- There is room for so many workers, and nothing is there yet.
+-- Room for this many workers, and no entry yet.
 pub record AreRooms {K R T E : Type 0} (workers : ℕ) (rooms : Rooms K R T E) : Type 0 where
   pub others : rooms.others.items ≡ []
   pub others_room : workers ≤ vec_capacity rooms.others
@@ -34,8 +34,8 @@ pub record AreNew {K E : Type 0} (tables : Tables) (seats : Seats K E) : Type 0 
   pub history : seats.label_seat.history ≡ first_record
   pub account : Opened SHARES seats.pool_seat.account
 
--- New tables for so many nodes and of so many heaps with their first seats, an empty worklist, with room for walks where
--- they are asked for, and room for so many workers.
+-- New tables with their first seats, for this many nodes and heaps; an empty worklist, with room for walks if
+-- they are asked for; and room for this many workers.
 pub record AreArrays {K R T E : Type 0} (nodes heaps workers : ℕ) (walks : Bool) (arrays : Arrays K R T E) : Type 0 where
   pub nodes_are : arrays.labels.nodes ≡ nodes
   pub heaps_are : heaps_of arrays.pool ≡ heaps

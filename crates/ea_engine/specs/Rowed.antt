@@ -1,4 +1,4 @@
--- What the places of a row leave, and what is gathered of the first of them.
+-- The results of a row, and those gathered from its first places.
 use Rattle.std.specs.Prelude.{◌≡◌, ℕ, ◌+◌, ◌*◌, ◌^◌, ◌<◌, ◌≤◌, List, [], ◌∷◌, map, length, All, sum_by}
 use Rattle.rand_core.specs.Stream.{Stream}
 use Rattle.ea_base.specs.declared.limits.TheConstants.{MOST_BATCH}
@@ -19,7 +19,7 @@ use Rattle.ea_engine.specs.Rows.{IsSeatedRow, IsRunRow}
 use Rattle.ea_engine.specs.Seated.{Tables, AreSeatsOf}
 use Rattle.ea_engine.specs.Worked.{IsHandInside, hand_size}
 
--- Workers that are done stand at each place.
+-- A worker that is done is at each place.
 abbrev pub all_done : {K R T E : Type 0} → List (WorkerEnd K R T E) → List (Place K R T E)
 all_done [] = []
 all_done (end ∷ ends) = place.Done end ∷ all_done ends
@@ -30,7 +30,7 @@ IsDonePlace place.Running = ⊥
 IsDonePlace (place.Done end) = Unit {0}
 
 module _ {K E : Type 0} (problem : Problem) (tables : Tables) where
-  -- The seats that the seeds used, before the workers start: the pool took so many entries.
+  -- The seats of the seeding before the workers start, with the number of entries that the pool took.
   pub record IsSeeded (seeded : ℕ) (waiting : List ℕ) (seats : Seats K E) : Type 0 where
     pub fit : AreSeatsOf tables seats.label_seat seats.pool_seat
     pub gathered : IsGathered problem seats.label_seat.history seats.pool_seat.account waiting
@@ -39,7 +39,7 @@ module _ {K E : Type 0} (problem : Problem) (tables : Tables) where
     pub popped : seats.pool_seat.account.popped ≡ []
 
 module _ {K R T E : Type 0} (problem : Problem) (tables : Tables) where
-  -- What the first worker leaves, which began with the seats that the seeds used.
+  -- The results of the first worker, which began with the seats of the seeding.
   pub record IsFirstEnd (seeded : ℕ) (waiting : List ℕ) (end : WorkerEnd K R T E) : Type 0 where
     pub fit : AreSeatsOf tables end.label_seat end.pool_seat
     pub handed : IsHanded problem end.label_seat.history end.pool_seat.account end.hand waiting
@@ -51,7 +51,7 @@ module _ {K R T E : Type 0} (problem : Problem) (tables : Tables) where
     pub returned_is : end.counters.returned ≡ hand_size end.hand
     pub returned_few : hand_size end.hand ≤ 2 * MOST_BATCH
 
-  -- The row before the workers start: the first one has the seats that the seeds used, the others fresh ones.
+  -- The row before the workers start: the first has the seats of the seeding, the others fresh ones.
   pub record AreSeated (seeded : ℕ) (waiting : List ℕ) (rngs : List R) (tracers : List T) (row : List (Place K R T E)) : Type 0 where
     pub main : Seats K E
     pub fresh : List (Seats K E)
@@ -72,7 +72,8 @@ module _ {K R T E : Type 0} (problem : Problem) (tables : Tables) where
     pub label_shares : first.label_seat.history.shares + length others ≡ 64
     pub pool_shares : first.pool_seat.account.shares + length others ≡ 64
 
-  -- What is gathered of some workers, the first among them, where the pool took so many seeds and handed so many back.
+  -- The gathered results of some workers, the first among them, for the numbers of seeds that the pool took
+  -- and handed back.
   pub record AreGathered (seeded back : ℕ) (ends : List (WorkerEnd K R T E)) (gathering : Gathering K R T E) : Type 0 where
     pub fit : AreSeatsOf tables gathering.seats.label_seat gathering.seats.pool_seat
     pub gathered : IsGathered problem gathering.seats.label_seat.history gathering.seats.pool_seat.account gathering.todo.waiting
@@ -89,14 +90,15 @@ module _ {K R T E : Type 0} (problem : Problem) (tables : Tables) where
     pub few : length gathering.todo.waiting ≤ gathering.returned
     pub some : 0 < gathering.returned → 0 < length gathering.todo.waiting
 
-  -- What is gathered of all workers of a row.
+  -- The gathered results of all workers of a row.
   pub record IsGatheredRow (seeded back : ℕ) (row : List (Place K R T E)) (gathering : Gathering K R T E) : Type 0 where
     pub ends : List (WorkerEnd K R T E)
     pub row_is : row ≡ all_done ends
     pub all : AreGathered seeded back ends gathering
 
 module _ {K R T E : Type 0} where
-  -- How a run went whose row was gathered and whose pool was drained, where the pool took so many seeds and handed so many back.
+  -- How a run went after its row was gathered and its pool drained, for the numbers of seeds that the pool
+  -- took and handed back.
   pub record IsSettledRow (seeded back : ℕ) (row : List (Place K R T E)) (ran : Ran R T) : Type 0 where
     pub ends : List (WorkerEnd K R T E)
     pub row_is : row ≡ all_done ends
@@ -110,7 +112,7 @@ module _ {K R T E : Type 0} where
     pub some_open : 0 < ran.drained + ran.returned → 0 < ran.finish
 
 module _ {K R T E : Type 0} (problem : Problem) (tables : Tables) (stream : R → Stream) (shows : T → Turn → Flow → T → Type 0) (pace : Pace) where
-  -- The workers of a row are done that began as they were seated.
+  -- The workers of a row are done, and began as they were seated.
   pub record HaveWorked (seeded : ℕ) (waiting : List ℕ) (rngs : List R) (tracers : List T) (row : List (Place K R T E)) : Type 0 where
     pub before : List (Place K R T E)
     pub seated : AreSeated problem tables seeded waiting rngs tracers before

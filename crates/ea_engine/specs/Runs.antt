@@ -1,4 +1,4 @@
--- What a run promises beside its answer, and what it asks of its crew.
+-- What a run promises besides its answer, and what it requires of its crew.
 use Rattle.std.specs.Prelude.{◌≡◌, ℕ, ◌+◌, ◌-◌, ◌*◌, All, length, vec_len}
 use Rattle.rand_core.specs.Stream.{Stream}
 use Rattle.ea_road.specs.Queries.{Asking}
@@ -21,8 +21,8 @@ pub record IsCrew {R G T : Type 0} (callable : T → Type 0) (crew : Crew R G T)
   pub callable_all : All callable crew.tracers.items
 
 module _ {R G T : Type 0} (stream : R → Stream) (shows : T → Turn → Flow → T → Type 0) where
-  -- A run of this problem by this crew: its counts are in balance, what workers don't account for are the seeds, a worker that
-  -- runs alone is never busy, each worker reports its turns, and each has its place.
+  -- A run of this problem by this crew: its counts balance, what workers don't account for are the seeds, a
+  -- worker that runs alone is never busy, each worker reports its turns, and each has its place.
   pub record IsRunOf (network : Roads) (answers : ℕ → ℕ → ℕ → ℕ → Type 0) (query : Asking) (crew : Crew R G T) (ran : Ran R T) : Type 0 where
     pub tally : IsTally (length query.sources) ran.seeded ran.returned ran.drained ran.finish ran.results.counters.items
     pub seeds : AreSeeds query.sources (ran.seeded + (ran.returned - returned_by_all ran.results.counters.items))
@@ -32,7 +32,7 @@ module _ {R G T : Type 0} (stream : R → Stream) (shows : T → Turn → Flow �
     pub rngs_len : vec_len ran.results.rngs ≡ crew.settings.workers
     pub tracers_len : vec_len ran.results.tracers ≡ crew.settings.workers
 
--- how the run went, of what is solved
+-- How the run went, from what is solved.
 abbrev pub ran_of : {R T : Type 0} → Solved R T → Ran R T
 ran_of solved = record {
   seeded = solved.seeded;

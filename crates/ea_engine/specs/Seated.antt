@@ -1,4 +1,4 @@
--- The two tables that workers share, the seats that belong to them, and what a worker has of its seats and its generator.
+-- The two shared tables, the seats that belong to them, and a worker's seats and generator.
 use Rattle.std.specs.Prelude.{◌≡◌, List}
 use Rattle.rand_core.specs.Stream.{Stream}
 use Rattle.ea_labels.specs.Core as labels
@@ -9,7 +9,7 @@ use Rattle.ea_engine.specs.declared.worker.turn.Lists.{Lists}
 use Rattle.ea_engine.specs.declared.worker.work_loop.WorkerEnd.{WorkerEnd}
 use Rattle.ea_engine.specs.Worked.{Kit, kit}
 
--- the label table and the pool
+-- The label table and the pool.
 pub record Tables : Type 0 where
   pub labels : labels.TableView
   pub pool : pools.PoolView
@@ -22,7 +22,7 @@ pub record AreSeatsOf (tables : Tables) (label_seat : labels.SeatView) (pool_sea
   pub labels : label_seat.table ≡ tables.labels.table
   pub pool : pools.IsSeatOf tables.pool pool_seat
 
--- what a worker has while it runs, and when it is done
+-- What a worker has while it runs, and when it is done.
 abbrev pub kit_of : {K R E : Type 0} → (R → Stream) → Means K R E → List Entry → List Entry → Kit
 kit_of stream means taken fresh = kit means.label_seat.history means.pool_seat.account (stream means.rng) taken fresh
 

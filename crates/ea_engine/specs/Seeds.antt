@@ -1,4 +1,4 @@
--- Which sources lower a label, how many of their entries the pool took, and how many it handed back.
+-- Which sources lower a label, and how many of their entries the pool took and handed back.
 use Rattle.std.specs.Prelude.{◌≡◌, ℕ, ◌+◌, ◌≤◌, List, [], ◌∷◌, ◌++◌, length, Any}
 use Rattle.ea_base.specs.declared.limits.TheConstants.{SHARES}
 use Rattle.ea_road.specs.declared.source.Source.{Source}
@@ -20,7 +20,7 @@ back_by Kept = 0
 back_by Pushed = 0
 back_by HandedBack = 1
 
--- So many entries more were pushed, none was popped, and no share was given.
+-- This many more entries were pushed, none was popped, and no share was given.
 pub record HasPushed {K E : Type 0} (pushed : ℕ) (before after : Seats K E) : Type 0 where
   pub pushed_is : length after.pool_seat.account.pushed ≡ length before.pool_seat.account.pushed + pushed
   pub popped_is : after.pool_seat.account.popped ≡ before.pool_seat.account.popped
@@ -31,18 +31,19 @@ pub record HasPushed {K E : Type 0} (pushed : ℕ) (before after : Seats K E) : 
 abbrev pub IsForestalled : List Source → Source → Type 0
 IsForestalled earlier source = Any (λ s. (s.node ≡ source.node) × (s.departure ≤ source.departure)) earlier
 
--- Of the sources so many lower a label where they are offered in order: those that depart before each earlier one of their node.
+-- This many of the sources lower a label if they are offered in order: those that depart before each earlier
+-- one at their node.
 pub data AreSeeds : List Source → ℕ → Type 0 where
   none : AreSeeds [] 0
   forestalled : {earlier : List Source} {count : ℕ} {source : Source} → AreSeeds earlier count → IsForestalled earlier source → AreSeeds (earlier ++ source ∷ []) count
   first : {earlier : List Source} {count : ℕ} {source : Source} → AreSeeds earlier count → (IsForestalled earlier source → ⊥) → AreSeeds (earlier ++ source ∷ []) (count + 1)
 
--- The offer of a source lowered no label, and a seat with all shares had lowered the label of its node as far.
+-- The offer of a source lowered no label, and a seat with all shares had lowered its node's label as far.
 pub record KeepsSeed (before after : SeatRecord) (source : Source) : Type 0 where
   pub same : after.lowerings ≡ before.lowerings
   pub alone : before.shares ≡ SHARES → Any (λ l. (l.node ≡ source.node) × (l.to ≤ source.departure)) before.lowerings
 
--- The offer of a source lowered the label of its node, for which the seat had seen no time as early.
+-- The offer of a source lowered its node's label; the seat had seen no time as early.
 pub record SowsSeed (before after : SeatRecord) (source : Source) : Type 0 where
   pub from : ℕ
   pub later : IsReachedBy before.bounds source.node source.departure → ⊥
@@ -53,7 +54,7 @@ pub record Lowers (before : SeatRecord) (source : Source) (after : SeatRecord) :
   pub from : ℕ
   pub after_is : after ≡ lowered before source.node from source.departure
 
--- So many entries more were pushed with a seat of the pool, and nothing else changed.
+-- This many more entries were pushed with a seat of the pool, and nothing else changed.
 pub record Sows (pushed : ℕ) (before after : Account) : Type 0 where
   pub pushed_is : length after.pushed ≡ length before.pushed + pushed
   pub popped_is : after.popped ≡ before.popped

@@ -1,8 +1,8 @@
--- What becomes of seats that give shares away.
+-- Seats that give shares away.
 use Rattle.std.specs.Prelude.{◌≡◌, ℕ, ◌+◌}
 use Rattle.ea_engine.specs.declared.worker.means.Seats.{Seats}
 
--- So many shares of each were given, and nothing else has changed.
+-- This many shares of each were given, and nothing else changed.
 pub record HasGiven {K E : Type 0} (count : ℕ) (before after : Seats K E) : Type 0 where
   pub bounds : after.label_seat.history.bounds ≡ before.label_seat.history.bounds
   pub lowerings : after.label_seat.history.lowerings ≡ before.label_seat.history.lowerings

@@ -17,9 +17,10 @@ busy_by_all counters = sum_by (λ c. c.busy) counters
 abbrev pub empty_by_all : List Counters → ℕ
 empty_by_all counters = sum_by (λ c. c.empty) counters
 
--- Of so many sources the pool took `seeded` entries. What it took was popped or drained. When the finishing pass starts,
--- `finish` nodes are open, no more than entries were drained and handed back, and some where any was. What the workers don't
--- account for of what was handed back are seeds, of which there is one where there are sources.
+-- Of the sources' entries the pool took `seeded`. What it took was popped or drained. When the finishing pass
+-- starts, `finish` nodes are open: at most as many as entries were drained and handed back, and at least one
+-- if any was. What the workers don't account for of what was handed back are seeds, at least one if there are
+-- sources.
 pub record IsTally (sources seeded returned drained finish : ℕ) (counters : List Counters) : Type 0 where
   pub balance : seeded + pushed_by_all counters ≡ popped_by_all counters + drained
   pub few_open : finish ≤ drained + returned
@@ -28,9 +29,9 @@ pub record IsTally (sources seeded returned drained finish : ℕ) (counters : Li
   pub seeds : seeded + (returned - returned_by_all counters) ≤ sources
   pub begun : 0 < sources → 0 < seeded + (returned - returned_by_all counters)
 
--- What a run of one worker shows, with batches of so many entries on a pool of so many heaps.
+-- What a run of one worker shows, for a size of batches and a number of heaps.
 pub record IsLoneTally (batch heaps drained : ℕ) (counters : List Counters) : Type 0 where
   -- one worker is never busy
   pub never_busy : length counters ≡ 1 → busy_by_all counters ≡ 0
-  -- and with batches of one entry finds two heaps empty only where nothing is left to drain
+  -- With batches of one entry, it finds two heaps empty only if nothing is left to drain.
   pub empty_at_end : batch ≡ 1 → length counters ≡ 1 → heaps ≡ 2 → 0 < empty_by_all counters → drained ≡ 0

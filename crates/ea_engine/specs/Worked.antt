@@ -1,4 +1,4 @@
--- What a worker did to its two seats and to its generator, and what it showed to its tracer.
+-- What a worker did with its two seats and its generator, and what its tracer saw.
 use Rattle.std.specs.Prelude.{◌≡◌, ℕ, ◌+◌, ◌*◌, ◌^◌, ◌<◌, ◌≤◌, false, List, [], ◌++◌, map, length, Contains, All, None, Option, IsSome, IfSome}
 use Rattle.std.specs.Option.{option_to_list}
 use Rattle.arrayvec.specs.ArrayVec.{array_vec_len}
@@ -27,8 +27,8 @@ use Rattle.ea_engine.specs.Problems.{Problem, AreReachedOf}
 use Rattle.ea_engine.specs.Turns.{Told, IsTurnList, IsShaped, is_busy, StaysEmpty, AreCounters, visited_in, visited_in_all, lowered_in_all}
 use Rattle.ea_engine.specs.Closed.{entry_at, entry_of, IsClosedTurn, IsFreshTurn}
 
--- What a worker has: its two seats, its generator, the entries that it took from the pool and hasn't visited, and the fresh
--- ones of heads that it lowered, which the pool hasn't taken.
+-- What a worker has: its two seats, its generator, the popped entries that it hasn't visited, and the fresh
+-- entries that the pool hasn't taken.
 pub record Kit : Type 0 where
   pub labels : SeatRecord
   pub account : Account
@@ -45,8 +45,8 @@ pub record OnlySaw (from to : SeatRecord) : Type 0 where
   pub bounds_stay : (b : Bound) → Contains from.bounds b → Contains to.bounds b
   pub shares_are : to.shares ≡ from.shares
 
--- From `from` to `to` the worker visited these entries, drew so many words and lowered so many labels. Each entry that it
--- popped it visited or has taken, and the entry of each label that it lowered it pushed or has fresh.
+-- From `from` to `to` the worker visited these entries, drew this many words and lowered this many labels.
+-- Each popped entry was visited or is taken; the entry of each lowered label was pushed or is fresh.
 pub record Progress (from to : Kit) (visited : List Entry) (words lowered : ℕ) : Type 0 where
   pub lowerings : List Lowering
   pub pushed : List Entry
@@ -60,25 +60,25 @@ pub record Progress (from to : Kit) (visited : List Entry) (words lowered : ℕ)
   pub own_entries : SameEntries (pushed ++ to.fresh) (map entry_of lowerings ++ from.fresh)
   pub words_are : to.words ≡ after_words words from.words
 
--- the popped entries that a worker hands back
+-- The popped entries that a worker hands back.
 abbrev pub back_of : Hand → List Entry
 back_of h = option_to_list h.popped ++ h.taken.items
 
--- the entries that a worker hands back
+-- The number of entries that a worker hands back.
 abbrev pub hand_size : Hand → ℕ
 hand_size h = length (option_to_list h.popped) + array_vec_len h.taken + array_vec_len h.fresh
 
--- entries at nodes of the network
+-- The entries are at nodes of the network.
 abbrev pub AreInside : Roads → List Entry → Type 0
 AreInside roads entries = (entry : Entry) → Contains entries entry → IsNode roads.nodes entry.node
 
--- the entries that a worker hands back are at nodes of the network
+-- The entries that a worker hands back are at nodes of the network.
 pub record IsHandInside (roads : Roads) (hand : Hand) : Type 0 where
   pub popped : IfSome hand.popped (λ entry. IsNode roads.nodes entry.node)
   pub taken : AreInside roads hand.taken.items
   pub fresh : AreInside roads hand.fresh.items
 
--- a scan breaks off where a push was refused, and otherwise doesn't
+-- A scan ends early exactly if a push was refused.
 abbrev pub IsBrokenAs : TurnKind → Option Entry → Type 0
 IsBrokenAs Empty broken = broken ≡ None
 IsBrokenAs Busy broken = broken ≡ None
@@ -87,7 +87,7 @@ IsBrokenAs Scanned broken = broken ≡ None
 IsBrokenAs Refused broken = IsSome broken
 IsBrokenAs Cut broken = broken ≡ None
 
--- fewer fresh entries than a batch are left, but for a refused push, which leaves some
+-- Fewer fresh entries than a batch are left; after a refused push, at least one.
 abbrev pub IsLeftAs : TurnKind → ℕ → ℕ → Type 0
 IsLeftAs Empty batch fresh = fresh < batch
 IsLeftAs Busy batch fresh = fresh < batch
@@ -96,13 +96,14 @@ IsLeftAs Scanned batch fresh = fresh < batch
 IsLeftAs Refused batch fresh = (0 < fresh) × (fresh ≤ batch)
 IsLeftAs Cut batch fresh = fresh < batch
 
--- an entry that was left, with the least key where heaps give their least entry first
+-- An entry that was left, with the least key if heaps give their least entry first.
 abbrev pub IsFirstLeft : HeapKind → Entry → Account → Type 0
 IsFirstLeft Least entry account = IsLeastLeft entry account
 IsFirstLeft Buckets entry account = IsLeft entry account
 
--- Of a seat with all shares, and its account before a turn: no turn is busy; of two heaps, one that found both empty shows
--- that nothing is left, and one that popped an entry, that this was left, and with the least key, as heaps of the kind give it.
+-- For a seat with all shares, and its account before a turn: no turn is busy. With two heaps, a turn that
+-- found both empty shows that nothing is left, and a turn that popped an entry shows that it was left, with
+-- the least key as the kind of heap promises.
 abbrev pub IsLoneAs : HeapKind → ℕ → Account → TurnKind → Entry → Type 0
 IsLoneAs kind heaps account Empty entry = heaps ≡ 2 → NothingLeft account
 IsLoneAs kind heaps account Busy entry = ⊥
@@ -111,7 +112,7 @@ IsLoneAs kind heaps account Scanned entry = heaps ≡ 2 → IsFirstLeft kind ent
 IsLoneAs kind heaps account Refused entry = heaps ≡ 2 → IsFirstLeft kind entry account
 IsLoneAs kind heaps account Cut entry = heaps ≡ 2 → IsFirstLeft kind entry account
 
--- only a turn that pops is idle
+-- Only a turn that pops is idle.
 abbrev pub IsPoppingAs : TurnKind → ℕ → Type 0
 IsPoppingAs Empty pops = pops ≡ 1
 IsPoppingAs Busy pops = pops ≡ 1
@@ -121,7 +122,7 @@ IsPoppingAs Refused pops = pops ≤ 1
 IsPoppingAs Cut pops = pops ≤ 1
 
 module _ (problem : Problem) where
-  -- One turn with batches of so many entries on a pool of so many heaps of a kind.
+  -- One turn with batches of this size, on a pool of this many heaps of a kind.
   pub record IsTurn (kind : HeapKind) (batch heaps : ℕ) (from to : Kit) (number : ℕ) (end : TurnEnd) : Type 0 where
     pub number_is : end.turn.number ≡ number
     pub shaped : IsShaped end.turn
@@ -137,12 +138,13 @@ module _ (problem : Problem) where
     pub reached : AreReachedOf problem (visited_in end.turn)
     pub closed : IsClosedTurn problem to.labels.bounds (option_to_list end.broken) end.turn
     pub fresh : IsFreshTurn problem.query.target from.labels.bounds end.turn
-    -- a seat with all shares is never busy, and learns more by a pop
+    -- A seat with all shares is never busy, and learns more from a pop.
     pub never_busy : from.account.shares ≡ SHARES → is_busy end.turn.kind ≡ false
     pub lone : from.taken ≡ [] → from.account.shares ≡ SHARES → IsLoneAs kind heaps from.account end.turn.kind (entry_at end.turn.key end.turn.node)
 
   module _ {T : Type 0} (shows : T → Turn → Flow → T → Type 0) where
-    -- The worker showed the turns of one lawful turn list to its tracer, each once and in order. The pool has so many heaps.
+    -- The worker showed its tracer the turns of one lawful turn list, each once and in order. The pool has
+    -- this many heaps.
     pub record IsWork (heaps : ℕ) (from to : Kit) (pace : Pace) (tracer tracer' : T) (counters : Counters) (hand : Hand) : Type 0 where
       pub turns : List Told
       pub lawful : IsTurnList pace turns
@@ -160,9 +162,9 @@ module _ (problem : Problem) where
       pub pushed_is : length to.account.pushed ≡ length from.account.pushed + counters.pushed
       pub pushed_few : counters.pushed < 2 ^ 62
       pub popped_is : length to.account.popped ≡ length from.account.popped + counters.popped
-      -- a seat with all shares is never busy
+      -- A seat with all shares is never busy.
       pub never_busy : from.account.shares ≡ SHARES → counters.busy ≡ 0
-      -- and with batches of one entry, where a turn found two heaps empty, so did each later one, and what it pushed is what it
-      -- popped
+      -- With batches of one entry, if a turn found two heaps empty, so did each later one, and what it pushed
+      -- is what it popped.
       pub stays_empty : pace.batch ≡ 1 → from.account.shares ≡ SHARES → heaps ≡ 2 → StaysEmpty turns
       pub empty_at_end : pace.batch ≡ 1 → from.account.shares ≡ SHARES → heaps ≡ 2 → 0 < counters.empty → NothingLeft to.account

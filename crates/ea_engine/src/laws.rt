@@ -14,13 +14,13 @@ use ea_road::Known;
 use ea_travel_times::TravelTimes;
 use std::alloc::Global;
 
-/// Whatever the interleaving: once all seats are joined and both tables closed, each labelled node is satisfied at its
-/// label, or its entry was left or handed back, or its label is above the target's.
+/// For every interleaving: once all seats are joined and both tables closed, each labelled node is satisfied,
+/// or its entry was left or handed back, or its label is above the target's.
 pub fn nothing_open_is_lost<K: Known + Posed>()
     ensures { NothingOpenIsLost K.is_known K.problem }
 {}
 
-/// So the finishing pass may begin where the nodes of these entries wait.
+/// So the finishing pass may begin with the nodes of these entries waiting.
 pub fn finish_may_begin<K: Known + Posed>()
     requires names { (node time : ℕ) → K.is_known node time
         ↔ Reaches K.problem.network K.problem.answers K.problem.query.sources node time }
@@ -32,8 +32,8 @@ pub fn times_are_fifo<T: TravelTimes>(times: &T)
     ensures { IsFifo (T.answers times.now) (T.classes times.now) }
 {}
 
-/// What workers read is the ground of the problem that `K` names, where the label table has a place for each node. That a
-/// network is one and that travel times are first in, first out comes with their types.
+/// What workers read is the ground of the problem that `K` names, if the label table has a place for each
+/// node. The types ensure that the network is one and that travel times are first in, first out.
 pub fn ground_is_laid<K: Known + Posed, E: EntryHeap, T: TravelTimes>(ground: &Ground<'_, K, T, E>)
     requires problem { IsProblem ground.now.network.now (T.classes ground.now.times.now)
         ground.now.query.now }

@@ -1,6 +1,6 @@
 //! The search of several threads: workers on shared labels and heaps, and one thread that finishes.
 //!
-//! Whatever the schedule, the answer is that of one thread.
+//! The answer is that of one thread, for every schedule.
 #![tactic(auto)]
 
 mod laws;

@@ -1,4 +1,4 @@
-//! One worker: its turns, what it scans and pushes, and when it leaves.
+//! One worker: its turns, its scans and pushes, and when it ends.
 
 pub mod company;
 pub mod counters;

@@ -14,7 +14,7 @@ use ea_search::Open;
 use rand_core::Rng;
 use std::alloc::{AllocError, Global};
 
-/// The tables with their first seats, the worklist, and room for the row of workers and what they leave.
+/// The tables with their first seats, the worklist, and room for the row of workers and their results.
 #[derive(Drop)]
 pub struct Arrays<K: Known, R, T, E: EntryHeap = LeastHeap<Global>> {
     pub labels: Labels<K>,
@@ -35,7 +35,7 @@ struct Rooms<K: Known, R, T, E: EntryHeap> {
     results: Results<R, T>,
 }
 
-/// An empty worklist, with room for walks where these are asked for.
+/// An empty worklist, with room for walks if they are asked for.
 fn open_list(alloc: Global, nodes: u32, walks: bool) -> Result<Open, AllocError>
     ensures { IfOk result (λ todo. (todo.nodes ≡ nodes)
         × (todo.waiting ≡ []) × (todo.walks ≡ walks)) }
@@ -48,7 +48,7 @@ fn open_list(alloc: Global, nodes: u32, walks: bool) -> Result<Open, AllocError>
 }
 
 impl<R: Drop, T: Drop> Results<R, T> {
-    /// Room for so many workers.
+    /// Reserves room for this number of workers.
     pub fn reserve(alloc: Global, workers: usize) -> Result<Results<R, T>, AllocError>
         ensures { IfOk result (λ results. AreUnfilled workers results) }
     {
@@ -64,7 +64,7 @@ impl<R: Drop, T: Drop> Results<R, T> {
 }
 
 impl<K: Known, E: EntryHeap, R: Drop, T: Drop> Rooms<K, R, T, E> {
-    /// Room for so many workers.
+    /// Reserves room for this number of workers.
     fn reserve(alloc: Global, workers: usize) -> Result<Rooms<K, R, T, E>, AllocError>
         ensures { IfOk result (λ rooms. AreRooms workers rooms) }
     {
@@ -80,8 +80,8 @@ impl<K: Known, E: EntryHeap, R: Drop, T: Drop> Rooms<K, R, T, E> {
 }
 
 impl<K: Known, E: OpenHeap<Global>, R: Drop, T: Drop> Arrays<K, R, T, E> {
-    /// The arrays for a network of so many nodes, with those for walks where these are asked for. Heaps that have windows of
-    /// times have windows of about this width.
+    /// The arrays for a network of this number of nodes, with those for walks if they are asked for. `width`
+    /// is about the width of windows, for heaps that have windows. Fails only if memory is refused.
     pub fn reserve(
         alloc: Global,
         nodes: u32,

@@ -1,4 +1,4 @@
-//! From the seats that the workers leave to the condition of the finishing pass.
+//! From the workers' seats to the condition of the finishing pass.
 ghost use Rattle.std.specs.Prelude.{◌≡◌, ◌+◌, ◌<◌, ◌≤◌, ◌^◌, length};
 ghost use Rattle.ea_base.specs.declared.limits.TheConstants.{SHARES as LABEL_SHARES};
 ghost use Rattle.ea_base.specs.declared.limits.TheConstants.{SHARES};
@@ -17,16 +17,16 @@ use ea_road::Known;
 use ea_search::Open;
 use std::alloc::Global;
 
-/// A table of labels, and the nodes that are to be scanned.
+/// A table of labels, and the nodes that are still to be scanned.
 #[derive(Drop)]
 pub struct Settled {
     pub table: Vec<u64>,
     pub todo: Open,
-    /// How many entries were left in the pool.
+    /// The number of entries that were left in the pool.
     pub drained: u128,
 }
 
-/// Closes both tables, and lets the node of each entry wait that is left.
+/// Closes both tables, and opens the node of each entry that is left.
 pub fn settle<K: Known + Posed, E: EntryHeap>(
     labels: Labels<K>,
     pool: Pool<K, Global, E>,

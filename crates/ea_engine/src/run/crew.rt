@@ -1,8 +1,8 @@
-//! Who runs.
+//! The workers of a run.
 use crate::settings::Settings;
 
-/// The workers of a run: how many they are and how long they go on, a generator of random words and a tracer for each, in
-/// worker order, and the gate before their turns.
+/// The workers of a run: their number and pace, a random generator and a tracer for each, in worker order,
+/// and the gate before their turns.
 #[derive(Drop)]
 pub struct Crew<'a, R, G, T> {
     pub settings: Settings,

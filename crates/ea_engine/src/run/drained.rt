@@ -1,4 +1,4 @@
-//! What is left in a closed pool.
+//! Draining a closed pool.
 ghost use Rattle.std.specs.Prelude.{◌≡◌, ℕ, ◌<◌, ◌≤◌, ◌+◌, ◌^◌, length, Contains};
 ghost use Rattle.ea_pool.specs.declared.heap.entry.Entry.{Entry};
 
@@ -6,7 +6,7 @@ use ea_pool::{ClosedPool, EntryHeap};
 use ea_search::Open;
 use std::alloc::Global;
 
-/// Lets the node of each entry that is left wait, and tells how many are left.
+/// Opens the node of each entry that is left, and returns the number of these entries.
 pub fn drain<E: EntryHeap>(mut closed: ClosedPool<Global, E>, todo: &mut Open) -> u128
     requires nodes { (entry : Entry) → Contains closed entry → (0 < entry.node)
         × (entry.node ≤ todo.old.nodes) }

@@ -1,4 +1,4 @@
-//! What is gathered of the workers, one by one.
+//! Gathering the workers' results one by one.
 ghost use Rattle.std.specs.Prelude.{◌≡◌, ◌+◌, ◌*◌, ◌∷◌, [], ◌<◌, ◌≤◌, ◌^◌, ℕ, length, Contains, IfSome, vec_len};
 ghost use Rattle.std.specs.Option.{option_to_list};
 ghost use Rattle.ea_base.specs.declared.limits.TheConstants.{SHARES as LABEL_SHARES};
@@ -27,8 +27,8 @@ use ea_road::Known;
 use ea_search::Open;
 use std::alloc::Global;
 
-/// What is gathered of the workers that are done: their seats joined to one of each kind, the nodes of what they hand
-/// back, how many entries they hand back, and what they leave to the caller.
+/// The results of the workers that are done: their seats joined to one of each kind, the nodes of what they
+/// hand back, the number of these entries, and what they leave to the caller.
 #[derive(Drop)]
 pub struct Gathering<K: Known, R, F, E: EntryHeap = LeastHeap<Global>> {
     pub seats: Seats<K, E>,
@@ -37,7 +37,7 @@ pub struct Gathering<K: Known, R, F, E: EntryHeap = LeastHeap<Global>> {
     pub results: Results<R, F>,
 }
 
-/// Lets the node of an entry wait, if there is one.
+/// Opens the node of an entry, if there is one.
 pub fn keep(todo: &mut Open, entry: Option<Entry>)
     requires node { IfSome entry (λ e. (0 < e.node) × (e.node ≤ todo.old.nodes)) }
     ensures inside { IfSome entry (λ e. Contains todo.new.waiting e.node) }
@@ -54,7 +54,7 @@ pub fn keep(todo: &mut Open, entry: Option<Entry>)
     }
 }
 
-/// Lets the node of each entry of a batch wait.
+/// Opens the node of each entry of a batch.
 pub fn keep_all(todo: &mut Open, entries: &Batch)
     requires nodes { (entry : Back) → Contains entries.now.items entry
         → (0 < entry.node) × (entry.node ≤ todo.old.nodes) }
@@ -72,7 +72,7 @@ pub fn keep_all(todo: &mut Open, entries: &Batch)
     }
 }
 
-/// Lets the nodes of what a worker hands back wait.
+/// Opens the nodes of what a worker hands back.
 pub fn keep_hand(todo: &mut Open, hand: &Hand)
     requires popped { IfSome hand.now.popped (λ e. (0 < e.node) × (e.node ≤ todo.old.nodes)) }
     requires taken { (entry : Back) → Contains hand.now.taken.items entry
@@ -95,7 +95,7 @@ pub fn keep_hand(todo: &mut Open, hand: &Hand)
     keep_all(todo, &hand.fresh);
 }
 
-/// Adds what one worker leaves that began with fresh seats.
+/// Adds the results of a worker that began with fresh seats.
 pub fn join_end<K: Known + Posed, E: EntryHeap, R: Drop, F: Drop>(
     labels: &Labels<K>,
     pool: &Pool<K, Global, E>,
@@ -138,7 +138,7 @@ pub fn join_end<K: Known + Posed, E: EntryHeap, R: Drop, F: Drop>(
     gathering.results.tracers.push_reserved(tracer);
 }
 
-/// Begins with what the first worker leaves.
+/// Begins with the results of the first worker.
 pub fn begin_gathering<K: Known + Posed, E: EntryHeap, R: Drop, F: Drop>(
     labels: &Labels<K>,
     pool: &Pool<K, Global, E>,
@@ -184,7 +184,7 @@ pub fn begin_gathering<K: Known + Posed, E: EntryHeap, R: Drop, F: Drop>(
     }
 }
 
-/// What the worker left that stood at a place.
+/// Takes the result of the worker at a place.
 fn end_at<K: Known, E: EntryHeap, R: Drop, F: Drop>(
     place: Place<K, R, F, E>,
 ) -> WorkerEnd<K, R, F, E>
@@ -197,7 +197,7 @@ fn end_at<K: Known, E: EntryHeap, R: Drop, F: Drop>(
     }
 }
 
-/// Gathers what all workers of a row leave.
+/// Gathers the results of all workers of a row.
 pub fn gather_row<K: Known + Posed, E: EntryHeap, R: Drop, F: Drop>(
     labels: &Labels<K>,
     pool: &Pool<K, Global, E>,

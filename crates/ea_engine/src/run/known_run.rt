@@ -1,4 +1,4 @@
-//! A run up to its least arrivals, where the problem and the known pairs are named.
+//! A run up to its least arrivals, with the problem and the known pairs named by a type.
 ghost use Rattle.std.specs.Prelude.{◌≡◌, ℕ, ◌↔◌, true, IfOk};
 ghost use Rattle.ea_road.specs.Arrivals.{Reaches};
 ghost use Rattle.ea_road.specs.Queries.{IsProblem};
@@ -23,15 +23,15 @@ use rand_core::Rng;
 use std::alloc::{AllocError, Global};
 use std::thread::Threads;
 
-/// A run that is finished: the table of least arrivals, and how the run went.
+/// A finished run: the table of least arrivals, and how the run went.
 #[derive(Drop)]
 pub struct Ended<R, F> {
     pub finished: Finished,
     pub ran: Ran<R, F>,
 }
 
-/// Runs the workers with heaps of a kind and the finishing pass, with the arrays for walks where these are asked for. What is
-/// open then is finished in about the order of labels.
+/// Runs the workers with one kind of heap, then the finishing pass, which takes open nodes in nearly the
+/// order of labels. Reserves the arrays for walks if they are asked for.
 fn run_with<
     K: Known + Posed,
     E: OpenHeap<Global> + Send + Sync,
@@ -72,7 +72,7 @@ fn run_with<
     Ok(Ended { finished, ran })
 }
 
-/// Whether heaps are to give their least entry first: where entries are taken one at a time, or by one worker alone.
+/// Whether heaps give their least entry first: for batches of one entry, or a single worker.
 fn takes_least(settings: Settings) -> bool
     ensures one { settings.batch ≡ 1 → result ≡ true }
     ensures alone { settings.workers ≡ 1 → result ≡ true }
@@ -80,8 +80,9 @@ fn takes_least(settings: Settings) -> bool
     settings.batch == 1 || settings.workers == 1
 }
 
-/// Runs the workers and the finishing pass. Where entries are taken one at a time, or by one worker alone, heaps give the least
-/// entry first; several workers take batches from buckets of times, whose windows are about as wide as an arc's mean weight.
+/// Runs the workers and the finishing pass. Heaps give the least entry first for batches of one entry or a
+/// single worker. Otherwise workers take batches from buckets of times, whose windows are about as wide as
+/// the mean weight of an arc.
 pub fn run_named<
     K: Known + Posed,
     H: Threads + Sync,

@@ -1,9 +1,9 @@
-//! Which problem a run is about.
+//! The problem of a run.
 
 use ea_road::Known;
 use std::marker::Brand;
 
-/// Names, for contracts, the problem of a run: its network, what its travel times answer, and its query. Beside it a
+/// Names, for contracts, the problem of a run: its network, the answers of its travel times, and its query.
 /// `Known` names the pairs that some walk from a source attains.
 pub trait Posed {
     ghost use Rattle.ea_engine.specs.Problems.{Problem};
@@ -11,7 +11,7 @@ pub trait Posed {
     ghost problem: { Problem };
 }
 
-// It stands in until a call picks a problem of its own.
+// A placeholder until a call picks its problem.
 impl Posed for Brand {
     ghost use Rattle.ea_engine.specs.Problems.{no_problem};
 

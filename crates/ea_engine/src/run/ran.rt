@@ -10,16 +10,16 @@ pub struct Results<R, T> {
     pub tracers: Vec<T>,
 }
 
-/// How many entries went which way, and what the workers leave.
+/// The counts of entries, and what the workers leave.
 #[derive(Drop)]
 pub struct Ran<R, T> {
     /// How many sources' entries the pool took.
     pub seeded: u128,
-    /// How many entries were handed back: by the workers, and to the seeding.
+    /// The number of entries handed back, by workers and by the seeding.
     pub returned: u128,
-    /// How many entries were left in the pool when the workers were done.
+    /// The number of entries left in the pool when the workers were done.
     pub drained: u128,
-    /// How many nodes were open when the finishing pass started.
+    /// The number of open nodes when the finishing pass started.
     pub finish: u128,
     pub results: Results<R, T>,
 }

@@ -27,7 +27,7 @@ pub struct Ready<K: Known, R, F, E: EntryHeap = LeastHeap<Global>> {
     pub tracer: F,
 }
 
-/// The place of a worker in the row.
+/// A worker's place in the row.
 #[derive(Drop)]
 pub enum Place<K: Known, R, F, E: EntryHeap = LeastHeap<Global>> {
     Ready(Ready<K, R, F, E>),
@@ -55,7 +55,7 @@ pub fn run_place<
     }
 }
 
-/// Runs all workers of a row, each on a thread of its own where one can be started.
+/// Runs all workers of a row, each on its own thread if one can be started.
 pub fn run_workers<
     H: Threads + Sync,
     K: Known + Posed,

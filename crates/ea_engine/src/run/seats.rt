@@ -1,4 +1,4 @@
-//! The seats of the workers, and the row in which they stand.
+//! The seats of the workers, and their row.
 ghost use Rattle.std.specs.Prelude.{◌≡◌, ℕ, ◌+◌, ◌-◌, ◌<◌, ◌≤◌, ◌∷◌, [], All, Contains, vec_len};
 ghost use Rattle.std.specs.Vec.{vec_capacity};
 ghost use Rattle.ea_engine.specs.Ends.{AreFresh};
@@ -13,7 +13,7 @@ use ea_pool::{EntryHeap, Pool};
 use ea_road::Known;
 use std::alloc::Global;
 
-/// Splits off seats of one share each for so many workers.
+/// Splits off seats of one share each for this number of workers.
 pub fn split_seats<K: Known, E: EntryHeap>(
     labels: &Labels<K>,
     pool: &Pool<K, Global, E>,
@@ -42,7 +42,7 @@ pub fn split_seats<K: Known, E: EntryHeap>(
     }
 }
 
-/// Makes the row: each worker with its seats, its generator and its tracer.
+/// Builds the row: each worker with its seats, its generator and its tracer.
 pub fn seat_row<K: Known, E: EntryHeap, R: Drop, F: Drop>(
     seats: Vec<Seats<K, E>>,
     rngs: Vec<R>,

@@ -1,4 +1,4 @@
-//! The sources' entries, before any worker starts.
+//! Pushing the sources' entries, before any worker starts.
 ghost use Rattle.std.specs.Prelude.{◌≡◌, ◌≤◌, ◌<◌, ◌+◌, ◌^◌, length, Contains};
 ghost use Rattle.ea_road.specs.Roads.{IsNode};
 ghost use Rattle.ea_labels.specs.declared.record.Bound.{Bound};
@@ -23,10 +23,10 @@ use ea_search::Open;
 use ea_travel_times::TravelTimes;
 use std::alloc::Global;
 
-/// What became of a source's entry.
+/// The outcome of offering a source.
 #[derive(Clone, Copy, Debug, PartialEq, Eq)]
 pub enum Seeded {
-    /// The label was as low already.
+    /// The label was already as low.
     Kept,
     /// The pool took the entry.
     Pushed,
@@ -41,7 +41,8 @@ pub struct Seeds {
     pub returned: u128,
 }
 
-/// Offers a source, and pushes its entry where its label was lowered. An entry that is handed back waits.
+/// Offers a source, and pushes its entry if the label fell. If the pool hands the entry back, its node is
+/// opened.
 pub fn seed<K: Known + Posed, E: EntryHeap, T: TravelTimes>(
     ground: &Ground<'_, K, T, E>,
     seats: &mut Seats<K, E>,
@@ -78,7 +79,7 @@ pub fn seed<K: Known + Posed, E: EntryHeap, T: TravelTimes>(
     }
 }
 
-/// Pushes the entry of a source whose label was lowered. An entry that is handed back waits.
+/// Pushes the entry of a source whose label fell. If the pool hands the entry back, its node is opened.
 fn sow<K: Known + Posed, E: EntryHeap>(
     pool: &Pool<K, Global, E>,
     seat: &mut PoolSeat<K, Global, E>,
@@ -114,8 +115,8 @@ fn sow<K: Known + Posed, E: EntryHeap>(
     }
 }
 
-/// Offers all sources in their order. The entries of those whose labels are lowered are pushed with the words 0, 1, 2, ..
-/// in turn: on a new table, of those that depart before each earlier source of their node.
+/// Offers all sources in their order. The entries of those whose labels fall are pushed with the words 0, 1,
+/// 2, .. in turn. On a new table these are the sources that depart before each earlier source at their node.
 pub fn seed_all<K: Known + Posed, E: EntryHeap, T: TravelTimes>(
     ground: &Ground<'_, K, T, E>,
     seats: &mut Seats<K, E>,
@@ -143,7 +144,7 @@ pub fn seed_all<K: Known + Posed, E: EntryHeap, T: TravelTimes>(
     let mut returned = 0u128;
     let sources = ground.query.sources();
     for place in 0..sources.len() {
-        // So many pushes were tried.
+        // The number of pushes tried before.
         let word = (seeded + returned) as u64;
         match seed(ground, seats, todo, word, sources[place]) {
             Seeded::Kept => {}

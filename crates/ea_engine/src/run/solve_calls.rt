@@ -51,16 +51,17 @@ impl<R, T> Solved<R, T> {
     }
 }
 
-/// The earliest arrivals of a query and their canonical walks, found by several threads and finished by one.
+/// The earliest arrivals of a query and their canonical walks, by several threads that search and one that
+/// finishes.
 ///
-/// Each worker of the crew has a generator of random words and a tracer that is shown its turns; the gate is called before
-/// each turn. Whatever the words, the number of workers, their turns, the gate and the tracers: the answer is one thread's.
+/// Each worker of the crew has a random generator and a tracer that sees its turns; the gate is called before
+/// each turn. The answer is one thread's for all random words, numbers of workers, turns, gates and tracers.
 ///
-/// Workers share heaps as in MultiQueues (Rihani, Sanders, Dementiev 2015), and correct labels, as Dreyfus appraised it for
-/// travel times that depend on the departure (Operations Research 17, 1969).
+/// Workers share heaps as in MultiQueues (Rihani, Sanders, Dementiev 2015). They correct labels, a method
+/// that Dreyfus appraised for travel times that depend on the departure (Operations Research 17, 1969).
 ///
-/// Memory is refused only for the arrays, which are all made before the first worker starts; then generators and tracers
-/// are dropped. A thread that can't be started is no fault.
+/// Fails only if memory for the arrays is refused, before the first worker starts; then generators and
+/// tracers are dropped. A thread that can't be started is no error.
 pub fn solve<
     H: Threads + Sync,
     T: TravelTimes + Sync,
@@ -93,7 +94,7 @@ pub fn solve<
     Ok(Solved::of(answer, ran))
 }
 
-/// As `solve`, without walks: it leaves out the search for levels and the arrays for it.
+/// Like `solve`, without walks: saves the search for levels and its arrays.
 pub fn solve_arrivals<
     H: Threads + Sync,
     T: TravelTimes + Sync,
@@ -127,7 +128,8 @@ pub fn solve_arrivals<
     Ok(Solved::of(answer, ran))
 }
 
-/// `solve` by a caller's closure from class, weight and departure to the arrival, for classes up to the greatest.
+/// `solve` with a caller's closure from class, weight and departure to the arrival, for classes up to the
+/// greatest.
 pub fn solve_by<
     H: Threads + Sync,
     C: ArrivalFunction + Sync + Drop,

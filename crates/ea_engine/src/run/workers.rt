@@ -37,7 +37,7 @@ use rand_core::Rng;
 use std::alloc::Global;
 use std::thread::Threads;
 
-/// Seats the workers: the first one gets the seats that the seeds used, each other one a share of both.
+/// Seats the workers: the first gets the seats of the seeding, each other a share of both tables.
 pub fn seat_workers<K: Known + Posed, E: EntryHeap + Send + Sync, R: Drop, F: Drop>(
     labels: &Labels<K>,
     pool: &Pool<K, Global, E>,
@@ -65,7 +65,7 @@ pub fn seat_workers<K: Known + Posed, E: EntryHeap + Send + Sync, R: Drop, F: Dr
     seat_row(others, rngs, tracers, row);
 }
 
-/// Puts a pair of seats before the others, for which there is room.
+/// Inserts a pair of seats at the front; the room is reserved.
 fn put_first<K: Known, E: EntryHeap>(seats: &mut Vec<Seats<K, E>>, first: Seats<K, E>)
     requires room { vec_len seats.old < vec_capacity seats.old }
     ensures first { seats.new.items ≡ first ∷ seats.old.items }
@@ -76,7 +76,7 @@ fn put_first<K: Known, E: EntryHeap>(seats: &mut Vec<Seats<K, E>>, first: Seats<
     }
 }
 
-/// What a run comes to before the finishing pass: the table of labels, the open nodes, and how it went.
+/// A run before the finishing pass: the table of labels, the open nodes, and how the run went.
 #[derive(Drop)]
 pub struct Begun<R, F> {
     pub table: Vec<u64>,
@@ -141,7 +141,7 @@ fn work_row<
     seeds
 }
 
-/// Gathers what the workers of a row leave, and settles what is to be scanned.
+/// Gathers the workers' results, and opens the nodes that are still to be scanned.
 fn settle_row<K: Known + Posed, E: EntryHeap, R: Drop, F: Drop>(
     labels: Labels<K>,
     pool: Pool<K, Global, E>,
@@ -186,7 +186,7 @@ fn settle_row<K: Known + Posed, E: EntryHeap, R: Drop, F: Drop>(
     Begun { table, todo, ran }
 }
 
-/// Runs the workers from the seeds on, joins them, and drains the pool. It takes no memory of its own.
+/// Runs the workers from the seeds on, joins their seats, and drains the pool. Takes no memory itself.
 pub fn run<
     H: Threads + Sync,
     K: Known + Posed,

@@ -1,4 +1,4 @@
-//! Workers that notice together that nothing is left to do.
+//! Termination detection: workers notice together that nothing is left to do.
 ghost use Rattle.std.specs.Prelude.{◌≡◌, ℕ, ◌+◌, ◌/◌, ◌<◌, ◌≤◌, ◌⊎◌, false};
 ghost use Rattle.ea_engine.specs.Companies.{idle_with, IsIdleFor, IsLook, KeepsCounts, LeavesAs, LooksOnce};
 
@@ -7,96 +7,96 @@ use std::sync::atomic::Ordering::SeqCst;
 use std::sync::atomic::{AtomicBool, AtomicU64, AtomicUsize};
 use std::thread::yield_now;
 
-/// After how many turns in a row that found nothing a worker counts as idle.
+/// Consecutive turns without an entry after which a worker counts as idle.
 const IDLE_AFTER: u32 = 128;
 
-/// After how many more such turns while none is active it leaves: an entry that is left somewhere is found before.
+/// Further such turns, with no worker active, after which it leaves; any entry that is left is found earlier.
 const QUIET_AFTER: u32 = 384;
 
-/// After how many turns in a row that found nothing a worker lets others run.
+/// Consecutive turns without an entry after which a worker yields its processor.
 const YIELDS_AFTER: u32 = 512;
 
-/// After how many looks in a row that found others idle and none active a worker leaves: what is left is quicker searched by
-/// one thread.
+/// Consecutive looks at which all others were idle, after which a worker leaves: one thread finishes the rest
+/// faster.
 const ALONE_AFTER: u32 = 256;
 
-/// From which turn on a worker looks at the others, at every 64th turn that visits an entry.
+/// The first turn at which a worker may look at the others.
 const LOOKS_FROM: u64 = 256;
 
-/// At every how many turns it looks.
+/// A worker looks at every turn whose number this divides, if the turn visited an entry.
 const LOOKS_EVERY: u64 = 64;
 
-/// How many labels may fall, however few nodes there are.
+/// The least limit for the falls of labels, for small networks.
 const FEW_FALLS: u64 = 16_384;
 
-/// How many turns of idle workers may find nothing, however few entries all visit. Those of a worker that soon finds some again, as
-/// while another scans a node with many arcs, are not among them.
+/// The least limit for the idle turns of idle workers. Pauses that soon end, such as while another worker
+/// scans a node with many arcs, don't count.
 const FEW_WAITS: u64 = 16_384;
 
-/// For how many entries that all visit one such turn more may find nothing.
+/// One more idle turn is allowed for this many visits of entries.
 const VISITS_A_WAIT: u64 = 2;
 
-/// Labels may fall as often as they will.
+/// No limit for the falls of labels.
 const NO_LIMIT: u64 = u64::MAX;
 
-/// How many workers of a run are not idle, and what they did. It saves them time, and nothing of an answer rests on it: a worker's
-/// member is asked by its tracer after each turn.
+/// Counts of the workers of a run that are not idle, and of what they did. It saves time only; no answer
+/// depends on it. A worker's tracer asks its member after each turn.
 #[derive(Drop)]
 pub struct Company {
-    /// Those that are not idle; before the first of them has found an entry, one.
+    /// The number of active workers; 1 before the first has found an entry.
     active: AtomicUsize,
     /// Whether a worker has found an entry.
     begun: AtomicBool,
-    /// Those that are idle. Who has not begun is not among them.
+    /// The number of idle workers. A worker that has not begun is not among them.
     idle: AtomicUsize,
-    /// How many labels fell, how many entries were visited, and how many turns of idle workers found nothing, up to each one's last
-    /// look.
+    /// The numbers of labels that fell, of entries visited, and of idle workers' turns without an entry, up
+    /// to each worker's last look.
     falls: AtomicU64,
     visits: AtomicU64,
     waits: AtomicU64,
-    /// Where more labels fell, all leave.
+    /// If more labels fell, all leave.
     most_falls: u64,
 }
 
-/// What a worker knows of its company.
+/// A worker's view of its company.
 #[derive(Clone, Copy)]
 pub struct Member<'a> {
     company: &'a Company,
     is_active: bool,
-    /// How many turns in a row found nothing.
+    /// Consecutive turns without an entry.
     idle: u32,
     /// How many of the last ones were while no worker was active.
     quiet: u32,
-    /// How many looks in a row found that all others were idle.
+    /// Consecutive looks at which all others were idle.
     alone: u32,
-    /// What it did since its last look, as its company counts it.
+    /// Its own counts since its last look.
     falls: u64,
     visits: u64,
     waits: u64,
 }
 
-/// Adds to a count: what it is then.
+/// Adds to a count, and returns the sum.
 fn told(count: &AtomicU64, more: u64) -> u64 {
     count.fetch_add(more, SeqCst).wrapping_add(more)
 }
 
 impl Company {
-    /// No worker has begun, and labels may fall as often as they will.
+    /// A company in which no worker has begun, without a limit for the falls of labels.
     pub fn new() -> Company
         ensures { result.most_falls ≡ NO_LIMIT }
     {
         Company::with(NO_LIMIT)
     }
 
-    /// No worker has begun on a network of so many nodes. Where labels fall far more often than there are nodes, or where the
-    /// workers wait longer than they visit entries, all leave: one thread is quicker.
+    /// A company for a network of this number of nodes, in which no worker has begun. All leave if labels
+    /// fall far more often than there are nodes, or if idle turns outweigh visits: then one thread is faster.
     pub fn on(nodes: u32) -> Company
         ensures { result.most_falls ≡ nodes + nodes / 2 + FEW_FALLS }
     {
         Company::with(u64::from(nodes) + u64::from(nodes / 2) + FEW_FALLS)
     }
 
-    /// No worker has begun, and so many labels may fall.
+    /// A company in which no worker has begun, with a limit for the falls of labels.
     fn with(most_falls: u64) -> Company
         ensures { result.most_falls ≡ most_falls }
     {
@@ -131,7 +131,8 @@ impl Company {
 }
 
 impl Member<'_> {
-    /// Whether the worker goes on after a turn: it leaves when no worker has anything to do, or when it alone has for long.
+    /// Whether the worker continues after a turn. It leaves if no worker has anything to do, or if it alone
+    /// has had for long.
     pub fn after(&mut self, turn: Turn) -> Flow
         ensures leaves { LeavesAs turn.kind turn.number self.old result }
         ensures idle { (turns : ℕ) → IsIdleFor self.old turns
@@ -153,7 +154,7 @@ impl Member<'_> {
         }
     }
 
-    /// It is active no longer.
+    /// Marks the worker idle.
     fn rest(&mut self)
         ensures { KeepsCounts self.old self.new }
     {
@@ -163,7 +164,7 @@ impl Member<'_> {
         }
     }
 
-    /// It is active from now on.
+    /// Marks the worker active.
     fn rise(&mut self)
         ensures rest { KeepsCounts self.old self.new }
         ensures limit { self.new.company.now.most_falls ≡ self.old.company.now.most_falls }
@@ -207,15 +208,16 @@ impl Member<'_> {
         Flow::Go
     }
 
-    /// Whether others are idle and none is active, though what it visited since its last look leads on: for every two entries a
-    /// label fell. What leads nowhere is sooner visited than handed back.
+    /// Whether others are idle and no one else is active, and the visits since the last look still lower
+    /// labels: at least one fall for two entries. Entries that lower nothing are visited faster than handed
+    /// back.
     fn is_alone(&self) -> bool {
         self.falls >= self.visits / 2
             && self.company.active.load(SeqCst) < 2
             && self.company.idle.load(SeqCst) > 0
     }
 
-    /// Tells the company what it did since its last look: whether several workers still gain time.
+    /// Adds the counts since the last look to the company's. Returns whether several workers still gain time.
     #[inline(never)]
     fn gains(&mut self) -> bool
         ensures limit { result ≡ false → self.old.company.now.most_falls < NO_LIMIT }
@@ -254,7 +256,7 @@ impl Member<'_> {
         self.look()
     }
 
-    /// Looks at the others: whether it goes on. What comes after most turns is a few steps without this.
+    /// Looks at the others. Not inlined, so that most turns take a few instructions.
     #[inline(never)]
     fn look(&mut self) -> Flow
         ensures leaves { result ≡ Flow.Leave

@@ -1,12 +1,12 @@
-//! What may hold workers up.
+//! A hook that may delay workers.
 
-/// What is called before each turn. It may wait.
+/// Called before each turn. It may wait.
 pub trait Gate: Sync {
     /// Called once before each turn of each worker. Workers and turns count from 0.
     fn at(&self, worker: u32, turn: u64);
 }
 
-/// A gate that is always open.
+/// A gate that never waits.
 pub struct NoGate;
 
 impl Gate for NoGate {

@@ -1,4 +1,4 @@
-//! Words that keep a worker mostly at its own heaps.
+//! Random words that mostly draw a worker's own heaps.
 ghost use Rattle.std.specs.Prelude.{◌≡◌, ◌+◌, ◌-◌, ◌%◌, ◌<◌, ◌≤◌};
 ghost use Rattle.rand_core.specs.Steps.{stream_of, steps_u64_low};
 ghost use Rattle.ea_engine.specs.Homes.{homing_step, IsAtHome};
@@ -7,30 +7,31 @@ ghost use Rattle.ea_base.specs.declared.limits.TheConstants.{LEAST_HEAPS, MOST_H
 use rand_core::utils::NextWord;
 use rand_core::{Rng, utils};
 
-/// Words of the generator below this, every eighth one, make a random word.
+/// Generator words below this, one in eight, make a random word.
 const RANDOM: u64 = 1 << 61;
 
-/// So many numbers of them are told apart.
+/// The random words differ in this many values.
 const SPAN: u64 = 1 << 28;
 
-/// How many words are kept.
+/// The number of stored words.
 const WORDS: usize = 8;
 
-/// A generator whose words draw the heaps of one worker, each in turn: as a push's word or the first of a pop each draws one of
-/// them. As the second word of a pop seven of eight lead to the next of them, and about every eighth, by the generator below, to
-/// any other heap. So what a processor wrote mostly stays with it. What is promised of workers holds for any words.
+/// A generator whose words mostly draw the heaps of one worker. As a push's word or the first of a pop, each
+/// stored word draws one of them in turn. As the second word of a pop, seven of eight draw the next own heap,
+/// and about one in eight, chosen by the generator below, any other heap. So memory mostly stays in one
+/// processor's cache. The promises about workers hold for any words.
 #[derive(Drop)]
 pub struct Homing<R> {
     below: R,
     words: [u32; WORDS],
-    /// How many heaps all workers have together.
+    /// The number of heaps of all workers.
     heaps: u32,
-    /// Which of the words is next.
+    /// The index of the next stored word.
     place: usize,
 }
 
-/// The word that is `step` modulo one less than the heaps, and `heap` modulo the heaps: as the first word of a pop it draws that
-/// heap, and as the second one the heap that is so many and one behind the first.
+/// The word that is `step` modulo `heaps - 1`, and `heap` modulo `heaps`. As the first word of a pop it draws
+/// heap `heap`; as the second, the heap `step + 1` behind the first.
 fn word_at(heaps: u32, step: u32, heap: u32) -> u32
     requires { (heap < heaps) × (step + 1 < heaps) × (heaps ≤ 128) }
     ensures draws { result % heaps ≡ heap }
@@ -40,7 +41,7 @@ fn word_at(heaps: u32, step: u32, heap: u32) -> u32
 }
 
 impl<R> Homing<R> {
-    /// Words for the worker of this number, from 0, of so many with so many heaps each.
+    /// Words for a worker by its number, from 0, and the number of heaps for each worker.
     pub fn new(below: R, worker: u32, workers: u32, heaps: u32) -> Homing<R>
         requires worker { (worker < workers) × (workers ≤ MOST_WORKERS) }
         requires heaps { (LEAST_HEAPS ≤ heaps) × (heaps ≤ MOST_HEAPS) }

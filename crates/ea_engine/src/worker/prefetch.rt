@@ -1,5 +1,5 @@
-//! Reads of memory ahead of the visits that need it. The loads of each loop don't wait for one another, so that many of them
-//! are under way at once. Nothing rests on what they give.
+//! Prefetches for visits. The loads of a loop don't depend on one another, so that many overlap. No result
+//! depends on the values.
 ghost use Rattle.std.specs.Prelude.{◌≡◌};
 ghost use Rattle.ea_pool.specs.Entries.{AreKnown};
 ghost use Rattle.ea_road.specs.Roads.{IsNode};
@@ -13,10 +13,10 @@ use ea_pool::{Entry, EntryHeap};
 use ea_road::{Known, Network};
 use ea_travel_times::TravelTimes;
 
-/// Fewer entries are not worth it.
+/// Prefetching fewer entries doesn't pay.
 const FEW: usize = 4;
 
-// Reads the labels of entries' nodes, and where their arcs begin.
+// Prefetches the labels of entries' nodes, and the offsets of their leaving arcs.
 fn read_places<K: Known + Posed, E: EntryHeap, T: TravelTimes>(
     ground: &Ground<'_, K, T, E>,
     seat: &mut LabelSeat<K>,
@@ -36,7 +36,7 @@ fn read_places<K: Known + Posed, E: EntryHeap, T: TravelTimes>(
     places
 }
 
-// Reads the first arcs from entries' nodes.
+// Prefetches the first arcs that leave entries' nodes.
 fn read_arcs(network: &Network, entries: &[Entry]) -> u32 {
     let mut heads = 0;
     for entry in entries {
@@ -45,7 +45,7 @@ fn read_arcs(network: &Network, entries: &[Entry]) -> u32 {
     heads
 }
 
-// Reads the labels of the heads of the arcs from a node.
+// Prefetches the labels of the heads of the arcs that leave a node.
 fn read_heads<K: Known + Posed, E: EntryHeap, T: TravelTimes>(
     ground: &Ground<'_, K, T, E>,
     seat: &mut LabelSeat<K>,
@@ -62,8 +62,8 @@ fn read_heads<K: Known + Posed, E: EntryHeap, T: TravelTimes>(
     }
 }
 
-/// Reads what the visits of these entries will read, where they are several: their labels, where their arcs begin, and the
-/// labels of the arcs' heads.
+/// Prefetches what the visits of these entries will read, if there are several: labels, offsets of leaving
+/// arcs, and the labels of heads.
 pub fn read_ahead<K: Known + Posed, E: EntryHeap, T: TravelTimes>(
     ground: &Ground<'_, K, T, E>,
     seat: &mut LabelSeat<K>,
@@ -78,7 +78,7 @@ pub fn read_ahead<K: Known + Posed, E: EntryHeap, T: TravelTimes>(
     if entries.len() < FEW {
         return;
     }
-    // There are neither so many arcs nor so many nodes. What was read is looked at so that no load is left out.
+    // Never true. The comparison consumes the values, so that the compiler keeps the prefetch loads.
     if (read_places(ground, seat, entries) ^ read_arcs(ground.network, entries)) == u32::MAX {
         return;
     }

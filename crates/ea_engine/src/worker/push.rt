@@ -1,4 +1,4 @@
-//! What a worker lowered goes into the pool.
+//! Pushing the fresh entries of a worker.
 ghost use Rattle.std.specs.Prelude.{◌≡◌, ◌<◌, ◌≤◌, true, false, []};
 ghost use Rattle.arrayvec.specs.ArrayVec.{array_vec_len};
 ghost use Rattle.ea_labels.specs.declared.record.SeatRecord.{SeatRecord};
@@ -11,7 +11,8 @@ use ea_road::Known;
 use rand_core::Rng;
 use std::alloc::Global;
 
-/// Draws a word and pushes all fresh entries into one heap. What the pool doesn't take stays. Says whether it took all.
+/// Draws a word and pushes all fresh entries into one heap. Entries that the pool refuses stay. Returns
+/// whether it took all.
 pub fn push_fresh<K: Known, E: EntryHeap, R: Rng>(
     pool: &Pool<K, Global, E>,
     pool_seat: &mut PoolSeat<K, Global, E>,

@@ -21,19 +21,20 @@ use ea_travel_times::TravelTimes;
 use rand_core::Rng;
 use std::alloc::Global;
 
-/// What following an arc came to.
+/// The outcome of relaxing an arc.
 #[derive(Clone, Copy, Debug, PartialEq, Eq)]
 pub enum Followed {
     Unchanged,
-    /// The head was lowered, and its entry is fresh.
+    /// The head's label fell, and its entry is fresh.
     Lowered,
-    /// The head was lowered, and the pool took all that was fresh.
+    /// The head's label fell, and the pool took all fresh entries.
     Pushed,
-    /// The head was lowered, and the pool didn't take all that was fresh.
+    /// The head's label fell, and the pool refused fresh entries.
     Refused,
 }
 
-/// What a scan came to: how many heads were lowered, how often fresh entries were pushed, and whether a push was refused.
+/// The outcome of a scan: the number of labels that fell, the number of pushes, and whether a push was
+/// refused.
 #[derive(Clone, Copy)]
 pub struct ScanEnd {
     pub lowered: u64,
@@ -41,8 +42,9 @@ pub struct ScanEnd {
     pub refused: bool,
 }
 
-/// Whether an arc has a timetable, and its head a label that isn't above the departure. It needs no travel time then: no arc arrives
-/// before it is left. For a plain arc a sum costs less than to look.
+/// Whether an arc has a timetable, and its head a label that isn't above the departure. Then its travel time
+/// isn't needed: an arc arrives no earlier than it is left. For a plain arc, computing the arrival costs less
+/// than this test.
 #[inline(always)]
 fn is_ahead<K: Known + Posed, E: EntryHeap, T: TravelTimes>(
     ground: &Ground<'_, K, T, E>,
@@ -65,8 +67,8 @@ fn is_ahead<K: Known + Posed, E: EntryHeap, T: TravelTimes>(
     ground.labels.read(seat, arc.head) <= departure
 }
 
-/// Asks when one arc from a popped entry arrives, and offers that to its head. Where it lowers the head and a batch is fresh then,
-/// it is pushed.
+/// Computes the arrival by one arc from a popped entry, and offers it to the head. Pushes if the label fell
+/// and a batch is fresh.
 #[inline(always)]
 fn ask_and_offer<K: Known + Posed, E: EntryHeap, T: TravelTimes, R: Rng>(
     ground: &Ground<'_, K, T, E>,
@@ -119,8 +121,8 @@ fn ask_and_offer<K: Known + Posed, E: EntryHeap, T: TravelTimes, R: Rng>(
     }
 }
 
-/// Follows one arc from a popped entry, but where its head is ahead of it. Where it lowers the head and a batch is fresh then, it is
-/// pushed.
+/// Relaxes one arc from a popped entry, unless the head's label can't fall. Pushes if the label fell and a
+/// batch is fresh.
 #[inline(always)]
 pub fn follow<K: Known + Posed, E: EntryHeap, T: TravelTimes, R: Rng>(
     ground: &Ground<'_, K, T, E>,
@@ -151,7 +153,7 @@ pub fn follow<K: Known + Posed, E: EntryHeap, T: TravelTimes, R: Rng>(
     ask_and_offer(ground, means, fresh, batch, entry, arc)
 }
 
-/// Scans a popped entry: follows each arc from its node, until the pool refuses a push.
+/// Scans a popped entry: relaxes the arcs from its node until a push is refused.
 #[inline(always)]
 pub fn scan_entry<K: Known + Posed, E: EntryHeap, T: TravelTimes, R: Rng>(
     ground: &Ground<'_, K, T, E>,

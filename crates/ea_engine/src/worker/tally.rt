@@ -6,7 +6,7 @@ use crate::worker::counters::Counters;
 use crate::worker::turn::{Hand, TurnEnd, TurnKind};
 
 impl Counters {
-    /// Nothing counted yet.
+    /// Counters at 0.
     pub(crate) fn new() -> Counters
         ensures turns { AreTurnCounts [] result }
         ensures pops { result.pops ≡ 0 }
@@ -52,7 +52,7 @@ impl Counters {
         }
     }
 
-    /// Counts what hangs together with what the worker hands back.
+    /// Counts what the worker hands back.
     pub(crate) fn close(&mut self, hand: &Hand)
         requires room { IsRoomy self.old }
         requires fresh { array_vec_len hand.now.fresh ≤ self.old.lowered }

@@ -42,7 +42,7 @@ impl Lists {
     }
 }
 
-// Draws two words and pops by them, so many entries at most. The least one stands last then.
+// Draws two words and pops a batch by them, the least entry last.
 fn pop_drawn<K: Known, E: EntryHeap, R: Rng>(
     pool: &Pool<K, Global, E>,
     pool_seat: &mut PoolSeat<K, Global, E>,
@@ -114,7 +114,7 @@ fn visit_taken<K: Known + Posed, E: EntryHeap, T: TravelTimes, R: Rng>(
     )
 }
 
-// Visits the least of entries that were just taken. What their visits will read is read ahead.
+// Visits the least of the entries just popped, after prefetching for all of them.
 fn visit_first<K: Known + Posed, E: EntryHeap, T: TravelTimes, R: Rng>(
     ground: &Ground<'_, K, T, E>,
     target: Option<u32>,
@@ -184,7 +184,7 @@ fn pop_and_visit<K: Known + Posed, E: EntryHeap, T: TravelTimes, R: Rng>(
     }
 }
 
-// Visits the least entry that is taken, after a pop where none is.
+// Visits the least of the taken entries; pops first if none is taken.
 fn visit_next<K: Known + Posed, E: EntryHeap, T: TravelTimes, R: Rng>(
     ground: &Ground<'_, K, T, E>,
     target: Option<u32>,
@@ -221,8 +221,8 @@ fn is_due(kind: TurnKind, lists: &Lists) -> bool
     !kind.is_refused() && lists.taken.is_empty() && !lists.fresh.is_empty()
 }
 
-/// One turn of a worker with batches of so many entries. Where no entry is taken at its end, the fresh ones are pushed,
-/// unless a push was refused before.
+/// One turn of a worker with batches of this size. If no taken entry is left at its end, the fresh ones are
+/// pushed, unless a push was refused.
 pub fn take_turn<K: Known + Posed, E: EntryHeap, T: TravelTimes, R: Rng>(
     ground: &Ground<'_, K, T, E>,
     target: Option<u32>,

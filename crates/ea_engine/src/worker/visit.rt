@@ -43,7 +43,7 @@ impl TurnKind {
 }
 
 impl Flow {
-    /// Whether the worker is to leave.
+    /// Whether the worker ends.
     pub(crate) fn is_leave(self) -> bool
         ensures { result ≡ is_leave self }
     {
@@ -76,7 +76,7 @@ pub(crate) fn idle_turn(number: u64, kind: TurnKind) -> TurnEnd
     }
 }
 
-// Whether the key is above the target's label, where there is a target.
+// Whether the key is above the target's label, in a pair query.
 fn is_above_target<K: Known>(
     labels: &Labels<K>,
     seat: &mut LabelSeat<K>,
@@ -121,8 +121,8 @@ fn visited_turn(number: u64, kind: TurnKind, entry: Entry) -> TurnEnd
     }
 }
 
-/// Reads the label of a popped entry, and scans the entry if the label isn't below its key and its key isn't above the
-/// target's label.
+/// Reads the label of a popped entry's node, and scans the entry unless it is stale or above the target's
+/// label.
 #[inline(always)]
 pub fn visit<K: Known + Posed, E: EntryHeap, T: TravelTimes, R: Rng>(
     ground: &Ground<'_, K, T, E>,

@@ -22,10 +22,10 @@ use rand_core::Rng;
 use std::alloc::Global;
 use std::hint;
 
-/// The patience of a worker from which on it waits little after a turn that found nothing.
+/// From this patience on, a worker spins only briefly after a turn that found nothing.
 const MUCH_PATIENCE: u32 = 1_024;
 
-/// What a worker leaves.
+/// The results of a worker.
 #[derive(Drop)]
 pub struct WorkerEnd<K: Known, R, F, E: EntryHeap = LeastHeap<Global>> {
     /// Its seat of the label table.
@@ -36,13 +36,13 @@ pub struct WorkerEnd<K: Known, R, F, E: EntryHeap = LeastHeap<Global>> {
     pub hand: Hand,
     /// What it counted.
     pub counters: Counters,
-    /// Its generator, two words a pop and one a push later.
+    /// Its generator, two words further for a pop and one for a push.
     pub rng: R,
-    /// Its tracer, which was shown each turn.
+    /// Its tracer, after all turns.
     pub tracer: F,
 }
 
-// How many turns in a row found nothing, after one more turn.
+// The number of consecutive idle turns, after one more turn.
 fn idle_after(idle: u32, kind: TurnKind) -> u32
     requires { idle < MOST_PATIENCE }
     ensures { result ≡ (if is_idle kind then idle + 1 else 0) }
@@ -57,8 +57,8 @@ fn is_last(kind: TurnKind, flow: Flow) -> bool
     kind.is_refused() || flow.is_leave()
 }
 
-// Waits a little after the n-th idle turn in a row. A worker of little patience waits longer, so that it isn't gone before the others'
-// entries are there; one of much patience soon looks again.
+// Spins after the n-th consecutive idle turn. A worker of little patience spins longer, so that it doesn't
+// end before others' entries arrive; one of much patience tries again soon.
 fn pause(idle: u32, patience: u32) {
     let most = if patience < MUCH_PATIENCE { 6 } else { 2 };
     if idle > 0 {
@@ -68,7 +68,8 @@ fn pause(idle: u32, patience: u32) {
     }
 }
 
-/// Runs a worker: its turns, until one ends it, its pace has no more, or so many in a row found nothing as it has patience. Workers count from 0.
+/// Runs a worker until a turn ends it, its budget of turns is spent, or its patience is. Workers count from
+/// 0.
 pub fn work<
     K: Known + Posed,
     E: EntryHeap,

@@ -13,7 +13,7 @@ use Rattle.ea_engine.proofs.run.workers.work_row.Goals.{After-seat_workers}
 pub seed_all-seeds-requires-clause-gathered : goal.seed_all-seeds-requires-clause-gathered
 seed_all-seeds-requires-clause-gathered g c κs within = gathered_start _ _ _ _ c.requires.seats.history c.requires.seats.account.1 c.requires.seats.account.2
 
--- the workers are seated, the first one with the seats that the seeds used
+-- the workers are seated, the first with the seats of the seeding
 seated : (g : _) (c : After-seat_workers g) → AreSeated g.K.Posed.problem (tables_of c.args.ground.now) c.seed_all-seeds.result.seeded c.seed_all-seeds.new.todo.waiting c.args.crew.rngs.items c.args.crew.tracers.items c.seat_workers.new.row.items
 seated g c = c.seat_workers.ensures.seated _ _ (record {
   fit = c.seed_all-seeds.ensures.fit;

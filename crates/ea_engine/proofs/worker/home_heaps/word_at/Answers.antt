@@ -3,7 +3,7 @@ use Rattle.std.proofs.Math.Nat.{add-mod_right, mod-add-div}
 use Rattle.std.proofs.lemmas.Nat.{mod-mul-add}
 use Rattle.ea_engine.proofs.worker.home_heaps.word_at.Goals as goal
 
--- so far behind a step, so often, is the heap
+-- the heap modulo the number of heaps
 heap_of : (k s h t q : ℕ) → h < k + 1 → t + (k + 1) * q + h ≡ s + (k + 1) → (s + k * t) % (k + 1) ≡ h
 heap_of k s h t q low e =
     let whole : s + k * t + (k + 1) ≡ (t + q) * (k + 1) + h = grind arith in

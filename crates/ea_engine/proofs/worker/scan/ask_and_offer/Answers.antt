@@ -21,7 +21,7 @@ arrive-arrival-requires g c =
     let within = g.K.Known.within c.args.entry.node c.args.entry.key c.requires.entry in
     rw c.from.ensures (is_question g.K.Posed.problem.network (g.T.TravelTimes.classes c.args.ground.now.times.now) c.requires.arc.0 c.args.entry.key c.args.arc ground.posed.network ground.classed c.requires.arc.1 within)
 
--- no answer of the problem at this departure is before the one that was given
+-- no answer of the problem at this departure is earlier than the one returned
 least : (g : _) (c : After-arrive-arrival g) (arrival : ℕ) → g.K.Posed.problem.answers c.args.arc.class c.args.arc.weight c.args.entry.key arrival → c.arrive-arrival.result ≤ arrival
 least g c arrival answer =
     let ground = c.requires.ground in

@@ -8,7 +8,7 @@ use Rattle.ea_engine.proofs.worker.scan.is_ahead.Goals as goal
 pub returns-clause-saw : goal.returns-clause-saw
 returns-clause-saw g c = OnlySaw-more _ _ _ _ c.read.result (OnlySaw-none _) c.read.ensures.gains
 
--- the label is at most the departure, and no answer is before that
+-- the label is at most the departure, and no answer is earlier
 pub returns-clause-followed : goal.returns-clause-followed
 returns-clause-followed g c = λ is arrival answer within.
     let ground = c.requires.ground in

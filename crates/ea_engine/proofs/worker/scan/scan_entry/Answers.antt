@@ -18,7 +18,7 @@ leaving-requires g c =
     let ground = c.requires.ground in
     subst (λ (n : Roads). IsNode n.nodes c.args.entry.node) (sym ground.named.network_is) (node_of g.K.Known.is_known g.K.Posed.problem ground.posed c.args.entry.node c.args.entry.key c.requires.entry)
 
--- the arcs lie beside the numbers of those that leave the node
+-- the arcs and the numbers of the leaving arcs correspond
 beside : (g : _) (c : After-leaving g) → AreSideBySide g.K.Posed.problem.network c.args.entry.node (leaving g.K.Posed.problem.network c.args.entry.node) c.leaving.result.arcs.now
 beside g c =
     subst (λ (n : Roads). AreSideBySide n c.args.entry.node (leaving n c.args.entry.node) c.leaving.result.arcs.now) c.requires.ground.named.network_is
@@ -45,7 +45,7 @@ pub follow-requires-clause-tail : goal.follow-requires-clause-tail
 follow-requires-clause-tail g c κs outlives =
     ap (λ (arc : Arc). arc.tail) c.with_tail-arc.ensures
 
--- the arc that was followed last is spent, and those before it stay so
+-- the arc relaxed last is spent, and those before it stay so
 spent : (g : _) (c : After-follow g) (k : ℕ) (default : LeavingArc) → k < c.loop-arc.arc-index + 1
     → IsFollowed g.K.Posed.problem c.follow.new.means.label_seat.history.bounds c.args.entry.key (with_tail (get_or c.leaving.result.arcs.now k default) c.args.entry.node)
 spent g c k default lt =
@@ -86,7 +86,7 @@ loop-arc-preserved g c = record {
   ];
 }
 
--- so few arcs leave the node
+-- the number of leaving arcs is bounded
 few_arcs : (g : _) (c : After-leaving g) → length c.leaving.result.arcs.now ≤ 268435456
 few_arcs g c =
     let lengths = (beside g c).lengths in

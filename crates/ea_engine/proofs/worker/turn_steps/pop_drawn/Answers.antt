@@ -8,7 +8,7 @@ use Rattle.ea_engine.proofs.TurnLemmas.{two_words, looked_by, took_by}
 use Rattle.ea_engine.proofs.DoneRows.{written}
 use Rattle.ea_engine.proofs.worker.turn_steps.pop_drawn.Goals as goal
 
--- what was turned round in its place
+-- the list after an in-place reversal
 turned_back : (xs ys : List Entry) → ys ≡ reverse xs → refill (length xs) xs ys ≡ reverse xs
 turned_back xs ys e = written (length xs) xs ys refl (ap length e ∙ length-reverse xs) ∙ e
 

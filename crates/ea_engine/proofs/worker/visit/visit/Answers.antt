@@ -25,7 +25,7 @@ pub returns-then-label-entry-clause-closed : goal.returns-then-label-entry-claus
 returns-then-label-entry-clause-closed g c =
     rw c.visited_turn.ensures (IsReachedBefore-noted _ _ c.args.entry.node c.read-label.result c.args.entry.key (ap (λ x. x.bounds) c.read-label.ensures.gains) c.if-label-entry.true)
 
--- two labels were looked at
+-- two labels were read
 looked : (g : _) (c : After-is_above_target g) → Progress (kit_of g.R.Rng.stream c.args.means.now [] c.args.fresh.now.items) (kit c.is_above_target.new.seat.history c.args.means.now.pool_seat.account (g.R.Rng.stream c.args.means.now.rng) [] c.args.fresh.now.items) [] 0 0
 looked g c =
     let read = Progress-noted _ _ _ _ [] c.args.fresh.now.items c.args.entry.node c.read-label.result c.read-label.ensures.gains in

@@ -4,7 +4,7 @@ use Rattle.std.specs.Prelude.{◌==◌, if◌then◌else◌}
 use Rattle.ea_engine.proofs.worker.home_heaps.Homing.new.Goals as goal
 use Rattle.ea_engine.proofs.worker.home_heaps.Homing.new.Goals.{then-at-eq0, else-at-eq0}
 
--- what holds of the first words and of one more holds where this was written
+-- what holds of the first words and of one more holds after that one was written
 one_more : (P : ℕ → ℕ → Type 0) (words : List ℕ) (place word : ℕ) → place < length words → ((k : ℕ) → k < place → P k (get_or words k 0)) → P place word
     → (k : ℕ) → k < place + 1 → P k (get_or (set words place word) k 0)
 one_more P words place word here before now =
