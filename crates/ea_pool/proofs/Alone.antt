@@ -46,7 +46,7 @@ nothing_in ((e ∷ es) ∷ rest) none f = absurd (none e (omega (arith, only-sam
 both : (i j k : ℕ) (P : ℕ → Type 0) → i < 2 → j < 2 → i ≢ j → k < 2 → P i → P j → P k
 both i j k P near other apart l p q = dite (ℕ_discrete k i) (λ e. subst P (sym e) p) (λ ne. let e : j ≡ k = omega arith in subst P e q)
 
--- an attempt at one of the two heaps that were looked at
+-- an attempt at one of the two heaps that were inspected
 pub answered : (v w : SeatMemory) (i x j y : ℕ) (picked : ℕ × ℕ) (answer : Popped) → w ≡ saw (saw v i x) j y → (picked ≡ (i, x)) ⊎ (picked ≡ (j, y))
     → AllByRecursion (λ p. picked.0 ≡ p.0 → picked.1 ≡ p.1 → MatchPopped answer (λ e. Unit {0}) ⊥ ⊥) w.seen → MatchPopped answer (λ e. Unit {0}) ⊥ ⊥
 answered v w i x j y picked answer is one all =
@@ -105,7 +105,7 @@ module _ (known : ℕ → ℕ → Type 0) (kind : HeapKind) (in_time : (node tim
   pops_least_of_two reply.Empty b s m t busy there = absurd t
   pops_least_of_two reply.Busy b s m t busy there = busy
 
--- entries that came from the heap with the lesser word of two that were looked at
+-- entries from the heap with the lesser word of two that were inspected
 module _
     (known : ℕ → ℕ → Type 0)
     (kind : HeapKind)

@@ -1,4 +1,4 @@
--- A batch goes into a heap entry by entry, and comes out so.
+-- A batch is pushed to a heap, and popped from one, entry by entry.
 use Rattle.std.proofs.Common.{Bool, true, false, ◌≡◌, ℕ, ◌<◌, ◌≤◌, List, [], ◌∷◌, ◌++◌, length, sym, refl, ap, ◌∙◌, arith, subst, append_assoc, Option, Some, ◌⊎◌, ⊎_elim, inl, inr}
 use mathlib.Core.Logic.{dite}
 use native.Mathlib.Decide.{dec_lt}
@@ -20,7 +20,7 @@ use Rattle.ea_pool.proofs.Gathered.{no_weight}
 use Rattle.ea_pool.proofs.Shown.{shown_empty, given_parts}
 use Rattle.ea_pool.proofs.HeapOrder.{comes_before, least_of_part}
 
--- the last one of a batch goes in
+-- the last entry of a batch goes in
 pub goes_one : (before batch batch' heap₀ heap heap' : List Entry) (e : Entry) → GoesIn before batch heap₀ heap → batch ≡ batch' ++ e ∷ [] → SameEntries heap' (e ∷ heap) → GoesIn before batch' heap₀ heap'
 goes_one before batch batch' heap₀ heap heap' e h is more = record {
   went = e ∷ h.went;
@@ -28,7 +28,7 @@ goes_one before batch batch' heap₀ heap heap' e h is more = record {
   added = λ f. omega (arith, more f, h.added f);
 }
 
--- or comes back
+-- or is returned
 pub goes_none : (before batch batch' heap₀ heap heap' : List Entry) → GoesIn before batch heap₀ heap → batch' ≡ batch → heap' ≡ heap → GoesIn before batch' heap₀ heap'
 goes_none before batch batch' heap₀ heap heap' h same still = record {
   went = h.went;
@@ -52,7 +52,7 @@ least_still : (x : Entry) (out rest rest' : List Entry) → ((d : Entry) → tim
 least_still x [] rest rest' few here h = (here, tt)
 least_still x (e ∷ out) rest rest' few here h = (least_of_part e rest rest' few h.0, least_still x out rest rest' few here h.1)
 
--- the least one of a heap comes out behind others
+-- the least entry of a heap is popped after others
 pub one_more_out : (out heap rest rest' : List Entry) (x : Entry) → AreTakenOut out heap rest → IsLeastOf x rest → SameEntries rest (x ∷ rest') → AreTakenOut (out ++ x ∷ []) heap rest'
 one_more_out out heap rest rest' x h least same =
     let few : (d : Entry) → times d rest' ≤ times d rest = λ d. omega (arith, same (only d)) in
@@ -62,31 +62,31 @@ one_more_out out heap rest rest' x h least same =
       least = least_still x out rest rest' few (least_of_part x rest rest' few least) h.least;
     }
 
--- nothing is out yet
+-- nothing is popped yet
 pub none_out_yet : (kind : HeapKind) (heap : List Entry) → Gives kind [] heap heap
 none_out_yet Least heap = record { parts = λ f. refl; ascending = tt; least = tt }
 none_out_yet Buckets heap = λ f. refl
 
--- and one comes out behind others
+-- and one is popped after others
 pub one_more_given : (kind : HeapKind) (out heap rest rest' : List Entry) (x : Entry) → Gives kind out heap rest → GivesOne kind x rest rest' → Gives kind (out ++ x ∷ []) heap rest'
 one_more_given Least out heap rest rest' x h one = one_more_out out heap rest rest' x h one.0 one.1
 one_more_given Buckets out heap rest rest' x h one = λ f. omega (arith, h f, one f, total-append f out rest, total-append f (out ++ x ∷ []) rest', total-append f out (x ∷ []))
 
--- what is in a heap after a batch went in was in the heap or in the batch
+-- entries of a heap after a batch was pushed were in the heap or in the batch
 pub in_time_after : (before after heap heap' : List Entry) → GoesIn before after heap heap' → AreInTime (before ++ heap) → AreInTime heap'
 in_time_after before after heap heap' h low e there =
     low e (omega (arith, h.added (only e), total-append (only e) h.went heap, total-append (only e) before heap, ap (times e) h.split, total-append (only e) after h.went))
 
--- and what is left after some came out was there
+-- and those left after some were popped were in it
 pub in_time_left : (kind : HeapKind) (out heap heap' : List Entry) → Gives kind out heap heap' → AreInTime heap → AreInTime heap'
 in_time_left kind out heap heap' h low e there = low e (omega (arith, given_parts kind out heap heap' h (only e), total-append (only e) out heap'))
 
--- where none came out, none was asked for, or there is none
+-- if none was popped, none was asked for, or there is none
 all_or_none : (kind : HeapKind) (most : ℕ) (rest : List Entry) → IsEnough kind most [] rest → (0 ≡ most) ⊎ (rest ≡ [])
 all_or_none Least most rest h = h
 all_or_none Buckets most rest h = ⊎_elim inl (λ (t : (rest ≡ []) ⊎ (0 < 0)). ⊎_elim inr (λ (some : 0 < 0). absurd (omega arith)) t) h
 
--- enough came out: so many, or all, or all that is given at once
+-- enough were popped: as many as asked for, or all, or all that is given at once
 pub asked_enough : (kind : HeapKind) (most : ℕ) (out rest : List Entry) → length out ≡ most → IsEnough kind most out rest
 asked_enough Least most out rest h = inl h
 asked_enough Buckets most out rest h = inl h
@@ -99,7 +99,7 @@ pub spent_enough : (kind : HeapKind) (most : ℕ) (out rest : List Entry) (spent
 spent_enough Least most out rest spent is not some = let e : true ≡ false = sym not ∙ is in cc
 spent_enough Buckets most out rest spent is not some = inr (inr some)
 
--- of a heap with entries some come out where some are asked for
+-- a heap with entries gives some if some are asked for
 pub comes_some : (kind : HeapKind) (most word : ℕ) (out heap rest : List Entry) → AreFirst kind most out heap rest → 0 < most → Shows kind word heap → word < EMPTY → 0 < length out
 comes_some kind most word (e ∷ out) heap rest h asked shown low = omega arith
 comes_some kind most word [] heap rest h asked shown low = ⊎_elim
@@ -124,7 +124,7 @@ face_at_least : (k : ℕ) (es : List Entry) → ((d : Entry) → 0 < times d es 
 face_at_least k [] h low = low
 face_at_least k (e ∷ es) h low = let a = h e (omega (arith, only-same e)) in let b = face_at_least k es (λ d there. h d (omega arith)) low in omega arith
 
--- the least of what came out is the least of all
+-- the least popped entry is the least of all
 pub face_out : (out content rest : List Entry) → AreTakenOut out content rest → 0 < length out → ((d : Entry) → 0 < times d out → d.key ≤ HORIZON) → face out ≤ face content
 face_out [] content rest h some low = absurd (omega arith)
 face_out (e ∷ out) content rest h some low =
@@ -132,7 +132,7 @@ face_out (e ∷ out) content rest h some low =
     let least = face_at_least e.key content (λ d there. head_first e d out content rest h there) (omega arith) in
     omega arith
 
--- with the word of the heap that they came out of, what came out is no later than all that this word is at most
+-- with the word of its heap, a popped entry is no later than all whose bound is this word
 pub below_out : (kind : HeapKind) (word : ℕ) (out content rest : List Entry) (d : Entry) → Gives kind out content rest → Shows kind word content → 0 < length out → ((e : Entry) → 0 < times e out → e.key ≤ HORIZON)
     → word ≤ d.key → IsBelow kind word out d
 below_out Least word out content rest d h shown some low late = omega (arith, face_out out content rest h some low, shown)

@@ -1,4 +1,4 @@
--- What a `BinaryHeap` of turned entries says of the entries.
+-- What a `BinaryHeap` of reversed entries says of the entries.
 use Rattle.std.proofs.Common.{◌≡◌, ℕ, lt-ltb, le-ltb, eq-eqb, ◌<◌, ◌≤◌, true, false, List, [], ◌∷◌, map, arith, length, get_or, ap, subst, sym, refl, ◌∙◌, Option, Some, None, min, MatchOption}
 use mathlib.Core.Logic.{dite}
 use native.Mathlib.Decide.{dec_lt}
@@ -39,7 +39,7 @@ module _ {R : Type 0} (entry_of : R → Entry) where
   top_is_there x [] l e = absurd (omega arith)
   top_is_there x (r ∷ rs) l e = omega (arith, only-same (entry_of x), ap (λ (y : R). only (entry_of x) (entry_of y)) e)
 
--- what comes before all comes before each that is there
+-- what precedes all precedes each entry
 pub comes_before : (x d : Entry) (es : List Entry) → IsLeastOf x es → 0 < times d es → ComesFirst x d
 comes_before x d [] h there = absurd (omega arith)
 comes_before x d (e ∷ es) h there = dite (dec_lt 0 (times d es)) (λ later. comes_before x d es h.1 later) (λ none. subst (ComesFirst x) (sym (only-one d e (omega arith))) h.0)
@@ -48,7 +48,7 @@ comes_before_all : (x : Entry) (es : List Entry) → ((d : Entry) → 0 < times 
 comes_before_all x [] h = tt
 comes_before_all x (e ∷ es) h = (h e (omega (arith, only-same e)), comes_before_all x es (λ d there. h d (omega arith)))
 
--- and so it comes before some of them
+-- and so it precedes some of them
 pub least_of_part : (x : Entry) (es part : List Entry) → ((d : Entry) → times d part ≤ times d es) → IsLeastOf x es → IsLeastOf x part
 least_of_part x es part few h = comes_before_all x part (λ d there. comes_before x d es h (omega (arith, few d)))
 
@@ -81,7 +81,7 @@ keys_above : (k : ℕ) (es : List Entry) → AllByRecursion (λ y. k ≤ y.key) 
 keys_above k [] h = tt
 keys_above k (e ∷ es) h = lower_above k e.key (least_key es) h.0 (keys_above k es h.1)
 
--- the least key of the entries, where there are some
+-- the least key of the entries, if there are some
 pub least_key_is : (x : Entry) (es : List Entry) → IsLeastOf x es → 0 < times x es → least_key es ≡ Some x.key
 least_key_is x [] least there = absurd (omega arith)
 least_key_is x (e ∷ es) least there =

@@ -82,7 +82,7 @@ module _ (known : ℕ → ℕ → Type 0) (kind : HeapKind) where
             (λ (t : (j ≢ id) × (get_elem? s.seats j ≡ maybe.some a)). absurd (not_all s.seats id j v a o.shares_add_up t.0 me t.1 live whole)) (at_set s.seats id j w a at);
       }
 
-  -- the seats that hold the heap k, where one seat's account changes and it holds as many as before
+  -- the seats that hold heap k, if one seat's account changes and it holds as many as before
   same_holders : (views : List SeatMemory) (id : ℕ) (v w : SeatMemory) (k : ℕ) → get_elem? views id ≡ maybe.some v → holds_heap k w ≡ holds_heap k v → total (holds_heap k) views ≡ total (holds_heap k) (set views id w)
   same_holders views id v w k me same = omega (arith, total-set (holds_heap k) views id v w me)
 
@@ -99,7 +99,7 @@ module _ (known : ℕ → ℕ → Type 0) (kind : HeapKind) where
   there (h ∷ hs) zero l = (h, refl)
   there (h ∷ hs) (suc k) l = there hs k (omega arith)
 
-  -- the word and the home of the heap k change, and one seat's account
+  -- the word and the home of heap k change, and one seat's account
   fits_changed : (s : Core) (o : IsLawful known kind s) (id k n : ℕ) (v w : SeatMemory) (h : maybe.Option (List Entry)) → k < length s.homes → get_elem? s.seats id ≡ maybe.some v
       → ((r : ℕ) → r ≢ k → holds_heap r w ≡ holds_heap r v) → Fits kind n (total (holds_heap k) (set s.seats id w)) h
       → (r : ℕ) (home : maybe.Option (List Entry)) → get_elem? (set s.homes k h) r ≡ maybe.some home → Fits kind (get_or (set s.words k n) r 0) (total (holds_heap r) (set s.seats id w)) home
@@ -117,7 +117,7 @@ module _ (known : ℕ → ℕ → Type 0) (kind : HeapKind) where
       (subst (λ (x : ℕ). Fits kind (get_or s.words r 0) x home) (same_holders s.seats id v w r me (others r ne)) (o.fits r home t.1)))
       (at_set s.homes k r h home at)
 
-  -- where no seat holds the heap k, it is at home
+  -- if no seat holds heap k, it is at home
   pub unheld_home : (s : Core) (o : IsLawful known kind s) (k : ℕ) (h : maybe.Option (List Entry)) → get_elem? s.homes k ≡ maybe.some h → total (holds_heap k) s.seats ≡ 0
       → (es : List Entry) × (h ≡ maybe.some es) × Shows kind (get_or s.words k 0) es
   unheld_home s o k maybe.none at none = let f = o.fits k maybe.none at in absurd (omega (arith, f.1))
@@ -148,7 +148,7 @@ module _ (known : ℕ → ℕ → Type 0) (kind : HeapKind) where
     seen_contents s o none ps h.1,
   )
 
-  -- where a seat that holds nothing has all shares, no heap is out
+  -- if a seat that holds nothing has all shares, no heap is out
   pub unheld_all : (s : Core) (o : IsLawful known kind s) (id : ℕ) (a : SeatMemory) → get_elem? s.seats id ≡ maybe.some a → a.shares ≡ SHARES → a.held ≡ None → (k : ℕ) → total (holds_heap k) s.seats ≡ 0
   unheld_all s o id a me whole rests k = total_alone (holds_heap k) (λ (b : SeatMemory). b.shares) s.seats id a me (omega (arith, o.shares_add_up)) (λ j b at none. ap (holds_heap k) (o.live j b at none)) ∙ ap (count_of k) rests
 
@@ -159,7 +159,7 @@ module _ (known : ℕ → ℕ → Type 0) (kind : HeapKind) where
       let alone : (f : SeatMemory → ℕ) → f nobody ≡ 0 → total f s.seats ≡ f a = λ f z. total_alone f (λ (b : SeatMemory). b.shares) s.seats id a me (omega (arith, o.shares_add_up)) (λ j b at none. ap f (o.live j b at none) ∙ z) in
       omega (arith, o.balanced f, alone (λ b. total f b.pushed) refl, alone (λ b. total f b.popped) refl, alone (λ b. total f (content_of b.held)) refl)
 
-  -- and where it holds nothing, what the heaps at home have
+  -- and if it holds nothing, what the heaps at home have
   pub balance_alone : (s : Core) (o : IsLawful known kind s) (id : ℕ) (a : SeatMemory) → get_elem? s.seats id ≡ maybe.some a → a.shares ≡ SHARES → a.held ≡ None → (f : Entry → ℕ)
       → total f a.pushed ≡ total f a.popped + total (total f) (map at_home s.homes)
   balance_alone s o id a me whole rests f =
@@ -187,12 +187,12 @@ module _ (known : ℕ → ℕ → Type 0) (kind : HeapKind) where
   pub known_in : (s : Core) (o : IsLawful known kind s) (k : ℕ) (es : List Entry) → get_elem? s.homes k ≡ maybe.some (maybe.some es) → AreKnown known es
   known_in s o k es at e some = o.known_all e (omega (arith, o.balanced (only e), term_le (λ h. total (only e) (at_home h)) s.homes k (maybe.some es) at))
 
-  -- a seat looks at heap k
+  -- a seat loads the word of heap k
   pub load_lawful : (s : Core) (o : IsLawful known kind s) (id k : ℕ) (v : SeatMemory) → get_elem? s.seats id ≡ maybe.some v → 0 < v.shares
       → IsLawful known kind (board s.words s.homes (set s.seats id (saw v k (get_or s.words k 0))))
   load_lawful s o id k v me live = unmoved s o id v (saw v k (get_or s.words k 0)) me live refl refl refl refl (λ whole. (refl, o.fresh id v me whole))
 
-  -- it takes the heap k, which is at home
+  -- it takes heap k, which is at home
   pub take_lawful : (s : Core) (o : IsLawful known kind s) (id k : ℕ) (v : SeatMemory) (es : List Entry) → get_elem? s.seats id ≡ maybe.some v → 0 < v.shares → v.held ≡ None → get_elem? s.homes k ≡ maybe.some (maybe.some es)
       → IsLawful known kind (board (set s.words k OUT) (set s.homes k maybe.none) (set s.seats id (took v k es)))
   take_lawful s o id k v es me live rests at =
@@ -217,7 +217,7 @@ module _ (known : ℕ → ℕ → Type 0) (kind : HeapKind) where
   held_inside_at : (s : Core) (o : IsLawful known kind s) (id k : ℕ) (v : SeatMemory) (es : List Entry) → get_elem? s.seats id ≡ maybe.some v → v.held ≡ Some (held_at k es) → k < length s.homes
   held_inside_at s o id k v es me holds = subst (IsInside (length s.homes)) holds (o.held_inside id v me)
 
-  -- The seat that holds the heap k puts it back with the entries es', under a word of them
+  -- The seat that holds heap k returns it with the entries es', under a word of them.
   puts_back : (s : Core) (o : IsLawful known kind s) (id k word : ℕ) (v w : SeatMemory) (es es' : List Entry) → Shows kind word es' → get_elem? s.seats id ≡ maybe.some v → 0 < v.shares → v.held ≡ Some (held_at k es)
       → w.shares ≡ v.shares → w.held ≡ None → w.seen ≡ []
       → ((f : Entry → ℕ) → total f w.pushed + (total f v.popped + total f es) ≡ total f v.pushed + (total f w.popped + total f es'))

@@ -1,4 +1,4 @@
--- What is left in a closed pool, heap by heap.
+-- The entries left in a closed pool, heap by heap.
 use Rattle.std.proofs.Common.{◌≡◌, ℕ, ◌+◌, ◌<◌, ◌≤◌, Bool, true, false, cond, ltb, ltb-true, ltb-false, List, [], ◌∷◌, ◌++◌, length, length-set, get_or, set, take, sym, refl, ap, ◌∙◌, arith, subst, append-nil, append_assoc, Option, Some, None, MatchOption}
 use Rattle.std.proofs.lemmas.List.{length-take-le, set-get_or, take_all, take_more}
 use mathlib.Core.Option.{some}
@@ -33,7 +33,7 @@ above_all : (key : ℕ) (es : List Entry) → Above key (least_key es) → AllBy
 above_all key [] h = tt
 above_all key (e ∷ es) h = let t = above_lower key e.key (least_key es) h in (t.0, above_all key es t.1)
 
--- the least key is at most each
+-- each key is at least the least key
 above_least : (es : List Entry) (key : ℕ) → least_key es ≡ Some key → AllByRecursion (λ e. key ≤ e.key) es
 above_least es key is = let low : key ≤ key = omega arith in above_all key es (subst (Above key) (sym is) low)
 
@@ -56,7 +56,7 @@ better_in heaps n None (Some key) before near is h =
 better_in heaps n (Some b) (Some key) before near is h =
     subst (λ (o : Option (ℕ × ℕ)). IsBestIn heaps (before ++ content heaps n) o) refl (better_of_two heaps n key b before near is h (ltb key b.1) refl)
 
--- one more heap was looked at
+-- one more heap was inspected
 pub better_step : (heaps : List (List Entry)) (n : ℕ) (best : Option (ℕ × ℕ)) (key : Option ℕ) → n < length heaps → key ≡ least_key (content heaps n) → IsBestOf heaps n best → IsBestOf heaps (n + 1) (better best n key)
 better_step heaps n best key near is h =
     let more : gathered (take (n + 1) heaps) ≡ gathered (take n heaps) ++ content heaps n = ap gathered (take_more heaps n [] near) ∙ gathered_snoc (take n heaps) (content heaps n) in

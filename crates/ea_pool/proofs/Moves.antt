@@ -1,4 +1,4 @@
--- Each kind of step is an event of the pool, and tells what it says.
+-- Each kind of step is an event of the pool, and shows what it promises.
 use Rattle.std.proofs.Common.{◌≡◌, ◌≢◌, ◌≤◌, ℕ, zero, suc, ◌+◌, ◌*◌, ◌<◌, true, false, List, [], ◌∷◌, ◌++◌, map, replicate, set, length, get_or, sym, refl, ap, ◌∙◌, arith, subst, eqb, eq-eqb, ne_eqb, Option, Some, None, length-set, get_or-set_same, get_or-set_other}
 use Rattle.std.proofs.lemmas.List.{set-get_or, length-replicate, get_or-replicate}
 use Rattle.std.specs.List.{AllByRecursion}
@@ -47,7 +47,7 @@ map-replicate : (n : ℕ) → map maybe.some (replicate n []) ≡ empty_homes n
 map-replicate zero = refl
 map-replicate (suc n) = ap (λ (l : Homes). maybe.some [] ∷ l) (map-replicate n)
 
--- what was seen of the heap that is tried is what is found
+-- the word seen of the heap that is tried is the word found
 pub hits : (k r seen : ℕ) (pairs : List (ℕ × ℕ)) → AllByRecursion (λ p. word_place k ≡ word_place p.0 → r ≡ p.1) pairs → AllByRecursion (λ p. k ≡ p.0 → seen ≡ p.1 → eqb r seen ≡ true) pairs
 hits k r seen [] h = tt
 hits k r seen (p ∷ ps) h = ((λ here is. eq-eqb r seen (h.0 (ap word_place here) ∙ sym is)), hits k r seen ps h.1)
@@ -154,12 +154,12 @@ module _ (known : ℕ → ℕ → Type 0) (kind : HeapKind) (heaps : ℕ) where
         ((λ hit. absurd (miss hit)), (λ _. refl), all),
       ))
 
-  -- the heap k comes home to a seat that is known to be v
+  -- heap k comes home to a seat that is known to be v
   came_home : (core : Core) (id k word : ℕ) (v w : SeatMemory) (es content : List Entry) → v.held ≡ Some (held_at k es) → IsReached known kind heaps (with_home core id word content w v.held)
       → IsReached known kind heaps (board (set core.words k word) (set core.homes k (maybe.some content)) (set core.seats id w))
   came_home core id k word v w es content holds reached = subst (λ (held : Option Held). IsReached known kind heaps (with_home core id word content w held)) holds reached
 
-  -- of the table, where a run leads to it
+  -- the same for the table, if a run leads to it
   back_home : (s : Board) (h : Rule s) (id k word : ℕ) (w w' : SeatMemory) (content : List Entry) → k < length h.core.words → w' ≡ w
       → IsReached known kind heaps (board (set h.core.words k word) (set h.core.homes k (maybe.some content)) (set h.core.seats id w))
       → Rule (record { words = set s.words (word_place k) word; homes = set s.homes k (maybe.some content); views = set s.views id w' })
@@ -268,7 +268,7 @@ module _ (known : ℕ → ℕ → Type 0) (kind : HeapKind) (heaps : ℕ) where
         seats = λ i. set (set (h.seats i) id (joined (own i) (theirs i))) other nobody;
       }
 
-  -- the same, of a seat that holds the heap alone
+  -- the same for a seat that holds the heap alone
   pub gives_pushed_at : (n id k word : ℕ) (m : Place) (es es' : List Entry) → m.1 ≡ (k, es') ∷ [] → 0 < m.0.shares → k < n → m.0.held ≡ Some (held_at k es) → Shows kind word es' → (added : List Entry) → SameEntries es' (added ++ es) → AreKnown known added
       → Allows Rule n id m (word_place k) (λ _. word) (λ _. GavePushed (step n (word_place k) word 0 maybe.none) m word)
   gives_pushed_at n id k word m es es' carries live near holds shown added same may =

@@ -31,7 +31,7 @@ module _ (key : ℕ → Option ℕ) (k : ℕ) where
       (λ other. let f : lesser i (Some a) j (Some b) ≡ i = s ∙ ap (λ t. cond t (min i j) i) (ne_eqb a b other) in
       let v = ap value (sym found ∙ (ap key (sym is ∙ f) ∙ ka)) in (omega arith, omega arith)))
 
-  -- the key of the heap that is chosen is above neither
+  -- the key of the chosen heap is above neither
   lesser_least : (i j : ℕ) (x y : Option ℕ) → key i ≡ x → key j ≡ y → key (lesser i x j y) ≡ Some k → Above k x × Above k y
   lesser_least i j None None kx ky found = (tt, tt)
   lesser_least i j None (Some b) kx ky found = let v = ap value (sym found ∙ ky) in (tt, omega arith)
@@ -88,7 +88,7 @@ rank_bounded heaps new i j e near other apart t =
     let both = lesser_least (λ n. least_key (content heaps n)) e.key i j (least_key (content heaps i)) (least_key (content heaps j)) refl refl found in
     without_two e.key heaps i j near other apart (none_below e.key (content heaps i) both.0) (none_below e.key (content heaps j) both.1)
 
--- the same, of what a pop answers
+-- the same for the outcome of a pop
 pub ranked : (heaps new : List (List Entry)) (i j : ℕ) (answer : Option Entry) → i < length heaps → j < length heaps → i ≢ j
     → MatchOption answer ((content heaps i ≡ []) × (content heaps j ≡ []) × (new ≡ heaps)) (λ least. TakesFrom (lesser_heap heaps i j) least heaps new)
     → IfSome answer (λ least. rank_error least.key heaps + (length (content heaps i) + length (content heaps j)) ≤ total length heaps)
@@ -108,7 +108,7 @@ two_are_all (a ∷ b ∷ []) (suc zero) (suc zero) two near other apart = absurd
 two_are_all (a ∷ b ∷ []) (suc zero) (suc (suc j)) two near other apart = absurd (omega arith)
 two_are_all (a ∷ b ∷ []) (suc (suc i)) j two near other apart = absurd (omega arith)
 
--- so with two heaps nothing with a smaller key is left behind
+-- so with two heaps no smaller key is left
 pub ranked_of_two : (heaps new : List (List Entry)) (i j : ℕ) (answer : Option Entry) → length heaps ≡ 2 → i < length heaps → j < length heaps → i ≢ j
     → MatchOption answer ((content heaps i ≡ []) × (content heaps j ≡ []) × (new ≡ heaps)) (λ least. TakesFrom (lesser_heap heaps i j) least heaps new)
     → IfSome answer (λ least. rank_error least.key heaps ≡ 0)

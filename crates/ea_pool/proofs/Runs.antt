@@ -65,18 +65,18 @@ module _ (known : ℕ → ℕ → Type 0) (kind : HeapKind) where
   pub every_run : (heaps : ℕ) (events : List Event) → MayRun known kind (opening heaps) events → IsLawful known kind (after_all (opening heaps) events)
   every_run heaps events may = runs.kept_by_run after (MayCome known kind) (IsLawful known kind) step_lawful (opening heaps) events (opening_lawful known kind heaps) may
 
-  -- what a run leads to is lawful
+  -- the state at the end of a run is lawful
   pub reached_lawful : (heaps : ℕ) (core : Core) → IsReached known kind heaps core → IsLawful known kind core
   reached_lawful heaps core h = runs.kept_where_reached after (MayCome known kind) (IsLawful known kind) step_lawful (opening heaps) core (opening_lawful known kind heaps) h
 
   pub opening_reached : (heaps : ℕ) → IsReached known kind heaps (opening heaps)
   opening_reached heaps = runs.reached_first after (MayCome known kind) (opening heaps)
 
-  -- and the run goes on by each event that may come
+  -- and the run continues with each possible event
   pub reached_next : (heaps : ℕ) (core : Core) (event : Event) → IsReached known kind heaps core → MayCome known kind core event → IsReached known kind heaps (after core event)
   reached_next heaps core event h may = runs.reached_next after (MayCome known kind) (opening heaps) core event h may
 
-  -- a take, by whether it hits
+  -- a take, whether or not it succeeds
   pub reached_take : (heaps : ℕ) (core : Core) (id heap seen : ℕ) → IsReached known kind heaps core → MayCome known kind core (take id heap seen) → (b : Bool) → eqb (slice_index core.words heap) seen ≡ b
       → IsReached known kind heaps (cond b (with_taken core id heap) (with_state core id (forgot (state_of core id))))
   reached_take heaps core id heap seen h may b e =

@@ -37,7 +37,7 @@ lesser_of i x j y = ⊎_elim inr
     (λ (e : lesser i (Some x) j (Some y) ≡ cond (eqb x y) (min i j) i). ⊎_elim (λ (m : cond (eqb x y) (min i j) i ≡ min i j). ⊎_elim (λ (f : min i j ≡ i). inl (e ∙ (m ∙ f))) (λ (f : min i j ≡ j). inr (e ∙ (m ∙ f))) (min_of i j)) (λ (m : cond (eqb x y) (min i j) i ≡ i). inl (e ∙ m)) (either_of (eqb x y) (min i j) i))
     (either_of (ltb y x) j (cond (eqb x y) (min i j) i))
 
--- where the heap that is chosen has no entry, neither has one
+-- if the chosen heap has no entry, neither has one
 both_empty : (heaps : List (List Entry)) (i j : ℕ) (x y : Option ℕ) → least_key (content heaps i) ≡ x → least_key (content heaps j) ≡ y → content heaps (lesser i x j y) ≡ [] → (content heaps i ≡ []) × (content heaps j ≡ [])
 both_empty heaps i j None None a b none = (no_entry _ a, no_entry _ b)
 both_empty heaps i j None (Some y) a b none = (no_entry _ a, none)
@@ -61,7 +61,7 @@ lesser_either i None j (Some y) = inr refl
 lesser_either i (Some x) j None = inl refl
 lesser_either i (Some x) j (Some y) = lesser_of i x j y
 
--- the same, of what the calls on the two heaps gave
+-- the same for the results of the calls on the two heaps
 pub pops : (heaps now : List (List Entry)) (i I j J k : ℕ) (x y : Option ℕ) (a b h h' : List Entry) (answer : Option Entry) → heaps ≡ now → i ≡ I → j ≡ J → i < length heaps → j < length heaps
     → a ≡ get_or heaps i a → b ≡ get_or heaps j b → x ≡ least_key a → y ≡ least_key b → k ≡ lesser i x j y → h ≡ get_or heaps k h
     → MatchOption answer ((h ≡ []) × (h' ≡ [])) (λ e. IsLeastOf e h × SameEntries h (e ∷ h'))

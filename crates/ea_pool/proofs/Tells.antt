@@ -1,4 +1,4 @@
--- What the steps of one attempt give together.
+-- What the steps of one attempt show together.
 use Rattle.std.proofs.Common.{◌≡◌, ℕ, ◌<◌, ◌≤◌, Bool, true, List, length, [], ◌∷◌, ◌++◌, sym, refl, ap, ◌∙◌, arith, subst, Option, Some, slice_index_or}
 use Rattle.std.specs.Prelude.{Result, Ok, MatchOption, MatchResult}
 use Rattle.std.specs.List.{AllByRecursion}
@@ -100,7 +100,7 @@ module _ (known : ℕ → ℕ → Type 0) (kind : HeapKind) where
             left = were_left m m₁ m₂ m₃ k seen comes.0 moves.2.0 t view moves.2.1 (given_parts kind comes.0 t.0 moves.2.0 comes.2.taken) done;
           }
 
-  -- what was pushed to a heap that was looked at and taken
+  -- what was pushed to a heap that was inspected and taken
   module _
       (v : SeatMemory)
       (m m₁ m₂ m₃ : Place)
@@ -134,7 +134,7 @@ module _ (known : ℕ → ℕ → Type 0) (kind : HeapKind) where
     pub took_there : TookThere kind k v.seen m₃.0.last_take
     took_there = (t.0, x, t.2, ap (λ (a : SeatMemory). a.last_take) after_pushes)
 
-  -- what is asked of the heap that is put back with one entry more
+  -- the condition for returning the heap with one more entry
   pub gives_one : (m m₁ m₂ : Place) (k x : ℕ) (e : Entry) (answer : Result (Unit {0}) Entry) (word : ℕ) → Took known kind m k x m₁ → m₂.0 ≡ m₁.0 → answer ≡ Ok tt
       → HoldsHeap m₁ k (λ es. HoldsHeap m₂ k (λ left. MatchResult answer (λ _. SameEntries left (e ∷ es)) (λ back. (back ≡ e) × (left ≡ es)) × Shows kind word left))
       → IsKnown known e → HoldsHeap m₂ k (λ left. IsHeld m₂.0 k (λ es. Shows kind word left × HasMore es left (AreKnown known)))
@@ -144,7 +144,7 @@ module _ (known : ℕ → ℕ → Type 0) (kind : HeapKind) where
       let parts : SameEntries left (e ∷ moves.0) = subst (λ (o : Result (Unit {0}) Entry). MatchResult o (λ _. SameEntries left (e ∷ moves.0)) (λ back. (back ≡ e) × (left ≡ moves.0))) fine moves.2.2.0 in
       (left, moves.2.1, (t.0, ap (λ (a : SeatMemory). a.held) (view ∙ ap (λ (n : Place). n.0) t.1), (moves.2.2.1, (e ∷ [], subst (λ (es : List Entry). SameEntries left (e ∷ es)) same parts, known_one known e may))))
 
-  -- of one entry
+  -- for one entry
   module _
       (v : SeatMemory)
       (m m₁ m₂ m₃ : Place)
@@ -176,7 +176,7 @@ module _ (known : ℕ → ℕ → Type 0) (kind : HeapKind) where
     pub took_one : TookThere kind k v.seen m₃.0.last_take
     took_one = took_there v m m₁ m₂ m₃ k x (e ∷ []) moves.2.0 is t view moves.2.1 parts_one done
 
-  -- a batch goes into a heap that was looked at and taken
+  -- a batch is pushed to a heap that was inspected and taken
   module _
       (v : SeatMemory)
       (m m₁ : Place)
@@ -253,7 +253,7 @@ module _ (known : ℕ → ℕ → Type 0) (kind : HeapKind) where
 
 -- heaps that give the least entry first
 module _ (known : ℕ → ℕ → Type 0) where
-  -- what is asked of the heap that is put back then
+  -- the condition for returning the heap then
   pub gives_some : (m m₁ m₂ : Place) (k seen : ℕ) (e : Entry) (answer : Option Entry) (word : ℕ) → Took known Least m k seen m₁ → m₂.0 ≡ m₁.0 → answer ≡ Some e
       → HoldsHeap m₁ k (λ es. HoldsHeap m₂ k (λ left. MatchOption answer ((es ≡ []) × (left ≡ [])) (λ least. IsLeastOf least es × SameEntries es (least ∷ left)) × Shows Least word left))
       → HoldsHeap m₂ k (λ left. IsHeld m₂.0 k (λ es. Shows Least word left × HasMore left es (λ _. Unit {0})))
@@ -323,7 +323,7 @@ module _ (known : ℕ → ℕ → Type 0) where
     pub was_left : m.0.shares ≡ SHARES → IsLeft e (books m.0)
     was_left whole = omega (arith, were_left known Least m m₁ m₂ m₃ k seen (e ∷ []) moves.2.0 t view moves.2.1 one.1 done whole e, only-same e)
 
--- and an exchange hits
+-- and an exchange succeeds
 pub never_missed : (v w : SeatMemory) (k x : ℕ) (r : Bool) → w ≡ saw v k x → (w.shares ≡ SHARES → AllByRecursion (λ p. k ≡ p.0 → x ≡ p.1 → r ≡ true) w.seen) → v.shares ≡ SHARES → r ≡ true
 never_missed v w k x r is hits whole = (subst (λ (a : SeatMemory). AllByRecursion (λ p. k ≡ p.0 → x ≡ p.1 → r ≡ true) a.seen) is (hits (ap (λ (a : SeatMemory). a.shares) is ∙ whole))).0 refl refl
 

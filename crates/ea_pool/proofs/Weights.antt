@@ -22,12 +22,12 @@ only-one e x h = dite (ℕ_discrete x.key e.key)
 pub added_same : (es ds xs ys : List Entry) → SameEntries xs (es ++ ys) → SameEntries xs (ds ++ ys) → SameEntries es ds
 added_same es ds xs ys a b = λ f. omega (arith, a f, b f, total-append f es ys, total-append f ds ys)
 
--- one entry stands in one list only
+-- a list with the same entries as a list of one is that list
 pub one_entry : (e : Entry) (ds : List Entry) → SameEntries ds (e ∷ []) → ds ≡ e ∷ []
 one_entry e [] h = absurd (omega (arith, h (only e), only-same e))
 one_entry e (d ∷ []) h = ap (λ (x : Entry). x ∷ []) (sym (only-one e d (omega (arith, h (only e), only-same e))))
 one_entry e (d ∷ x ∷ ds) h = absurd (omega (arith, h (λ _. 1)))
 
--- and is the one that is there
+-- and it is the entry of that list
 pub known_one : (known : ℕ → ℕ → Type 0) (e : Entry) → IsKnown known e → AreKnown known (e ∷ [])
 known_one known e may x there = subst (IsKnown known) (sym (only-one x e (omega arith))) may

@@ -1,4 +1,4 @@
--- Several entries at once, and what calls with a batch of them do.
+-- Calls with batches of entries.
 use Rattle.std.specs.Prelude.{◌≡◌, ◌⊎◌, ℕ, ◌<◌, ◌≤◌, List, ◌++◌, length, Option, Result, Ok, Err}
 use Rattle.ea_pool.specs.declared.heap.entry.Entry.{Entry}
 use Rattle.ea_pool.specs.declared.shared.account.Account.{Account}
@@ -13,34 +13,35 @@ use Rattle.ea_pool.specs.Kinds.{HeapKind, Least, Buckets, Gives, IsEnough, IsBel
 use Rattle.ea_pool.specs.Pools.{PushesAll, PopsAll, IsLeft, AreLeft}
 use Rattle.ea_pool.specs.Tries.{TookAll}
 
--- some entries of a batch, from its end, are in the heap now
+-- Entries from the end of a batch are in the heap now.
 pub record GoesIn (before after heap heap' : List Entry) : Type 0 where
   pub went : List Entry
   pub split : before ≡ after ++ went
   pub added : SameEntries heap' (went ++ heap)
 
--- entries came out of a heap of this kind, as many as were asked for, or all, or with buckets all of a window
+-- Entries were popped from a heap of this kind: as many as asked for, or all; with buckets, maybe all of a
+-- window.
 pub record AreFirst (kind : HeapKind) (most : ℕ) (out heap heap' : List Entry) : Type 0 where
   pub taken : Gives kind out heap heap'
   pub few : length out ≤ most
   pub enough : IsEnough kind most out heap'
 
--- and they stand at the batch's end
+-- They are appended to the batch.
 abbrev pub ComesOut : HeapKind → ℕ → List Entry → List Entry → List Entry → List Entry → Type 0
 ComesOut kind most before after heap heap' = (out : List Entry) × (after ≡ before ++ out) × AreFirst kind most out heap heap'
 
--- What a refused push leaves in a batch, and the account: the first entries of the batch, at least one, in their order. Those that
--- are no longer there were pushed
+-- A refused push leaves the first entries of the batch, at least one, in their order; the account has the
+-- others as pushed.
 abbrev pub PushesFrom : List Entry → List Entry → Account → Account → Type 0
 PushesFrom before after a b = (went : List Entry) × (before ≡ after ++ went) × PushesAll a went b × (0 < length after)
 
--- as many as were asked for, or all that the heap had that was taken last; with buckets, any
+-- As many as asked for, or all that the heap taken last had; with buckets, any number.
 abbrev pub TookEnough : HeapKind → ℕ → List Entry → Option LastTake → Type 0
 TookEnough Least most out last = (length out ≡ most) ⊎ TookAll out last
 TookEnough Buckets most out last = Unit {0}
 
--- What a pop of at most so many brought into a batch, and the account: known entries, at least one, taken from a heap of which
--- P holds, as many as were asked for or all that it had, where heaps give the least entry first
+-- A pop appended up to `most` known entries to the batch and the account, at least one, from a heap of which
+-- P holds: as many as asked for or all that it had, if heaps give the least entry first.
 pub record PopsSome (known : ℕ → ℕ → Type 0) (kind : HeapKind) (most : ℕ) (before after : List Entry) (a b : Account) (P : List Entry → Type 0) (last : Option LastTake) : Type 0 where
   pub out : List Entry
   pub brought : after ≡ before ++ out
@@ -50,21 +51,21 @@ pub record PopsSome (known : ℕ → ℕ → Type 0) (kind : HeapKind) (most : �
   pub took : P out
   pub few : length out ≤ most
   pub enough : TookEnough kind most out last
-  -- a seat with all shares pops what was left
+  -- A seat with all shares pops what was left.
   pub left : a.shares ≡ SHARES → AreLeft out a
 
--- of two heaps, what a seat with all shares pops first has the least key of all that is left; or with buckets, no key that is left
--- is below the word under which it popped
+-- With two heaps, what a seat with all shares pops first has the least key of all that is left; with buckets,
+-- no key that is left is below the word under which it popped.
 abbrev pub IsLowest : HeapKind → ℕ → ℕ → List Entry → Account → Type 0
 IsLowest kind heaps word out a = a.shares ≡ SHARES → heaps ≡ 2 → (d : Entry) → IsLeft d a → IsBelow kind word out d
 
--- P where all went in, Q where the pool was busy, and R where memory was refused
+-- P if all entries went in, Q if the pool was busy, R if memory was refused.
 abbrev pub MatchPushed : Result (Unit {0}) PushAllRefused → Type 0 → Type 0 → Type 0 → Type 0
 MatchPushed (Ok done) P Q R = P
 MatchPushed (Err refused.Busy) P Q R = Q
 MatchPushed (Err refused.OutOfMemory) P Q R = R
 
--- P where entries came out, Q where there were none, and R where the pool was busy
+-- P if entries were popped, Q if there were none, R if the pool was busy.
 abbrev pub MatchSome : PoppedSome → Type 0 → Type 0 → Type 0 → Type 0
 MatchSome reply.Entries P Q R = P
 MatchSome reply.Empty P Q R = Q

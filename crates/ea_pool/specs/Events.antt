@@ -11,7 +11,8 @@ use Rattle.ea_pool.specs.Kinds.{HeapKind, Shows}
 use Rattle.ea_pool.specs.States.{first_state, nobody, content_of, IfHeld, saw, forgot, took, pushed, popped, gave, left_of, newcomer, joined}
 use Rattle.ea_pool.specs.Core.{Core, at_home, IsLawful}
 
--- The seat that steps comes first. A take names the heap and the value that was seen; a give-back names the heap's word, the entries that went in or came out, and the heap's new content, in whatever order the heap keeps it
+-- The seat that steps comes first. A take names the heap and the value that was seen. A return names the
+-- heap's word, the entries that went in or came out, and the heap's new content, in the heap's order.
 pub data Event : Type 0 where
   load : ℕ → ℕ → Event
   take : ℕ → ℕ → ℕ → Event
@@ -21,7 +22,7 @@ pub data Event : Type 0 where
   split : ℕ → Event
   join : ℕ → ℕ → Event
 
--- a new pool
+-- A new pool.
 abbrev pub opening : ℕ → Core
 opening heaps = record { words = replicate heaps EMPTY; homes = replicate heaps (maybe.some []); seats = first_state ∷ [] }
 
@@ -34,7 +35,7 @@ home_of core heap = at_home (slice_index_or core.homes heap maybe.none)
 abbrev pub with_state : Core → ℕ → SeatMemory → Core
 with_state core id seat = record { words = core.words; homes = core.homes; seats = slice_set core.seats id seat }
 
--- the heap goes out with the seat
+-- The seat takes the heap.
 abbrev pub with_taken : Core → ℕ → ℕ → Core
 with_taken core id heap = record {
   words = slice_set core.words heap OUT;
@@ -42,7 +43,7 @@ with_taken core id heap = record {
   seats = slice_set core.seats id (took (state_of core id) heap (home_of core heap));
 }
 
--- the heap that is held comes home under this word with this content
+-- The heap that is held is returned under this word with this content.
 abbrev pub with_home : Core → ℕ → ℕ → List Entry → SeatMemory → Option Held → Core
 with_home core id word content seat None = core
 with_home core id word content seat (Some held) = record {
@@ -60,7 +61,7 @@ after core (give_back id word) = with_home core id word (content_of (state_of co
 after core (split id) = record { words = core.words; homes = core.homes; seats = slice_set core.seats id (left_of (state_of core id)) ++ newcomer (state_of core id) ∷ [] }
 after core (join id other) = with_state (with_state core id (joined (state_of core id) (state_of core other))) other nobody
 
--- a live seat has a share
+-- A live seat has a share.
 abbrev pub IsLive : Core → ℕ → Type 0
 IsLive core id = 0 < (state_of core id).shares
 
@@ -79,10 +80,10 @@ after_all = runs.after_all after
 abbrev pub MayRun : (ℕ → ℕ → Type 0) → HeapKind → Core → List Event → Type 0
 MayRun known kind = runs.MayRun after (MayCome known kind)
 
--- every run of a new pool, in whatever order its seats step, leaves it lawful
+-- Every run of a new pool, whatever the order of its seats' steps, leaves it lawful.
 abbrev pub EveryRunIsLawful : (ℕ → ℕ → Type 0) → HeapKind → Type 0
 EveryRunIsLawful known kind = (heaps : ℕ) (events : List Event) → MayRun known kind (opening heaps) events → IsLawful known kind (after_all (opening heaps) events)
 
--- some run of a new pool leads to this state
+-- Some run of a new pool leads to this state.
 abbrev pub IsReached : (ℕ → ℕ → Type 0) → HeapKind → ℕ → Core → Type 0
 IsReached known kind heaps core = runs.IsReached after (MayCome known kind) (opening heaps) core

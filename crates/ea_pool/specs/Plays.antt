@@ -1,4 +1,5 @@
--- A pool as an `atomic_table`, and what its steps tell: of the step, the seat before, the number found and the seat after.
+-- A pool as an `atomic_table`, and what each step says of the seat before, the number found and the seat
+-- after.
 use Rattle.std.specs.Prelude.{◌≡◌, ◌≢◌, ℕ, ◌+◌, ◌*◌, ◌<◌, ◌≤◌, List, [], ◌∷◌, ◌++◌, length, None, slice_index, slice_index_or}
 use Rattle.std.specs.List.{AllByRecursion}
 use Rattle.atomic_table.specs.Table.{State, Me, Step, rest}
@@ -13,16 +14,16 @@ use Rattle.ea_pool.specs.States.{content_of, saw, forgot, took, pushed, popped, 
 use Rattle.ea_pool.specs.Core.{Core}
 use Rattle.ea_pool.specs.Events.{IsReached}
 
--- Word 0 is the seat word. The word of heap k stands apart from those before and behind it
+-- Word 0 is the seat word. The words of heaps are spread.
 abbrev pub word_place : ℕ → ℕ
 word_place k = WORDS_APART * (k + 1)
 
--- the words of the heaps, spread out
+-- The words of the heaps, spread over the table's words.
 pub record AreSpread (all words : List ℕ) : Type 0 where
   pub room : length all ≡ WORDS_APART * (length words + 1)
   pub each : (k : ℕ) → k < length words → slice_index all (word_place k) ≡ slice_index words k
 
--- A run leads to the words, the heaps at home and what the seats know
+-- A run leads to the words, the heaps at home and what the seats know.
 pub record IsPoolState (known : ℕ → ℕ → Type 0) (kind : HeapKind) (heaps : ℕ) (s : State (List Entry) SeatMemory) : Type 0 where
   pub core : Core
   pub reached : IsReached known kind heaps core
@@ -33,12 +34,12 @@ pub record IsPoolState (known : ℕ → ℕ → Type 0) (kind : HeapKind) (heaps
 abbrev pub Place : Type 0
 Place = Me (List Entry) SeatMemory
 
--- what the slot that the seat took has now
+-- The content of the slot that the seat took.
 abbrev pub value_of : List (ℕ × List Entry) → List Entry
 value_of [] = []
 value_of (x ∷ xs) = x.1
 
--- What a seat with all shares knows of the heaps, which are all at home: they have these contents
+-- What a seat with all shares knows of the heaps, which are all at home: they have these contents.
 pub record Surveys (known : ℕ → ℕ → Type 0) (kind : HeapKind) (heaps : ℕ) (a : SeatMemory) : Type 0 where
   pub contents : List (List Entry)
   pub width : length contents ≡ heaps
@@ -53,7 +54,7 @@ module _ (known : ℕ → ℕ → Type 0) (kind : HeapKind) where
       × (m.0.shares ≤ SHARES)
       × (m.0.shares ≡ SHARES → m.0.held ≡ None → Surveys known kind st.slots n.0)
 
-  -- the seat has the heap k, which was at home under this word
+  -- The seat took heap k, which was at home under this word.
   abbrev pub Took : Place → ℕ → ℕ → Place → Type 0
   Took m k x n = (es : List Entry) × (n ≡ (took m.0 k es, (k, es) ∷ m.1)) × Shows kind x es × AreKnown known es
 
@@ -64,8 +65,8 @@ module _ (known : ℕ → ℕ → Type 0) (kind : HeapKind) where
       × (m.0.shares ≡ SHARES → AllByRecursion (λ p. st.word ≡ word_place p.0 → r ≡ p.1) m.0.seen)
 
 module _ (known : ℕ → ℕ → Type 0) where
-  -- A heap was put back without some of its entries. They come out in some order. Those that a seat with all shares takes out
-  -- were pushed and not popped yet
+  -- A heap was returned without some of its entries, popped in some order. If the seat has all shares, they
+  -- were pushed before and not popped.
   abbrev pub PutsPopped : Place → Place → Type 0
   PutsPopped m n = (es : List Entry) → SameEntries (content_of m.0.held) (es ++ value_of m.1)
       → InSomeOrder es (λ ds. n ≡ (popped m.0 ds, rest m.1)) × AreKnown known es × (m.0.shares ≡ SHARES → (e : Entry) → times e m.0.popped + times e es ≤ times e m.0.pushed)
@@ -73,7 +74,7 @@ module _ (known : ℕ → ℕ → Type 0) where
   abbrev pub GavePopped : Step (List Entry) → Place → ℕ → Place → Type 0
   GavePopped st m r n = PutsPopped m n
 
--- a heap was put back with some entries more, which went in in some order
+-- A heap was returned with more entries, pushed in some order.
 abbrev pub PutsPushed : Place → Place → Type 0
 PutsPushed m n = (es : List Entry) → SameEntries (value_of m.1) (es ++ content_of m.0.held) → InSomeOrder es (λ ds. n ≡ (pushed m.0 ds, rest m.1))
 

@@ -1,4 +1,4 @@
--- What contracts say of a seat's account, and of a seat within a call.
+-- What contracts say of a seat's account, and of a seat during a call.
 use Rattle.std.specs.Prelude.{◌≡◌, ℕ, ◌+◌, ◌<◌, ◌≤◌, List, [], ◌∷◌, ◌++◌, map, Some, None, Contains}
 use mathlib.Core.Option as maybe
 use Rattle.ea_base.specs.declared.limits.TheConstants.{HORIZON}
@@ -12,43 +12,43 @@ use Rattle.ea_pool.specs.Core.{Core}
 use Rattle.ea_pool.specs.Events.{IsReached}
 use Rattle.ea_pool.specs.Plays.{Place}
 
--- the account is as it was
+-- The account is unchanged.
 abbrev pub SameBooks : Account → Account → Type 0
 SameBooks a b = (b.shares ≡ a.shares) × (b.pushed ≡ a.pushed) × (b.popped ≡ a.popped)
 
--- it gains one pushed entry, and nothing else changes
+-- It gains one pushed entry, and nothing else changes.
 abbrev pub Pushes : Account → Entry → Account → Type 0
 Pushes a e b = (b.shares ≡ a.shares) × (b.pushed ≡ e ∷ a.pushed) × (b.popped ≡ a.popped)
 
--- it gains these pushed entries, and nothing else changes
+-- It gains these pushed entries, and nothing else changes.
 abbrev pub PushesAll : Account → List Entry → Account → Type 0
 PushesAll a es b = (b.shares ≡ a.shares) × SameEntries b.pushed (es ++ a.pushed) × (b.popped ≡ a.popped)
 
--- it gains these popped entries, and nothing else changes
+-- It gains these popped entries, and nothing else changes.
 abbrev pub PopsAll : Account → List Entry → Account → Type 0
 PopsAll a es b = (b.shares ≡ a.shares) × (b.pushed ≡ a.pushed) × SameEntries b.popped (es ++ a.popped)
 
--- it gains one popped entry, and nothing else changes
+-- It gains one popped entry, and nothing else changes.
 abbrev pub Pops : Account → Entry → Account → Type 0
 Pops a e b = (b.shares ≡ a.shares) × (b.pushed ≡ a.pushed) × (b.popped ≡ e ∷ a.popped)
 
--- a seat with these shares that has done nothing
+-- A seat with these shares that has done nothing.
 abbrev pub Opened : ℕ → Account → Type 0
 Opened shares a = (a.shares ≡ shares) × (a.pushed ≡ []) × (a.popped ≡ [])
 
--- What a seat with all shares pushed, less what it popped, is what the heaps have: nothing
+-- Nothing is left in the heaps: what a seat with all shares pushed, it popped.
 abbrev pub NothingLeft : Account → Type 0
 NothingLeft a = SameEntries a.pushed a.popped
 
--- or entries, of which this is one
+-- This entry is among those left.
 abbrev pub IsLeft : Entry → Account → Type 0
 IsLeft e a = times e a.popped < times e a.pushed
 
--- or entries, of which these are some
+-- These entries are among those left.
 abbrev pub AreLeft : List Entry → Account → Type 0
 AreLeft es a = (e : Entry) → times e a.popped + times e es ≤ times e a.pushed
 
--- and none has a key below this one's
+-- None left has a key below this one's.
 abbrev pub IsLeastLeft : Entry → Account → Type 0
 IsLeastLeft e a = IsLeft e a × ((d : Entry) → IsLeft d a → e.key ≤ d.key)
 
@@ -57,24 +57,24 @@ IsLeastLeft e a = IsLeft e a × ((d : Entry) → IsLeft d a → e.key ≤ d.key)
 abbrev pub books : SeatMemory → Account
 books a = record { shares = a.shares; pushed = a.pushed; popped = a.popped }
 
--- a seat between two calls has a share and holds nothing
+-- A seat between two calls has a share and holds nothing.
 abbrev pub Rests : Place → Type 0
 Rests m = (m.1 ≡ []) × (m.0.held ≡ None) × (0 < m.0.shares)
 
--- it holds the heap k alone, with entries of which P holds
+-- It holds heap k alone, with entries of which P holds.
 abbrev pub HoldsHeap : Place → ℕ → (List Entry → Type 0) → Type 0
 HoldsHeap m k P = (es : List Entry) × (m.1 ≡ (k, es) ∷ []) × P es
 
 abbrev pub AreInTime : List Entry → Type 0
 AreInTime es = (e : Entry) → 0 < times e es → e.key ≤ HORIZON
 
--- it took the heap k with entries of which P holds
+-- It took heap k, with entries of which P holds.
 abbrev pub IsHeld : SeatMemory → ℕ → (List Entry → Type 0) → Type 0
 IsHeld a k P = (es : List Entry) × (a.held ≡ Some (held_at k es)) × P es
 
 -- AT THE END
 
--- some run of a new pool ends with each heap at home, these entries in them, and this account of a seat
+-- Some run of a new pool ends with each heap at home, these entries in them, and this account of a seat.
 pub record IsRunEnd (known : ℕ → ℕ → Type 0) (kind : HeapKind) (heaps : ℕ) (left : List Entry) (account : Account) : Type 0 where
   pub core : Core
   pub reached : IsReached known kind heaps core

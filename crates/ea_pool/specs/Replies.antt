@@ -1,4 +1,4 @@
--- Words on what a push and a pop answer.
+-- Predicates on the outcomes of pushes and pops.
 use Rattle.std.specs.Prelude.{Bool, true, false, Result, Ok, Err}
 use Rattle.ea_pool.specs.declared.heap.entry.Entry.{Entry}
 use Rattle.ea_pool.specs.declared.shared.reply.PushRefused.{PushRefused}
@@ -6,7 +6,7 @@ use Rattle.ea_pool.specs.declared.shared.reply.PushRefused.TheVariants.{Busy, Ou
 use Rattle.ea_pool.specs.declared.shared.reply.Popped.{Popped}
 use Rattle.ea_pool.specs.declared.shared.reply.Popped.TheVariants as popped
 
--- the entry that comes back
+-- The entry that is returned.
 abbrev pub handed_back : PushRefused → Entry
 handed_back (Busy e) = e
 handed_back (OutOfMemory e) = e
@@ -15,24 +15,24 @@ abbrev pub is_busy : PushRefused → Bool
 is_busy (Busy e) = true
 is_busy (OutOfMemory e) = false
 
--- P where a push was busy
+-- P if a push was busy.
 abbrev pub OnBusy : Result (Unit {0}) PushRefused → Type 0 → Type 0
 OnBusy (Ok done) P = Unit {0}
 OnBusy (Err (Busy e)) P = P
 OnBusy (Err (OutOfMemory e)) P = Unit {0}
 
--- P unless a push was busy
+-- P unless a push was busy.
 abbrev pub UnlessBusy : Result (Unit {0}) PushRefused → Type 0 → Type 0
 UnlessBusy (Ok done) P = P
 UnlessBusy (Err (Busy e)) P = Unit {0}
 UnlessBusy (Err (OutOfMemory e)) P = P
 
--- P of the entry, Q where there was none, and R where the pool was busy
+-- P of the entry, Q if there was none, R if the pool was busy.
 abbrev pub MatchPopped : Popped → (Entry → Type 0) → Type 0 → Type 0 → Type 0
 MatchPopped (popped.Entry e) P Q R = P e
 MatchPopped popped.Empty P Q R = Q
 MatchPopped popped.Busy P Q R = R
 
--- P of the entry, where there was one
+-- P of the entry, if there was one.
 abbrev pub OnPopped : Popped → (Entry → Type 0) → Type 0
 OnPopped reply P = MatchPopped reply P (Unit {0}) (Unit {0})

@@ -4,12 +4,13 @@ use Rattle.atomic_table.specs.Seated.{TableId}
 use Rattle.ea_pool.specs.declared.shared.account.Account.{Account}
 use Rattle.ea_pool.specs.declared.shared.account.LastTake.{LastTake}
 
--- which table the pool is, and its number of heaps
+-- The identity of the pool's table, and its number of heaps.
 pub record PoolView : Type 0 where
   pub table : TableId
   pub heaps : ℕ
 
--- whose table's seat it is, its account, the words that it has seen since its last step of another kind, each with its heap, and the heap that it took last
+-- The table that made the seat, its account, the words that it saw since its last step of another kind, each
+-- with its heap, and the heap that it took last.
 pub record SeatView : Type 0 where
   pub table : TableId
   pub account : Account
@@ -22,6 +23,6 @@ heaps_of pool = pool.heaps
 abbrev pub account_of : SeatView → Account
 account_of seat = seat.account
 
--- the seat was made by this pool
+-- The seat was made by this pool.
 abbrev pub IsSeatOf : PoolView → SeatView → Type 0
 IsSeatOf pool seat = seat.table ≡ pool.table

@@ -1,4 +1,4 @@
-//! Which heaps a call looks at.
+//! Choosing the heaps that a call inspects.
 ghost use Rattle.std.specs.Prelude.{◌≡◌, ◌≢◌, ◌*◌, ◌<◌, ◌≤◌, ◌⊎◌, min, Some};
 ghost use Rattle.ea_pool.specs.Draws.{first_draw, second_draw, try_draw};
 ghost use Rattle.ea_pool.specs.Solos.{lesser};
@@ -21,23 +21,23 @@ pub fn draw_second(heaps: usize, first: u64, second: u64) -> usize
     ensures other { result ≢ first_draw heaps first }
 {
     let heaps = heaps as u64;
-    // Less than twice round: a comparison takes the place of a division.
+    // The sum is below 2 * heaps, so a comparison replaces a division.
     let place = first % heaps + 1 + second % (heaps - 1);
     (if place < heaps { place } else { place - heaps }) as usize
 }
 
-// The heap of a push's attempt, from 0: from the first draw on, in turn.
+/// The heap of a push's attempt, from 0: in turn, beginning at the first draw.
 pub fn draw_try(heaps: usize, word: u64, attempt: usize) -> usize
     requires { (LEAST_HEAPS ≤ heaps) × (heaps ≤ MOST_IN_POOL) × (attempt < 2 * heaps) }
     ensures draw { result ≡ try_draw heaps word attempt }
     ensures near { result < heaps }
 {
-    // The first attempt, often the only one, needs no second division.
+    // The first attempt, often the only one, takes no second division.
     let place = draw_first(heaps, word) + attempt;
     if place < heaps { place } else { place % heaps }
 }
 
-// The lesser word with its heap, and on equal words the heap with the lower number.
+/// The lesser word with its heap; if the words are equal, the heap with the lower number.
 pub fn pick(i: usize, x: u64, j: usize, y: u64) -> (usize, u64)
     ensures one { (result ≡ (i, x)) ⊎ (result ≡ (j, y)) }
     ensures least { result.1 ≡ min x y }

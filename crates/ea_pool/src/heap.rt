@@ -1,4 +1,4 @@
-//! What a heap holds, and the kinds of heap: binary and of buckets.
+//! Entries, and the kinds of heap: binary heaps and buckets.
 
 pub mod batch;
 pub mod buckets;

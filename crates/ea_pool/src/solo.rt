@@ -14,7 +14,7 @@ use ea_base::LEAST_HEAPS;
 use std::alloc::{Allocator, Global};
 use std::marker::Model;
 
-/// Heaps of one thread. A contract sees the list of their contents.
+/// Heaps of one thread. In contracts it is the list of their contents.
 #[derive(Drop)]
 pub struct Solo<A: Allocator = Global> {
     heaps: Vec<LeastHeap<A>, A>,
@@ -34,7 +34,7 @@ impl<A: Allocator> Model for Solo<A> {
         × (length s.heaps.items ≤ MOST_IN_POOL) };
 }
 
-// The heap with the smaller least key, on equal keys the one with the lower number.
+// The heap with the smaller least key; at a tie, the one with the lower number.
 fn choose(i: usize, x: Option<u64>, j: usize, y: Option<u64>) -> usize
     ensures { result ≡ lesser i x j y }
 {
@@ -54,7 +54,7 @@ fn choose(i: usize, x: Option<u64>, j: usize, y: Option<u64>) -> usize
 }
 
 impl<A: Allocator + Copy> Solo<A> {
-    /// This many heaps, 2 to 128, with no entry. Err comes only where memory was refused.
+    /// This many empty heaps, 2 to 128. Fails only if memory is refused.
     pub fn new(alloc: A, heaps: usize) -> Result<Solo<A>, OutOfMemory>
         requires { (LEAST_HEAPS ≤ heaps) × (heaps ≤ MOST_IN_POOL) }
         ensures { IfOk result (λ solo. solo ≡ replicate heaps []) }
@@ -65,7 +65,7 @@ impl<A: Allocator + Copy> Solo<A> {
 }
 
 impl<A: Allocator> Solo<A> {
-    /// Adds the entry to the heap `word mod H`. Hands it back where memory was refused: then nothing has changed.
+    /// Adds the entry to the heap `word mod H`. Returns it if memory was refused; then nothing has changed.
     pub fn push_at(&mut self, word: u64, entry: Entry) -> Result<(), Entry>
         ensures pushed { OnOk result (AddsTo
             (first_draw (length self.old) word) entry self.old self.new) }
@@ -76,9 +76,9 @@ impl<A: Allocator> Solo<A> {
         heap.push(entry)
     }
 
-    /// Looks at the two heaps that the words pick, and takes the least entry of the one with the smaller
-    /// least key; of two with equal keys, of the lower number. None exactly where both have no entry.
-    /// The key's rank error is at most the number of entries in the other heaps, so 0 with two heaps.
+    /// Inspects the two heaps that the words draw, and pops the least entry of the one with the smaller least
+    /// key; at a tie, of the one with the lower number. None exactly if neither has an entry. The rank error
+    /// of the key is at most the number of entries in the other heaps, so 0 with two heaps.
     pub fn pop_at(&mut self, first: u64, second: u64) -> Option<Entry>
         ensures taken { MatchOption result
             ((content self.old (first_draw (length self.old) first) ≡ [])
@@ -103,7 +103,7 @@ impl<A: Allocator> Solo<A> {
         heap.pop()
     }
 
-    /// How many entries there are in all heaps.
+    /// The number of entries in all heaps.
     pub fn len(&self) -> u128
         ensures { result ≡ total length self.now }
     {
@@ -115,7 +115,7 @@ impl<A: Allocator> Solo<A> {
     }
 }
 
-/// A law on what a pop takes: its rank error is at most the number of entries in the heaps that it did not look at.
+/// A law: the rank error of a pop is at most the number of entries in the heaps that it did not inspect.
 pub fn rank_is_bounded()
     ensures { RankIsBounded }
 {}

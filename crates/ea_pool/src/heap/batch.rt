@@ -1,4 +1,4 @@
-//! Several entries at once: a batch that a heap is given or gives.
+//! Batches: several entries pushed to a heap, or popped from one, at once.
 ghost use Rattle.std.specs.Prelude.{◌≡◌, ◌+◌, ◌<◌, ◌≤◌, true, false, []};
 ghost use Rattle.arrayvec.specs.ArrayVec.{array_vec_len};
 ghost use Rattle.ea_pool.specs.Batches.{GoesIn, ComesOut};
@@ -8,10 +8,10 @@ use crate::heap::entry_heap::{EntryHeap, Slot};
 use crate::shared::words::MOST_IN_BATCH;
 use arrayvec::ArrayVec;
 
-/// A list of entries that takes no memory.
+/// A list of entries, stored inline.
 pub type Batch = ArrayVec<Entry, MOST_IN_BATCH>;
 
-// Pushes the entries of a batch, the last one first, until there is no memory: those that are left stay.
+// Pushes the entries of a batch, the last first, until memory is refused. The rest stays in the batch.
 pub(crate) fn push_all<H: EntryHeap>(heap: &mut Slot<H>, batch: &mut Batch) -> bool
     ensures went { GoesIn batch.old.items batch.new.items heap.old heap.new }
     ensures all { result ≡ true → batch.new.items ≡ [] }
@@ -29,7 +29,7 @@ pub(crate) fn push_all<H: EntryHeap>(heap: &mut Slot<H>, batch: &mut Batch) -> b
     true
 }
 
-// Pops so many entries, or all that there are, or all that the heap gives at once.
+// Pops `most` entries, or all that the heap has, or all that it gives at once.
 pub(crate) fn pop_some<H: EntryHeap>(heap: &mut Slot<H>, most: usize, batch: &mut Batch)
     requires { array_vec_len batch.old + most ≤ MOST_IN_BATCH }
     ensures { ComesOut H.kind most batch.old.items batch.new.items heap.old heap.new }

@@ -1,6 +1,6 @@
-//! What a heap holds.
+//! The entries of heaps.
 
-/// A node to be looked at, and the time at which it was reached. Entries are ordered by key, then by node.
+/// A node to scan, and the time at which it was reached. Entries are ordered by key, then by node.
 #[derive(Clone, Copy, Default, PartialEq, Eq, PartialOrd, Ord, Debug)]
 pub struct Entry {
     /// A time, from 0 to HORIZON.

@@ -1,4 +1,4 @@
-//! What a heap of a pool is, and the slot that it lies in.
+//! The heaps of a pool, and the slots that hold them.
 ghost use Rattle.std.specs.Prelude.{◌≡◌, [], ◌∷◌, List, IfErr, IfOk, OnOk, MatchOption};
 ghost use Rattle.ea_pool.specs.Entries.{SameEntries};
 ghost use Rattle.ea_pool.specs.Kinds.{HeapKind, Shows, GivesOne, IsSpentAs};
@@ -10,43 +10,44 @@ use crate::heap::entry::Entry;
 use std::alloc::Allocator;
 use std::marker::Model;
 
-/// A heap of entries, as a pool has it.
+/// A heap of entries in a pool.
 pub trait EntryHeap: Drop {
-    /// What it promises of its words and of what it gives.
+    /// What it promises of its words and of the entries that it gives.
     ghost kind: { HeapKind };
 
-    /// What it has, in no promised order.
+    /// Its entries, in no promised order.
     ghost entries: { Self → List Held };
 
-    /// Hands the entry back where there is no memory.
+    /// Adds an entry. Returns it if memory was refused.
     fn add_entry(&mut self, entry: Entry) -> Result<(), Entry>
         ensures pushed { OnOk result (SameEntries (entries self.new) (entry ∷ entries self.old)) }
         ensures refused { IfErr result
             (λ back. (back ≡ entry) × (entries self.new ≡ entries self.old)) };
 
-    /// Takes an entry out. None exactly where there is none.
+    /// Pops an entry. None exactly if there is none.
     fn take_entry(&mut self) -> Option<Entry>
         ensures { MatchOption result ((entries self.old ≡ []) × (entries self.new ≡ []))
             (λ entry. GivesOne kind entry (entries self.old) (entries self.new)) };
 
-    /// Whether no more entries are to be taken together with the last one.
+    /// Whether a batch should end with the last entry that was popped.
     fn is_spent(&self) -> bool
         ensures { IsSpentAs kind result };
 
-    /// The word under which it lies in a pool.
+    /// Its word in a pool.
     fn word(&self) -> u64
         requires { AreInTime (entries self.now) }
         ensures { Shows kind result (entries self.now) };
 }
 
-/// A heap that a pool can be opened with.
+/// A heap with which a pool can be opened.
 pub trait OpenHeap<A: Allocator>: EntryHeap {
-    /// No entry. A heap that tells times apart by windows of them has windows of about this width.
+    /// An empty heap. `width` is about the width of its windows of times, if it has windows. Fails only if
+    /// memory is refused.
     fn empty(alloc: A, width: u64) -> Result<Self, OutOfMemory>
         ensures { IfOk result (λ heap. Self.entries heap ≡ []) };
 }
 
-/// A heap in its slot. A contract sees its entries, in no promised order.
+/// A heap in its slot. In contracts it is the list of its entries, in no promised order.
 #[derive(Drop)]
 pub struct Slot<H: EntryHeap> {
     pub(crate) heap: H,
@@ -68,7 +69,7 @@ impl<H: EntryHeap> Slot<H> {
         Slot { heap }
     }
 
-    /// Hands the entry back where there is no memory.
+    /// Adds an entry. Returns it if memory was refused.
     pub(crate) fn push(&mut self, entry: Entry) -> Result<(), Entry>
         ensures pushed { OnOk result (SameEntries self.new (entry ∷ self.old)) }
         ensures refused { IfErr result (λ back. (back ≡ entry) × (self.new ≡ self.old)) }
@@ -76,7 +77,7 @@ impl<H: EntryHeap> Slot<H> {
         self.heap.add_entry(entry)
     }
 
-    /// Takes an entry out.
+    /// Pops an entry.
     #[inline(always)]
     pub(crate) fn pop(&mut self) -> Option<Entry>
         ensures { MatchOption result ((self.old ≡ []) × (self.new ≡ []))
@@ -85,14 +86,14 @@ impl<H: EntryHeap> Slot<H> {
         self.heap.take_entry()
     }
 
-    /// Whether no more entries are to be taken together with the last one.
+    /// Whether a batch should end with the last entry that was popped.
     pub(crate) fn is_spent(&self) -> bool
         ensures { IsSpentAs H.kind result }
     {
         self.heap.is_spent()
     }
 
-    /// The word under which the heap is put back.
+    /// The word with which the heap is returned.
     pub(crate) fn word(&self) -> u64
         requires { AreInTime self.now }
         ensures { Shows H.kind result self.now }

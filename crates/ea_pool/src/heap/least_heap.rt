@@ -1,4 +1,4 @@
-//! A heap that gives its least entry first.
+//! A binary heap.
 ghost use Rattle.std.specs.Prelude.{◌≡◌, ◌<◌, [], ◌∷◌, length, List, map, IfErr, OnOk, MatchOption};
 ghost use Rattle.std.specs.BinaryHeap.{IsHeap, heap_items};
 ghost use Rattle.ea_pool.specs.Entries.{SameEntries, IsLeastOf, times, least_key};
@@ -12,14 +12,14 @@ use std::cmp::Reverse;
 use std::collections::BinaryHeap;
 use std::marker::Model;
 
-// With the three words of a `BinaryHeap` these are 128 bytes.
+// Fills the struct, with the three words of a `BinaryHeap`, up to 128 bytes.
 const PADDING: usize = 13;
 
-/// Entries, of which it gives the least. A contract sees them as a list in no promised order.
+/// A heap that pops its least entry. In contracts it is the list of its entries, in no promised order.
 #[derive(Drop)]
 pub struct LeastHeap<A: Allocator> {
     entries: BinaryHeap<Reverse<Entry>, A>,
-    // Heaps lie side by side in a pool: no two share a line of the cache.
+    // Heaps are contiguous in a pool; the padding keeps two from sharing a cache line.
     apart: [u64; PADDING],
 }
 
@@ -37,7 +37,7 @@ impl<A: Allocator> Model for LeastHeap<A> {
 }
 
 impl<A: Allocator> LeastHeap<A> {
-    /// No entry, and no memory taken.
+    /// An empty heap. Takes no memory.
     pub fn new(alloc: A) -> LeastHeap<A>
         ensures { result ≡ [] }
     {
@@ -47,14 +47,14 @@ impl<A: Allocator> LeastHeap<A> {
         }
     }
 
-    /// How many entries there are.
+    /// The number of entries.
     pub fn len(&self) -> usize
         ensures { result ≡ length self.now }
     {
         self.entries.len()
     }
 
-    /// Hands the entry back where there is no memory.
+    /// Adds an entry. Returns it if memory was refused.
     pub fn push(&mut self, entry: Entry) -> Result<(), Entry>
         ensures pushed { OnOk result (SameEntries self.new (entry ∷ self.old)) }
         ensures refused { IfErr result (λ back. (back ≡ entry) × (self.new ≡ self.old)) }
@@ -70,7 +70,7 @@ impl<A: Allocator> LeastHeap<A> {
         }
     }
 
-    /// Takes the least entry out.
+    /// Pops the least entry.
     pub fn pop(&mut self) -> Option<Entry>
         ensures { MatchOption result ((self.old ≡ []) × (self.new ≡ []))
             (λ least. IsLeastOf least self.old × SameEntries self.old (least ∷ self.new)) }

@@ -1,4 +1,4 @@
-//! Entries in no order, with a time that none of them comes before.
+//! Unordered entries with a lower bound of their times.
 ghost use Rattle.std.specs.Prelude.{◌≡◌, [], ◌∷◌, ◌++◌, List, true, false, length, MatchOption};
 ghost use Rattle.ea_pool.specs.Windows.{IsFloorOf};
 ghost use Rattle.ea_pool.specs.declared.heap.entry.Entry.{Entry as Inside};
@@ -13,7 +13,7 @@ use std::marker::Model;
 #[derive(Drop)]
 pub(crate) struct Window<A: Allocator> {
     entries: Vec<Entry, A>,
-    /// A time that no key is below, and EMPTY exactly where there is no entry.
+    /// A lower bound of the keys; EMPTY exactly if there is no entry.
     floor: u64,
 }
 
@@ -30,7 +30,7 @@ impl<A: Allocator> Model for Window<A> {
 }
 
 impl<A: Allocator> Window<A> {
-    /// No entry, and no memory taken.
+    /// An empty list. Takes no memory.
     pub(crate) fn new(alloc: A) -> Window<A>
         ensures { result ≡ [] }
     {
@@ -40,14 +40,14 @@ impl<A: Allocator> Window<A> {
         }
     }
 
-    /// How many entries there are.
+    /// The number of entries.
     pub(crate) fn len(&self) -> usize
         ensures { result ≡ length self.now }
     {
         self.entries.len()
     }
 
-    /// Whether there is none.
+    /// Whether there is no entry.
     pub(crate) fn is_empty(&self) -> bool
         ensures none { result ≡ true → self.now ≡ [] }
         ensures some { result ≡ false → self.now ≡ [] → ⊥ }
@@ -55,14 +55,14 @@ impl<A: Allocator> Window<A> {
         self.entries.is_empty()
     }
 
-    /// A time that no key is below, and EMPTY exactly where there is no entry.
+    /// A lower bound of the keys; EMPTY exactly if there is no entry.
     pub(crate) fn floor(&self) -> u64
         ensures { IsFloorOf result self.now }
     {
         self.floor
     }
 
-    /// Puts an entry at the end. False where there is no memory: then nothing has changed.
+    /// Appends an entry. Returns false if memory was refused; then nothing changed.
     pub(crate) fn push(&mut self, entry: Entry) -> bool
         ensures pushed { result ≡ true → self.new ≡ self.old ++ entry ∷ [] }
         ensures refused { result ≡ false → self.new ≡ self.old }
@@ -77,7 +77,7 @@ impl<A: Allocator> Window<A> {
         }
     }
 
-    /// The entry at the end.
+    /// The newest entry.
     pub(crate) fn last(&self) -> Option<Entry>
         ensures { MatchOption result (self.now ≡ [])
             (λ entry. (before : List Inside) × (self.now ≡ before ++ entry ∷ [])) }
@@ -85,7 +85,7 @@ impl<A: Allocator> Window<A> {
         self.entries.last().copied()
     }
 
-    /// Takes the entry at the end.
+    /// Takes the newest entry.
     pub(crate) fn pop(&mut self) -> Option<Entry>
         ensures { MatchOption result ((self.old ≡ []) × (self.new ≡ []))
             (λ entry. self.old ≡ self.new ++ entry ∷ []) }

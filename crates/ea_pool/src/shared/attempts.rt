@@ -1,4 +1,4 @@
-//! Attempts: a heap is taken, used and put back.
+//! Attempts: a heap is taken, used and returned.
 ghost use Rattle.std.specs.Prelude.{◌≡◌, ◌≢◌, ◌*◌, ◌<◌, false, [], ◌∷◌, IfErr, OnOk};
 ghost use Rattle.std.specs.List.{AllByRecursion};
 ghost use Rattle.ea_pool.specs.Kinds.{Least};
@@ -56,7 +56,7 @@ impl<K: Known, A: Allocator, H: EntryHeap> Pool<K, A, H> {
         }
     }
 
-    // Tries each heap twice, in turn, from the one that the word picks on.
+    // Tries each heap twice, in turn, beginning at the one that the word draws.
     pub(crate) fn push_from(
         &self,
         seat: &mut Seat<H>,
@@ -91,7 +91,7 @@ impl<K: Known, A: Allocator, H: EntryHeap> Pool<K, A, H> {
 }
 
 impl<K: Known, A: Allocator> Pool<K, A> {
-    // Pops from one heap that has an entry, if its word is still what was seen.
+    // Pops from one heap that has an entry, if its word is still `seen`.
     pub(crate) fn pop_at(&self, seat: &mut Seat<LeastHeap<A>>, heap: usize, seen: u64) -> Popped
         requires table { (seat.old.table_id ≡ self.now.table) × (heap < self.now.heaps) }
         requires rests { Rests seat.old.me }
@@ -124,7 +124,7 @@ impl<K: Known, A: Allocator> Pool<K, A> {
         }
     }
 
-    // Looks at heap i and then at heap j, and pops from the one with the lesser word.
+    // Inspects heap i, then heap j, and pops from the one with the lesser word.
     pub(crate) fn pop_of_two(&self, seat: &mut Seat<LeastHeap<A>>, i: usize, j: usize) -> Popped
         requires table { seat.old.table_id ≡ self.now.table }
         requires heaps { (i < self.now.heaps) × (j < self.now.heaps) × (i ≢ j) }

@@ -1,4 +1,4 @@
-//! Calls with several entries at once.
+//! Pushes and pops of several entries at once.
 ghost use Rattle.std.specs.Prelude.{min, ◌≡◌, ◌≢◌, ◌+◌, ◌*◌, ◌<◌, ◌≤◌, true, false, [], ◌++◌};
 ghost use Rattle.std.specs.List.{AllByRecursion};
 ghost use Rattle.arrayvec.specs.ArrayVec.{array_vec_len};
@@ -22,7 +22,7 @@ use ea_road::Known;
 use std::alloc::Allocator;
 
 impl<K: Known, A: Allocator, H: EntryHeap> Pool<K, A, H> {
-    // Pushes entries into the heap that is held, and gives its new word.
+    // Pushes entries into the heap that is held, and returns its new word.
     fn push_all_in(&self, seat: &mut Seat<H>, heap: usize, batch: &mut Batch) -> (bool, u64)
         requires table { seat.old.table_id ≡ self.now.table }
         requires held { HoldsHeap seat.old.me heap (λ es. AreInTime (batch.old.items ++ es)) }
@@ -38,7 +38,7 @@ impl<K: Known, A: Allocator, H: EntryHeap> Pool<K, A, H> {
         (all, held.word())
     }
 
-    // Pops entries from the heap that is held, and gives its new word.
+    // Pops entries from the heap that is held, and returns its new word.
     fn pop_some_in(&self, seat: &mut Seat<H>, heap: usize, most: usize, batch: &mut Batch) -> u64
         requires table { seat.old.table_id ≡ self.now.table }
         requires held { HoldsHeap seat.old.me heap (λ es. AreInTime es) }
@@ -54,7 +54,7 @@ impl<K: Known, A: Allocator, H: EntryHeap> Pool<K, A, H> {
         held.word()
     }
 
-    // Pushes entries to one heap, if it is at home. Those that it has no room for stay in the batch.
+    // Pushes entries to one heap, if it is at home. Entries for which memory was refused stay in the batch.
     fn push_all_at(
         &self,
         seat: &mut Seat<H>,
@@ -91,7 +91,7 @@ impl<K: Known, A: Allocator, H: EntryHeap> Pool<K, A, H> {
         }
     }
 
-    // Tries each heap twice, in turn, from the one that the word picks on.
+    // Tries each heap twice, in turn, beginning at the one that the word draws.
     fn push_all_from(
         &self,
         seat: &mut Seat<H>,
@@ -125,10 +125,9 @@ impl<K: Known, A: Allocator, H: EntryHeap> Pool<K, A, H> {
         Err(PushAllRefused::Busy)
     }
 
-    /// Pushes a batch into the one heap that `push_as` would push to, so that the batch is empty. After
-    /// `Busy` the batch and the account are as they were. After `OutOfMemory` what the heap had no room
-    /// for is left in the batch, the first entries of it in their order, at least one, and what is gone from
-    /// it was pushed.
+    /// Pushes a batch into the one heap to which `push_as` would push, and empties the batch. After `Busy`
+    /// the batch and the account are unchanged. After `OutOfMemory` the first entries of the batch are left,
+    /// at least one, in their order; the others were pushed.
     pub fn push_all_as(
         &self,
         seat: &mut PoolSeat<K, A, H>,
@@ -144,7 +143,7 @@ impl<K: Known, A: Allocator, H: EntryHeap> Pool<K, A, H> {
             (SameBooks (account_of seat.old) (account_of seat.new) × (batch.new ≡ batch.old))
             (PushesFrom batch.old.items batch.new.items
             (account_of seat.old) (account_of seat.new)) }
-        // Each of the 2H tries missed; or after others that missed, one of them took its heap.
+        // Each of the 2H tries missed; or one took its heap after others missed.
         ensures tried { MatchPushed result
             (TookAtTry H.kind (heaps_of self.now) word seat.old.seen seat.new.last_take)
             (Missed (heaps_of self.now) word (2 * heaps_of self.now) seat.old.seen seat.new.seen)
@@ -155,7 +154,7 @@ impl<K: Known, A: Allocator, H: EntryHeap> Pool<K, A, H> {
         self.push_all_from(&mut seat.seat, word, batch)
     }
 
-    // Pops entries from one heap that has some, if its word is still what was seen. Says whether it was.
+    // Pops entries from one heap that has some, if its word is still `seen`. Returns whether it was.
     fn pop_some_at(
         &self,
         seat: &mut Seat<H>,
@@ -188,7 +187,7 @@ impl<K: Known, A: Allocator, H: EntryHeap> Pool<K, A, H> {
         true
     }
 
-    // Looks at heap i and then at heap j, and pops from the one with the lesser word.
+    // Inspects heap i, then heap j, and pops from the one with the lesser word.
     fn pop_some_of_two(
         &self,
         seat: &mut Seat<H>,
@@ -235,9 +234,9 @@ impl<K: Known, A: Allocator, H: EntryHeap> Pool<K, A, H> {
         }
     }
 
-    /// Looks at the two heaps that `pop_as` would look at, and appends the least entries of the one that
-    /// it would pop from to the batch, in ascending order: `most` of them, at least 1, or all that it has.
-    /// After `Empty` and `Busy` nothing has changed.
+    /// Inspects the two heaps that `pop_as` would inspect, pops from the one from which it would pop, and
+    /// appends the entries to the batch. A heap that gives its least entry first gives `most` entries, or all
+    /// that it has, in ascending order; buckets may give fewer. After `Empty` and `Busy` nothing has changed.
     pub fn pop_some_as(
         &self,
         seat: &mut PoolSeat<K, A, H>,
@@ -260,7 +259,7 @@ impl<K: Known, A: Allocator, H: EntryHeap> Pool<K, A, H> {
             pops.out (account_of seat.old))
             (SameBooks (account_of seat.old) (account_of seat.new) × (batch.new ≡ batch.old))
             (SameBooks (account_of seat.old) (account_of seat.new) × (batch.new ≡ batch.old)) }
-        // It looked at the first draw and then at the second.
+        // It inspected the first draw, then the second.
         ensures looked { let i = first_draw (heaps_of self.now) first in
             let j = second_draw (heaps_of self.now) first second in
             MatchSome result (Unit {0})

@@ -1,4 +1,4 @@
-//! What callers do with a shared pool.
+//! The calls on a shared pool.
 ghost use Rattle.std.specs.Prelude.{◌≡◌, ◌+◌, ◌*◌, ◌<◌, false, [], ◌∷◌, ◌++◌, IfErr, OnOk};
 ghost use Rattle.ea_pool.specs.Kinds.{Least};
 ghost use Rattle.ea_pool.specs.Pools.{SameBooks, Pushes, Pops, Opened, IsLeastLeft, NothingLeft};
@@ -21,9 +21,9 @@ use std::alloc::Allocator;
 use std::marker::PhantomData;
 
 impl<K: Known, A: Allocator> Pool<K, A> {
-    /// Looks at the two heaps that the words pick, and pops the least entry of the one with the smaller
-    /// least key; of two with equal keys, of the lower number. `Empty` where both had no entry, and
-    /// `Busy` where one was out or was taken meanwhile: then nothing has changed.
+    /// Inspects the two heaps that the words draw, and pops the least entry of the one with the smaller least
+    /// key; at a tie, of the one with the lower number. `Empty` if neither has an entry; `Busy` if one was
+    /// out, or was taken meanwhile. Then nothing has changed.
     pub fn pop_as(&self, seat: &mut PoolSeat<K, A>, first: u64, second: u64) -> Popped
         requires seat { IsSeatOf self.now seat.old }
         ensures seat { IsSeatOf self.now seat.new }
@@ -32,13 +32,13 @@ impl<K: Known, A: Allocator> Pool<K, A> {
             × K.is_known entry.node entry.key)
             (SameBooks (account_of seat.old) (account_of seat.new))
             (SameBooks (account_of seat.old) (account_of seat.new)) }
-        // It looked at the first draw and then at the second.
+        // It inspected the first draw, then the second.
         ensures looked { let i = first_draw (heaps_of self.now) first in
             let j = second_draw (heaps_of self.now) first second in
             MatchPopped result (λ _. Unit {0})
             (LookedAt i EMPTY j EMPTY seat.old.seen seat.new.seen)
             (WasBusy i j seat.old.seen seat.new.seen) }
-        // It took the one with the lesser word, and the least entry of that.
+        // It took the one with the lesser word, and its least entry.
         ensures lesser { let i = first_draw (heaps_of self.now) first in
             let j = second_draw (heaps_of self.now) first second in
             OnPopped result
@@ -56,10 +56,9 @@ impl<K: Known, A: Allocator> Pool<K, A> {
 }
 
 impl<K: Known, A: Allocator, H: EntryHeap> Pool<K, A, H> {
-    /// Pushes to the first heap that it can take, of each heap twice in turn from `word mod H` on.
-    /// The entry has to be known, so its key is at most HORIZON.
-    /// After `Busy` and `OutOfMemory` the pool's entries are as if the call had not been made, and the
-    /// same entry comes back.
+    /// Pushes to the first heap that it can take, trying each heap twice in turn from `word mod H` on. The
+    /// entry has to be known, so its key is at most HORIZON. After `Busy` and `OutOfMemory` the pool's
+    /// entries are unchanged, and the entry is returned.
     pub fn push_as(
         &self,
         seat: &mut PoolSeat<K, A, H>,
@@ -75,7 +74,8 @@ impl<K: Known, A: Allocator, H: EntryHeap> Pool<K, A, H> {
         // Each of the 2H tries, in turn, found its heap out or failed to take it.
         ensures missed { OnBusy result
             (Missed (heaps_of self.now) word (2 * heaps_of self.now) seat.old.seen seat.new.seen) }
-        // After others that missed, one of the tries took its heap: there the entry went in, or memory was refused.
+        // After others missed, one of the tries took its heap; the entry was pushed there, or memory was
+        // refused.
         ensures took { UnlessBusy result
             (TookAtTry H.kind (heaps_of self.now) word seat.old.seen seat.new.last_take) }
         ensures alone { (account_of seat.old).shares ≡ SHARES
@@ -104,7 +104,7 @@ impl<K: Known, A: Allocator, H: EntryHeap> Pool<K, A, H> {
         }
     }
 
-    /// Adds the other seat's shares and its account.
+    /// Adds the other seat's shares and account.
     pub fn join(&self, seat: &mut PoolSeat<K, A, H>, other: PoolSeat<K, A, H>)
         requires seats { IsSeatOf self.now seat.old × IsSeatOf self.now other }
         ensures seat { IsSeatOf self.now seat.new }

@@ -1,4 +1,4 @@
-//! What is left in a pool that no thread shares any more.
+//! A pool that no thread shares any more.
 ghost use Rattle.std.specs.Prelude.{◌≡◌, [], ◌∷◌, length, MatchOption, IfSome};
 ghost use Rattle.ea_pool.specs.Entries.{SameEntries, HasLeastKey};
 ghost use Rattle.ea_pool.specs.Left.{better as better_of, IsBestOf};
@@ -9,7 +9,7 @@ use crate::heap::least_heap::LeastHeap;
 use std::alloc::{Allocator, Global};
 use std::marker::Model;
 
-/// What is left in a pool that was closed. A contract sees the entries, in no promised order.
+/// The entries left in a closed pool. In contracts it is the list of these, in no promised order.
 #[derive(Drop)]
 pub struct ClosedPool<A: Allocator = Global, H: EntryHeap = LeastHeap<A>> {
     pub(crate) heaps: Vec<Slot<H>, A>,
@@ -25,7 +25,7 @@ impl<A: Allocator, H: EntryHeap> Model for ClosedPool<A, H> {
     ghost view = { λ c. gathered c.heaps.items };
 }
 
-// The place and least key of the better of two: the best heap so far, and one more.
+// The better of the best heap so far and one more: its place and least key.
 fn better(best: Option<(usize, u64)>, place: usize, key: Option<u64>) -> Option<(usize, u64)>
     ensures { result ≡ better_of best place key }
 {
@@ -42,7 +42,7 @@ fn better(best: Option<(usize, u64)>, place: usize, key: Option<u64>) -> Option<
     }
 }
 
-// The place and least key of the heap that has the least key of all.
+// The heap with the least key of all: its place and that key.
 fn best_heap<A: Allocator>(heaps: &[Slot<LeastHeap<A>>]) -> Option<(usize, u64)>
     ensures { IsBestOf heaps.now (length heaps.now) result }
 {
@@ -54,8 +54,8 @@ fn best_heap<A: Allocator>(heaps: &[Slot<LeastHeap<A>>]) -> Option<(usize, u64)>
 }
 
 impl<A: Allocator> ClosedPool<A> {
-    /// Takes one of the entries that are left, one with the least key. None exactly where nothing is
-    /// left; after None it stays None.
+    /// Takes an entry with the least key of those left. None exactly if nothing is left; then every later
+    /// call returns None.
     pub fn next(&mut self) -> Option<Entry>
         ensures taken { MatchOption result ((self.old ≡ []) × (self.new ≡ []))
             (λ entry. SameEntries self.old (entry ∷ self.new)) }
@@ -70,7 +70,7 @@ impl<A: Allocator> ClosedPool<A> {
 }
 
 impl<A: Allocator, H: EntryHeap> ClosedPool<A, H> {
-    /// Takes one of the entries that are left, of any heap. None exactly where nothing is left; after None it stays None.
+    /// Takes any entry that is left. None exactly if nothing is left; then every later call returns None.
     pub fn next_of_any(&mut self) -> Option<Entry>
         ensures { MatchOption result ((self.old ≡ []) × (self.new ≡ []))
             (λ entry. SameEntries self.old (entry ∷ self.new)) }

@@ -1,4 +1,4 @@
-//! How a pool is opened and closed.
+//! Opening and closing a pool.
 ghost use Rattle.std.specs.Prelude.{◌≡◌, ◌+◌, ◌≤◌, [], ◌++◌, IfOk, replicate};
 ghost use Rattle.ea_pool.specs.Entries.{SameEntries, AreKnown};
 ghost use Rattle.ea_pool.specs.Pools.{Opened, IsRunEnd};
@@ -47,9 +47,8 @@ fn empty_slots<A: Allocator + Copy, H: OpenHeap<A>>(
 }
 
 impl<K: Known, A: Allocator + Copy> Pool<K, A> {
-    /// A pool of this many heaps, 2 to 128, with no entry, and its first seat, which has all 64 shares.
-    /// It takes the memory for `close` too, and reserves nothing for entries. Err comes only where
-    /// memory was refused.
+    /// An empty pool of this many heaps, 2 to 128, and its first seat, which has all 64 shares. Reserves the
+    /// memory for `close`, and none for entries. Fails only if memory is refused.
     pub fn open(alloc: A, heaps: usize) -> Result<(Pool<K, A>, PoolSeat<K, A>), OutOfMemory>
         requires { (LEAST_HEAPS ≤ heaps) × (heaps ≤ MOST_IN_POOL) }
         ensures pool { IfOk result (λ made. heaps_of made.0 ≡ heaps) }
@@ -61,7 +60,8 @@ impl<K: Known, A: Allocator + Copy> Pool<K, A> {
 }
 
 impl<K: Known, A: Allocator + Copy, H: OpenHeap<A>> Pool<K, A, H> {
-    /// As `open`, with heaps of any kind, and a width of times for those that have windows of times.
+    /// Like `open`, with heaps of any kind. `width` is about the width of windows of times, for heaps that
+    /// have windows.
     pub fn open_with(
         alloc: A,
         heaps: usize,
@@ -94,8 +94,8 @@ impl<K: Known, A: Allocator + Copy, H: OpenHeap<A>> Pool<K, A, H> {
 }
 
 impl<K: Known, A: Allocator, H: EntryHeap> Pool<K, A, H> {
-    /// What is left, where the seat has all 64 shares: no other seat is live. What the account has
-    /// pushed is what it has popped and what is left.
+    /// Closes the pool, if the seat has all 64 shares, so no other seat is live. What the account pushed is
+    /// what it popped and what is left.
     pub fn close(self, seat: PoolSeat<K, A, H>) -> ClosedPool<A, H>
         requires seat { IsSeatOf self seat }
         requires all { (account_of seat).shares ≡ SHARES }

@@ -1,5 +1,6 @@
-//! Heaps that threads share without a lock: each lies in a slot of a table, behind a word. They are used as those of a
-//! MultiQueue (Rihani, Sanders, Dementiev 2015): a push goes to a heap drawn at random, a pop to the better of two.
+//! Heaps that threads share without a lock, each in a slot of a table, behind a word. They are used as a
+//! MultiQueue (Rihani, Sanders, Dementiev 2015): a push goes to a heap drawn at random, a pop to the better
+//! of two.
 use crate::heap::entry_heap::{EntryHeap, Slot};
 use crate::heap::least_heap::LeastHeap;
 use crate::shared::account::SeatMemory;
@@ -9,13 +10,14 @@ use ea_road::Known;
 use std::alloc::{Allocator, Global};
 use std::marker::Model;
 
-/// Heaps that threads share by reference, each thread with a seat of its own. What a heap is, is a parameter: `LeastHeap`,
-/// which gives its least entry first, or `Buckets`. Contracts see which table it is and the number of heaps.
+/// Heaps that threads share by reference, each thread with its seat. The kind of heap is a parameter:
+/// `LeastHeap`, which gives its least entry first, or `Buckets`. In contracts it is the identity of the table
+/// and the number of heaps.
 #[derive(Drop)]
 pub struct Pool<K: Known, A: Allocator = Global, H: EntryHeap = LeastHeap<A>> {
     pub(crate) table: Table<Slot<H>, SeatMemory, usize, PoolRule<K, H>, A>,
     pub(crate) heaps: usize,
-    // Room for the heaps when the pool is closed: that takes no memory then.
+    // Reserved for the heaps, so that closing the pool takes no memory.
     pub(crate) spare: Vec<Slot<H>, A>,
 }
 

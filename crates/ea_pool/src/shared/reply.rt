@@ -1,42 +1,42 @@
-//! What a push and a pop on a shared pool answer.
+//! The outcomes of pushes and pops on a shared pool.
 use crate::heap::entry::Entry;
 
-/// Why an entry was handed back.
+/// Why a push failed, with the entry.
 #[derive(Clone, Copy, PartialEq, Eq, Debug)]
 pub enum PushRefused {
-    /// Each try met a heap that was out, or that was taken meanwhile.
+    /// Each try found its heap out, or lost it to another seat.
     Busy(Entry),
-    /// The heap's growth was refused.
+    /// Memory for the heap was refused.
     OutOfMemory(Entry),
 }
 
-/// What a pop answers.
+/// The outcome of a pop.
 #[derive(Clone, Copy, PartialEq, Eq, Debug)]
 pub enum Popped {
-    /// The entry that was taken out.
+    /// The entry that was popped.
     Entry(Entry),
-    /// Both heaps that were looked at had no entry.
+    /// Neither of the two heaps had an entry.
     Empty,
-    /// A heap that was looked at was out, or was taken meanwhile.
+    /// One of the two heaps was out, or was lost to another seat.
     Busy,
 }
 
 /// Why entries stay in a batch.
 #[derive(Clone, Copy, PartialEq, Eq, Debug)]
 pub enum PushAllRefused {
-    /// Each try met a heap that was out, or that was taken meanwhile.
+    /// Each try found its heap out, or lost it to another seat.
     Busy,
-    /// The heap's growth was refused.
+    /// Memory for the heap was refused.
     OutOfMemory,
 }
 
-/// What a pop of several entries answers.
+/// The outcome of a pop of several entries.
 #[derive(Clone, Copy, PartialEq, Eq, Debug)]
 pub enum PoppedSome {
-    /// Entries were taken out, at least one.
+    /// At least one entry was popped.
     Entries,
-    /// Both heaps that were looked at had no entry.
+    /// Neither of the two heaps had an entry.
     Empty,
-    /// A heap that was looked at was out, or was taken meanwhile.
+    /// One of the two heaps was out, or was lost to another seat.
     Busy,
 }

@@ -10,8 +10,8 @@ use std::marker::{Model, PhantomData};
 
 pub(crate) type Seat<H> = atomic_table::Seat<Slot<H>, SeatMemory>;
 
-/// The right to step on one pool. Contracts see which table it is, the seat's account (its shares, and what it has pushed and
-/// popped), the words that it saw last, and the heap that it took last.
+/// The right to step on one pool. In contracts it is the identity of the table, the seat's account (its
+/// shares, and what it pushed and popped), the words that it saw last, and the heap that it took last.
 #[derive(Drop)]
 pub struct PoolSeat<K, A: Allocator = Global, H: EntryHeap = LeastHeap<A>> {
     pub(crate) seat: Seat<H>,

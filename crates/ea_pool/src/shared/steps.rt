@@ -1,4 +1,4 @@
-//! The steps of a pool: on a word, and on a heap that is out.
+//! The steps of a pool: on a word, and on a heap that is held.
 ghost use Rattle.std.specs.Prelude.{◌≡◌, ◌≢◌, ◌<◌, ◌≤◌, true, false, [], ◌∷◌, ◌++◌, MatchResult, MatchOption};
 ghost use Rattle.std.specs.List.{AllByRecursion};
 ghost use Rattle.ea_pool.specs.Entries.{SameEntries, HasMore, AreKnown};
@@ -18,7 +18,7 @@ use ea_road::Known;
 use std::alloc::Allocator;
 
 impl<K: Known, A: Allocator, H: EntryHeap> Pool<K, A, H> {
-    // The word of a heap.
+    // Loads the word of a heap.
     pub(crate) fn look(&self, seat: &mut Seat<H>, heap: usize) -> u64
         requires table { (seat.old.table_id ≡ self.now.table) × (heap < self.now.heaps) }
         requires rests { Rests seat.old.me }
@@ -33,7 +33,7 @@ impl<K: Known, A: Allocator, H: EntryHeap> Pool<K, A, H> {
             .load::<Look<K, H>>(seat, WORDS_APART * (heap + 1))
     }
 
-    // Takes a heap, if its word is still what was seen.
+    // Takes a heap, if its word is still `seen`.
     pub(crate) fn take(&self, seat: &mut Seat<H>, heap: usize, seen: u64) -> bool
         requires table { (seat.old.table_id ≡ self.now.table) × (heap < self.now.heaps) }
         requires rests { Rests seat.old.me × (seen ≢ OUT) }
@@ -49,7 +49,7 @@ impl<K: Known, A: Allocator, H: EntryHeap> Pool<K, A, H> {
             == seen
     }
 
-    // Pushes into the heap that is held, and gives its new word.
+    // Pushes into the heap that is held, and returns its new word.
     pub(crate) fn push_in(
         &self,
         seat: &mut Seat<H>,
@@ -70,7 +70,7 @@ impl<K: Known, A: Allocator, H: EntryHeap> Pool<K, A, H> {
         (answer, held.word())
     }
 
-    // Pops from the heap that is held, and gives its new word.
+    // Pops from the heap that is held, and returns its new word.
     pub(crate) fn pop_in(&self, seat: &mut Seat<H>, heap: usize) -> (Option<Entry>, u64)
         requires table { seat.old.table_id ≡ self.now.table }
         requires held { HoldsHeap seat.old.me heap (λ es. AreInTime es) }
@@ -86,7 +86,7 @@ impl<K: Known, A: Allocator, H: EntryHeap> Pool<K, A, H> {
         (answer, held.word())
     }
 
-    // Puts the heap back, with some entries more than it had.
+    // Returns the heap, with more entries than it had.
     pub(crate) fn give_pushed(&self, seat: &mut Seat<H>, heap: usize, word: u64)
         requires table { (seat.old.table_id ≡ self.now.table) × (heap < self.now.heaps) }
         requires share { 0 < seat.old.me.0.shares }
@@ -100,7 +100,7 @@ impl<K: Known, A: Allocator, H: EntryHeap> Pool<K, A, H> {
             .store::<GivePushed>(seat, WORDS_APART * (heap + 1), word);
     }
 
-    // Puts the heap back, with some entries less than it had.
+    // Returns the heap, with fewer entries than it had.
     pub(crate) fn give_popped(&self, seat: &mut Seat<H>, heap: usize, word: u64)
         requires table { (seat.old.table_id ≡ self.now.table) × (heap < self.now.heaps) }
         requires share { 0 < seat.old.me.0.shares }
@@ -114,7 +114,7 @@ impl<K: Known, A: Allocator, H: EntryHeap> Pool<K, A, H> {
             .store::<GivePopped<K>>(seat, WORDS_APART * (heap + 1), word);
     }
 
-    // Puts the heap back as it was.
+    // Returns the heap unchanged.
     pub(crate) fn give_back(&self, seat: &mut Seat<H>, heap: usize, word: u64)
         requires table { (seat.old.table_id ≡ self.now.table) × (heap < self.now.heaps) }
         requires share { 0 < seat.old.me.0.shares }
