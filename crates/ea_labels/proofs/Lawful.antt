@@ -32,7 +32,7 @@ starts node from l = (l.node == node) && (l.from == from)
 abbrev pub starts_in : ℕ → ℕ → SeatRecord → ℕ
 starts_in node from seat = total (begins_at node from) seat.lowerings
 
--- what was lowered to stays so
+-- each lowering stays
 abbrev pub Grows : List SeatRecord → List SeatRecord → Type 0
 Grows before after = (node time : ℕ) → IsLoweredTo before node time → IsLoweredTo after node time
 
@@ -311,7 +311,7 @@ module _ (known : ℕ → ℕ → Type 0) (nodes : ℕ) where
       (λ b lawful e. subst (λ n. label_of words n ≤ b.time) e lawful.above_word)
       v.bounds (All_at (IsLawfulSeat known nodes words seats) seats id v h.each_seat at).bounds
 
-  -- no seat has more shares than there are
+  -- no seat has more shares than exist
   pub shares_bound : (words : List ℕ) (seats : List SeatRecord) (id : ℕ) (v : SeatRecord) → IsLawful known nodes words seats → get_elem? seats id ≡ some v → v.shares ≤ SHARES
   shares_bound words seats id v h at = let o = term_le (λ (s : SeatRecord). s.shares) seats id v at in let d = h.shares_add_up in omega arith
 
@@ -321,7 +321,7 @@ module _ (known : ℕ → ℕ → Type 0) (nodes : ℕ) where
       All-weaker (IsLawfulBound nodes words (seat ∷ [])) (λ b. label_of words b.node ≤ b.time) (λ b lawful. lawful.above_word)
       seat.bounds (All_at (IsLawfulSeat known nodes words (seat ∷ [])) (seat ∷ []) 0 seat h.each_seat refl).bounds
 
-  -- with one seat left, each word is none or was lowered to by it
+  -- with one seat left, each word is NONE or one of its lowerings
   pub words_lowered : (words : List ℕ) (seat : SeatRecord) → IsLawful known nodes words (seat ∷ []) → (node : ℕ) → IsNode nodes node
       → (label_of words node ≡ NONE) ⊎ Any (is_to node (label_of words node)) seat.lowerings
   words_lowered words seat h node is =

@@ -1,4 +1,4 @@
--- Each kind of step is an event of the label table, and tells what it says.
+-- Each kind of step is an event of the label table, and shows what it promises.
 use Rattle.std.proofs.Common.{◌≡◌, ℕ, zero, suc, ◌+◌, ◌-◌, ◌<◌, ◌≤◌, ◌⊎◌, Bool, true, false, cond, nat_lt, List, [], ◌∷◌, ◌++◌, length, get_or, set, replicate, min, sym, refl, ap, ◌∙◌, subst, arith, add-one, below_more, get_or-set_other, get_or-set_same, lt-ltb, le-ltb}
 use Rattle.std.proofs.lemmas.List.{set-get_or}
 use Rattle.std.proofs.lemmas.Grind.{same_number_lists}
@@ -59,7 +59,7 @@ module _ (known : ℕ → ℕ → Type 0) (nodes : ℕ) where
         seats = λ i. set (h.seats i) id (seen (own i) node (found i));
       }
 
-  -- and so is a fetch_min, which lowers the word or finds it no higher
+  -- and so is a fetch_min, which lowers the word or finds it no higher than the operand
   fetched : (core : Core) (id node t : ℕ) → IsReached known nodes core → MayCome known nodes core (fetch_min id node t) → (b : Bool) → nat_lt t (label_of core.words node) ≡ b
       → IsReached known nodes (cond b (with_lowering core id node t) (with_bound core id node))
   fetched core id node t h may b e = subst (λ (b : Bool). IsReached known nodes (cond b (with_lowering core id node t) (with_bound core id node))) e (reached_next known nodes core (fetch_min id node t) h may)
@@ -160,7 +160,7 @@ module _ (known : ℕ → ℕ → Type 0) (nodes : ℕ) where
     (refl, shares_bound known nodes h.core.words h.core.seats id me.0 (lawful s h) (at_core s h id me.0 at)),
   )
 
-  -- a table of words that are all none
+  -- a table in which all words are NONE
   pub opened : (words : List ℕ) (seat : SeatRecord) → words ≡ replicate (nodes + 1) NONE → seat ≡ first_record → Rule (opening_table words [] seat)
   opened words seat is first = record {
     seat_word = NONE;
@@ -170,7 +170,7 @@ module _ (known : ℕ → ℕ → Type 0) (nodes : ℕ) where
     seats = ap (λ (v : SeatRecord). v ∷ []) first;
   }
 
-  -- what is copied out, place by place, from behind the seat word, is what a run ends with
+  -- the words after the seat word, copied out one by one, are those at the end of a run
   pub closed_run : (id : ℕ) (v : SeatRecord) (all : List ℕ) (slots : List (Unit {0})) (kept : List ℕ)
       → Final (Seen Rule id v) all slots → length kept ≡ nodes → ((k : ℕ) → k < nodes → get_or kept k 0 ≡ get_or all (k + 1) 0)
       → (core : Core) × IsReached known nodes core × (core.words ≡ kept) × (get_elem? core.seats id ≡ some v)

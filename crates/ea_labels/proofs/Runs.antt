@@ -50,13 +50,13 @@ module _ (known : ℕ → ℕ → Type 0) (nodes : ℕ) where
   pub every_run : (events : List Event) → MayRun known nodes (opening nodes) events → Lawful (after_all (opening nodes) events)
   every_run events may = runs.kept_by_run after (MayCome known nodes) Lawful step_lawful (opening nodes) events opening_lawful may
 
-  -- what a run leads to is lawful
+  -- the state at the end of a run is lawful
   pub reached_lawful : (core : Core) → IsReached known nodes core → Lawful core
   reached_lawful core h = runs.kept_where_reached after (MayCome known nodes) Lawful step_lawful (opening nodes) core opening_lawful h
 
   pub opening_reached : IsReached known nodes (opening nodes)
   opening_reached = runs.reached_first after (MayCome known nodes) (opening nodes)
 
-  -- and the run goes on by each event that may come
+  -- and the run continues with each possible event
   pub reached_next : (core : Core) (event : Event) → IsReached known nodes core → MayCome known nodes core event → IsReached known nodes (after core event)
   reached_next core event h may = runs.reached_next after (MayCome known nodes) (opening nodes) core event h may

@@ -1,4 +1,5 @@
--- The label table as plain data: one word per node and one record per seat, and when these fit each other.
+-- The label table as plain data: a word for each node and a record for each seat; and when these are
+-- consistent.
 use Rattle.std.specs.Prelude.{◌≡◌, ℕ, ◌+◌, ◌-◌, ◌<◌, ◌≤◌, ◌==◌, ◌&&◌, ◌⊎◌, if◌then◌else◌, List, [], ◌∷◌, ◌++◌, length, All, Any}
 use Rattle.ea_machine.specs.Totals.{total}
 use Rattle.atomic_table.specs.Seated.{TableId}
@@ -10,12 +11,12 @@ use Rattle.ea_labels.specs.declared.record.Bound.{Bound}
 use Rattle.ea_labels.specs.declared.record.Lowering.{Lowering}
 use Rattle.ea_labels.specs.declared.record.SeatRecord.{SeatRecord}
 
--- what contracts see of a label table: which table it is, and its number of nodes
+-- A label table in contracts: its identity and its number of nodes.
 pub record TableView : Type 0 where
   pub table : TableId
   pub nodes : ℕ
 
--- what contracts see of a seat: whose table's seat it is, and its record
+-- A seat in contracts: the table that made it, and its record.
 pub record SeatView : Type 0 where
   pub table : TableId
   pub history : SeatRecord
@@ -26,72 +27,72 @@ bound node time = record { node = node; time = time }
 abbrev pub lowering : ℕ → ℕ → ℕ → Lowering
 lowering node from to = record { node = node; from = from; to = to }
 
--- the time is none, or known for the node
+-- The time is NONE, or known for the node.
 abbrev pub IsNoneOrKnown : (ℕ → ℕ → Type 0) → ℕ → ℕ → Type 0
 IsNoneOrKnown known node time = (time ≡ NONE) ⊎ known node time
 
--- the time is at most each bound of the node in the record
+-- The time is at most each bound of the node in the record.
 abbrev pub IsAtMostBounds : SeatRecord → ℕ → ℕ → Type 0
 IsAtMostBounds seat node time = All (λ b. b.node ≡ node → time ≤ b.time) seat.bounds
 
 -- THE STEPS, by what they do to a record
 
--- a new table's first seat
+-- A new table's first seat.
 abbrev pub first_record : SeatRecord
 first_record = record { shares = SHARES; bounds = []; lowerings = [] }
 
--- the seat found this word at the node
+-- The seat found this word at the node.
 abbrev pub seen : SeatRecord → ℕ → ℕ → SeatRecord
 seen seat node time = record { shares = seat.shares; bounds = bound node time ∷ seat.bounds; lowerings = seat.lowerings }
 
--- the seat lowered the word of the node from one value to another
+-- The seat lowered the word of the node from one value to another.
 abbrev pub lowered : SeatRecord → ℕ → ℕ → ℕ → SeatRecord
 lowered seat node from to = record { shares = seat.shares; bounds = bound node to ∷ seat.bounds; lowerings = lowering node from to ∷ seat.lowerings }
 
--- a split: the seat that gives a share
+-- A split: the seat that gives a share.
 abbrev pub with_one_share_less : SeatRecord → SeatRecord
 with_one_share_less seat = record { shares = seat.shares - 1; bounds = seat.bounds; lowerings = seat.lowerings }
 
--- a split: the new seat, which has seen as much and has lowered nothing
+-- A split: the new seat, with the same bounds and no lowering.
 abbrev pub with_one_share : SeatRecord → SeatRecord
 with_one_share seat = record { shares = 1; bounds = seat.bounds; lowerings = [] }
 
--- a join: the seat has gained all that the other had
+-- A join: the seat gains all that the other had.
 abbrev pub joined : SeatRecord → SeatRecord → SeatRecord
 joined seat other = record { shares = seat.shares + other.shares; bounds = other.bounds ++ seat.bounds; lowerings = other.lowerings ++ seat.lowerings }
 
--- a join: the other is no longer live
+-- A join: the other is no longer live.
 abbrev pub spent : SeatRecord
 spent = record { shares = 0; bounds = []; lowerings = [] }
 
 -- THE LAW
 
--- the seat's record has a lowering of the node to this time
+-- The seat's record has a lowering of the node to this time.
 abbrev pub HasLowered : SeatRecord → ℕ → ℕ → Type 0
 HasLowered seat node time = Any (λ l. (l.node ≡ node) × (l.to ≡ time)) seat.lowerings
 
--- some seat's record has one
+-- Some seat's record has one.
 abbrev pub IsLoweredTo : List SeatRecord → ℕ → ℕ → Type 0
 IsLoweredTo seats node time = Any (λ seat. HasLowered seat node time) seats
 
 abbrev pub IsNoneOrLoweredTo : List SeatRecord → ℕ → ℕ → Type 0
 IsNoneOrLoweredTo seats node time = (time ≡ NONE) ⊎ IsLoweredTo seats node time
 
--- 1 for a lowering of the node that begins at this value, and 0 for others
+-- 1 for a lowering of the node that begins at this value, and 0 for others.
 abbrev pub begins_at : ℕ → ℕ → Lowering → ℕ
 begins_at node from l = if (l.node == node) && (l.from == from) then 1 else 0
 
--- how many lowerings of the node begin at this value, over all seats
+-- How many lowerings of the node begin at this value, over all seats.
 abbrev pub count_from : List SeatRecord → ℕ → ℕ → ℕ
 count_from seats node from = total (λ seat. total (begins_at node from) seat.lowerings) seats
 
--- the bound still holds, and is not made up
+-- The bound still holds, and is not made up.
 pub record IsLawfulBound (nodes : ℕ) (words : List ℕ) (seats : List SeatRecord) (b : Bound) : Type 0 where
   pub of_node : IsNode nodes b.node
   pub above_word : label_of words b.node ≤ b.time
   pub comes_from : IsNoneOrLoweredTo seats b.node b.time
 
--- the lowering fell to a known time, from none or from where another one ended, and the word is no higher
+-- The lowering is to a known time, from NONE or from where another ended, and the word is no higher.
 pub record IsLawfulLowering (known : ℕ → ℕ → Type 0) (nodes : ℕ) (words : List ℕ) (seats : List SeatRecord) (l : Lowering) : Type 0 where
   pub of_node : IsNode nodes l.node
   pub falls : l.to < l.from
@@ -99,13 +100,14 @@ pub record IsLawfulLowering (known : ℕ → ℕ → Type 0) (nodes : ℕ) (word
   pub comes_from : IsNoneOrLoweredTo seats l.node l.from
   pub is_known : known l.node l.to
 
--- A live seat has a share. A seat that was joined into another stays in the list as `spent`
+-- A live seat has a share. A seat that was joined into another stays in the list as `spent`.
 pub record IsLawfulSeat (known : ℕ → ℕ → Type 0) (nodes : ℕ) (words : List ℕ) (seats : List SeatRecord) (seat : SeatRecord) : Type 0 where
   pub bounds : All (IsLawfulBound nodes words seats) seat.bounds
   pub lowerings : All (IsLawfulLowering known nodes words seats) seat.lowerings
   pub live_or_spent : (1 ≤ seat.shares) ⊎ (seat ≡ spent)
 
--- The words and the records of all seats fit each other: nothing is made up, no two lowerings of a node begin at one value, and no share is lost
+-- The words and the records of all seats are consistent: nothing is made up, no two lowerings of a node begin
+-- at one value, and no share is lost.
 pub record IsLawful (known : ℕ → ℕ → Type 0) (nodes : ℕ) (words : List ℕ) (seats : List SeatRecord) : Type 0 where
   pub one_word_per_node : length words ≡ nodes
   pub words_come_from : (node : ℕ) → IsNode nodes node → IsNoneOrLoweredTo seats node (label_of words node)

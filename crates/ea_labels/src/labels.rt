@@ -17,11 +17,11 @@ use ea_road::{Known, NONE};
 use std::alloc::{Allocator, Global};
 use std::marker::{Model, PhantomData};
 
-/// One word per node, which is only lowered. Threads share it by reference, each with a seat of its own.
+/// One word for each node, which only falls. Threads share it by reference, each with its seat.
 #[derive(Drop)]
 pub struct Labels<K: Known, A: Allocator = Global> {
     nodes: u32,
-    // What `close` answers: it takes no memory then.
+    // The vector that `close` returns, so that it takes no memory.
     kept: Vec<u64, A>,
     table: Table<(), SeatRecord, u32, LabelRule<K>, A>,
 }
@@ -39,8 +39,8 @@ impl<K: Known, A: Allocator> Model for Labels<K, A> {
 }
 
 impl<K: Known, A: Allocator + Copy> Labels<K, A> {
-    /// A table of this many nodes, numbered from 1, with no label, and its first seat, which has all 64 shares.
-    /// It takes the memory for `close` too: no other call takes any. Err comes only where memory was refused.
+    /// A table of this many nodes, numbered from 1, without labels, and its first seat, which has all 64
+    /// shares. Reserves the memory for `close` too; no other call takes any. Fails only if memory is refused.
     pub fn open(alloc: A, nodes: u32) -> Result<(Labels<K, A>, LabelSeat<K>), OutOfMemory>
         ensures nodes { IfOk result (λ r. r.0.nodes ≡ nodes) }
         ensures seat { IfOk result (λ r. (r.1.table ≡ r.0.table) × (r.1.history ≡ first_record)) }
@@ -58,8 +58,8 @@ impl<K: Known, A: Allocator + Copy> Labels<K, A> {
 }
 
 impl<K: Known, A: Allocator> Labels<K, A> {
-    /// The word of a node: NONE or a known time, and no more than this seat has seen before. Where the seat has all shares, it
-    /// is NONE or what this seat lowered it to.
+    /// The word of a node: NONE or a known time, at most what this seat saw before. If the seat has all
+    /// shares, it is NONE or one of its lowerings.
     pub fn read(&self, seat: &mut LabelSeat<K>, node: u32) -> u64
         requires same_table { seat.old.table ≡ self.now.table }
         requires node { IsNode self.now.nodes node }
@@ -75,9 +75,9 @@ impl<K: Known, A: Allocator> Labels<K, A> {
             .load::<Loads<K>>(&mut seat.seat, node as usize)
     }
 
-    /// Lowers the word of a node to the time where it is above it, in one atomic step.
-    /// The pair has to be known, so the time is at most HORIZON. Where the seat has all shares, a word that stays is one to which
-    /// this seat lowered it.
+    /// Lowers the word of a node to the time if the word is above it, in one atomic step. The pair has to be
+    /// known, so the time is at most HORIZON. If the seat has all shares, a word that stays is one of its
+    /// lowerings.
     pub fn offer(&self, seat: &mut LabelSeat<K>, node: u32, time: u64) -> Offered
         requires same_table { seat.old.table ≡ self.now.table }
         requires node { IsNode self.now.nodes node }
@@ -102,7 +102,7 @@ impl<K: Known, A: Allocator> Labels<K, A> {
         }
     }
 
-    /// Moves one share to a new seat, which has seen as much and has lowered nothing. The seat needs at least two.
+    /// Moves one share to a new seat, which has the same bounds and no lowering. The seat needs at least two.
     pub fn split(&self, seat: &mut LabelSeat<K>) -> LabelSeat<K>
         requires same_table { seat.old.table ≡ self.now.table }
         requires shares { 2 ≤ seat.old.history.shares }
@@ -119,7 +119,7 @@ impl<K: Known, A: Allocator> Labels<K, A> {
         }
     }
 
-    /// The seat gains all that the other has: its shares, bounds and lowerings.
+    /// Adds the other seat's shares, bounds and lowerings.
     pub fn join(&self, seat: &mut LabelSeat<K>, other: LabelSeat<K>)
         requires same_table { seat.old.table ≡ self.now.table }
         requires other_same_table { other.table ≡ self.now.table }
@@ -137,7 +137,7 @@ impl<K: Known, A: Allocator> Labels<K, A> {
         seat.shares += shares;
     }
 
-    /// The word of each node v, at place v - 1, where this seat has all 64 shares: no other seat is live.
+    /// The word of each node v, at index v - 1. The seat has all 64 shares, so no other seat is live.
     pub fn close(self, seat: LabelSeat<K>) -> Vec<u64, A>
         requires same_table { seat.table ≡ self.table }
         requires all_shares { seat.history.shares ≡ SHARES }

@@ -5,7 +5,7 @@ use crate::record::SeatRecord;
 use atomic_table::Seat;
 use std::marker::{Model, PhantomData};
 
-/// The right to step on one label table. Contracts see which table it is and the seat's record.
+/// The right to step on one label table. In contracts it is the identity of the table and the seat's record.
 #[derive(Drop)]
 pub struct LabelSeat<K> {
     pub(crate) shares: u32,
