@@ -24,7 +24,7 @@ arcs_text-push (first ∷ rest) arc = ap (λ t. spaced (decimal first) ++ t) (ar
 pub no_arcs : (links : List Link) (node : ℕ) → (link links node).level ≡ 0 → arcs_text (linked_walk links node) ≡ []
 no_arcs links node same = ap arcs_text (linked-walk links node ∙ along-zero links (link links node).level node same)
 
--- every other node's walk goes on from the node before
+-- every other node's walk extends the walk of the node before
 pub one_more : (links : List Link) (node : ℕ) → (link links (link links node).from).level + 1 ≡ (link links node).level → linked_walk links node ≡ linked_walk links (link links node).from ++ (link links node).arc ∷ []
 one_more links node below =
     linked-walk links node
@@ -37,7 +37,7 @@ arc_more links node before from below =
     ap arcs_text (one_more links node (subst P (sym from) below) ∙ ap (λ n. linked_walk links n ++ (link links node).arc ∷ []) from)
     ∙ arcs_text-push (linked_walk links before) (link links node).arc
 
--- Going back along links: the places from `left` on are filled, and the node at hand belongs before them.
+-- Following links back: the places from `left` on are filled, and the node at hand belongs before them.
 pub record IsGoingBack (links : List Link) (before nodes : List ℕ) (left hand node : ℕ) : Type 0 where
   pub places : length nodes ≡ length before
   pub low : left ≤ length nodes
@@ -94,7 +94,7 @@ goes_back links before nodes left hand node next follows level size some is_from
     shorter : take (left - 1) nodes ≡ take (left - 1) before
     shorter = sym (take-take (left - 1) left nodes (omega arith)) ∙ ap (λ t. take (left - 1) t) at.stay ∙ take-take (left - 1) left before (omega arith)
 
--- one place more
+-- one more place
 pub fronts_more : (links : List Link) (nodes ends text text' more : List ℕ) → AreFronts links nodes ends text → length ends < length nodes → text' ≡ text ++ more
     → text' ≡ arcs_text (linked_walk links (slice_index nodes (length ends))) → AreFronts links nodes (ends ++ length text' ∷ []) text'
 fronts_more links nodes ends text text' more fronts room same walk = record {
@@ -170,7 +170,7 @@ step_before links nodes start place follows few path from there some =
     let step = follows (slice_index nodes place) (omega (arith, here.1, some)) (omega (arith, here.1, there, few)) in
     (before, sym (ap (λ n. (link links n).level) before) ∙ omega (arith, step.1, here.1))
 
--- the walk to a place goes on from the text of the walk to the place before
+-- the walk to a place extends the text of the walk to the place before
 pub text_more : (links : List Link) (nodes text text' : List ℕ) (place : ℕ)
     → (0 < place → ((link links (slice_index nodes place)).from ≡ slice_index nodes (place - 1)) × ((link links (slice_index nodes (place - 1))).level ≡ place - 1))
     → (link links (slice_index nodes place)).level ≡ place
@@ -216,7 +216,7 @@ module _ (links : List Link) (nodes places nodes' ends ends₁ ends' text text' 
       ∙ sym (ap (λ (t : List ℕ). length t) (front last) ∙ length-take-le (slice_index ends (kept - 1)) text (fronts.within (kept - 1) (omega (arith, last, known, less)))) in
       sym (take_all (slice_index ends' (length ends' - 1)) text' (omega (arith, whole))) ∙ fronts_kept.texts (length ends' - 1) (omega (arith, more))
 
--- an asked node with an arrival has the walk that its links lead along
+-- an asked node with an arrival has the walk along its links
 pub walk_text_of : (answer : Answered) (node : ℕ) → label_of answer.labels node ≢ NONE → walk_text node (walk_of answer node) ≡ walk_line node (linked_walk answer.links node)
 walk_text_of answer node some = by_test (label_of answer.labels node == NONE) refl
   where

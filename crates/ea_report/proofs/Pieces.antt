@@ -29,14 +29,14 @@ counted_more : (first old new count : ℕ) → new ≡ one_more old → AreCount
 counted_more first old new count e (few, inl h) = elim (dec_le (2 ^ 64 - 1) old) [ yes p ↦ (omega arith, inr (omega arith)) | no p ↦ (omega arith, inl (omega arith)) ]
 counted_more first old new count e (few, inr h) = (omega arith, inr (omega arith))
 
--- A device that bore what it had to goes on.
+-- A device with only tolerated interruptions continues.
 pub borne_on : (first old now : Seen) (count : ℕ) → now.failed ≡ old.failed → now.interrupted ≡ old.interrupted → HasBorne first old count → HasBorne first now count
 borne_on first old now count unfailed same h = (unfailed ∙ h.0, rw same h.1)
 
 pub borne_more : (first old now : Seen) (count : ℕ) → now.failed ≡ old.failed → now.interrupted ≡ one_more old.interrupted → HasBorne first old count → HasBorne first now (count + 1)
 borne_more first old now count unfailed more h = (unfailed ∙ h.0, counted_more first.interrupted old.interrupted now.interrupted count more h.1)
 
--- A device that failed, or was interrupted once more than is borne, gave a reason.
+-- A device that failed, or was interrupted once too often, gave a reason.
 pub failed_gives_up : (first old now : Seen) (count : ℕ) → now.failed ≡ one_more old.failed → now.interrupted ≡ old.interrupted → count ≤ 1000 → HasBorne first old count → GivesUp first now
 failed_gives_up first old now count e same few h = inl (e ∙ ap one_more h.0, omega (arith, same, h.1.0))
 
@@ -144,12 +144,12 @@ delivery_starts now d e =
     let start : Delivers now now (all_sent 0 0) [] = record { sent = []; appended = Appends-nil now.bytes; whole = refl; counted = refl; borne = (refl, (omega arith, inl (omega arith))) } in
     subst (λ t. Delivers now now t []) (sym e) start
 
--- A count that goes on doesn't fall.
+-- A count that continues doesn't fall.
 not_less : (old new count : ℕ) → AreCounted old new count → IsNotLess old new
 not_less old new count (few, inl h) = inl (omega (arith, h))
 not_less old new count (few, inr h) = inr h
 
--- At the end all is sent.
+-- At the end everything is sent.
 pub delivery_ends : (first now : Seen) (d : Delivery) (text : List ℕ) → d.pending ≡ [] → d.interruptions ≤ 1000 → Delivers first now d text → IsWhole first now text d.written
 delivery_ends first now d text e few way =
     let same : text ≡ way.sent = way.whole ∙ ap (λ p. way.sent ++ p) e ∙ append-nil way.sent in
@@ -171,7 +171,7 @@ stops_sent old now bytes written borne sent cut reason = λ first text way.
     let pending = with_more (all_sent written borne) bytes in
     delivery_cut first old now pending (text ++ bytes) sent cut reason (delivery_more first old (all_sent written borne) text bytes way)
 
--- The same where the outcome of the later part isn't known yet.
+-- The same before the outcome of the later part is known.
 pub adds_join : {T : Type 0} (r : Result T WriteFault) (a b c : Seen) (d e f : Delivery) (more next whole : List ℕ) → whole ≡ more ++ next → Adds a d b e more → OnOk r (Adds b e c f next) → OnOk r (Adds a d c f whole)
 adds_join (Ok x) a b c d e f more next whole is one two = rw is (adds_more a b c d e f more next one two)
 adds_join (Err fault) a b c d e f more next whole is one two = tt

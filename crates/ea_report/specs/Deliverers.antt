@@ -1,4 +1,4 @@
--- What contracts see of what sends a text.
+-- The senders of a text, as contracts see them.
 use Rattle.ea_report.specs.Delivery.{Delivery, all_sent}
 use Rattle.ea_report.specs.declared.direct_text.Direct.{Direct}
 use Rattle.ea_report.specs.declared.pending_text.Pending.{Pending}

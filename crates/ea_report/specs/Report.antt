@@ -9,7 +9,7 @@ use Rattle.ea_search.specs.Answers.{Answered, arrival_of, walk_of}
 abbrev pub spaced : List ℕ → List ℕ
 spaced field = 32 ∷ field
 
--- A line: its word, and then its fields.
+-- A line: its word, then its fields.
 abbrev pub line : List ℕ → List (List ℕ) → List ℕ
 line word fields = word ++ flat_map spaced fields ++ 10 ∷ []
 
@@ -26,16 +26,16 @@ abbrev pub arrival_line : ℕ → Option ℕ → List ℕ
 arrival_line node (Some arrival) = line (codes "d") (decimal node ∷ decimal arrival ∷ [])
 arrival_line node None = line (codes "d") (decimal node ∷ codes "inf" ∷ [])
 
--- A node and a walk to it: how many arcs, and their numbers.
+-- A node and a walk to it: the number of its arcs, and the arcs' numbers.
 abbrev pub walk_line : ℕ → List ℕ → List ℕ
 walk_line node arcs = line (codes "w") (decimal node ∷ decimal (length arcs) ∷ map decimal arcs)
 
--- The line of a walk, where there is one.
+-- The line of a walk, if there is one.
 abbrev pub walk_text : ℕ → Option (List ℕ) → List ℕ
 walk_text node (Some walk) = walk_line node walk
 walk_text node None = []
 
--- What is said of an asked node: its arrival, and with walks its walk.
+-- The text of an asked node: its arrival and, with walks, its walk.
 abbrev pub node_text : Bool → Answered → ℕ → List ℕ
 node_text walks answer node = arrival_line node (arrival_of answer node) ++ (if walks then walk_text node (walk_of answer node) else [])
 
@@ -44,15 +44,16 @@ abbrev pub each_node : (ℕ → List ℕ) → ℕ → List ℕ
 each_node text zero = []
 each_node text (suc n) = each_node text n ++ text (suc n)
 
--- A problem where all of so many nodes are asked: its sources, and each node.
+-- A problem that asks all of this many nodes: its sources, then each node.
 abbrev pub text_of_all : Bool → ℕ → List Source → Answered → List ℕ
 text_of_all walks nodes sources answer = flat_map source_line sources ++ each_node (node_text walks answer) nodes
 
--- A problem where a target is asked: the pair, and the target.
+-- A problem that asks a target: the pair, then the target.
 abbrev pub text_of_target : Bool → ℕ → List Source → Answered → List ℕ
 text_of_target walks target sources answer = flat_map (pair_line target) sources ++ node_text walks answer target
 
--- A problem: where all of so many nodes are asked, its sources and each node; where a target is asked, the pair and the target.
+-- A problem: if all of this many nodes are asked, its sources and each node; if a target is asked, the pair
+-- and the target.
 abbrev pub problem_text : Bool → ℕ → Asking → Answered → List ℕ
 problem_text walks nodes query answer = asked_text query.target where
   asked_text : Option ℕ → List ℕ

@@ -1,4 +1,4 @@
--- The text of walks, one after another, along links.
+-- The text of walks along links, one after another.
 use Rattle.std.specs.Prelude.{◌≡◌, ℕ, ◌-◌, ◌<◌, ◌≤◌, List, decimal, map, take, length, slice_index}
 use Rattle.std.specs.List.{flat_map}
 use Rattle.ea_road.specs.Roads.{IsNode}
@@ -10,7 +10,7 @@ use Rattle.ea_report.specs.Report.{spaced}
 abbrev pub arcs_text : List ℕ → List ℕ
 arcs_text arcs = flat_map spaced (map decimal arcs)
 
--- What contracts see: the links of nodes, and the text that stands.
+-- The links of nodes, and the current text.
 pub record Following : Type 0 where
   pub links : List Link
   pub text : List ℕ
@@ -19,7 +19,7 @@ pub record Following : Type 0 where
 abbrev pub text_to : List Link → List ℕ → ℕ → List ℕ
 text_to links nodes place = arcs_text (linked_walk links (slice_index nodes place))
 
--- The node at a place has its place as its level.
+-- The node at a place has the place as its level.
 abbrev pub HasLevel : List Link → List ℕ → ℕ → Type 0
 HasLevel links nodes place = (link links (slice_index nodes place)).level ≡ place
 
@@ -27,13 +27,14 @@ HasLevel links nodes place = (link links (slice_index nodes place)).level ≡ pl
 abbrev pub LeadsOn : List Link → List ℕ → ℕ → Type 0
 LeadsOn links nodes place = (link links (slice_index nodes place)).from ≡ slice_index nodes (place - 1)
 
--- From a place on the nodes lie along their links: each has its place as its level, and its link leads to the node before.
+-- From a place on the nodes follow their links: each has its place as its level, and its link leads to the
+-- node before.
 abbrev pub IsPath : List Link → List ℕ → ℕ → Type 0
 IsPath links nodes from = (place : ℕ) → from ≤ place → place < length nodes →
     IsNode (length links) (slice_index nodes place) × ((link links (slice_index nodes place)).level ≡ place)
     × (0 < place → (link links (slice_index nodes place)).from ≡ slice_index nodes (place - 1))
 
--- Up to the end of each place the text is that of the walk to the place's node.
+-- Up to the end of each place, the text is that of the walk to the place's node.
 pub record AreFronts (links : List Link) (nodes ends text : List ℕ) : Type 0 where
   pub few : length ends ≤ length nodes
   pub within : (place : ℕ) → place < length ends → slice_index ends place ≤ length text

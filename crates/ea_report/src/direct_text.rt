@@ -1,14 +1,14 @@
-//! A text that is sent at once.
+//! A text that is sent without a buffer.
 ghost use Rattle.std.specs.Prelude.{◌≤◌};
 ghost use Rattle.ea_base.specs.declared.limits.TheConstants.{MOST_INTERRUPTIONS};
 
-/// A text that is sent to a device piece by piece, with one count of interruptions over all of it. It begins with both
-/// numbers 0, and keeps nothing back.
+/// A text that is sent to a device piece by piece, with one count of interruptions for all of it. Both counts
+/// begin at 0.
 #[derive(Drop)]
 pub struct Direct {
-    /// How many bytes were sent.
+    /// The number of bytes sent.
     pub written: u128,
-    /// How many calls were interrupted: 1,000 are borne.
+    /// The number of interrupted calls; up to 1,000 are retried.
     pub interruptions: u64,
     pub ghost borne: { interruptions ≤ MOST_INTERRUPTIONS },
 }

@@ -32,10 +32,10 @@ pub(crate) fn push_source(text: &mut Vec<u8>, source: Source) -> Result<(), Allo
     Ok(())
 }
 
-/// How many bytes the line of an arrival has at most, and a few more.
+/// At least the length in bytes of an arrival's line.
 const LINE: usize = 64;
 
-/// Puts a number after a space before what stands in a line from this place on: where the space is.
+/// Writes a space and a number that ends at a place of a line. Returns the place of the space.
 fn put_number(line: &mut [u8], end: usize, number: u64) -> usize
     requires { (21 ≤ end) × (end ≤ length line.old) }
     ensures start { result + length (spaced (decimal number)) ≡ end }
@@ -47,7 +47,7 @@ fn put_number(line: &mut [u8], end: usize, number: u64) -> usize
     start
 }
 
-/// Appends the line of a known arrival, which is put together from its end.
+/// Appends the line of a known arrival, built from its end.
 fn push_known(text: &mut Vec<u8>, node: u32, arrival: u64) -> Result<(), AllocError>
     ensures { OnOk result (text.new.items ≡ text.old.items ++ arrival_line node (Some arrival)) }
 {
@@ -76,7 +76,7 @@ pub(crate) fn push_arrival(
     }
 }
 
-/// Appends the line of a walk of so many arcs, by their text.
+/// Appends the line of a walk with this number of arcs, by their text.
 pub(crate) fn push_walk(
     text: &mut Vec<u8>,
     node: u32,
@@ -106,7 +106,7 @@ pub(crate) fn push_pair(text: &mut Vec<u8>, source: Source, target: u32) -> Resu
     Ok(())
 }
 
-/// Appends the line of an asked node's walk, where it has one.
+/// Appends the line of an asked node's walk, if it has one.
 fn push_found_walk(
     text: &mut Vec<u8>,
     arcs: &mut ArcTexts<'_>,
@@ -129,7 +129,7 @@ fn push_found_walk(
     push_walk(text, node, links[node as usize - 1].level, arcs.text())
 }
 
-/// Appends what is said of an asked node.
+/// Appends the lines of an asked node: its arrival and, with walks, its walk.
 pub fn push_node(
     text: &mut Vec<u8>,
     arcs: &mut ArcTexts<'_>,

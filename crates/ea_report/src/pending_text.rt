@@ -1,15 +1,15 @@
-//! A text that is gathered before it is sent.
+//! A text that is buffered before it is sent.
 ghost use Rattle.std.specs.Prelude.{◌≤◌};
 ghost use Rattle.ea_base.specs.declared.limits.TheConstants.{MOST_INTERRUPTIONS};
 
-/// A text on its way to a device in large pieces.
+/// A text that is sent to a device in large pieces.
 #[derive(Drop)]
 pub(crate) struct Pending {
-    /// What is still to be sent.
+    /// The bytes that are still to be sent.
     pub text: Vec<u8>,
-    /// How many bytes were sent.
+    /// The number of bytes sent.
     pub written: u128,
-    /// How many calls were interrupted: 1,000 are borne.
+    /// The number of interrupted calls; up to 1,000 are retried.
     pub interruptions: u64,
     pub ghost borne: { interruptions ≤ MOST_INTERRUPTIONS },
 }

@@ -25,7 +25,7 @@ use thiserror::Error;
 /// Why a text was not written whole.
 #[derive(Clone, Copy, Debug, PartialEq, Eq, Error)]
 pub enum WriteFaultKind {
-    /// A write failed, took nothing, or the interruptions were more than 1,000.
+    /// A write failed, took nothing, or was interrupted more than 1,000 times.
     #[error("the output could not be written (12 WriteFailed)")]
     WriteFailed = 12,
     /// Memory was refused.
@@ -34,7 +34,7 @@ pub enum WriteFaultKind {
 }
 
 impl WriteFaultKind {
-    /// The number by which messages name this kind.
+    /// The number of this kind in messages.
     pub fn number(self) -> u8
         ensures { result ≡ kind_number self }
     {
@@ -42,7 +42,7 @@ impl WriteFaultKind {
     }
 }
 
-/// A text that was not written whole, and how many bytes of it were: they are its front.
+/// Why a text was not written whole, and how many bytes of it were: its first ones.
 #[derive(Clone, Copy, Debug, PartialEq, Eq, Error)]
 #[error("after {written} bytes {kind}")]
 pub struct WriteFault {
@@ -50,7 +50,7 @@ pub struct WriteFault {
     pub kind: WriteFaultKind,
 }
 
-/// From how many bytes on what is pending is sent.
+/// From this number of bytes on, pending text is sent.
 const PIECE: usize = 65_536;
 
 impl Pending {
@@ -73,7 +73,7 @@ impl Pending {
         }
     }
 
-    /// Sends what is pending.
+    /// Sends the pending text.
     fn flush<W: ByteOut>(&mut self, out: &mut W) -> Result<(), WriteFault>
         requires { self.old.written + 2 ^ 63 < 2 ^ 128 }
         ensures ok { OnOk result (GoesOn (W.seen out.old) (delivery_of self.old)
@@ -96,7 +96,7 @@ impl Pending {
         }
     }
 
-    /// Sends what is pending where it is much, after a line was added to it.
+    /// Sends the pending text if it is long, after a line was added to it.
     fn flush_large<W: ByteOut>(&mut self, out: &mut W) -> Result<(), WriteFault>
         requires { self.old.written + 2 ^ 63 < 2 ^ 128 }
         ensures ok { OnOk result (GoesOn (W.seen out.old) (delivery_of self.old)
@@ -104,7 +104,7 @@ impl Pending {
         ensures err { IfErr result (Cuts (W.seen out.old) (delivery_of self.old) (W.seen out.new)) }
         ensures bound { self.new.written ≤ self.old.written + 2 ^ 63 }
         ensures small { IfErr result (λ fault. fault.written ≤ self.old.written + 2 ^ 63) }
-        // Less than a piece is kept back.
+        // Less than a piece is pending.
         ensures held { OnOk result (length self.new.text.items < PIECE) }
     {
         if self.text.len() >= PIECE {
@@ -123,7 +123,7 @@ impl Pending {
             (W.seen out.new) fault (source_line source)) }
         ensures bound { self.new.written ≤ self.old.written + 2 ^ 63 }
         ensures small { IfErr result (λ fault. fault.written ≤ self.old.written + 2 ^ 63) }
-        // Less than a piece is kept back.
+        // Less than a piece is pending.
         ensures held { OnOk result (length self.new.text.items < PIECE) }
     {
         match push_source(&mut self.text, source) {
@@ -146,7 +146,7 @@ impl Pending {
             (W.seen out.new) fault (pair_line target source)) }
         ensures bound { self.new.written ≤ self.old.written + 2 ^ 63 }
         ensures small { IfErr result (λ fault. fault.written ≤ self.old.written + 2 ^ 63) }
-        // Less than a piece is kept back.
+        // Less than a piece is pending.
         ensures held { OnOk result (length self.new.text.items < PIECE) }
     {
         match push_pair(&mut self.text, source, target) {
@@ -155,7 +155,7 @@ impl Pending {
         }
     }
 
-    /// Adds what is said of an asked node.
+    /// Adds the lines of an asked node.
     fn put_node<W: ByteOut>(
         &mut self,
         arcs: &mut ArcTexts<'_>,
@@ -176,7 +176,7 @@ impl Pending {
             (W.seen out.new) fault (node_text walks answer.now node)) }
         ensures bound { self.new.written ≤ self.old.written + 2 ^ 63 }
         ensures small { IfErr result (λ fault. fault.written ≤ self.old.written + 2 ^ 63) }
-        // Less than a piece is kept back.
+        // Less than a piece is pending.
         ensures held { OnOk result (length self.new.text.items < PIECE) }
     {
         match push_node(&mut self.text, arcs, answer, node, walks) {
@@ -185,7 +185,7 @@ impl Pending {
         }
     }
 
-    /// Adds what is said of the one node that is asked.
+    /// Adds the lines of the one asked node.
     fn put_alone<W: ByteOut>(
         &mut self,
         alloc: Global,
@@ -204,7 +204,7 @@ impl Pending {
             (W.seen out.new) fault (node_text walks answer.now node)) }
         ensures bound { self.new.written ≤ self.old.written + 2 ^ 63 }
         ensures small { IfErr result (λ fault. fault.written ≤ self.old.written + 2 ^ 63) }
-        // Less than a piece is kept back.
+        // Less than a piece is pending.
         ensures held { OnOk result (length self.new.text.items < PIECE) }
     {
         let mut arcs = ArcTexts::new(alloc, answer.links());
@@ -222,7 +222,7 @@ impl Pending {
         ensures bound { self.new.written ≤ self.old.written + length sources.now * 2 ^ 63 }
         ensures small { IfErr result
             (λ fault. fault.written ≤ self.old.written + length sources.now * 2 ^ 63) }
-        // Less than a piece is kept back.
+        // Less than a piece is pending.
         ensures held { OnOk result (length self.new.text.items < PIECE) }
     {
         for source in sources {
@@ -247,7 +247,7 @@ impl Pending {
         ensures bound { self.new.written ≤ self.old.written + length sources.now * 2 ^ 63 }
         ensures small { IfErr result
             (λ fault. fault.written ≤ self.old.written + length sources.now * 2 ^ 63) }
-        // Less than a piece is kept back.
+        // Less than a piece is pending.
         ensures held { OnOk result (length self.new.text.items < PIECE) }
     {
         for source in sources {
@@ -256,7 +256,7 @@ impl Pending {
         Ok(())
     }
 
-    /// Adds what is said of each node, all of which are asked.
+    /// Adds the lines of each node, all of which are asked.
     fn put_nodes<W: ByteOut>(
         &mut self,
         alloc: Global,
@@ -277,7 +277,7 @@ impl Pending {
             (W.seen out.new) fault (each_node (node_text walks answer.now) nodes)) }
         ensures bound { self.new.written ≤ self.old.written + nodes * 2 ^ 63 }
         ensures small { IfErr result (λ fault. fault.written ≤ self.old.written + nodes * 2 ^ 63) }
-        // Less than a piece is kept back.
+        // Less than a piece is pending.
         ensures held { OnOk result (length self.new.text.items < PIECE) }
     {
         let mut arcs = ArcTexts::new(alloc, answer.links());
@@ -288,7 +288,7 @@ impl Pending {
     }
 }
 
-/// What a report says beyond arrivals.
+/// What a report has beyond arrivals.
 #[derive(Clone, Copy, Debug, PartialEq, Eq)]
 pub struct ReportOptions {
     /// Whether the walk of each reached node follows its arrival.
@@ -296,7 +296,7 @@ pub struct ReportOptions {
 }
 
 impl Pending {
-    /// Adds a problem where all nodes are asked.
+    /// Adds a problem that asks all nodes.
     fn put_all<W: ByteOut>(
         &mut self,
         alloc: Global,
@@ -320,7 +320,7 @@ impl Pending {
         ensures room { self.new.written < 2 ^ 127 + 2 ^ 96 }
         ensures small { IfErr result
             (λ fault. fault.written ≤ (length sources.now + nodes) * 2 ^ 63) }
-        // Less than a piece is kept back.
+        // Less than a piece is pending.
         ensures held { OnOk result (length self.new.text.items < PIECE) }
     {
         match self.put_sources(sources, out) {
@@ -329,7 +329,7 @@ impl Pending {
         }
     }
 
-    /// Adds a problem where a target is asked.
+    /// Adds a problem that asks a target.
     fn put_target<W: ByteOut>(
         &mut self,
         alloc: Global,
@@ -352,7 +352,7 @@ impl Pending {
         ensures bound { self.new.written ≤ (length sources.now + 1) * 2 ^ 63 }
         ensures room { self.new.written < 2 ^ 127 + 2 ^ 96 }
         ensures small { IfErr result (λ fault. fault.written ≤ (length sources.now + 1) * 2 ^ 63) }
-        // Less than a piece is kept back.
+        // Less than a piece is pending.
         ensures held { OnOk result (length self.new.text.items < PIECE) }
     {
         match self.put_pairs(sources, target, out) {
@@ -385,7 +385,7 @@ impl Pending {
         ensures room { self.new.written < 2 ^ 127 + 2 ^ 96 }
         ensures small { IfErr result
             (λ fault. fault.written ≤ (network.now.nodes + length query.now.sources + 1) * 2 ^ 63) }
-        // Less than a piece is kept back.
+        // Less than a piece is pending.
         ensures held { OnOk result (length self.new.text.items < PIECE) }
     {
         let sources = query.sources();
@@ -396,7 +396,7 @@ impl Pending {
     }
 }
 
-/// Writes a problem, and answers how many bytes it wrote.
+/// Writes a problem, and returns the number of bytes written.
 fn send_problem<W: ByteOut>(
     alloc: Global,
     network: &Network,
@@ -426,12 +426,12 @@ fn send_problem<W: ByteOut>(
     Ok(pending.written)
 }
 
-/// Writes a problem: its sources and each node's arrival, or the pair and the target's arrival,
-/// with walks where they are asked for. Answers how many bytes it wrote.
+/// Writes a problem: its sources and each node's arrival, or the pair and the target's arrival, with walks if
+/// they are asked for. Returns the number of bytes written.
 ///
-/// `WriteFailed` where a write failed, took nothing of bytes that were left, or was interrupted for
-/// the 1,001st time; `OutOfMemory` where memory for the text or for a walk was refused. The bytes
-/// written before a fault are the front of the text.
+/// Fails with `WriteFailed` if a write failed, took none of the bytes left, or was interrupted for the
+/// 1,001st time; with `OutOfMemory` if memory for the text or a walk was refused. The bytes written before
+/// are the first of the text.
 pub fn write_problem<W: ByteOut>(
     alloc: Global,
     network: &Network,
@@ -455,7 +455,7 @@ pub fn write_problem<W: ByteOut>(
         (λ written. written ≤ (network.now.nodes + length query.now.sources + 2) * 2 ^ 63) }
     ensures small { IfErr result
         (λ fault. fault.written ≤ (network.now.nodes + length query.now.sources + 2) * 2 ^ 63) }
-    // WriteFailed comes only where the device's counts show a reason.
+    // WriteFailed only if the device's counts show a reason.
     ensures device { IfErr result (λ fault. fault.kind ≡ WriteFaultKind.WriteFailed →
         HasGivenUp (W.seen out.old) (W.seen out.new)) }
 {

@@ -1,4 +1,4 @@
-//! Bytes sent to a device.
+//! Sending bytes to a device.
 ghost use Rattle.std.specs.Prelude.{◌≡◌, ◌<◌, ◌≤◌, ◌+◌, ℕ, OnOk, OnErr, IfErr, length};
 ghost use Rattle.std.specs.Io.KnownBytes.{Appends};
 ghost use Rattle.ea_bytes.specs.Device.{Seen, GivesUp};
@@ -7,7 +7,7 @@ ghost use Rattle.ea_report.specs.Sent.{IsCutAt, HasBorne};
 use ea_base::MOST_INTERRUPTIONS;
 use ea_bytes::{ByteOut, DeviceFault};
 
-/// Sends all bytes, after so many interruptions. An error says how many were sent.
+/// Sends all bytes, given the number of earlier interruptions. An error has the number of bytes sent.
 pub(crate) fn send<W: ByteOut>(
     out: &mut W,
     bytes: &[u8],
@@ -18,7 +18,7 @@ pub(crate) fn send<W: ByteOut>(
     ensures err { IfErr result (λ sent. IsCutAt (W.seen out.old).bytes (W.seen out.new).bytes
         bytes.now sent) }
     ensures borne { interruptions.new ≤ MOST_INTERRUPTIONS }
-    // Whatever was counted before, the count goes on; and an error has a reason.
+    // The count of interruptions continues from any earlier count, and an error has a reason.
     ensures counted { OnOk result ((first : Seen) →
         HasBorne first (W.seen out.old) interruptions.old
         → HasBorne first (W.seen out.new) interruptions.new) }

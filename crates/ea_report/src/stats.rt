@@ -1,4 +1,4 @@
-//! The totals of a report, written with no memory.
+//! The totals of a report, written without taking memory.
 ghost use Rattle.std.specs.Prelude.{◌≡◌, ◌<◌, ◌≤◌, ◌+◌, ◌^◌, ◌*◌, ◌++◌, ℕ, [], List, Option, OnOk, IfOk, IfErr, length, codes, decimal, map};
 ghost use Rattle.std.specs.List.{flat_map};
 ghost use Rattle.ea_report.specs.Stats.{total_line, number_end, stats_text};
@@ -21,15 +21,15 @@ pub struct Totals {
     pub pushed: u128,
     /// Entries that workers popped.
     pub popped: u128,
-    /// Popped entries whose node had an earlier arrival by then.
+    /// Popped entries whose node had an earlier arrival when visited.
     pub stale: u128,
     /// Popped entries whose node's arcs were scanned.
     pub scanned: u128,
-    /// Entries that workers or seeds had to keep since a push was refused.
+    /// Entries handed back by workers or by the seeding, after a refused push.
     pub returned: u128,
-    /// Entries left in the heaps when the workers had ended.
+    /// Entries left in the heaps when the workers ended.
     pub drained: u128,
-    /// Nodes open when the finishing pass began.
+    /// Open nodes when the finishing pass began.
     pub finish: u128,
 }
 
@@ -116,7 +116,7 @@ impl Direct {
     }
 }
 
-/// The name of a total, and the total.
+/// The name of a total, and its value.
 type Row<'a> = (&'a [u8], u128);
 
 impl Direct {
@@ -139,7 +139,7 @@ impl Direct {
     }
 }
 
-/// Sends the eight totals, and answers how many bytes it sent.
+/// Sends the eight totals, and returns the number of bytes sent.
 fn send_stats<W: ByteOut>(totals: &Totals, out: &mut W) -> Result<u128, WriteFault>
     ensures ok { let before = W.seen out.old in
         let after = W.seen out.new in
@@ -170,10 +170,10 @@ fn send_stats<W: ByteOut>(totals: &Totals, out: &mut W) -> Result<u128, WriteFau
     }
 }
 
-/// Writes the eight totals, with no memory. Answers how many bytes it wrote.
+/// Writes the eight totals without taking memory. Returns the number of bytes written.
 ///
-/// `WriteFailed` where a write failed, took nothing of bytes that were left, or was interrupted for
-/// the 1,001st time. The bytes written before a fault are the front of the text.
+/// Fails with `WriteFailed` if a write failed, took none of the bytes left, or was interrupted for the
+/// 1,001st time. The bytes written before are the first of the text.
 pub fn write_stats<W: ByteOut>(totals: &Totals, out: &mut W) -> Result<u128, WriteFault>
     ensures ok { let before = W.seen out.old in
         let after = W.seen out.new in
@@ -181,7 +181,7 @@ pub fn write_stats<W: ByteOut>(totals: &Totals, out: &mut W) -> Result<u128, Wri
     ensures err { let before = W.seen out.old in
         let after = W.seen out.new in
         IfErr result (IsCutBy before after (stats_text totals.now)) }
-    // It takes no memory, so the device is the only cause.
+    // No memory is taken, so the device is the only cause.
     ensures kind { IfErr result (λ fault. fault.kind ≡ WriteFaultKind.WriteFailed) }
     ensures small { IfErr result (λ fault. fault.written ≤ 48 * 2 ^ 64) }
     ensures device { IfErr result (λ fault. fault.kind ≡ WriteFaultKind.WriteFailed →

@@ -35,10 +35,10 @@ impl Direct {
 }
 
 impl Direct {
-    /// Sends more pieces of the text, one after the other and with no memory.
+    /// Sends more pieces of the text, one after another, without taking memory.
     ///
-    /// `WriteFailed` where a write failed, took nothing of bytes that were left, or was interrupted for the 1,001st time
-    /// over the whole text. The bytes written before a fault are the front of the text.
+    /// Fails with `WriteFailed` if a write failed, took none of the bytes left, or was interrupted for the
+    /// 1,001st time over the whole text. The bytes written before are the first of the text.
     pub fn put_pieces<W: ByteOut>(
         &mut self,
         pieces: &[&[u8]],
@@ -61,11 +61,11 @@ impl Direct {
     }
 }
 
-/// Writes the pieces of a text, at most a thousand, one after the other and with no memory. Answers how many bytes it
-/// wrote.
+/// Writes the pieces of a text, up to a thousand, one after another, without taking memory. Returns the
+/// number of bytes written.
 ///
-/// `WriteFailed` where a write failed, took nothing of bytes that were left, or was interrupted for
-/// the 1,001st time in this call. The bytes written before a fault are the front of the text.
+/// Fails with `WriteFailed` if a write failed, took none of the bytes left, or was interrupted for the
+/// 1,001st time in this call. The bytes written before are the first of the text.
 pub fn write_pieces<W: ByteOut>(pieces: &[&[u8]], out: &mut W) -> Result<u128, WriteFault>
     requires few { length pieces.now ≤ 1000 }
     ensures ok { let before = W.seen out.old in
@@ -74,7 +74,7 @@ pub fn write_pieces<W: ByteOut>(pieces: &[&[u8]], out: &mut W) -> Result<u128, W
     ensures err { let before = W.seen out.old in
         let after = W.seen out.new in
         IfErr result (IsCutBy before after (flat_map (λ piece. piece.now) pieces.now)) }
-    // It takes no memory, so the device is the only cause.
+    // No memory is taken, so the device is the only cause.
     ensures kind { IfErr result (λ fault. fault.kind ≡ WriteFaultKind.WriteFailed) }
 {
     let mut direct = Direct {

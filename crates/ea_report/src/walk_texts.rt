@@ -1,4 +1,4 @@
-//! The arcs of walks as text, one walk after another: what a walk shares with the one before it stays as it stands.
+//! The arcs of walks as text. What a walk shares with the one before is not written again.
 ghost use Rattle.std.specs.Prelude.{◌≡◌, ◌<◌, ◌≤◌, ◌+◌, ◌-◌, [], IsTrue, OnOk, length, slice_index, take};
 ghost use Rattle.ea_road.specs.Roads.{IsNode};
 ghost use Rattle.ea_search.specs.declared.link.TheConstants.{NO_LEVEL};
@@ -11,7 +11,7 @@ use ea_search::Link;
 use std::alloc::{AllocError, Global};
 use std::marker::Model;
 
-/// Whether a node stands at a place among those known.
+/// Whether a known place has this node.
 fn stands_at(nodes: &[u32], known: usize, place: usize, node: u32) -> bool
     requires { place < length nodes.now }
     ensures known { IsTrue result → place < known }
@@ -20,8 +20,8 @@ fn stands_at(nodes: &[u32], known: usize, place: usize, node: u32) -> bool
     place < known && nodes[place] == node
 }
 
-/// Puts the nodes of a node's walk in their places, from the last back to the first that stands in its place already.
-/// Answers how many places stay as they are.
+/// Puts the nodes of a node's walk in their places, from the last back to the first that is already there.
+/// Returns the number of places that stay.
 fn go_back(links: &[Link], nodes: &mut Vec<u32>, known: usize, node: u32) -> usize
     requires node { IsNode (length links.now) node }
     requires followable { AreFollowable links.now }
@@ -47,7 +47,7 @@ fn go_back(links: &[Link], nodes: &mut Vec<u32>, known: usize, node: u32) -> usi
     0
 }
 
-/// Appends the arc of the node at a place, but of the first.
+/// Appends the arc of the node at a place; the first place has none.
 fn push_arc_at(
     links: &[Link],
     nodes: &[u32],
@@ -69,7 +69,7 @@ fn push_arc_at(
     push_number(text, u64::from(links[nodes[place] as usize - 1].arc))
 }
 
-/// Writes the text of the arcs on from the last place that has an end, place by place.
+/// Appends the text of the arcs after the last place that has an end.
 fn write_on(
     links: &[Link],
     nodes: &[u32],
@@ -95,7 +95,7 @@ fn write_on(
     Ok(())
 }
 
-/// Keeps so many ends, and the text up to the last of them.
+/// Keeps the first `kept` ends, and the text up to the last of them.
 fn cut_to(ends: &mut Vec<usize>, text: &mut Vec<u8>, kept: usize)
     requires { kept ≤ length ends.old.items }
     ensures ends { ends.new.items ≡ take kept ends.old.items }
@@ -111,7 +111,7 @@ fn cut_to(ends: &mut Vec<usize>, text: &mut Vec<u8>, kept: usize)
     ends.truncate(kept);
 }
 
-/// Makes so many places.
+/// Makes this number of places.
 fn make_places(nodes: &mut Vec<u32>, ends: &mut Vec<usize>, places: usize) -> Result<(), AllocError>
     requires { length ends.old.items ≤ length nodes.old.items }
     ensures places { OnOk result (length nodes.new.items ≡ places) }
@@ -125,7 +125,7 @@ fn make_places(nodes: &mut Vec<u32>, ends: &mut Vec<usize>, places: usize) -> Re
     nodes.resize(places, 0)
 }
 
-/// Goes on to a node's walk: makes its places, keeps what it shares with the walk before, and writes the rest.
+/// Moves to a node's walk: makes its places, keeps what it shares with the walk before, and writes the rest.
 fn go_on(
     links: &[Link],
     nodes: &mut Vec<u32>,
@@ -148,16 +148,16 @@ fn go_on(
     write_on(links, nodes, ends, text)
 }
 
-/// The text of the arcs of one walk after another along links: each number after a space. Contracts see the links and the
-/// text that stands.
+/// The text of the arcs of one walk after another along links: each number after a space. In contracts it is
+/// the links and the current text.
 ///
-/// Going from one walk to the next takes time in proportion to the arcs that they don't share.
+/// Moving from one walk to the next takes time in proportion to the arcs that they don't share.
 #[derive(Drop)]
 pub struct ArcTexts<'a> {
     links: &'a [Link],
     /// The nodes of the walk, from its source on.
     nodes: Vec<u32>,
-    /// Where the text of the walk to each of these nodes ends.
+    /// The end of the text of the walk to each of these nodes.
     ends: Vec<usize>,
     text: Vec<u8>,
 }
@@ -186,8 +186,8 @@ impl<'a> ArcTexts<'a> {
         }
     }
 
-    /// Goes on to the walk that the links of a node lead along. Where memory is refused, no walk stands, and the next call
-    /// writes its walk anew.
+    /// Moves to the walk along the links of a node. If memory is refused, there is no current walk, and the
+    /// next call writes its walk whole.
     pub fn go_to(&mut self, node: u32) -> Result<(), AllocError>
         requires node { IsNode (length self.old.links) node }
         requires followable { AreFollowable self.old.links }
