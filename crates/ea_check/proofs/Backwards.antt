@@ -1,4 +1,4 @@
--- Links, followed backwards beside a written walk.
+-- Following links back beside a written walk.
 use Rattle.std.proofs.Common.{◌≡◌, ◌≢◌, ◌∙◌, refl, ℕ, zero, suc, ◌+◌, ◌-◌, ◌<◌, ◌≤◌, List, [], ◌∷◌, ◌++◌, length, take, get_or, arith, ap, sym, subst}
 use Rattle.std.proofs.lemmas.List.{same_from_push, take_more, take_all}
 use Rattle.std.specs.Prelude.{◌↔◌}
@@ -12,7 +12,7 @@ use Rattle.ea_paths.specs.Stored.{AreFollowable}
 use Rattle.ea_paths.proofs.Followed.{linked-walk, linked_length}
 use Rattle.ea_paths.proofs.Linkings.{link-node}
 
--- one link more
+-- one more link
 along_more : (links : List Link) (count node : ℕ) → 0 < count → walk_along links count node ≡ walk_along links (count - 1) (link links node).from ++ (link links node).arc ∷ []
 unfolding walk_along
 along_more links zero node some = absurd (omega arith)
@@ -60,7 +60,7 @@ starts links node arcs left size level =
     let walk : linked_walk links node ≡ walk_along links left node = linked-walk links node ∙ ap (λ n. walk_along links n node) (sym level) in
     (λ same. whole ∙ same ∙ walk, λ rest. sym whole ∙ rest ∙ sym walk)
 
--- each link but the first leads to a node one level below
+-- each link above level 0 leads to a node one level below
 pub followable : (roads : Roads) (answers : ℕ → ℕ → ℕ → ℕ → Type 0) (sources : List Source) (times : ℕ → ℕ → Type 0) (links : List Link) → IsNetwork roads → AreLinks roads answers sources times links → AreFollowable links
 followable roads answers sources times links network are node high there =
     let at = link-node links node there in

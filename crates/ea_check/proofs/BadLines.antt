@@ -69,12 +69,12 @@ module _ (nodes : ℕ) where
       let on = with_sources queries sources 1 nodes small.0 (with_nodes queries nodes 1 (omega arith) (with_queries queries few small.1)) in
       (on.0, problem_begins on.1)
 
-  -- the first of these lines that no end of what remains begins with; 0 where the lines end too early
+  -- the first of these lines with which no end of what remains begins; 0 if the lines end too early
   data BadFrom (walk : Option ℕ) (sources : List Source) (node count : ℕ) (queries : List (List Source)) : List Line → ℕ → Type 0 where
     bad_at : (before after : List Line) (bad : Line) → CanEnd walk sources node count queries before → ((rest : List Line) → Remains nodes walk sources node count queries (before ++ bad ∷ rest) → ⊥) → BadFrom walk sources node count queries (before ++ bad ∷ after) bad.number
     bad_end : {lines : List Line} → CanEnd walk sources node count queries lines → (Remains nodes walk sources node count queries lines → ⊥) → BadFrom walk sources node count queries lines 0
 
-  -- one line before
+  -- one more line in front
   push : (walk next : Option ℕ) (sources later : List Source) (node on count left : ℕ) (queries others : List (List Source)) (line : Line) {after : List Line} {number : ℕ} → ((rest : List Line) → BeginsAs after rest → Remains nodes walk sources node count queries (line ∷ rest) → Remains nodes next later on left others rest) → ((rest : List Line) → Remains nodes next later on left others rest → Remains nodes walk sources node count queries (line ∷ rest)) → BadFrom next later on left others after number → BadFrom walk sources node count queries (line ∷ after) number
   push walk next sources later node on count left queries others line forth back (bad_at before after bad can none) =
       bad_at (line ∷ before) after bad (can.0, back (before ++ can.0) can.1) (λ rest ends. none rest (forth (before ++ bad ∷ rest) (begins_both before after rest bad) ends))
@@ -113,7 +113,7 @@ module _ (nodes : ℕ) where
     behind_sources (source ∷ sources) node count queries (line ∷ lines) middle number reads bad =
         push None None (source ∷ sources) sources node node count count queries queries line (λ rest begins ends. after_source nodes line ends) (λ rest ends. source_line reads.0 ends) (behind_sources sources node count queries lines middle number reads.1 bad)
 
-    -- a line that says a time, before what its walk may be
+    -- a line with a time, before a possible walk
     push_time : (node count : ℕ) (queries : List (List Source)) (line : Line) (time : ℕ) {after : List Line} {number : ℕ} → SaysTime line.fields node time → time ≢ NONE → BadFrom (Some node) [] (node + 1) count queries after number → BadFrom None [] node (suc count) queries (line ∷ after) number
     push_time node count queries line time says has bad =
         push None (Some node) [] [] node (node + 1) (suc count) count queries queries line (λ rest begins ends. after_time nodes line time says has ends) (λ rest ends. time_line time says has ends) bad

@@ -1,4 +1,4 @@
--- Fields, counted where they begin, and fields that are numbers.
+-- Counting fields where they begin, and fields that are numbers.
 use Rattle.std.proofs.Common.{◌≡◌, ◌∙◌, refl, ℕ, ◌+◌, ◌<◌, ◌≤◌, Bool, true, false, not, cond, ◌||◌, ◌&&◌, List, [], ◌∷◌, ◌++◌, length, drop, get_or, add-one, arith, ap, sym, subst, ◌==◌, eqb-true}
 use Rattle.std.proofs.Math.Seq.{drop-cons}
 use mir.Val.{bool_byte}
@@ -86,7 +86,7 @@ unfolding parts_behind
 behind_same b [] = refl
 behind_same b (part ∷ parts) = refl
 
--- the parts, and those behind the first one
+-- the parts, and those behind the first
 record AreCounted (bs : List ℕ) : Type 0 where
   whole : length (some_of (slice_split is_blank bs)) ≡ starts true bs
   behind : length (some_of (parts_behind (slice_split is_blank bs))) ≡ starts false bs
@@ -213,7 +213,7 @@ digits_written ((b ∷ bs) ∷ parts) arcs are = by_arcs arcs (digits_written pa
     by_arcs [] rest here = absurd here
     by_arcs (arc ∷ later) rest here = (number_digits (b ∷ bs) here.0.0 here.0.1, rest later here.1)
 
--- Digits and blanks alone write numbers, and other bytes do not.
+-- A text writes numbers if it has only digits and blanks, and otherwise not.
 pub numbers_written : (text : List ℕ) → has_other text ≡ false → AreArcNumbers (fields_of text) (arcs_of (fields_of text))
 unfolding some_of
 numbers_written text none = are_written (slice_split is_blank text) (digits_of text none)

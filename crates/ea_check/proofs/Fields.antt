@@ -1,4 +1,4 @@
--- Fields that are written, read again.
+-- Fields that are written and read again.
 use Rattle.std.proofs.Common.{◌≡◌, ◌≢◌, ◌∙◌, refl, ℕ, ◌-◌, ◌^◌, ◌<◌, ◌≤◌, true, false, cond, List, [], ◌∷◌, ◌++◌, length, map, drop, arith, ap, sym, tests}
 use Rattle.std.proofs.lemmas.Bool.{lt-ltb}
 use Rattle.std.proofs.lemmas.List.{append-nil}
@@ -91,7 +91,7 @@ arcs_are (field ∷ fields) [] are = absurd are
 arcs_are (field ∷ fields) (arc ∷ arcs) are =
     ap (λ (xs : List ℕ). arc_of field ∷ xs) (arcs_are fields arcs are.1) ∙ ap (λ n. n ∷ arcs) (ap arc_found are.0.1 ∙ sym are.0.2)
 
--- Arcs that are written, each after a space, are those that the text says, also without the first space.
+-- Arcs that are written, each after a space, are read from the text again, also without the first space.
 pub spaced_arcs : (arcs text : List ℕ) → AreShort arcs → text ≡ drop 1 (arcs_text arcs) → arcs_of (fields_of text) ≡ arcs
 spaced_arcs [] text short same = ap (λ (t : List ℕ). arcs_of (fields_of t)) same
 spaced_arcs (arc ∷ arcs) text short same =

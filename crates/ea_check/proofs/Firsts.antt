@@ -13,7 +13,7 @@ one_said reported node said other this that = let a = this.1 in let b = that.1 i
 pub one_walk : (said other : Said) (walk next : WrittenWalk) → said ≡ other → said.walk ≡ Some walk → other.walk ≡ Some next → walk ≡ next
 one_walk said other walk next same this that = let e = ap (λ (s : Said). s.walk) same in cc
 
--- the first fault of a node is the first of all, where the nodes before have none
+-- the first fault of a node is the first of all if no node before has any
 pub first_at : (IsFault : ℕ → ℕ → Type 0) (nodes : ℕ) (reported : List Said) → IsWellFormed nodes reported → ((node line : ℕ) → IsFault node line → IsLineOf reported node line) → (node line : ℕ) → IsFault node line → ((next : ℕ) → IsFault node next → line ≤ next) → ((before next : ℕ) → before < node → IsFault before next → ⊥) → IsFirst IsFault line
 first_at IsFault nodes reported formed is_line node line fault here none = record {
   node = node;
@@ -56,7 +56,7 @@ module _
     pub canonical_no_fault : (node line : ℕ) → IsCanonicalAt roads answers sources reported node → IsNotCanonical roads answers sources reported node line → ⊥
     canonical_no_fault node line canonical (other_walk {said} {walk} is_said written none) = none (canonical said walk is_said written)
 
-    -- the first line of a node that is not attained is its `d` line where it has no level
+    -- the first line of a node that is not attained is its `d` line if it has no level
     pub first_no_level : (nodes node : ℕ) (said : Said) → IsWellFormed nodes reported → IsSaid reported node said → (next : ℕ) → IsNotAttained roads answers sources reported node next → said.line ≤ next
     first_no_level nodes node said formed is_said next (no_level {said = other} also has_time none) =
         let same = ap (λ (s : Said). s.line) (one_said reported node said other is_said also) in
@@ -66,7 +66,7 @@ module _
         let order = (formed.walks node other walk also written).1 in
         omega arith
 
-    -- and else its `w` line
+    -- and otherwise its `w` line
     pub first_astray : (node count : ℕ) (said : Said) (walk : WrittenWalk) → HasChain roads answers sources (IsReported reported) node count → IsSaid reported node said → said.walk ≡ Some walk → (next : ℕ) → IsNotAttained roads answers sources reported node next → walk.line ≤ next
     first_astray node count said walk chain is_said written next (no_level also has_time none) = absurd (none count chain)
     first_astray node count said walk chain is_said written next (astray {said = other} {walk = path} also writes none) =

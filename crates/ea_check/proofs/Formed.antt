@@ -15,7 +15,7 @@ time_within (word ∷ place ∷ arrival ∷ []) node time says has_time =
     elim says.2 [ inl none ↦ absurd (has_time none.1) | inr some ↦ some.1 ]
 time_within (word ∷ place ∷ arrival ∷ other ∷ rest) node time says has_time = absurd says
 
--- a line that says something of a node
+-- a line on a node
 abbrev OfSaid : Said → ℕ → Type 0
 OfSaid said line = (line ≡ said.line) ⊎ ((walk : WrittenWalk) × (said.walk ≡ Some walk) × (line ≡ walk.line))
 
@@ -25,7 +25,7 @@ some_none option value none some = cc
 same_some : {A : Type 0} (option : Option A) (value other : A) → option ≡ Some value → option ≡ Some other → value ≡ other
 same_some option value other this that = cc
 
--- where the lines of a node lie among lines whose numbers ascend
+-- the place of a node's lines among lines whose numbers ascend
 record Lies (said : Said) (number : ℕ) (others : List Line) : Type 0 where
   pub last : ℕ
   pub after : IsAfter last others

@@ -1,4 +1,4 @@
--- What the links, the walks and the arcs tell of a report's lines.
+-- What links, walks and arcs show of a report's lines.
 use Rattle.std.proofs.Common.{◌≡◌, ◌∙◌, refl, ℕ, ◌+◌, ◌-◌, ◌<◌, ◌≤◌, List, length, get_or, ◌⊎◌, inl, inr, arith, ap, sym, subst}
 use Rattle.std.proofs.lemmas.Bool.Decides.{eqb_tells, leb_tells}
 use Rattle.std.proofs.lemmas.List.{get_or_default}
@@ -80,7 +80,7 @@ module _
             let places = are.places in
             ap (λ (l : Link). l.level) (link_read links node some (omega arith))
 
-        -- a level that is there is low
+        -- a level other than NO_LEVEL is lower
         pub low_level : (link links node).level ≢ NO_LEVEL → (link links node).level < NO_LEVEL
         low_level there = let bound = (are.each node is_node).low in omega arith
 
@@ -131,7 +131,7 @@ module _
         pub linked_canonical : (arcs : List ℕ) → (link links node).level ≢ NO_LEVEL → IsCanonical roads answers sources (IsReported reported) node arcs → arcs ≡ linked_walk links node
         linked_canonical arcs there canonical = one_canonical roads answers sources (IsReported reported) canonical ((are.each node is_node).walk there)
 
-        -- its arcs are numbers of no more than 32 bits
+        -- its arcs are numbers of at most 32 bits
         pub short_linked : (link links node).level ≢ NO_LEVEL → AreShort (linked_walk links node)
         short_linked there =
             short_canonical roads answers sources (IsReported reported) task.network ((are.each node is_node).walk there)
@@ -174,7 +174,7 @@ module _
         let tail_within = time_within arc.tail (task.network.each_fits number arc is_arc).tail (λ none. has_time (same ∙ none)) in
         by_arc is_arc tail_within (subst (λ t. answers arc.class arc.weight t arrival) same answer) within (omega arith)
 
-    -- where the arc's arrival is late or no better, the arc improves nothing
+    -- if the arc's arrival is late or no better, the arc improves nothing
     pub arc_passes : (number departure arrival : ℕ) (here : Arc) → IsArc roads number here → departure ≡ reported_time reported here.tail → departure ≢ NONE → answers here.class here.weight departure arrival → (arrival ≤ HORIZON → arrival < reported_time reported here.head → ⊥) → (arc : Arc) (other : ℕ) → IsArc roads number arc → answers arc.class arc.weight (reported_time reported arc.tail) other → other ≤ HORIZON → other < reported_time reported arc.head → ⊥
     arc_passes number departure arrival here is_here same has_time answer never arc other is_arc also within late =
         let arcs = one_arc roads number here arc is_here is_arc in
@@ -240,7 +240,7 @@ module _
     abbrev Known : ℕ → Option ℕ → Type 0
     Known above first = MatchOption first ((before : ℕ) → before < above → IsCanonicalAt roads answers sources reported before) (λ line. IsFirst (IsNotCanonical roads answers sources reported) line)
 
-    -- one node more
+    -- one more node
     pub attained_more : (node : ℕ) (other : Option ℕ) → IsOtherAt roads answers sources reported node (Ok other) → Attained node → Attained (node + 1)
     attained_more node None here each = one_more (λ node. IsAttained roads answers sources reported node) node each here.0
     attained_more node (Some line) here each = one_more (λ node. IsAttained roads answers sources reported node) node each here.0
@@ -264,7 +264,7 @@ module _
     pub source_improves : (source : Source) (time : ℕ) → IsAmong sources source → time ≡ reported_time reported source.node → source.departure < time → Improves roads answers sources (reported_time reported) source.node
     source_improves source time among same late = by_source among (omega arith)
 
-    -- the lowest of the nodes that are improved is that of the first line
+    -- the lowest improved node is that of the first line
     pub first_fault_least : (lowest line : ℕ) → IsNode roads.nodes lowest → ((said : Said) → IsSaid reported lowest said → line ≡ said.line) → Improves roads answers sources (reported_time reported) lowest → ((source : Source) → IsAmong sources source → source.departure < reported_time reported source.node → lowest ≤ source.node) → ((number : ℕ) (arc : Arc) (arrival : ℕ) → IsArc roads number arc → reported_time reported arc.tail ≤ HORIZON → answers arc.class arc.weight (reported_time reported arc.tail) arrival → arrival ≤ HORIZON → arrival < reported_time reported arc.head → lowest ≤ arc.head) → IsFirst (IsNotLeast roads answers sources reported) line
     first_fault_least lowest line is_node is_line improves by_sources by_arcs =
         let said = said_at lowest is_node in
@@ -288,7 +288,7 @@ module _
     lowest_improves lowest by_sources above (inl same) (inr improves) differs =
         subst (λ n. Improves roads answers sources (reported_time reported) n) (sym same) improves
 
--- what was found so far, where a step finds it or leaves it
+-- what was found so far, whether or not a step finds it
 pub still_found : (IsFound : ℕ → Type 0) (before now above : ℕ) → (before ≡ above) ⊎ IsFound before → (now ≡ before) ⊎ IsFound now → (now ≡ above) ⊎ IsFound now
 still_found IsFound before now above was (inl same) = subst (λ n. (n ≡ above) ⊎ IsFound n) (sym same) was
 still_found IsFound before now above was (inr found) = inr found

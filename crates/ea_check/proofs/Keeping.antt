@@ -1,4 +1,4 @@
--- What is kept of lines that are read, as more are read.
+-- What is kept of the lines that were read, as more are read.
 use Rattle.std.proofs.Common.{◌≡◌, ◌∙◌, refl, ℕ, suc, ◌+◌, ◌-◌, ◌≤◌, List, [], ◌∷◌, ◌++◌, length, map, arith, ap, sym, subst, append_assoc}
 use Rattle.std.proofs.lemmas.List.{map-append, append-nil}
 use Rattle.ea_check.specs.declared.form.reported.SaidLine.{SaidLine}

@@ -11,8 +11,8 @@ use Rattle.ea_check.specs.Form.{Line}
 use Rattle.ea_check.specs.Reads.{ReadsProblem, ReadsReport, all_read, found_then, one_read}
 use Rattle.ea_check.proofs.Composing.{checked_behind, checked_end, fault_here}
 
--- What the problems read so far tell of the whole, where the form of those that are left is right: the fault of the first
--- that has one, and where none has any, what is checked of those that are left.
+-- What the problems read so far say of the whole, if the form of those that are left is right: the fault of
+-- the first with one; if none has any, what is checked of those that are left.
 abbrev pub Onward : Roads → (ℕ → ℕ → ℕ → ℕ → Type 0) → List (List Source) → List Line → List (List Source) → List Line → Result (Unit {0}) CheckFault → Type 0
 Onward roads answers queries lines left ahead (Ok _) =
     (result : Result (Unit {0}) CheckFault) → ReadsReport roads.nodes left ahead → IsChecked roads answers left ahead result → IsChecked roads answers queries lines result

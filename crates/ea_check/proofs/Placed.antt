@@ -145,7 +145,7 @@ found (time_line {node} {line} time says has (walk_line {line = next} arcs walks
       of_problems = later.of_problems;
     }
 
--- the first line that remains is one that its place asks
+-- the first line that remains is one that its place requires
 pub asks_source : {nodes node count : ℕ} {source : Source} {sources : List Source} {queries : List (List Source)} {line : Line} {lines : List Line} → Remains nodes None (source ∷ sources) node count queries (line ∷ lines) → SaysSource line.fields source.node source.departure
 asks_source (source_line says rest) = says
 

@@ -124,7 +124,7 @@ module _
           horizon late);
     }
 
-    -- a label is below NONE where it is a time within the horizon
+    -- a label is below NONE if it is a time within the horizon
     low_label : (time : ℕ) → time ≤ HORIZON → time ≤ NONE
     low_label time within = omega arith
 

@@ -11,7 +11,7 @@ use Rattle.ea_check.specs.Reads.{NoWalkNext}
 some_some : (a b : ℕ) → Some a ≡ Some b → a ≡ b
 some_some a b same = cc
 
--- a line says one time at most
+-- a line says at most one time
 pub one_time : (fields : List (List ℕ)) (node time other : ℕ) → SaysTime fields node time → SaysTime fields node other → time ≡ other
 one_time [] node time other this that = absurd this
 one_time (word ∷ []) node time other this that = absurd this
@@ -76,7 +76,7 @@ module _ (nodes : ℕ) (line : Line) where
   after_time {node} time says has (inf_line also rest) = absurd (has (one_time line.fields node time NONE says also))
   after_time time says has (time_line other also has_too rest) = rest
 
-  -- a line that begins with `w` stands at no other place
+  -- a line that begins with `w` is at no other place
   pub no_other_walk : {sources : List Source} {node count : ℕ} {more : List (List Source)} {rest : List Line} → IsWalkLine line.fields → Remains nodes None sources node count more (line ∷ rest) → ⊥
   no_other_walk walk (problem_begins ends) = no_other_walk walk ends
   no_other_walk walk (source_line {source} says ends) = source_no_walk line.fields source.node source.departure says walk

@@ -1,4 +1,4 @@
--- Walks of one list of arcs, left at several departures.
+-- Walks over one list of arcs, left at several departures.
 use Rattle.std.proofs.Common.{◌≡◌, ◌∙◌, refl, ℕ, ◌<◌, ◌≤◌, List, [], ◌∷◌, ◌++◌, length, get_or, inl, inr, ◌⊎◌, arith, ap, sym, subst, length-append}
 use Rattle.std.proofs.lemmas.List.{get_or_default}
 use Rattle.std.specs.List.{IsAmong}
@@ -16,7 +16,7 @@ module _
     (roads : Roads)
     (answers : ℕ → ℕ → ℕ → ℕ → Type 0)
   where
-    -- where a walk begins
+    -- the node at which a walk begins
     pub record Begins (from : ℕ) (walk : List ℕ) : Type 0 where
       pub arc : Arc
       pub is_arc : IsArc roads (get_or walk 0 0) arc
@@ -95,7 +95,7 @@ module _
             let beyond = none node first.time first.arrives in
             omega (arith, first.no_later)
 
--- a source before one at the node departs no later from it, where it is at the node
+-- a source before one at the node departs no later, if it is at the node
 pub no_later_than : (source other : Source) (start : ℕ) → Precedes other source → source.node ≡ start → other.node ≡ start → other.departure ≤ source.departure
 no_later_than source other start (inl less) here there = absurd (omega arith)
 no_later_than source other start (inr same) here there = same.1
@@ -108,19 +108,19 @@ pub node_above : (source other : Source) (start : ℕ) → Precedes source other
 node_above source other start (inl less) high there = omega arith
 node_above source other start (inr same) high there = omega (arith, same.0)
 
--- no source attains a time where none of the ordered ones does
+-- no source attains a time if none of the ordered ones does
 pub attains_nowhere : (roads : Roads) (answers : ℕ → ℕ → ℕ → ℕ → Type 0) (sources ordered : List Source) (arcs : List ℕ) (node time : ℕ) → AreOrdered sources ordered → ((place : ℕ) (source : Source) → place < length ordered → Arrives roads answers (get_or ordered place source).node (get_or ordered place source).departure arcs node time → ⊥) → Attains roads answers sources arcs node time → ⊥
 attains_nowhere roads answers sources ordered arcs node time are none attains =
     let at = are.there attains.source attains.among in
     none at.0 attains.source at.1.0 (subst (λ (s : Source). Arrives roads answers s.node s.departure arcs node time) at.1.1 attains.arrives)
 
--- where the first arc is none, no source attains a time
+-- if there is no first arc, no source attains a time
 pub no_first_arc : (roads : Roads) (answers : ℕ → ℕ → ℕ → ℕ → Type 0) (sources : List Source) (arcs : List ℕ) (node time : ℕ) → 0 < length arcs → ((arc : Arc) → IsArc roads (get_or arcs 0 0) arc → ⊥) → Attains roads answers sources arcs node time → ⊥
 no_first_arc roads answers sources arcs node time some none attains =
     let begins = begins_at roads answers some attains.arrives in
     none begins.arc begins.is_arc
 
--- where a walk to the node begins
+-- the node at which a walk to the node begins
 pub begins_there : (roads : Roads) (answers : ℕ → ℕ → ℕ → ℕ → Type 0) (arcs : List ℕ) (start node time : ℕ) → ((arcs ≡ []) × (start ≡ node)) ⊎ ((0 < length arcs) × ((arc : Arc) → IsArc roads (get_or arcs 0 0) arc → arc.tail ≡ start)) → (from departure : ℕ) → Arrives roads answers from departure arcs node time → from ≡ start
 begins_there roads answers arcs start node time (inl none) from departure arrives = stays_there roads answers none.0 arrives ∙ sym none.1
 begins_there roads answers arcs start node time (inr some) from departure arrives =

@@ -20,7 +20,7 @@ use Rattle.ea_check.proofs.Placed.{remains}
 use Rattle.ea_check.proofs.Right.{task_of, right_faultless}
 use Rattle.ea_check.proofs.Steps.{no_other_walk, time_no_walk}
 
--- no walk comes where a report may go on
+-- no walk comes at a place where a report may continue
 quiet_report : (nodes : ℕ) (queries : List (List Source)) (problems : List (List Said)) (lines : List Line) → SaysProblems nodes queries problems lines → NoWalkNext lines
 quiet_report nodes queries problems [] says = tt
 quiet_report nodes queries problems (line ∷ lines) says = λ walk. no_other_walk nodes line walk (remains 0 says)
@@ -97,7 +97,7 @@ cuts (line ∷ before) after (first ∷ later) behind bad other same = on (cuts 
     on (first_cut more e) h = first_cut more (ap (λ (ls : List Line). first ∷ ls) e ∙ ap (λ l. l ∷ before ++ bad ∷ more) (sym h))
     on (second_cut more e) h = second_cut more (ap (λ (ls : List Line). line ∷ ls) e ∙ ap (λ l. l ∷ later ++ other ∷ more) h)
 
--- lines that go on behind others let these go on
+-- lines that continue after others can follow these
 goes_before : (nodes : ℕ) (queries : List (List Source)) (before more lines : List Line) (bad : Line) → lines ≡ before ++ bad ∷ more → CanGoOn nodes queries lines → CanGoOn nodes queries (before ++ bad ∷ [])
 goes_before nodes queries before more lines bad cut on =
     let joined : lines ++ on.rest ≡ (before ++ bad ∷ []) ++ (more ++ on.rest) =
@@ -179,7 +179,7 @@ module _ (roads : Roads) (answers : ℕ → ℕ → ℕ → ℕ → Type 0) (cla
         let same = one_saying that.form this.form refl in
         one_fault fault next p q tasks order this.form this.first (subst (λ (ps : List (List Said)). IsFirstFault roads answers next queries ps) same that.first)
 
-    -- what is said of a report whose form is right
+    -- the verdict on a report whose form is right
     data Told : Result (Unit {0}) CheckFault → Type 0 where
       is_right : (problems : List (List Said)) → Says problems → AreRight roads answers queries problems → Told (Ok tt)
       is_faulty : (fault : CheckFault) → fault ≢ OutOfMemory → IsFaulty roads answers queries lines fault → Told (Err fault)

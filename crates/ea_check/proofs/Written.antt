@@ -1,4 +1,4 @@
--- What is written of an answer, as lines that are read.
+-- The report of an answer, as lines that are read.
 use Rattle.std.proofs.Common.{◌≡◌, ◌≢◌, ◌∙◌, refl, ℕ, zero, suc, ◌+◌, ◌-◌, ◌^◌, ◌<◌, ◌≤◌, ◌==◌, Bool, true, false, cond, List, [], ◌∷◌, ◌++◌, length, map, take, get_or, inl, inr, arith, ap, sym, subst, append_assoc, eqb-true}
 use Rattle.std.proofs.lemmas.Bool.{ne_eqb, eqb-false}
 use Rattle.std.proofs.lemmas.List.{append-nil}
@@ -180,7 +180,7 @@ module _ (node : ℕ) (small : node < 2 ^ 64) where
           walk = λ written same. let e : walk ≡ written = cc in (ap (λ (w : WrittenWalk). w.arcs) (sym e), (λ none. omega arith), refl);
         }
 
-    -- with a walk or without, where there is a time
+    -- with a walk or without, if there is a time
     arrival_node : (walks : Bool) (number : ℕ) (rest linked : List ℕ) → Quiet rest → (walks ≡ true → AreShort linked × (length linked < 2 ^ 64)) → NodeRead walks node number ((line (codes "d") (decimal node ∷ decimal label ∷ []) ++ (if walks then walk_line node linked else [])) ++ rest) rest label linked
     arrival_node true number rest linked quiet short =
         let here = short refl in
@@ -194,7 +194,7 @@ module _ (node : ℕ) (small : node < 2 ^ 64) where
   nothing_node false number rest linked quiet =
       subst (λ (text : List ℕ). NodeRead false node number text rest NONE linked) (ap (λ (text : List ℕ). text ++ rest) (sym (append-nil (line (codes "d") (decimal node ∷ codes "inf" ∷ []))))) (no_arrival false number rest linked quiet)
 
--- what is asked of an answer so that it can be written
+-- the conditions for writing an answer
 pub record CanWrite (walks : Bool) (answer : Answered) (node : ℕ) : Type 0 where
   pub within : label_of answer.labels node ≢ NONE → label_of answer.labels node ≤ HORIZON
   pub short : label_of answer.labels node ≢ NONE → walks ≡ true → AreShort (linked_walk answer.links node) × (length (linked_walk answer.links node) < 2 ^ 64)

@@ -1,4 +1,4 @@
--- What the checker says of a report.
+-- The checker's verdict on a report.
 use Rattle.std.specs.Prelude.{◌≡◌, ℕ, None, List, [], ◌∷◌, map, Result, Ok, Err}
 use Rattle.std.specs.List.{IsAmong}
 use Rattle.ea_road.specs.Queries.{Asking, IsProblem}
@@ -47,7 +47,7 @@ pub record IsFaulty
   pub form : SaysProblems roads.nodes queries problems lines
   pub first : IsFirstFault roads answers fault queries problems
 
--- What the checker says of the lines of a report. Want of memory says nothing of them.
+-- The verdict on the lines of a report. Refused memory says nothing of them.
 abbrev pub IsChecked : Roads → (ℕ → ℕ → ℕ → ℕ → Type 0) → List (List Source) → List Line → Result (Unit {0}) CheckFault → Type 0
 IsChecked roads answers queries lines (Ok _) =
     (problems : List (List Said)) × SaysProblems roads.nodes queries problems lines × AreRight roads answers queries problems

@@ -1,9 +1,9 @@
--- How many fields a text has, byte by byte.
+-- Counting the fields of a text, byte by byte.
 use Rattle.std.specs.Prelude.{ℕ, ◌+◌, Bool, false, not, ◌||◌, ◌&&◌, List, [], ◌∷◌, if◌then◌else◌}
 use Rattle.std.specs.Char.{is_ascii_digit}
 use Rattle.ea_bytes.specs.Text.{is_blank}
 
--- How many fields begin, where the byte before is a blank or not: each of them at a byte behind a blank.
+-- How many fields begin, given whether a blank precedes: each begins at a byte behind a blank.
 abbrev pub starts : Bool → List ℕ → ℕ
 starts blank [] = 0
 starts blank (b ∷ bs) =
@@ -14,7 +14,7 @@ abbrev pub ends_blank : Bool → List ℕ → Bool
 ends_blank blank [] = blank
 ends_blank blank (b ∷ bs) = ends_blank (is_blank b) bs
 
--- Whether there is another byte than digits and blanks.
+-- Whether there is a byte other than digits and blanks.
 abbrev pub has_other : List ℕ → Bool
 has_other [] = false
 has_other (b ∷ bs) = not (is_ascii_digit b || is_blank b) || has_other bs

@@ -17,7 +17,7 @@ fault_name (NotLeast line) = codes "NotLeast"
 fault_name OutOfMemory = codes "OutOfMemory"
 fault_name (NotCanonical line) = codes "NotCanonical"
 
--- The line, where the fault has one.
+-- The line, if the fault has one.
 abbrev pub fault_line : CheckFault → Option ℕ
 fault_line (BadLine line) = Some line
 fault_line (NotAttained line) = Some line

@@ -1,4 +1,4 @@
--- The form of a report: which lines it has, and what they say.
+-- The form of a report: the order of its lines, and what each says.
 use Rattle.std.specs.Prelude.{◌≡◌, ◌≢◌, ◌⊎◌, ℕ, ◌+◌, ◌<◌, ◌≤◌, ◌^◌, nat_lt, if◌then◌else◌, List, [], ◌∷◌, ◌++◌, length, map, codes, Option, Some, None}
 use Rattle.ea_bytes.specs.Text.{number_of, is_silent, field_lines}
 use Rattle.ea_base.specs.declared.limits.TheConstants.{HORIZON}
@@ -11,7 +11,7 @@ pub record Line : Type 0 where
   pub number : ℕ
   pub fields : List (List ℕ)
 
--- The lines that are neither blank nor comments, where the first line has the number.
+-- The lines that are neither blank nor comments, numbered from that of the first line.
 abbrev pub spoken_from : ℕ → List (List (List ℕ)) → List Line
 spoken_from number [] = []
 spoken_from number (fields ∷ rest) =
@@ -44,11 +44,11 @@ SaysTime (word ∷ place ∷ arrival ∷ []) node time =
     (word ≡ codes "d") × (number_of place ≡ Some node) × IsTime arrival time
 SaysTime _ node time = ⊥
 
--- The number of an arc, where 0, which is no arc's, stands for each number of more than 32 bits.
+-- An arc number. A number of more than 32 bits becomes 0, which is no arc's.
 abbrev pub arc_number : ℕ → ℕ
 arc_number n = if nat_lt n (2 ^ 32) then n else 0
 
--- Numbers of no more than 32 bits.
+-- Numbers of at most 32 bits.
 abbrev pub AreShort : List ℕ → Type 0
 AreShort [] = Unit {0}
 AreShort (arc ∷ arcs) = (arc < 2 ^ 32) × AreShort arcs
@@ -56,7 +56,7 @@ AreShort (arc ∷ arcs) = (arc < 2 ^ 32) × AreShort arcs
 abbrev pub IsArcNumber : List ℕ → ℕ → Type 0
 IsArcNumber field arc = (n : ℕ) × (number_of field ≡ Some n) × (arc ≡ arc_number n)
 
--- The arc number that a field writes, and 0 where the field is no number.
+-- The arc number in a field; 0 if the field is no number.
 abbrev pub arc_found : Option ℕ → ℕ
 arc_found (Some n) = arc_number n
 arc_found None = 0
@@ -64,7 +64,7 @@ arc_found None = 0
 abbrev pub arc_of : List ℕ → ℕ
 arc_of field = arc_found (number_of field)
 
--- The arc numbers that fields write.
+-- The arc numbers in fields.
 abbrev pub arcs_of : List (List ℕ) → List ℕ
 arcs_of fields = map arc_of fields
 
@@ -86,12 +86,12 @@ SaysWalk (word ∷ place ∷ count ∷ numbers) node arcs =
     (word ≡ codes "w") × (number_of place ≡ Some node) × (number_of count ≡ Some (length numbers)) × AreArcNumbers numbers arcs
 SaysWalk _ node arcs = ⊥
 
--- The lines of a node: its `d` line, and where that has a time, a `w` line or none.
+-- The lines of a node: its `d` line and, if that has a time, maybe a `w` line.
 pub data SaysNode (node : ℕ) (said : Said) : List Line → Type 0 where
   alone : {line : Line} → SaysTime line.fields node said.time → said.line ≡ line.number → said.walk ≡ None → SaysNode node said (line ∷ [])
   with_walk : {line next : Line} {walk : WrittenWalk} → SaysTime line.fields node said.time → said.time ≢ NONE → said.line ≡ line.number → said.walk ≡ Some walk → walk.line ≡ next.number → SaysWalk next.fields node walk.arcs → SaysNode node said (line ∷ next ∷ [])
 
--- The lines of nodes, one node after another from the one given on.
+-- The lines of nodes, one node after another from this one on.
 pub data SaysNodes : ℕ → List Said → List Line → Type 0 where
   no_node : {node : ℕ} → SaysNodes node [] []
   next_node : {node : ℕ} {said : Said} {rest : List Said} {lines others : List Line} → SaysNode node said lines → SaysNodes (node + 1) rest others → SaysNodes node (said ∷ rest) (lines ++ others)
@@ -104,7 +104,7 @@ SaysSources (source ∷ sources) [] = ⊥
 SaysSources (source ∷ sources) (line ∷ lines) =
     SaysSource line.fields source.node source.departure × SaysSources sources lines
 
--- The lines of a problem: those of its sources, and then those of all nodes.
+-- The lines of a problem: those of its sources, then those of all nodes.
 pub record SaysProblem (nodes : ℕ) (sources : List Source) (reported : List Said) (lines : List Line) : Type 0 where
   pub first : List Line
   pub others : List Line
@@ -124,8 +124,8 @@ pub record CanGoOn (nodes : ℕ) (queries : List (List Source)) (lines : List Li
   pub problems : List (List Said)
   pub whole : SaysProblems nodes queries problems (lines ++ rest)
 
--- The first line that is not what its place asks: a report of right form can begin with the lines before it, but not with
--- it too. Line 0 is the end of a report that stops too early.
+-- The first line that is not what its place requires: a report of right form can begin with the lines before
+-- it, but not with it too. Line 0 means that the report ends too early.
 pub data IsBadLine (nodes : ℕ) (queries : List (List Source)) (lines : List Line) : ℕ → Type 0 where
   at_line : (before after : List Line) (bad : Line) → lines ≡ before ++ bad ∷ after → CanGoOn nodes queries before → (CanGoOn nodes queries (before ++ bad ∷ []) → ⊥) → IsBadLine nodes queries lines bad.number
   at_end : CanGoOn nodes queries lines → ((problems : List (List Said)) → SaysProblems nodes queries problems lines → ⊥) → IsBadLine nodes queries lines 0

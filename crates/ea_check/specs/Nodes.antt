@@ -1,4 +1,4 @@
--- What is found of the lines of nodes, whether or not a time is improved.
+-- Faults in the lines of nodes other than improved times.
 use Rattle.std.specs.Prelude.{ℕ, ◌≤◌, List, Option, Some, None, Result, Ok, Err}
 use Rattle.ea_road.specs.declared.source.Source.{Source}
 use Rattle.ea_road.specs.Roads.{Roads}
@@ -11,8 +11,8 @@ pub record IsFirstAt (IsFault : ℕ → ℕ → Type 0) (node line : ℕ) : Type
   pub fault : IsFault node line
   pub first : (next : ℕ) → IsFault node next → line ≤ next
 
--- The `w` line of a node that is not the canonical walk, or none, where the node's lines are attained; else the first that is
--- not.
+-- The `w` line of a node that is not the canonical walk, or none, if the node's lines are attained; otherwise
+-- the first that is not attained.
 abbrev pub IsOtherAt : Roads → (ℕ → ℕ → ℕ → ℕ → Type 0) → List Source → List Said → ℕ → Result (Option ℕ) CheckFault → Type 0
 IsOtherAt roads answers sources reported node (Ok None) =
     IsAttained roads answers sources reported node × IsCanonicalAt roads answers sources reported node
@@ -25,7 +25,8 @@ IsOtherAt roads answers sources reported node (Err (NotCanonical line)) = ⊥
 IsOtherAt roads answers sources reported node (Err (NotLeast line)) = ⊥
 IsOtherAt roads answers sources reported node (Err (BadLine line)) = ⊥
 
--- The first `w` line that is not the canonical walk, or none, where all lines are attained; else the first that is not.
+-- The first `w` line that is not the canonical walk, or none, if all lines are attained; otherwise the first
+-- that is not attained.
 abbrev pub IsFirstOther : Roads → (ℕ → ℕ → ℕ → ℕ → Type 0) → List Source → List Said → Result (Option ℕ) CheckFault → Type 0
 IsFirstOther roads answers sources reported (Ok None) =
     AreAttained roads answers sources reported × AreCanonical roads answers sources reported

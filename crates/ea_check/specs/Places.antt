@@ -1,11 +1,11 @@
--- What is still to come of a report, place by place.
+-- What a report still needs, place by place.
 use Rattle.std.specs.Prelude.{◌≢◌, ℕ, suc, Option, Some, None, ◌+◌, ◌^◌, ◌<◌, List, [], ◌∷◌}
 use Rattle.ea_road.specs.declared.TheConstants.{NONE}
 use Rattle.ea_road.specs.declared.source.Source.{Source}
 use Rattle.ea_check.specs.Form.{Line, SaysSource, SaysTime, SaysWalk}
 
--- Lines that end a report of which this is still to come: the walk of a node, which may be left out; sources of a problem;
--- so many of its nodes from the one given on; and further problems.
+-- Lines that end a report which still needs: the optional walk of a node, sources of a problem, this many of
+-- its nodes from this one on, and further problems.
 pub data Remains (nodes : ℕ) : Option ℕ → List Source → ℕ → ℕ → List (List Source) → List Line → Type 0 where
   ended : {node : ℕ} → Remains nodes None [] node 0 [] []
   problem_begins : {node : ℕ} {sources : List Source} {queries : List (List Source)} {lines : List Line} → Remains nodes None sources 1 nodes queries lines → Remains nodes None [] node 0 (sources ∷ queries) lines

@@ -1,9 +1,9 @@
--- Sources in an order by which they are found.
+-- Sources in the order of the binary search.
 use Rattle.std.specs.Prelude.{◌≡◌, ◌⊎◌, ℕ, ◌<◌, ◌≤◌, List, length, slice_index_or}
 use Rattle.std.specs.List.{IsAmong}
 use Rattle.ea_road.specs.declared.source.Source.{Source}
 
--- A lower node, or the same node and no later departure.
+-- A lower node, or the same node and a departure no later.
 abbrev pub Precedes : Source → Source → Type 0
 Precedes source other = (source.node < other.node) ⊎ ((source.node ≡ other.node) × (source.departure ≤ other.departure))
 

@@ -1,5 +1,5 @@
--- What a report says of one problem, and what is wrong with it.
--- The reported times are a table of labels: tight arcs, levels and canonical walks are those of that table.
+-- The faults of a report's lines on one problem. The reported times are a table of labels: tight arcs, levels
+-- and canonical walks are those of that table.
 use Rattle.std.specs.Prelude.{◌≡◌, ◌≢◌, ℕ, ◌-◌, ◌<◌, ◌≤◌, List, length, map, slice_get, Option, Some, Result, Ok, Err}
 use Rattle.std.specs.List.{IsAmong}
 use Rattle.ea_base.specs.declared.limits.TheConstants.{HORIZON}
@@ -13,18 +13,18 @@ use Rattle.ea_road.specs.Levels.{HasChain, IsCanonical}
 use Rattle.ea_check.specs.declared.fault.CheckFault.{CheckFault}
 use Rattle.ea_check.specs.declared.fault.CheckFault.TheVariants.{BadLine, NotAttained, NotLeast, OutOfMemory, NotCanonical}
 
--- A `w` line: its number in the text, and the arc numbers that it writes.
+-- A `w` line: its number, and its arc numbers.
 pub record WrittenWalk : Type 0 where
   pub line : ℕ
   pub arcs : List ℕ
 
--- What a report says of a node: the number of its `d` line, its time or NONE, and its `w` line where there is one.
+-- A report's lines on a node: the number of its `d` line, its time or NONE, and its `w` line if there is one.
 pub record Said : Type 0 where
   pub line : ℕ
   pub time : ℕ
   pub walk : Option WrittenWalk
 
--- What a report says of the nodes of one problem, the first place being that of node 1.
+-- A report's lines on the nodes of one problem, the first those of node 1.
 abbrev pub IsSaid : List Said → ℕ → Said → Type 0
 IsSaid reported node said = (0 < node) × (slice_get reported (node - 1) ≡ Some said)
 
@@ -35,12 +35,12 @@ times_of reported = map (λ said. said.time) reported
 abbrev pub reported_time : List Said → ℕ → ℕ
 reported_time reported node = label_of (times_of reported) node
 
--- The node's reported time is so.
+-- The node's reported time is this.
 abbrev pub IsReported : List Said → ℕ → ℕ → Type 0
 IsReported reported = IsLabel (reported_time reported)
 
--- A source at the node departs before the node's reported time, or an arc from a node that has a reported time, left at it,
--- arrives at the node within the horizon and before the node's reported time.
+-- A source at the node departs before the node's reported time, or an arc from a node that has a reported
+-- time, left at it, arrives at the node within the horizon and before the node's reported time.
 pub data Improves
     (roads : Roads)
     (answers : ℕ → ℕ → ℕ → ℕ → Type 0)
@@ -50,8 +50,8 @@ pub data Improves
   by_source : {source : Source} → IsAmong sources source → source.departure < label source.node → Improves roads answers sources label source.node
   by_arc : {number arrival : ℕ} {arc : Arc} → IsArc roads number arc → label arc.tail ≤ HORIZON → answers arc.class arc.weight (label arc.tail) arrival → arrival ≤ HORIZON → arrival < label arc.head → Improves roads answers sources label arc.head
 
--- A line of a node that is not attained: a `d` line with a time, where the node has no reported level, or a `w` line whose
--- arcs do not attain the reported time.
+-- A line of a node that is not attained: a `d` line with a time although the node has no reported level, or a
+-- `w` line whose arcs do not attain the reported time.
 pub data IsNotAttained
     (roads : Roads)
     (answers : ℕ → ℕ → ℕ → ℕ → Type 0)
@@ -82,7 +82,8 @@ pub data IsNotLeast
     : ℕ → Type 0 where
   improved : {said : Said} → IsSaid reported node said → Improves roads answers sources (reported_time reported) node → IsNotLeast roads answers sources reported node said.line
 
--- A node whose lines are attained: its reported time has a reported level, and its written walk attains the time.
+-- A node whose lines are attained: its reported time has a reported level, and its written walk attains the
+-- time.
 pub record IsAttained
     (roads : Roads)
     (answers : ℕ → ℕ → ℕ → ℕ → Type 0)
@@ -120,8 +121,8 @@ pub record IsFaultless
   pub canonical : AreCanonical roads answers sources reported
   pub unimproved : AreUnimproved roads answers sources reported
 
--- A right report of one problem: each time is the least arrival, or none where nothing arrives, and each written walk is
--- the canonical walk to the node over the least arrivals.
+-- A right report of one problem: each time is the least arrival, or none if nothing arrives, and each written
+-- walk is the canonical walk to the node over the least arrivals.
 pub record IsRight
     (roads : Roads)
     (answers : ℕ → ℕ → ℕ → ℕ → Type 0)
@@ -131,13 +132,13 @@ pub record IsRight
   pub least : (node : ℕ) (said : Said) → IsSaid reported node said → IsLeast roads answers sources node (time_of said.time)
   pub walks : (node : ℕ) (said : Said) (walk : WrittenWalk) → IsSaid reported node said → said.walk ≡ Some walk → IsCanonical roads answers sources (IsLeastAt roads answers sources) node walk.arcs
 
--- A line that says something of a node.
+-- A line on a node.
 pub data IsLineOf (reported : List Said) (node : ℕ) : ℕ → Type 0 where
   time_line : {said : Said} → IsSaid reported node said → IsLineOf reported node said.line
   walk_line : {said : Said} {walk : WrittenWalk} → IsSaid reported node said → said.walk ≡ Some walk → IsLineOf reported node walk.line
 
--- What the form of a report gives: one time for each node, within the horizon or NONE, a walk only beside a time and in a
--- later line, and the lines of the nodes in the order of the nodes.
+-- What the form of a report ensures: one time for each node, within the horizon or NONE; a walk only with a
+-- time and in a later line; and the lines in the order of the nodes.
 pub record IsWellFormed (nodes : ℕ) (reported : List Said) : Type 0 where
   pub each_node : length reported ≡ nodes
   pub times : (node : ℕ) (said : Said) → IsSaid reported node said → said.time ≢ NONE → said.time ≤ HORIZON
@@ -150,14 +151,14 @@ pub record IsFirst (IsFault : ℕ → ℕ → Type 0) (line : ℕ) : Type 0 wher
   pub fault : IsFault node line
   pub first : (other next : ℕ) → IsFault other next → line ≤ next
 
--- The conditions of a problem that asks all nodes: the network's limits, travel times that have each arc's class, and
--- sources that are nodes and depart within the horizon.
+-- The conditions of a problem that asks all nodes: the network's limits, travel times for each arc's class,
+-- and sources that are nodes and depart within the horizon.
 pub record IsTask (roads : Roads) (classes : ℕ) (sources : List Source) : Type 0 where
   pub network : IsNetwork roads
   pub classed : top_class roads.arcs ≤ classes
   pub starts : (source : Source) → IsAmong sources source → IsNode roads.nodes source.node × (source.departure ≤ HORIZON)
 
--- What the checker says of a problem whose form is right.
+-- The verdict on a problem whose form is right.
 abbrev pub IsVerdict : Roads → (ℕ → ℕ → ℕ → ℕ → Type 0) → List Source → List Said → Result (Unit {0}) CheckFault → Type 0
 IsVerdict roads answers sources reported (Ok _) = IsFaultless roads answers sources reported
 IsVerdict roads answers sources reported (Err (NotAttained line)) = IsFirst (IsNotAttained roads answers sources reported) line

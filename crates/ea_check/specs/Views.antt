@@ -1,4 +1,4 @@
--- What contracts see of a report's lines that are read.
+-- The lines of a report, as contracts see them.
 use Rattle.std.specs.Prelude.{◌≡◌, ℕ, List, map, Option, Some, None}
 use Rattle.ea_bytes.specs.Text.{fields_of}
 use Rattle.ea_check.specs.declared.form.reported.SaidLine.{SaidLine}
@@ -13,6 +13,6 @@ walk_of (Some walk) = Some (record { line = walk.line; arcs = arcs_of (fields_of
 abbrev pub said_of : SaidLine → Said
 said_of said = record { line = said.line; time = said.time; walk = walk_of said.walk }
 
--- The lines and the table of times say the same times.
+-- The lines and the table have the same times.
 abbrev pub IsKept : List SaidLine → List ℕ → Type 0
 IsKept lines table = map (λ said. said.time) lines ≡ table

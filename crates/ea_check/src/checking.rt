@@ -19,7 +19,7 @@ use ea_search::Open;
 use ea_travel_times::TravelTimes;
 use std::alloc::Global;
 
-/// What is wrong with what a report says of a problem.
+/// The fault of a report's lines on one problem.
 fn check_problem<T: TravelTimes>(
     alloc: Global,
     network: &Network,
@@ -37,7 +37,7 @@ fn check_problem<T: TravelTimes>(
     judge(alloc, network, times, query, &ordered, reported, &links)
 }
 
-/// The first fault of the problems read so far, this one the last of them.
+/// The first fault of the problems read so far, of which this is the last.
 fn check_next<T: TravelTimes>(
     before: Result<(), CheckFault>,
     alloc: Global,
@@ -56,8 +56,8 @@ fn check_next<T: TravelTimes>(
     check_problem(alloc, network, times, query, reported)
 }
 
-/// Whether queries can be checked over a network and travel times with classes up to the greatest: each makes a problem
-/// with them, and asks all nodes.
+/// Whether queries can be checked on a network with travel times of classes up to the greatest: each is a
+/// problem there, and asks all nodes.
 pub fn is_checkable(network: &Network, classes: usize, queries: &[Query]) -> bool
     ensures { IsTrue result ↔ AreCheckable network.now classes queries.now }
 {
@@ -69,13 +69,14 @@ pub fn is_checkable(network: &Network, classes: usize, queries: &[Query]) -> boo
     true
 }
 
-/// Whether a report is right: its form, each `d` line's time the least arrival, or `inf` where there is none, and each
-/// `w` line the canonical walk. If not, its first fault: one of form wherever the report has any, else that of the first
-/// problem that has one. The queries ask all nodes, each query's lines stand one after another in the report.
+/// Whether a report is right: its form, each `d` line's time the least arrival (`inf` if there is none), and
+/// each `w` line the canonical walk. Otherwise its first fault: a fault of form if the report has any, else
+/// that of the first problem with one. Each query asks all nodes; its lines follow those of the query before.
 ///
-/// The report is read once. A problem's fault is kept while the form of the later problems is read.
+/// Reads the report once. A problem's fault is kept while the form of later problems is read.
 ///
-/// It takes time in proportion to the report and to the network for each query, and memory for one problem at a time.
+/// Takes time in proportion to the report, and to the network for each query, and memory for one problem at a
+/// time.
 pub fn check<T: TravelTimes>(
     alloc: Global,
     network: &Network,
@@ -90,7 +91,7 @@ pub fn check<T: TravelTimes>(
     check_watched(alloc, network, times, queries, report, &mut Silent)
 }
 
-/// As `check`, and a watch is told of each problem that is done.
+/// Like `check`; calls a watch after each problem.
 pub fn check_watched<T: TravelTimes, V: Watch>(
     alloc: Global,
     network: &Network,

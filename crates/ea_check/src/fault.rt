@@ -1,4 +1,4 @@
-//! What is wrong with a report.
+//! The faults of a report.
 
 ghost use Rattle.std.specs.Prelude.{◌≡◌};
 ghost use Rattle.ea_check.specs.FaultNames.{fault_line, fault_name, fault_number};
@@ -6,10 +6,10 @@ ghost use Rattle.ea_check.specs.FaultNames.{fault_line, fault_name, fault_number
 use std::alloc::{AllocError, AllocFailed};
 use thiserror::Error;
 
-/// The first fault of a report, and its line, from 1 on; a report that ends too early has line 0.
+/// The first fault of a report, and its line, from 1; 0 if the report ends too early.
 #[derive(Clone, Copy, Debug, PartialEq, Eq, Error)]
 pub enum CheckFault {
-    /// A line is not what its place asks.
+    /// The line is not what its place requires.
     #[error("line {0} is not what its place asks (1 BadLine)")]
     BadLine(u64),
     /// The line's time or walk is not attained.
@@ -18,7 +18,7 @@ pub enum CheckFault {
     /// A walk arrives before the line's time.
     #[error("line {0} is not the least arrival (3 NotLeast)")]
     NotLeast(u64),
-    /// Memory was refused, which says nothing of the report.
+    /// Memory was refused; the report may be right or wrong.
     #[error("there is not enough memory (4 OutOfMemory)")]
     OutOfMemory,
     /// The line's walk is not the canonical one.
@@ -27,7 +27,7 @@ pub enum CheckFault {
 }
 
 impl CheckFault {
-    /// The number by which messages name this fault.
+    /// The number of this fault in messages.
     pub fn number(self) -> u8
         ensures { result ≡ fault_number self }
     {
@@ -40,7 +40,7 @@ impl CheckFault {
         }
     }
 
-    /// The name by which messages name this fault.
+    /// The name of this fault in messages.
     pub fn name(self) -> &'static str
         ensures { result.now ≡ fault_name self }
     {
@@ -53,7 +53,7 @@ impl CheckFault {
         }
     }
 
-    /// The line of this fault, 0 where the report ends too early; none for want of memory.
+    /// The line of this fault, 0 if the report ends too early; none if memory was refused.
     pub fn line(self) -> Option<u64>
         ensures { result ≡ fault_line self }
     {

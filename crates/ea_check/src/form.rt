@@ -1,4 +1,4 @@
-//! The form of a report: which line stands where, and what it says.
+//! The form of a report: the order of its lines, and what each says.
 
 pub mod line;
 pub mod line_form;

@@ -1,4 +1,4 @@
-//! The verdict on a report whose form is right.
+//! The verdict on a report of the right form.
 
 pub mod canonical_walk;
 pub mod verdict;

@@ -28,14 +28,14 @@ pub fn faultless_reports_are_right<T: TravelTimes>(network: &Network, times: &T,
     network.keeps_limits();
 }
 
-/// What the lines of a report say of a problem is well formed, where they are in the order of their numbers.
+/// What the lines of a report say of a problem is well formed, if they are in the order of their numbers.
 pub fn forms_are_well_formed()
     ensures { (nodes : ℕ) (sources : List Source) (reported : List Said) (lines : List Line)
         → AreInOrder lines → SaysProblem nodes sources reported lines
         → IsWellFormed nodes reported }
 {}
 
-/// What a report says of a problem has one verdict, want of memory aside.
+/// A report of one problem has one verdict, apart from refused memory.
 pub fn problems_have_one_verdict<T: TravelTimes>(network: &Network, times: &T, query: &Query)
     requires problem { IsProblem network.now (T.classes times.now) query.now }
     requires all { query.now.target ≡ None }
@@ -48,7 +48,7 @@ pub fn problems_have_one_verdict<T: TravelTimes>(network: &Network, times: &T, q
     network.keeps_limits();
 }
 
-/// A report has one verdict, want of memory aside: whatever is checked of its lines, it is the same.
+/// A report has one verdict, apart from refused memory: every check of its lines gives the same.
 pub fn reports_have_one_verdict<T: TravelTimes>(network: &Network, times: &T, queries: &[Query])
     requires { AreCheckable network.now (T.classes times.now) queries.now }
     ensures { (report : List ℕ) (this that : Result (Unit {0}) CheckFault)
@@ -61,7 +61,7 @@ pub fn reports_have_one_verdict<T: TravelTimes>(network: &Network, times: &T, qu
     network.keeps_limits();
 }
 
-/// What is written of an answer is accepted: with its walks, or without.
+/// The report of an answer is accepted, with walks or without.
 pub fn written_reports_are_right<T: TravelTimes>(network: &Network, times: &T, query: &Query)
     requires problem { IsProblem network.now (T.classes times.now) query.now }
     requires all { query.now.target ≡ None }

@@ -1,4 +1,4 @@
-//! The lines of a report that say something, one after another.
+//! The lines of a report that are neither blank nor comments.
 ghost use Rattle.std.specs.Prelude.{◌≡◌, ◌+◌, ◌<◌, ◌≤◌, ◌^◌, length, IsTrue, ◌↔◌, false};
 ghost use Rattle.ea_bytes.specs.Text.{field_lines, fields_of, is_silent};
 ghost use Rattle.ea_check.specs.Form.{spoken_from};
@@ -6,14 +6,14 @@ ghost use Rattle.ea_check.specs.Reads.{ahead};
 
 use ea_bytes::{first_field, first_line, is_comment, without_return};
 
-/// A line that says something, and its number.
+/// A line that is neither blank nor a comment, and its number.
 #[derive(Clone, Copy)]
 pub(crate) struct SpokenLine<'a> {
     pub number: u64,
     pub text: &'a [u8],
 }
 
-/// The line that comes next, where there is one, and the text behind it with the number of lines before that text.
+/// The next such line, if there is one, the text behind it, and the number of lines before that text.
 #[derive(Clone, Copy)]
 pub(crate) struct Ahead<'a> {
     pub line: Option<SpokenLine<'a>>,
@@ -31,7 +31,7 @@ fn speaks(text: &[u8]) -> bool
     }
 }
 
-/// Finds the next line of a text that says something. So many lines stand before the text.
+/// Finds the next line of a text that is neither blank nor a comment. `before` lines precede the text.
 pub(crate) fn look_ahead(text: &[u8], before: u64) -> Ahead<'_>
     requires { before + length text.now < 2 ^ 64 }
     ensures lines { ahead result ≡ spoken_from (before + 1) (field_lines text.entry.now) }

@@ -1,4 +1,4 @@
-//! What a line of a report says.
+//! The fields of a report's lines.
 ghost use Rattle.std.specs.Prelude.{◌≡◌, ◌∷◌, ◌↔◌, [], ℕ, IsTrue, List, MatchBool, MatchOption, Some, length};
 ghost use Rattle.ea_bytes.specs.Text.{fields_of, number_of};
 ghost use Rattle.ea_check.specs.Form.{AreArcNumbers, IsTime, IsWalkLine, SaysSource, SaysTime, SaysWalk, arcs_of};
@@ -8,7 +8,7 @@ use ea_base::HORIZON;
 use ea_bytes::{first_field, number};
 use ea_road::{NONE, Source};
 
-/// The fields of a line of three fields.
+/// The fields of a line, if it has three.
 fn three_fields(text: &[u8]) -> Option<(&[u8], &[u8], &[u8])>
     ensures { MatchOption result
         ((first second third : List ℕ) → fields_of text.entry.now ≡ first ∷ second ∷ third ∷ [] → ⊥)
@@ -29,14 +29,14 @@ fn three_fields(text: &[u8]) -> Option<(&[u8], &[u8], &[u8])>
     Some((first, second, third))
 }
 
-/// Whether a field is a number.
+/// Whether a field is this number.
 fn is_number(field: &[u8], wanted: u64) -> bool
     ensures { IsTrue result ↔ (number_of field.now ≡ Some wanted) }
 {
     number(field) == Some(u128::from(wanted))
 }
 
-/// Whether a line is that of a source.
+/// Whether a line is this source's.
 pub(crate) fn says_source(text: &[u8], source: Source) -> bool
     ensures { IsTrue result ↔ SaysSource (fields_of text.now) source.node source.departure }
 {
@@ -46,7 +46,7 @@ pub(crate) fn says_source(text: &[u8], source: Source) -> bool
     }
 }
 
-/// Whether three fields are those of a source.
+/// Whether three fields are this source's.
 fn are_source(word: &[u8], node: &[u8], departure: &[u8], source: Source) -> bool
     ensures { IsTrue result ↔ SaysSource
         (word.now ∷ node.now ∷ departure.now ∷ []) source.node source.departure }
@@ -60,7 +60,7 @@ fn are_source(word: &[u8], node: &[u8], departure: &[u8], source: Source) -> boo
     is_number(departure, source.departure)
 }
 
-/// The time that a node's `d` line says, or NONE for `inf`.
+/// The time in a node's `d` line, or NONE for `inf`; None if the line is no such line.
 pub(crate) fn time_said(text: &[u8], node: u32) -> Option<u64>
     ensures { MatchOption result
         ((time : ℕ) → SaysTime (fields_of text.now) node time → ⊥)
@@ -72,7 +72,7 @@ pub(crate) fn time_said(text: &[u8], node: u32) -> Option<u64>
     }
 }
 
-/// The time that three fields say of a node.
+/// The time in the three fields of a node's `d` line.
 fn time_in(word: &[u8], place: &[u8], arrival: &[u8], node: u32) -> Option<u64>
     ensures { MatchOption result
         ((time : ℕ) → SaysTime (word.now ∷ place.now ∷ arrival.now ∷ []) node time → ⊥)
@@ -115,7 +115,7 @@ pub(crate) fn is_walk_line(text: &[u8]) -> bool
     }
 }
 
-/// The text of the arcs, where a line is a node's `w` line.
+/// The text of the arcs, if a line is a node's `w` line.
 pub(crate) fn says_walk(text: &[u8], node: u32) -> Option<&[u8]>
     ensures { MatchOption result
         ((arcs : List ℕ) → SaysWalk (fields_of text.entry.now) node arcs → ⊥)
@@ -140,7 +140,7 @@ pub(crate) fn says_walk(text: &[u8], node: u32) -> Option<&[u8]>
     }
 }
 
-/// Whether a text's fields are numbers, and as many as counted.
+/// Whether the fields of a text are numbers, as many as the count says.
 fn counts(count: &[u8], text: &[u8]) -> bool
     ensures { MatchBool result
         ((number_of count.now ≡ Some (length (fields_of text.now)))

@@ -1,4 +1,4 @@
-//! How many numbers a text writes.
+//! Counting the numbers in a text.
 ghost use Rattle.std.specs.Prelude.{◌≡◌, ◌≤◌, ℕ, List, MatchOption, length};
 ghost use Rattle.ea_bytes.specs.Text.{fields_of};
 ghost use Rattle.ea_check.specs.Form.{AreArcNumbers, arcs_of};
@@ -7,22 +7,22 @@ ghost use Rattle.ea_check.specs.declared.form.number_count.TheConstants.{PIECE};
 
 use ea_bytes::is_blank;
 
-/// The most bytes that are counted at a time: whole registers of them, and no more than a byte counts up to.
+/// The most bytes counted at a time: a multiple of a vector register's, and few enough for a count in a byte.
 const PIECE: usize = 240;
 
-/// What a piece of a text has.
+/// The counts of a piece of text.
 #[derive(Clone, Copy)]
 struct Found {
-    /// How many fields begin in it.
+    /// The number of fields that begin in it.
     starts: u8,
-    /// Whether it has another byte than digits and blanks.
+    /// Whether it has a byte other than digits and blanks.
     other: bool,
     /// Whether its last byte is a blank.
     blank: bool,
 }
 
-/// What a piece of a text has, where a blank or another byte stands before it. The loop has no branch, so that many bytes
-/// are looked at together.
+/// The counts of a piece of text; `before` says whether a blank precedes it. The loop has no branch, so that
+/// it is vectorised.
 fn found_in(piece: &[u8], before: bool) -> Found
     requires { length piece.now ≤ PIECE }
     ensures starts { result.starts ≡ starts before piece.now }
@@ -46,7 +46,7 @@ fn found_in(piece: &[u8], before: bool) -> Found
     }
 }
 
-/// How many fields a text has, where all of them are numbers.
+/// The number of fields of a text, if all of them are numbers.
 pub(crate) fn count_numbers(text: &[u8]) -> Option<usize>
     ensures { MatchOption result
         ((arcs : List ℕ) → AreArcNumbers (fields_of text.now) arcs → ⊥)

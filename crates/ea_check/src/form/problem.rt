@@ -33,7 +33,7 @@ fn read_sources<'a>(lines: Ahead<'a>, sources: &[Source]) -> Result<Ahead<'a>, C
     Ok(next)
 }
 
-/// Reads a node's `w` line, where such a line comes next.
+/// Reads a node's `w` line, if a `w` line comes next.
 fn read_walk<'a>(
     lines: Ahead<'a>,
     node: u32,
@@ -88,7 +88,7 @@ fn read_node<'a>(lines: Ahead<'a>, node: u32) -> Result<(SaidLine<'a>, Ahead<'a>
     Ok((said, rest))
 }
 
-/// Keeps what is said of a node, and its time once more.
+/// Keeps the lines of a node, and its time in the table.
 fn keep<'a>(
     said: &mut Vec<SaidLine<'a>>,
     table: &mut Vec<u64>,

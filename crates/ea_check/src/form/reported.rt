@@ -1,4 +1,4 @@
-//! What a report says of one problem.
+//! A report's lines on one problem.
 ghost use Rattle.std.specs.Prelude.{◌≡◌, ◌≤◌, length, map, MatchOption, None, Some};
 ghost use Rattle.ea_road.specs.Roads.{IsNode};
 ghost use Rattle.ea_bytes.specs.Text.{fields_of};
@@ -23,11 +23,12 @@ pub(crate) struct SaidLine<'a> {
     pub walk: Option<WalkLine<'a>>,
 }
 
-/// What a report says of the nodes of one problem, in their order. Contracts see it as the list of what is said.
+/// A report's lines on the nodes of one problem, in their order. In contracts it is the list of what they
+/// say.
 #[derive(Drop)]
 pub(crate) struct Reported<'a> {
     said: Vec<SaidLine<'a>>,
-    /// The times once more, side by side.
+    /// The times again, contiguous in memory.
     table: Vec<u64>,
 }
 
@@ -44,7 +45,7 @@ impl<'a> Model for Reported<'a> {
 }
 
 impl<'a> Reported<'a> {
-    /// What lines that were read say.
+    /// From the lines that were read, and their times.
     pub(crate) fn of(said: Vec<SaidLine<'a>>, table: Vec<u64>) -> Reported<'a>
         requires { IsKept said.items table.items }
         ensures { result ≡ map said_of said.entry.items }
@@ -52,7 +53,7 @@ impl<'a> Reported<'a> {
         Reported { said, table }
     }
 
-    /// The times of all nodes, NONE where nothing arrives.
+    /// The times of all nodes, the first that of node 1; NONE for `inf`.
     pub(crate) fn table(&self) -> &[u64]
         ensures { result.now ≡ times_of self.now }
     {
@@ -75,7 +76,7 @@ impl<'a> Reported<'a> {
         self.said[node as usize - 1].line
     }
 
-    /// How many nodes have a `w` line.
+    /// The number of nodes with a `w` line.
     pub(crate) fn walks(&self) -> usize
         ensures { result ≤ length self.now }
     {
@@ -88,7 +89,7 @@ impl<'a> Reported<'a> {
         walks
     }
 
-    /// The number of a node's `w` line and the text of its arcs, where it has one.
+    /// The number of a node's `w` line and the text of its arcs, if it has one.
     pub(crate) fn walk(&self, node: u32) -> Option<(u64, &'a [u8])>
         requires { IsNode (length self.now) node }
         ensures { MatchOption result

@@ -1,4 +1,4 @@
-//! The arcs of a walk that is written.
+//! The arcs of a written walk.
 ghost use Rattle.std.specs.Prelude.{◌≡◌, ◌<◌, [], IfSome, MatchOption, OnOk, length};
 ghost use Rattle.ea_bytes.specs.Text.{fields_of};
 ghost use Rattle.ea_check.specs.Form.{arc_of, arcs_of};
@@ -7,7 +7,7 @@ ghost use Rattle.ea_check.specs.Reads.{BeginsWithArc};
 use ea_bytes::{first_field, is_blank, number};
 use std::alloc::AllocError;
 
-/// The number of an arc, where 0, which is no arc's, stands for each number of more than 32 bits.
+/// The arc number in a field. A number of more than 32 bits becomes 0, which is no arc's.
 fn arc_number(field: &[u8]) -> u32
     ensures { result ≡ arc_of field.now }
 {
@@ -16,8 +16,8 @@ fn arc_number(field: &[u8]) -> u32
         _ => 0,
     }
 }
-/// The arc number that is the first field of a line, and the bytes after it and its blank, where the line begins with a
-/// digit and the number is not very large.
+/// Fast path: the arc number in the first field of a line, and the bytes after its blank, if the line begins
+/// with a digit and the number is not very large.
 fn leading_arc(text: &[u8]) -> Option<(u32, &[u8])>
     ensures first { IfSome result (λ x. BeginsWithArc text.entry.now x.0 x.1.now) }
     ensures shorter { IfSome result (λ x. length x.1.now < length text.entry.now) }
@@ -38,7 +38,7 @@ fn leading_arc(text: &[u8]) -> Option<(u32, &[u8])>
     None
 }
 
-/// The first field of a line as an arc number, and the bytes after it.
+/// The arc number in the first field of a line, and the bytes after it.
 fn first_arc(text: &[u8]) -> Option<(u32, &[u8])>
     ensures first { MatchOption result (fields_of text.entry.now ≡ [])
         (λ x. BeginsWithArc text.entry.now x.0 x.1.now) }
@@ -51,7 +51,7 @@ fn first_arc(text: &[u8]) -> Option<(u32, &[u8])>
     Some((arc_number(field), rest))
 }
 
-/// Replaces arcs by those that a text writes.
+/// Replaces `arcs` by the arcs in a text.
 pub(crate) fn read_arcs(text: &[u8], arcs: &mut Vec<u32>) -> Result<(), AllocError>
     ensures { OnOk result (arcs.new.items ≡ arcs_of (fields_of text.now)) }
 {

@@ -1,4 +1,4 @@
-//! Written walks beside the links.
+//! Comparing written walks with links.
 ghost use Rattle.std.specs.Prelude.{◌≡◌, ◌<◌, ◌↔◌, IfOk, IsTrue, drop, false, length};
 ghost use Rattle.ea_road.specs.Roads.{IsNode};
 ghost use Rattle.ea_search.specs.declared.link.TheConstants.{NO_LEVEL};
@@ -12,7 +12,7 @@ use ea_report::ArcTexts;
 use ea_search::Link;
 use std::alloc::{AllocError, Global};
 
-/// Whether the arcs are those that the links of a node lead along.
+/// Whether the arcs are those along the links of a node.
 fn is_linked_walk(links: &[Link], node: u32, arcs: &[u32]) -> bool
     requires node { IsNode (length links.now) node }
     requires followable { AreFollowable links.now }
@@ -35,7 +35,7 @@ fn is_linked_walk(links: &[Link], node: u32, arcs: &[u32]) -> bool
     true
 }
 
-/// Whether a text of arcs is that one, without the space that stands before its first arc.
+/// Whether a text of arcs equals `spaced` without the space before its first arc.
 fn is_spaced(text: &[u8], spaced: &[u8]) -> bool
     ensures { IsTrue result ↔ (text.now ≡ drop 1 spaced.now) }
 {
@@ -50,7 +50,7 @@ fn is_spaced(text: &[u8], spaced: &[u8]) -> bool
 pub(crate) struct Comparing<'a> {
     /// The text of the arcs along the links of the last node.
     pub texts: ArcTexts<'a>,
-    /// The arcs of the last walk that was not written in the same way.
+    /// The arcs of the last walk whose text differed.
     pub arcs: Vec<u32>,
 }
 
@@ -65,10 +65,10 @@ impl<'a> Comparing<'a> {
         }
     }
 
-    /// Whether the text of a walk's arcs is that of the arcs that the links of a node lead along. Where it is not, its arcs are
-    /// kept. Texts are compared first, and arcs only where a walk is written in another way or is another.
+    /// Whether the text of a walk has the arcs along the links of a node. If it differs, its arcs are kept.
+    /// The texts are compared first; the arcs only if the texts differ.
     ///
-    /// It takes time in proportion to the text.
+    /// Takes time in proportion to the text.
     pub(crate) fn is_canonical(
         &mut self,
         links: &[Link],
@@ -86,7 +86,7 @@ impl<'a> Comparing<'a> {
         ensures arcs { IfOk result
             (λ same. same ≡ false → self.new.arcs.items ≡ arcs_of (fields_of text.now)) }
     {
-        // A walk's text is no shorter than the walk, so a text that is shorter is not worth going along the links.
+        // A walk's text is no shorter than its number of arcs, so a shorter text can't be the walk.
         if links[node as usize - 1].level as usize <= text.len() {
             self.texts.go_to(node)?;
             if is_spaced(text, self.texts.text()) {

@@ -1,4 +1,4 @@
-//! What is wrong with a report of one problem whose form is right.
+//! The fault of a report of one problem whose form is right.
 ghost use Rattle.std.specs.Prelude.{◌≡◌, ◌≤◌, ◌<◌, ◌⊎◌, ℕ, MatchOption, OnOk, length};
 ghost use Rattle.std.specs.List.{IsAmong};
 ghost use Rattle.ea_base.specs.declared.limits.TheConstants.{HORIZON};
@@ -19,7 +19,8 @@ use ea_search::{Link, NO_LEVEL};
 use ea_travel_times::TravelTimes;
 use std::alloc::Global;
 
-/// A node's `w` line that is not the canonical walk, where the node's lines are attained. Else the first that is not.
+/// The number of a node's `w` line that is not the canonical walk, if the node's lines are attained.
+/// Otherwise the first that is not attained.
 fn other_at<T: TravelTimes>(
     network: &Network,
     times: &T,
@@ -61,7 +62,8 @@ fn other_at<T: TravelTimes>(
     }
 }
 
-/// The first `w` line that is not the canonical walk, where all lines are attained. Else the first that is not.
+/// The first `w` line that is not the canonical walk, if all lines are attained. Otherwise the first that is
+/// not attained.
 fn first_other<T: TravelTimes>(
     alloc: Global,
     network: &Network,
@@ -89,7 +91,7 @@ fn first_other<T: TravelTimes>(
     Ok(first)
 }
 
-/// The lower of a node and the head of an arc, where that arc improves the head's reported time.
+/// The lower of a node and the head of an arc, if the arc improves the head's reported time.
 fn lower_by_arc<T: TravelTimes>(
     network: &Network,
     times: &T,
@@ -124,7 +126,7 @@ fn lower_by_arc<T: TravelTimes>(
     }
 }
 
-/// The lowest node whose reported time an arc improves, or the node given where none below it is.
+/// The lowest node whose reported time an arc improves, or `lowest` if no lower one is.
 fn lowest_by_arcs<T: TravelTimes>(
     network: &Network,
     times: &T,
@@ -150,7 +152,7 @@ fn lowest_by_arcs<T: TravelTimes>(
     lowest
 }
 
-/// The lower of a node and a source's node, where that source improves the node's reported time.
+/// The lower of a node and a source's node, if the source improves the node's reported time.
 fn lower_by_source<T: TravelTimes>(
     network: &Network,
     times: &T,
@@ -180,7 +182,7 @@ fn lower_by_source<T: TravelTimes>(
     }
 }
 
-/// The lowest node whose reported time a source improves, or the node given where none below it is.
+/// The lowest node whose reported time a source improves, or `lowest` if no lower one is.
 fn lowest_by_sources<T: TravelTimes>(
     network: &Network,
     times: &T,
@@ -228,7 +230,7 @@ fn first_not_least<T: TravelTimes>(
     }
 }
 
-/// What is wrong with a report of one problem, by the links of its reported times.
+/// The fault of a report of one problem, by the links of its reported times.
 pub(crate) fn judge<T: TravelTimes>(
     alloc: Global,
     network: &Network,

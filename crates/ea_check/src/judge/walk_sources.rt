@@ -1,4 +1,4 @@
-//! From which source, left at which departure, a written walk attains a time.
+//! The source and departure from which a written walk attains a time.
 ghost use Rattle.std.specs.Prelude.{◌≡◌, ◌⊎◌, ◌≤◌, ◌<◌, ◌↔◌, [], ℕ, IfOk, IsTrue, List, MatchOption, length, slice_index};
 ghost use Rattle.std.specs.List.{IsAmong};
 ghost use Rattle.ea_base.specs.declared.limits.TheConstants.{HORIZON};
@@ -23,7 +23,8 @@ pub(crate) fn ordered_sources(alloc: Global, sources: &[Source]) -> Result<Vec<S
     Ok(ordered)
 }
 
-/// The node at which a walk to a node begins: that node itself, or the tail of the first arc; none where there is no such arc.
+/// The node at which a walk to a node begins: that node itself, or the tail of the first arc; none if there
+/// is no such arc.
 fn first_node(network: &Network, node: u32, arcs: &[u32]) -> Option<u32>
     ensures { MatchOption result
         ((0 < length arcs.now) × ((arc : Arc) → IsArc network.now (slice_index arcs.now 0) arc → ⊥))
@@ -41,18 +42,19 @@ fn first_node(network: &Network, node: u32, arcs: &[u32]) -> Option<u32>
     Some(network.arc(number).tail)
 }
 
-/// Where a source lies beside those that attain a time by a walk.
+/// On which side of a source those lie that attain a time by a walk.
 #[derive(Clone, Copy, Debug, PartialEq, Eq)]
 enum Side {
-    /// Neither this source nor any before it attains the time.
+    /// Neither this source nor an earlier one attains the time.
     Before,
     /// This source attains the time.
     Here,
-    /// Neither this source nor any behind it attains the time.
+    /// Neither this source nor a later one attains the time.
     Beyond,
 }
 
-/// Runs a walk from a source. A later departure arrives no earlier, so one source tells of those before it or behind it.
+/// Follows a walk from a source. A later departure arrives no earlier, so the result holds for the sources
+/// before or behind it too.
 fn beside<T: TravelTimes>(
     network: &Network,
     times: &T,
@@ -97,8 +99,8 @@ fn beside<T: TravelTimes>(
     }
 }
 
-/// Whether the arcs lead from a source, left at its departure, to the node at the time. Sources are found by halves, so a
-/// walk is run as often as the number of sources has binary digits.
+/// Whether the arcs lead from some source, left at its departure, to the node at the time. A binary search
+/// over the sources, so a walk is followed about log2 of their number times.
 pub(crate) fn attains<T: TravelTimes>(
     network: &Network,
     times: &T,

@@ -6,7 +6,7 @@ use Rattle.ea_check.specs.Reads.{ReportWrong, ahead}
 use Rattle.ea_check.proofs.Onward.{Onward}
 use Rattle.ea_check.proofs.checking.check_watched.Given as goal
 
--- What goes wrong in the problems that are left goes wrong in the report, and the verdict is that of the problems read.
+-- A fault in the problems that are left is one of the report, and the verdict is that of the problems read.
 abbrev pub invariant-loop-query : goal.invariant-loop-query
 invariant-loop-query g l = record {
   done : l.done ≡ l.query-index;

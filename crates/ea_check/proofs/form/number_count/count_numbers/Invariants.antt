@@ -2,7 +2,7 @@ use Rattle.std.proofs.Common.{◌≡◌, ◌≤◌, ◌+◌, ◌||◌, length, t
 use Rattle.ea_check.specs.Counted.{has_other, starts}
 use Rattle.ea_check.proofs.form.number_count.count_numbers.Given as goal
 
--- What is found so far and what the bytes that are left have are together what the text has.
+-- The counts so far and those of the bytes that are left give the text's.
 abbrev pub invariant-loop-rest : goal.invariant-loop-rest
 invariant-loop-rest l = record {
   few : l.count + length l.rest ≤ length l.text;

@@ -2,7 +2,7 @@ use Rattle.std.proofs.Common.{◌≡◌, ◌≤◌, ◌+◌, ◌||◌, drop}
 use Rattle.ea_check.specs.Counted.{ends_blank, has_other, starts}
 use Rattle.ea_check.proofs.form.number_count.found_in.Given as goal
 
--- What is found so far and what the bytes that are left have are together what the piece has.
+-- The counts so far and those of the bytes that are left give the piece's.
 abbrev pub invariant-loop-b : goal.invariant-loop-b
 invariant-loop-b l = record {
   few : l.starts ≤ l.b-index;

@@ -5,7 +5,7 @@ use Rattle.ea_check.specs.Form.{Line}
 use Rattle.ea_check.specs.Reads.{ReadsNodes, NodesWrong, ahead}
 use Rattle.ea_check.proofs.form.problem.read_nodes.Given as goal
 
--- What is true of the nodes that are left is true of all.
+-- What holds of the nodes that are left holds of all.
 abbrev pub invariant-loop-node : goal.invariant-loop-node
 invariant-loop-node l = record {
   reads : (later : List Said) (others : List Line) → ReadsNodes l.node later (ahead l.next) others → ReadsNodes 1 (map said_of l.said.items ++ later) (ahead l.lines) others;

@@ -4,7 +4,7 @@ use Rattle.ea_check.specs.Form.{Line}
 use Rattle.ea_check.specs.Reads.{ReadsSources, SourcesWrong, ahead}
 use Rattle.ea_check.proofs.form.problem.read_sources.Given as goal
 
--- What is true of the sources that are left is true of all.
+-- What holds of the sources that are left holds of all.
 abbrev pub invariant-loop-source : goal.invariant-loop-source
 invariant-loop-source l = record {
   reads : (others : List Line) → ReadsSources (drop {A = Source} l.source-index l.sources) (ahead l.next) others → ReadsSources l.sources (ahead l.lines) others;

@@ -5,7 +5,7 @@ use Rattle.ea_search.specs.Links.{link, linked_walk, walk_along}
 use Rattle.ea_search.specs.declared.link.TheConstants.{NO_LEVEL}
 use Rattle.ea_check.proofs.judge.canonical_walk.is_linked_walk.Given as goal
 
--- What is left of the walk are the arcs of the links from here, exactly where the whole are those from the node.
+-- The rest of the walk is the arcs of the links from here exactly if the whole is those from the node.
 abbrev pub invariant-back : goal.invariant-back
 invariant-back l = record {
   is_node : IsNode (length l.links) l.at;

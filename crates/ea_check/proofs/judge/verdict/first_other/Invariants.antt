@@ -3,7 +3,8 @@ use Rattle.std.specs.Prelude.{MatchOption}
 use Rattle.ea_check.specs.Verdicts.{IsAttained, IsCanonicalAt, IsFirst, IsNotCanonical}
 use Rattle.ea_check.proofs.judge.verdict.first_other.Given as goal
 
--- The lines of the nodes before are attained, and the first `w` line that is not canonical is known, if one of these has any.
+-- The lines of the nodes before are attained, and the first `w` line that is not canonical is known, if one
+-- of these has any.
 abbrev pub invariant-loop-node : goal.invariant-loop-node
 invariant-loop-node g l = record {
   walks : l.walks.texts.links ≡ l.links;

@@ -3,7 +3,7 @@ use Rattle.ea_road.specs.declared.source.Source.{Source}
 use Rattle.ea_road.specs.Arrivals.{Arrives}
 use Rattle.ea_check.proofs.judge.walk_sources.attains.Given as goal
 
--- No source before the first half, and none from the end of the second half on, attains the time.
+-- No source before the first half attains the time, and none from the end of the second half on.
 abbrev pub invariant-halves : goal.invariant-halves
 invariant-halves g l = record {
   low : l.low ≤ l.high;
