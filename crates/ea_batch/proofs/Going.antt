@@ -1,4 +1,4 @@
--- Sending that goes on from problem to problem.
+-- Sending problem after problem.
 use Rattle.std.proofs.Common.{◌<◌, ℕ, Bool, List, [], ◌∷◌, length, refl, inl, arith}
 use Rattle.ea_bytes.specs.Device.{Seen}
 use Rattle.ea_road.specs.Roads.{Roads}
@@ -23,7 +23,7 @@ module _ (job : Job) (from mid : ℕ) (old between now : Seen) (before written :
   pub stops_later : (fault : AnswerFault) → StopsAfter job mid between written now fault → StopsAfter job from old before now fault
   stops_later fault stop = record { cut = λ first fits sent. stop.cut first fits (went.sent first fits sent) }
 
--- Nothing went out, for want of memory.
+-- Nothing was sent, since memory was refused.
 pub stops_at_once : (walks : Bool) (roads : Roads) (answers : ℕ → ℕ → ℕ → ℕ → Type 0) (all : List Asking) (first : Seen) → 0 < length all → AreCutShort walks roads answers all first first (OutOfMemory 0)
 stops_at_once walks roads answers [] first some = absurd (omega (arith, some))
 stops_at_once walks roads answers (query ∷ rest) first some =

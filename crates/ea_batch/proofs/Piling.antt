@@ -1,4 +1,4 @@
--- What is piled up of a job's problems.
+-- The drafts on a job's pile.
 use Rattle.std.proofs.Common.{◌≡◌, ℕ, ◌+◌, ◌-◌, ◌<◌, Bool, List, [], ◌∷◌, ◌++◌, length, get_or, subst, sym}
 use Rattle.std.specs.Prelude.{◌≢◌, if◌then◌else◌}
 use Rattle.ea_batch.specs.declared.draft.Job.{Job}
@@ -7,11 +7,11 @@ use Rattle.ea_batch.specs.Drafts.{AreDraftsAt, ArePiled}
 use Rattle.ea_batch.proofs.Placing.{put_if, taken_out}
 
 module _ (job : Job) where
-  -- Drafts of the job's problems from their first one on.
+  -- Drafts of the job's problems from their first on.
   abbrev AreOf : Made → Type 0
   AreOf made = AreDraftsAt job.plan.walks job.road.now job.queries.now made.from made.drafts.items
 
-  -- More are put on the pile, if there is memory for them,
+  -- More are put on the pile, if memory suffices,
   pub piled_more : (pile after : List Made) (made : Made) (is_put : Bool) → ArePiled job pile → AreDraftsAt job.plan.walks job.road.now job.queries.now made.from made.drafts.items
       → after ≡ (if is_put then pile ++ made ∷ [] else pile) → ArePiled job after
   piled_more pile after made is_put piled new is = put_if (λ n. AreOf) 0 pile after made is_put piled new is

@@ -1,4 +1,4 @@
--- Reports that went out, one after the other.
+-- Reports that were sent one after another.
 use Rattle.std.proofs.Common.{◌≡◌, ℕ, ◌+◌, ◌^◌, ◌<◌, ◌≤◌, Bool, List, [], ◌∷◌, ◌++◌, length, take, get_or, refl, ap, sym, ◌∙◌, arith, subst, inl, inr, append-nil, append_assoc, length-append}
 use Rattle.std.proofs.KnownBytes.{Appends-trans, Appends-nil}
 use Rattle.std.proofs.lemmas.List.{take_more}
@@ -18,7 +18,7 @@ module _ (walks : Bool) (roads : Roads) (answers : ℕ → ℕ → ℕ → ℕ �
   reported_more (first ∷ front) query texts text some is_report =
       (some.0, some.1 ++ text, some.2, reported_more front query some.1 text some.3 is_report, rw some.4 (append_assoc some.0 some.1 text))
 
-  -- None yet.
+  -- None was sent yet.
   pub sent_none : (first : Seen) → AreSent walks roads answers [] first first 0
   sent_none first = record { report = []; are_reported = refl; appended = Appends-nil first.bytes; counted = refl; unfailed = refl; borne = omega arith; monotone = omega arith }
 
@@ -27,7 +27,7 @@ module _ (walks : Bool) (roads : Roads) (answers : ℕ → ℕ → ℕ → ℕ �
   goes_on first old now fits before (inl h) = omega (arith, before, h)
   goes_on first old now fits before (inr h) = omega (arith, fits, h)
 
-  -- One more went out.
+  -- One more was sent.
   pub sent_more : (front : List Asking) (query : Asking) (first old now : Seen) (before written : ℕ) → first.interrupted < 2 ^ 64 → AreSent walks roads answers front first old before → IsSent walks roads answers query old now before written → AreSent walks roads answers (front ++ query ∷ []) first now written
   sent_more front query first old now before written fits sent more = record {
     report = sent.report ++ more.text;
@@ -44,7 +44,7 @@ module _ (walks : Bool) (roads : Roads) (answers : ℕ → ℕ → ℕ → ℕ �
     one_more : take (i + 1) all ≡ take i all ++ query ∷ []
     one_more = take_more all i query inside ∙ ap (λ q. take i all ++ q ∷ []) (sym at)
 
-    -- Its report goes out.
+    -- Its report is sent.
     pub sent_next : (first old now : Seen) (before written : ℕ) → first.interrupted < 2 ^ 64 → AreSent walks roads answers (take i all) first old before → IsSent walks roads answers query old now before written → AreSent walks roads answers (take (i + 1) all) first now written
     sent_next first old now before written fits sent more = subst (λ qs. AreSent walks roads answers qs first now written) (sym one_more) (sent_more (take i all) query first old now before written fits sent more)
 

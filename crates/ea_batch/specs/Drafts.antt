@@ -1,4 +1,4 @@
--- Reports of problems that are made before their turn.
+-- Drafts: reports of problems that are made before their turn.
 use Rattle.std.specs.Prelude.{◌≡◌, ◌↔◌, ℕ, ◌+◌, ◌*◌, ◌<◌, ◌≤◌, ◌^◌, Bool, true, List, IfSome, Some, length, take, slice_get, slice_index_or}
 use Rattle.ea_bytes.specs.Device.{Seen}
 use Rattle.ea_road.specs.Queries.{Asking}
@@ -16,7 +16,8 @@ use Rattle.ea_batch.specs.Sent.{AreCutShort, AreSent}
 use Rattle.ea_batch.specs.Reported.{IsReportOf}
 use Rattle.ea_batch.specs.Solved.{AnswersOn, ArrivesOn, Serves}
 
--- The problems are problems on the road, few enough, their drafts are as the options say, and threads take some at once.
+-- The problems are problems on the road, not too many, their drafts are as the options say, and threads take
+-- several at once.
 pub record IsJob (job : Job) : Type 0 where
   pub problems : AreProblems job.road.now job.queries.now
   pub few : length job.queries.now ≤ MOST_STARTS
@@ -24,14 +25,14 @@ pub record IsJob (job : Job) : Type 0 where
   pub walks : job.plan.walks ≡ job.options.now.walks
   pub part : 0 < job.plan.part
 
--- A draft is the report's text of a problem, or has its answer; or it is nothing.
+-- A draft is the text of a problem's report, or has its answer, or is nothing.
 abbrev pub IsDraftOf : Bool → Road → Asking → Draft → Type 0
 IsDraftOf walks road query draft.Nothing = Unit {0}
 IsDraftOf walks road query (draft.Text text) = IsReportOf walks road.network (times_on road) query text.items
 IsDraftOf walks road query (draft.Answer search) =
     Serves road.network walks search × ArrivesOn road query search.answer × (walks ≡ true → AnswersOn road query search.answer)
 
--- A draft of the problem with this number, from 0, where there is one.
+-- A draft of the problem with this number, from 0, if there is one.
 abbrev pub IsDraftAt : Bool → Road → List Asking → ℕ → Draft → Type 0
 IsDraftAt walks road queries number draft = (query : Asking) → slice_get queries number ≡ Some query → IsDraftOf walks road query draft
 
@@ -39,12 +40,12 @@ IsDraftAt walks road queries number draft = (query : Asking) → slice_get queri
 abbrev pub AreDraftsAt : Bool → Road → List Asking → ℕ → List Draft → Type 0
 AreDraftsAt walks road queries = AllFrom (IsDraftAt walks road queries)
 
--- So are those of a list from its place k on.
+-- The same for the elements of a list from place k on.
 abbrev pub AreUnsent : Bool → Road → List Asking → ℕ → ℕ → List Draft → Type 0
 AreUnsent walks road queries from k drafts =
     (j : ℕ) (d : Draft) → k ≤ j → j < length drafts → IsDraftAt walks road queries (from + j) (slice_index_or drafts j d)
 
--- These are what is named drafts of the problems from the first one on.
+-- These are named drafts of the problems from the first on.
 abbrev pub IsFit : (ℕ → Draft → Type 0) → Made → Type 0
 IsFit fits made = AllFrom fits made.from made.drafts.items
 
@@ -52,18 +53,19 @@ IsFit fits made = AllFrom fits made.from made.drafts.items
 pub record IsFor (fits : ℕ → Draft → Type 0) (job : Job) : Type 0 where
   pub same : (number : ℕ) (draft : Draft) → fits number draft ↔ IsDraftAt job.plan.walks job.road.now job.queries.now number draft
 
--- The reports of the problems from one on went out, up to another one: where those before them were sent, these are too.
+-- The reports of the problems from one up to another were sent, if those before them were.
 pub record GoesOn (job : Job) (from to : ℕ) (before : Seen) (written : ℕ) (now : Seen) (after : ℕ) : Type 0 where
   pub sent : (first : Seen) → first.interrupted < 2 ^ 64
       → AreSent job.options.now.walks job.road.now.network (times_on job.road.now) (take from job.queries.now) first before written
       → AreSent job.options.now.walks job.road.now.network (times_on job.road.now) (take to job.queries.now) first now after
 
--- Each of these is drafts of the job's problems from its first one on.
+-- Each of these is a list of drafts of the job's problems from its first on.
 abbrev pub ArePiled : Job → List Made → Type 0
 ArePiled job pile = (k : ℕ) (d : Made) → k < length pile
     → AreDraftsAt job.plan.walks job.road.now job.queries.now (slice_index_or pile k d).from (slice_index_or pile k d).drafts.items
 
--- The reports of the problems from one on can be sent: so many bytes went out, the arrays serve, and what is piled up are drafts of theirs.
+-- The reports of the problems from one on can be sent: this many bytes were sent, the arrays fit, and the
+-- pile has drafts of them.
 pub record CanSend (job : Job) (from : ℕ) (progress : Progress) (pile : List Made) : Type 0 where
   pub is_job : IsJob job
   pub inside : from ≤ length job.queries.now
@@ -71,13 +73,14 @@ pub record CanSend (job : Job) (from : ℕ) (progress : Progress) (pile : List M
   pub search : IfSome progress.search (Serves job.road.now.network job.options.now.walks)
   pub piled : ArePiled job pile
 
--- The reports of the problems from one on went out, up to another one, from which on they can be sent.
+-- The reports of the problems from one up to another were sent, and those from there on can be.
 pub record HaveGone (job : Job) (from to : ℕ) (old : Seen) (before : Progress) (now : Seen) (after : Progress) (pile : List Made) : Type 0 where
   pub went : GoesOn job from to old before.written now after.written
   pub onward : from ≤ to
   pub can : CanSend job to after pile
 
--- A fault that stops the sending of the problems from this one on: where those before it were sent, the reports are cut short.
+-- A fault that stops the sending of the problems from this one on: if those before were sent, the reports are
+-- cut short.
 pub record StopsAfter (job : Job) (from : ℕ) (before : Seen) (written : ℕ) (now : Seen) (fault : AnswerFault) : Type 0 where
   pub cut : (first : Seen) → first.interrupted < 2 ^ 64
       → AreSent job.options.now.walks job.road.now.network (times_on job.road.now) (take from job.queries.now) first before written

@@ -1,11 +1,12 @@
--- What a report says of problems.
+-- The reports of problems.
 use Rattle.std.specs.Prelude.{◌≡◌, ℕ, Bool, true, List, [], ◌∷◌, ◌++◌}
 use Rattle.ea_road.specs.Roads.{Roads}
 use Rattle.ea_road.specs.Queries.{Asking}
 use Rattle.ea_search.specs.Answers.{Answered, HasArrivals, IsAnswer}
 use Rattle.ea_report.specs.Report.{problem_text}
 
--- A text is the report of a problem: it says for each asked node its least arrival, and with walks its canonical walk.
+-- A text is the report of a problem: for each asked node its least arrival and, with walks, its canonical
+-- walk.
 pub record IsReportOf
     (walks : Bool)
     (roads : Roads)
@@ -18,7 +19,7 @@ pub record IsReportOf
   pub canonical : walks ≡ true → IsAnswer roads answers query answer
   pub says : text ≡ problem_text walks roads.nodes query answer
 
--- The reports of problems, one after the other.
+-- The reports of problems, one after another.
 abbrev pub AreReported : Bool → Roads → (ℕ → ℕ → ℕ → ℕ → Type 0) → List Asking → List ℕ → Type 0
 AreReported walks roads answers [] text = text ≡ []
 AreReported walks roads answers (query ∷ queries) text =

@@ -1,4 +1,4 @@
--- What went out of the reports of problems, whole or cut short.
+-- What was sent of the reports of problems, whole or cut short.
 use Rattle.std.specs.Prelude.{◌≡◌, ◌⊎◌, ℕ, ◌+◌, ◌*◌, ◌≤◌, Bool, List, Some, length, slice_get, take}
 use Rattle.std.specs.Io.KnownBytes.{Appends}
 use Rattle.ea_bytes.specs.Device.{BearsOn, GivesUp, Seen}
@@ -12,7 +12,7 @@ use Rattle.ea_batch.specs.Reported.{IsReportOf, AreReported}
 
 -- ---- one problem
 
--- A problem's report went out.
+-- A problem's report was sent.
 pub record IsSent (walks : Bool) (roads : Roads) (answers : ℕ → ℕ → ℕ → ℕ → Type 0) (query : Asking) (old now : Seen) (before written : ℕ) : Type 0 where
   pub text : List ℕ
   pub is_report : IsReportOf walks roads answers query text
@@ -22,7 +22,7 @@ pub record IsSent (walks : Bool) (roads : Roads) (answers : ℕ → ℕ → ℕ 
   pub borne : now.interrupted ≤ old.interrupted + MOST_INTERRUPTIONS
   pub not_less : IsNotLess old.interrupted now.interrupted
 
--- Only a front of a problem's report went out.
+-- Only the first bytes of a problem's report were sent.
 pub record IsStopped (walks : Bool) (roads : Roads) (answers : ℕ → ℕ → ℕ → ℕ → Type 0) (query : Asking) (old now : Seen) (before written : ℕ) : Type 0 where
   pub text : List ℕ
   pub is_report : IsReportOf walks roads answers query text
@@ -30,8 +30,8 @@ pub record IsStopped (walks : Bool) (roads : Roads) (answers : ℕ → ℕ → �
   pub counted : written ≡ before + sent
   pub cut : IsCutAt old.bytes now.bytes text sent
 
--- Why: the device's first failure or its first interruption that isn't borne, in this report; or memory was refused, before
--- anything of it was written or later, and the device bore it.
+-- The reason: in this report, the device failed for the first time or was interrupted once too often; or
+-- memory was refused, before or after some of it was written, and the device did not fail.
 abbrev pub IsStoppedBy : Bool → Roads → (ℕ → ℕ → ℕ → ℕ → Type 0) → Asking → Seen → Seen → ℕ → AnswerFault → Type 0
 IsStoppedBy walks roads answers query old now before (Write written) =
     IsStopped walks roads answers query old now before written × GivesUp old now
@@ -41,7 +41,7 @@ IsStoppedBy walks roads answers query old now before _ = ⊥
 
 -- ---- many
 
--- The reports of problems went out.
+-- The reports of problems were sent.
 pub record AreSent (walks : Bool) (roads : Roads) (answers : ℕ → ℕ → ℕ → ℕ → Type 0) (problems : List Asking) (first now : Seen) (written : ℕ) : Type 0 where
   pub report : List ℕ
   pub are_reported : AreReported walks roads answers problems report
@@ -51,7 +51,7 @@ pub record AreSent (walks : Bool) (roads : Roads) (answers : ℕ → ℕ → ℕ
   pub borne : now.interrupted ≤ first.interrupted + length problems * MOST_INTERRUPTIONS
   pub monotone : first.interrupted ≤ now.interrupted
 
--- The reports of so many problems went out whole, and the next one's stopped.
+-- The reports of this many problems were sent whole, and the next one's stopped.
 pub record AreCutShort (walks : Bool) (roads : Roads) (answers : ℕ → ℕ → ℕ → ℕ → Type 0) (problems : List Asking) (first now : Seen) (fault : AnswerFault) : Type 0 where
   pub count : ℕ
   pub query : Asking

@@ -1,4 +1,4 @@
--- What is found of a problem of a road.
+-- The answer of a problem on a road.
 use Rattle.std.specs.Prelude.{◌≡◌, Bool}
 use Rattle.ea_road.specs.Queries.{Asking}
 use Rattle.ea_road.specs.Roads.{Roads}
@@ -11,10 +11,10 @@ use Rattle.ea_load.specs.Posed.{times_on}
 abbrev pub ArrivesOn : Road → Asking → Answered → Type 0
 ArrivesOn road query answer = HasArrivals road.network (times_on road) query answer
 
--- And the canonical walks.
+-- It also has the canonical walks.
 abbrev pub AnswersOn : Road → Asking → Answered → Type 0
 AnswersOn road query answer = IsAnswer road.network (times_on road) query answer
 
--- The arrays of the search are those for the road's nodes, with room for walks where these are asked for.
+-- The arrays of the search fit the road's nodes, with room for walks if they are asked for.
 abbrev pub Serves : Roads → Bool → Searched → Type 0
 Serves roads walks search = (search.nodes ≡ roads.nodes) × (search.walks ≡ walks)

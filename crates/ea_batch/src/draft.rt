@@ -1,4 +1,4 @@
-//! Reports of problems that are made before their turn, by several threads.
+//! Drafts: reports of problems that several threads make before their turn.
 ghost use Rattle.std.specs.Prelude.{◌≡◌, ◌≤◌, ◌<◌, [], IfSome, Some, length, slice_get};
 ghost use Rattle.ea_base.specs.declared.limits.TheConstants.{MOST_NODES, MOST_STARTS};
 ghost use Rattle.ea_road.specs.Queries.{Asking, IsProblem};
@@ -15,14 +15,14 @@ use ea_report::{ReportOptions, write_problem};
 use ea_road::Query;
 use std::alloc::{AllocError, Global};
 
-/// What was made of a problem.
+/// The draft of a problem.
 #[derive(Drop)]
 pub(crate) enum Draft {
-    /// Nothing: there is no such problem, memory was refused, or the problem before was too long.
+    /// None: there is no such problem, memory was refused, or an earlier problem was too long.
     Nothing,
     /// The text of its report.
     Text(Vec<u8>),
-    /// The search that has its answer: the text is too long to be kept.
+    /// The search with its answer, since the text is too long to be kept.
     Answer(Search),
 }
 
@@ -31,13 +31,13 @@ pub(crate) enum Draft {
 pub(crate) struct Plan {
     /// Whether reports show walks.
     pub walks: bool,
-    /// How many problems a thread takes at once.
+    /// The number of problems that a thread takes at once.
     pub part: usize,
-    /// How many problems are taken before those before them are sent, at most.
+    /// The most problems that are taken before the first of them is sent.
     pub ahead: usize,
-    /// For how many bytes of a report it takes memory at first.
+    /// The bytes that are reserved for a report at first.
     pub room: usize,
-    /// How many bytes of a report it keeps at most.
+    /// The most bytes of a report that are kept.
     pub most: usize,
 }
 
@@ -49,11 +49,11 @@ pub(crate) struct Job<'a> {
     pub queries: &'a [Query],
     pub options: &'a RunOptions,
     pub plan: Plan,
-    /// Where memory of texts that were sent is found.
+    /// Where threads get the memory of texts that were sent.
     pub spare: &'a Stealer<Vec<u8>>,
 }
 
-/// Where memory of texts that were sent is left, and where others find it. An error comes only where memory is refused.
+/// A queue for the memory of texts that were sent, and its other end. Fails only if memory is refused.
 pub(crate) fn memory_of_texts(
     alloc: Global,
 ) -> Result<(Worker<Vec<u8>>, Stealer<Vec<u8>>), AllocError> {
@@ -62,7 +62,7 @@ pub(crate) fn memory_of_texts(
     Ok((used, spare))
 }
 
-/// Memory for a text: that of one that was sent, else new memory for so many bytes, or none yet where that is refused.
+/// Memory for a text: that of a text that was sent, else new memory, or none yet if that is refused.
 fn take_memory(job: Job<'_>) -> Vec<u8> {
     match job.spare.steal() {
         Steal::Success(memory) => memory,
@@ -73,8 +73,8 @@ fn take_memory(job: Job<'_>) -> Vec<u8> {
     }
 }
 
-/// Makes the draft of a problem, on the arrays of the last search where there are some. They are left there where they aren't
-/// the draft. A text is written into the memory of an earlier one.
+/// Makes the draft of a problem on the arrays of the last search, if there was one. They stay in `last`
+/// unless they become the draft. A text reuses the memory of an earlier one.
 fn make_draft(job: Job<'_>, query: &Query, last: &mut Option<Search>) -> Draft
     requires problem { IsProblem job.road.now.network
         (length job.road.now.times.list.items) query.now }
@@ -112,8 +112,8 @@ fn make_draft(job: Job<'_>, query: &Query, last: &mut Option<Search>) -> Draft
     }
 }
 
-/// Makes the draft of the problem with this number, from 0, where there is one; but for the first one of a part it is made
-/// only where arrays are left.
+/// Makes the draft of the problem with this number, from 0, if there is one. Except for the first of a part,
+/// only if arrays are left.
 fn make_draft_at(job: Job<'_>, at: usize, is_first: bool, last: &mut Option<Search>) -> Draft
     requires job { IsJob job }
     requires search { IfSome last.old (Serves job.road.now.network job.plan.walks) }
@@ -140,15 +140,15 @@ pub(crate) struct Made {
     pub drafts: Vec<Draft>,
 }
 
-/// Problems from one to just before another, counted from 0.
+/// Problems from one up to but excluding another, counted from 0.
 #[derive(Clone, Copy)]
 pub(crate) struct Span {
     pub from: usize,
     pub to: usize,
 }
 
-/// Makes the drafts of problems in their order, on the arrays of the last search where there are some. After one that is too long
-/// to be kept no more are made; where memory for the list is refused, it ends there.
+/// Makes the drafts of problems in their order, on the arrays of the last search, if there was one. Stops
+/// after a draft that is too long to be kept, or if memory for the list is refused.
 pub(crate) fn make_drafts(job: Job<'_>, span: Span, last: &mut Option<Search>) -> Made
     requires job { IsJob job }
     requires search { IfSome last.old (Serves job.road.now.network job.plan.walks) }
@@ -169,7 +169,7 @@ pub(crate) fn make_drafts(job: Job<'_>, span: Span, last: &mut Option<Search>) -
     made
 }
 
-/// A list with room for the drafts of problems, or with none where memory is refused.
+/// A list with room for the drafts of problems, or without room if memory is refused.
 fn room_for(job: Job<'_>, span: Span) -> Vec<Draft>
     ensures { result.items ≡ [] }
 {

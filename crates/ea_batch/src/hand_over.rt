@@ -1,4 +1,4 @@
-//! Drafts on their way from the threads that make them to the one that sends them.
+//! Passing drafts from the threads that make them to the one that sends them.
 ghost use Rattle.ea_batch.specs.Drafts.{AreDraftsAt, IsFit, IsFor};
 ghost use Rattle.std.specs.Prelude.{IfSome};
 
@@ -8,7 +8,7 @@ use crossbeam_deque::{Steal, Stealer, Worker};
 use std::alloc::Global;
 use std::marker::{Brand, PhantomData};
 
-/// Names, for contracts, which drafts are drafts of the problem with a number, from 0.
+/// Names, for contracts, the drafts of the problem with a number, from 0.
 pub(crate) trait Asks: Send + Sync {
     ghost use Rattle.std.specs.Prelude.{ℕ};
     ghost use Rattle.ea_batch.specs.declared.draft.Draft.{Draft};
@@ -16,12 +16,12 @@ pub(crate) trait Asks: Send + Sync {
     ghost fits: { ℕ → Draft → Type 0 };
 }
 
-// It stands in until a call picks its own problems.
+// A placeholder until a call picks its problems.
 impl Asks for Brand {
     ghost fits = { λ number draft. ⊥ };
 }
 
-/// What is handed over are drafts of the problems that are asked.
+/// The condition on passed drafts: they belong to the problems that are asked.
 pub(crate) struct Fitting<J>(PhantomData<J>);
 
 impl<J: Asks> Protocol<Made, ()> for Fitting<J> {
@@ -35,14 +35,14 @@ impl<J: Asks> Protocol<Made, ()> for Fitting<J> {
     ghost guest = { tt };
 }
 
-/// Who hands drafts over learns nothing.
+/// The giver learns nothing.
 struct Gives;
 
 impl Outcome<Made, ()> for Gives {
     ghost then = { λ before items after. Unit {0} };
 }
 
-/// Who gets drafts learns that they are of the problems.
+/// The taker learns that the drafts belong to the problems.
 struct Gets<J>(PhantomData<J>);
 
 impl<J: Asks> Outcome<Made, ()> for Gets<J> {
@@ -52,13 +52,13 @@ impl<J: Asks> Outcome<Made, ()> for Gets<J> {
     ghost then = { λ before items after. All (IsFit J.fits) items };
 }
 
-/// Where a thread leaves what it made.
+/// The end at which a thread leaves its drafts.
 pub(crate) type Giver<J> = Worker<Made, Global, (), Fitting<J>>;
 
-/// Where another finds it.
+/// The end at which another thread finds them.
 pub(crate) type Taker<J> = Stealer<Made, Global, (), Fitting<J>>;
 
-/// Leaves drafts of a job for who sends them: whether there was memory for it.
+/// Leaves drafts of a job for the sending thread. Returns false if memory was refused.
 pub(crate) fn give<J: Asks>(giver: &mut Giver<J>, job: Job<'_>, made: Made) -> bool
     requires named { IsFor J.fits job }
     requires drafts { AreDraftsAt job.plan.walks job.road.now job.queries.now
@@ -67,7 +67,7 @@ pub(crate) fn give<J: Asks>(giver: &mut Giver<J>, job: Job<'_>, made: Made) -> b
     giver.push_as::<Gives>(made).is_ok()
 }
 
-/// Drafts of a job that were left there, if there are any.
+/// Takes drafts of a job that were left there, if there are any.
 pub(crate) fn get<J: Asks>(taker: &Taker<J>, job: Job<'_>) -> Option<Made>
     requires named { IsFor J.fits job }
     ensures { IfSome result (λ made. AreDraftsAt job.entry.plan.walks job.entry.road.now

@@ -1,4 +1,4 @@
-//! Threads that make reports before their turn, and what they leave for the one that sends them.
+//! Threads that make reports before their turn, and what they leave for the sending thread.
 ghost use Rattle.std.specs.Prelude.{◌≡◌, [], IfOk, IfSome};
 ghost use Rattle.ea_batch.specs.Drafts.{AreDraftsAt, ArePiled, IsFor, IsJob};
 ghost use Rattle.ea_batch.specs.Solved.{Serves};
@@ -10,24 +10,24 @@ use ea_paths::Search;
 use std::alloc::{AllocError, Global};
 use std::thread::yield_now;
 
-/// How often a thread lets others run while too much is left to be sent, before it makes no more: some tenths of a second. So who
-/// writes to a slow device doesn't keep processors busy meanwhile.
+/// How often a thread yields while too much is still to be sent, before it ends: some tenths of a second. So
+/// a slow device doesn't keep processors busy.
 const MOST_WAITS: u32 = 524_288;
 
-/// How often the thread that sends lets others run while the next part isn't there and no other is to be made, before it begins anew
-/// without it: some seconds. Nothing is waited for longer, were a part lost for want of memory.
+/// How often the sending thread yields while the next part is missing and no other is left to make, before it
+/// makes the part itself: some seconds. A part may have been lost because memory was refused.
 const MOST_IDLE: u32 = 16_777_216;
 
-/// How many parts are taken out of the queue of one thread at once, at most.
+/// The most parts that are taken from the queue of one thread at once.
 const MOST_TAKEN: usize = 64;
 
-/// A thread that makes reports: where it leaves what it made.
+/// A thread that makes reports, with its queue.
 #[derive(Drop)]
 pub(crate) struct Lane<J: Asks> {
     pub made: Giver<J>,
 }
 
-/// Takes problems and makes their drafts, once: whether the thread goes on.
+/// Takes problems and makes their drafts once. Returns whether the thread continues.
 fn make_next<J: Asks>(
     job: Job<'_>,
     round: &Round,
@@ -48,7 +48,7 @@ fn make_next<J: Asks>(
     }
 }
 
-/// Makes drafts until all problems are taken, or too much was left to be sent for long.
+/// Makes drafts until all problems are taken, or too much was still to be sent for too long.
 pub(crate) fn make_in_lane<J: Asks>(job: Job<'_>, round: &Round, lane: &mut Lane<J>)
     requires job { IsJob job }
     requires named { IsFor J.fits job }
@@ -69,16 +69,16 @@ pub(crate) fn make_in_lane<J: Asks>(job: Job<'_>, round: &Round, lane: &mut Lane
     round.leave();
 }
 
-/// What threads left for the one that sends, in no order.
+/// The drafts that threads left for the sending thread, in no order.
 #[derive(Drop)]
 pub(crate) struct Desk<J: Asks> {
     pub left: Vec<Taker<J>>,
     pub pile: Vec<Made>,
-    /// How often in a row others were let run since nothing was there.
+    /// How often it yielded in a row since nothing was there.
     idle: u32,
 }
 
-/// So many threads, how they share the problems, and the desk for what they make.
+/// The threads, how they share the problems, and the desk for their drafts.
 #[derive(Drop)]
 pub(crate) struct Lanes<J: Asks> {
     pub row: Vec<Lane<J>>,
@@ -87,7 +87,7 @@ pub(crate) struct Lanes<J: Asks> {
 }
 
 impl<J: Asks> Lanes<J> {
-    /// Nothing is made. An error comes only where memory is refused.
+    /// Lanes without drafts, for this number of threads. Fails only if memory is refused.
     pub(crate) fn open(alloc: Global, threads: usize) -> Result<Lanes<J>, AllocError>
         ensures { IfOk result (λ lanes. lanes.desk.pile.items ≡ []) }
     {
@@ -110,7 +110,7 @@ impl<J: Asks> Lanes<J> {
     }
 }
 
-/// The place on a pile of drafts from this problem on; one behind the pile where there are none.
+/// The index on a pile of the drafts from this problem on; the pile's length if there are none.
 fn place_of(pile: &[Made], from: usize) -> usize {
     for at in 0..pile.len() {
         if pile[at].from == from {
@@ -120,7 +120,7 @@ fn place_of(pile: &[Made], from: usize) -> usize {
     pile.len()
 }
 
-/// Puts what a thread left on the pile. What finds no memory there is dropped, and is made when it is its turn.
+/// Moves what a thread left to the pile. What finds no memory there is dropped, and made again at its turn.
 fn collect<J: Asks>(taker: &Taker<J>, job: Job<'_>, pile: &mut Vec<Made>)
     requires named { IsFor J.fits job }
     requires pile { ArePiled job pile.old.items }
@@ -137,7 +137,7 @@ fn collect<J: Asks>(taker: &Taker<J>, job: Job<'_>, pile: &mut Vec<Made>)
 }
 
 impl<J: Asks> Desk<J> {
-    /// Puts what threads left on the pile.
+    /// Moves what threads left to the pile.
     fn gather(&mut self, job: Job<'_>)
         requires named { IsFor J.fits job }
         requires pile { ArePiled job self.old.pile.items }
@@ -148,7 +148,7 @@ impl<J: Asks> Desk<J> {
         }
     }
 
-    /// The drafts of a job's problems from this one on, where they are there.
+    /// Takes the drafts of a job's problems from this one on, if they are there.
     pub(crate) fn take(&mut self, job: Job<'_>, from: usize) -> Option<Vec<Draft>>
         requires named { IsFor J.fits job }
         requires pile { ArePiled job self.old.pile.items }
@@ -170,7 +170,7 @@ impl<J: Asks> Desk<J> {
         }
     }
 
-    /// Makes drafts too, or lets others run: false where nobody else makes any, or nothing came for long.
+    /// Makes drafts too, or yields. Returns false if no one else makes any, or nothing came for too long.
     pub(crate) fn help(&mut self, job: Job<'_>, round: &Round, last: &mut Option<Search>) -> bool
         requires job { IsJob job }
         requires pile { ArePiled job self.old.pile.items }

@@ -1,4 +1,4 @@
-//! Searches by one thread, one after the other on the same arrays.
+//! Searches by one thread, one after another on the same arrays.
 ghost use Rattle.std.specs.Prelude.{◌≡◌, IfOk, IfSome, length, true};
 ghost use Rattle.ea_road.specs.Queries.{IsProblem};
 ghost use Rattle.ea_batch.specs.Solved.{AnswersOn, ArrivesOn, Serves};
@@ -20,7 +20,7 @@ fn reserve(alloc: Global, road: &Road, walks: bool) -> Result<Search, AllocError
     }
 }
 
-/// A search with the answer of a problem, on the arrays of the last one where there was one.
+/// Searches a problem on the arrays of the last search, if there was one. Returns the search with its answer.
 pub(crate) fn search(
     alloc: Global,
     road: &Road,

@@ -1,4 +1,4 @@
-//! Reports of problems that are searched at once: several threads make those of some, while those before are sent.
+//! Reports of problems that are searched at once: several threads make some while earlier ones are sent.
 ghost use Rattle.std.specs.Prelude.{◌≡◌, ◌≤◌, ◌<◌, ◌+◌, ◌-◌, ◌*◌, ◌^◌, ℕ, IfErr, IfOk, IfSome, OnOk, length};
 ghost use Rattle.ea_bytes.specs.Device.{GivesUp};
 ghost use Rattle.ea_base.specs.declared.limits.TheConstants.{MOST_AT_ONCE, MOST_NODES, MOST_STARTS};
@@ -27,29 +27,30 @@ use std::marker::Brand;
 use std::mem;
 use std::thread::Threads;
 
-/// The options of a call, and who is told how far it is.
+/// The options of a call, and its watch.
 pub struct Watched<'a, V: Watch> {
     pub options: &'a RunOptions,
     pub watch: &'a mut V,
 }
 
-/// How many bytes of reports a thread keeps before they are sent, at most.
+/// The most bytes of reports that a thread keeps before they are sent.
 const KEPT: usize = 67_108_864;
 
-/// How many lines the reports have, about, that a thread makes one after the other before it leaves them to be sent.
+/// About how many lines of reports a thread makes before it leaves them to be sent.
 const LINES_IN_PART: usize = 262_144;
 
-/// How many bytes a report's line has, about.
+/// About how many bytes a line of a report has.
 const LINE: usize = 16;
 
-/// How many problems a thread takes at once, at most.
+/// The most problems that a thread takes at once.
 const MOST_IN_PART: usize = 256;
 
-/// How many parts are made before those before them are sent, for each thread.
+/// How many parts are made ahead for each thread.
 const PARTS_AHEAD: usize = 2;
 
-/// How drafts are made: each thread takes several problems at once where they are many and their reports have few lines, so
-/// that threads seldom meet. Where a text is too long to be kept, the search that has its answer is: then less is made ahead.
+/// How drafts are made. Each thread takes several problems at once if they are many and their reports short,
+/// so that threads seldom meet. If a text is too long to be kept, the search with its answer is kept instead,
+/// and less is made ahead.
 fn plan_of(problems: usize, threads: usize, lines: usize, walks: bool) -> Plan
     requires { (1 ≤ threads) × (1 ≤ lines) × (threads ≤ 16) }
     ensures part { 0 < result.part }
@@ -95,7 +96,7 @@ impl Progress {
         }
     }
 
-    /// Leaves the memory of a text that was sent to those who make others.
+    /// Leaves the memory of a sent text to the threads that make texts.
     fn keep_memory(&mut self, memory: Vec<u8>)
         ensures written { self.new.written ≡ self.old.written }
         ensures search { self.new.search ≡ self.old.search }
@@ -105,7 +106,7 @@ impl Progress {
         }
     }
 
-    /// Sends the report of a problem by its draft; what wasn't made is made now.
+    /// Sends the report of a problem by its draft; if there is none, makes it now.
     fn send_draft<W: ByteOut>(
         &mut self,
         alloc: Global,
@@ -144,7 +145,7 @@ impl Progress {
     }
 }
 
-/// Takes a draft out of a list, nothing where the list is too short.
+/// Takes a draft out of a list; `Nothing` if the list is too short.
 fn take_draft(job: Job<'_>, span: Span, k: usize, ready: &mut [Draft]) -> Draft
     requires left { AreUnsent job.options.now.walks job.road.now job.queries.now span.from k ready.old }
     ensures draft { IsDraftAt job.entry.options.now.walks job.entry.road.now
@@ -159,7 +160,7 @@ fn take_draft(job: Job<'_>, span: Span, k: usize, ready: &mut [Draft]) -> Draft
     }
 }
 
-/// Sends the reports of problems by their drafts, in their order. What isn't there is made now.
+/// Sends the reports of problems by their drafts, in their order. Missing drafts are made now.
 fn send_part<W: ByteOut>(
     progress: &mut Progress,
     job: Job<'_>,
@@ -192,7 +193,7 @@ fn send_part<W: ByteOut>(
     Ok(())
 }
 
-/// Where the part of a job's problems ends that begins with this one.
+/// The end of the part of a job's problems that begins with this one.
 fn end_of_part(job: Job<'_>, from: usize) -> usize
     requires job { IsJob job }
     requires inside { from < length job.queries.now }
@@ -201,8 +202,8 @@ fn end_of_part(job: Job<'_>, from: usize) -> usize
     from.saturating_add(job.plan.part).min(job.queries.len())
 }
 
-/// Sends the reports of the problems from one on by what is made of them, and makes some too, until all are sent or nobody makes
-/// the next. The watch is told after each part.
+/// Sends the reports of the problems from one on by their drafts, and makes some drafts too, until all are
+/// sent or no one makes the next. Calls the watch after each part.
 fn send_round<J: Asks, W: ByteOut, V: Watch>(
     progress: &mut Progress,
     job: Job<'_>,
@@ -245,7 +246,7 @@ fn send_round<J: Asks, W: ByteOut, V: Watch>(
     Ok(sent)
 }
 
-/// How many lines a report has, about.
+/// About how many lines a report has.
 fn lines_of(road: &Road, query: &Query) -> usize
     ensures { 1 ≤ result }
 {
@@ -255,7 +256,7 @@ fn lines_of(road: &Road, query: &Query) -> usize
     }
 }
 
-/// Sends the reports of the problems from one on, while other threads make those of the next ones.
+/// Sends the reports of the problems from one on, while other threads make the next ones.
 fn run_round<J: Asks, H: Threads + Sync, W: ByteOut, V: Watch>(
     progress: &mut Progress,
     rt: &H,
@@ -294,7 +295,8 @@ fn run_round<J: Asks, H: Threads + Sync, W: ByteOut, V: Watch>(
     for_each_chunk_mut_beside(rt, 1, &making, row, &mut sending)
 }
 
-/// Sends the reports of all problems in their order, while other threads make those of the next ones. The watch is told after each part.
+/// Sends the reports of all problems in their order, while other threads make the next ones. Calls the watch
+/// after each part.
 fn send_all<J: Asks, H: Threads + Sync, W: ByteOut, V: Watch>(
     progress: &mut Progress,
     rt: &H,
@@ -315,7 +317,7 @@ fn send_all<J: Asks, H: Threads + Sync, W: ByteOut, V: Watch>(
         (W.seen out.old) (W.seen out.new)) }
     ensures bound { OnOk result (progress.new.written ≤ MOST_STARTS * 2 ^ 90) }
 {
-    // Tells that the count is one of 64 bits.
+    // Proof hint: the count fits in u64.
     let _ = out.interruptions();
     let mut sent = 0;
     while sent < job.queries.len() {
@@ -336,7 +338,8 @@ fn send_all<J: Asks, H: Threads + Sync, W: ByteOut, V: Watch>(
     Ok(())
 }
 
-/// Writes the reports of problems in their order, where so many threads search at once. The watch is told after each part.
+/// Writes the reports of problems in their order; several threads search at once. Calls the watch after each
+/// part.
 fn report_asked<J: Asks, H: Threads + Sync, W: ByteOut, V: Watch>(
     rt: &H,
     job: Job<'_>,
@@ -370,7 +373,8 @@ fn report_asked<J: Asks, H: Threads + Sync, W: ByteOut, V: Watch>(
     }
 }
 
-/// Writes the reports of problems in their order, where so many threads search at once. The watch is told as they are sent.
+/// Writes the reports of problems in their order; several threads search at once. Calls the watch as they are
+/// sent.
 pub fn report_ahead<H: Threads + Sync, W: ByteOut, V: Watch>(
     alloc: Global,
     rt: &H,

@@ -1,4 +1,4 @@
-//! Reports of problems that are answered by one thread.
+//! Reports of problems that one thread answers.
 ghost use Rattle.std.specs.Prelude.{◌≡◌, ◌≤◌, ◌<◌, ◌+◌, ◌*◌, ◌^◌, IfErr, IfSome, None, OnOk, length, true};
 ghost use Rattle.ea_base.specs.declared.limits.TheConstants.{MOST_NODES, MOST_STARTS};
 ghost use Rattle.ea_road.specs.Queries.{IsProblem};
@@ -16,19 +16,19 @@ use ea_report::{ReportOptions, WriteFault, WriteFaultKind, write_problem};
 use ea_road::Query;
 use std::alloc::Global;
 
-/// What went out so far, and the arrays of the last search by one thread.
+/// What was sent so far, and the arrays of the last search by one thread.
 #[derive(Drop)]
 pub struct Progress {
-    /// How many bytes went out.
+    /// The number of bytes sent.
     pub written: u128,
-    /// The last search, on whose arrays the next one is made.
+    /// The last search, whose arrays the next one reuses.
     pub search: Option<Search>,
-    /// Where memory of texts that were sent is left, if others make texts.
+    /// Where the memory of sent texts is left, if others make texts.
     pub(crate) used: Option<Worker<Vec<u8>>>,
 }
 
 impl Progress {
-    /// Nothing went out. What is left of texts that are sent goes there, if others make texts.
+    /// Nothing sent yet. The memory of sent texts goes to `used`, if others make texts.
     pub fn begin(used: Option<Worker<Vec<u8>>>) -> Progress
         ensures written { result.written ≡ 0 }
         ensures search { result.search ≡ None }
@@ -41,7 +41,7 @@ impl Progress {
     }
 }
 
-/// What a fault of one problem's report is, after so many bytes of those before.
+/// The fault of a call, from the fault of one problem's report and the number of bytes sent before.
 pub(crate) fn fault_after(before: u128, fault: WriteFault) -> AnswerFault
     requires { before + fault.written < 2 ^ 128 }
     ensures { result ≡ Faults.fault_after before fault }
@@ -54,7 +54,7 @@ pub(crate) fn fault_after(before: u128, fault: WriteFault) -> AnswerFault
 }
 
 impl Progress {
-    /// Writes the report of a problem that is answered.
+    /// Writes the report of an answered problem.
     pub fn write<W: ByteOut>(
         &mut self,
         alloc: Global,

@@ -4,20 +4,20 @@ use crate::draft::{Job, Span};
 use std::sync::atomic::AtomicUsize;
 use std::sync::atomic::Ordering::SeqCst;
 
-/// Which problems are taken, how far sending is, and how many threads make reports. It saves time, and nothing of what goes out rests
-/// on it: what nobody made is made when it is its turn.
+/// Which problems are taken, how far sending is, and how many threads make reports. It saves time only: no
+/// output depends on it, since a missing draft is made at its turn.
 #[derive(Drop)]
 pub(crate) struct Round {
-    /// The first problem that nobody has taken.
+    /// The first problem that is not taken.
     next: AtomicUsize,
     /// The first problem whose report isn't sent.
     sent: AtomicUsize,
-    /// How many threads make reports beside the one that sends.
+    /// How many threads other than the sending one make reports.
     making: AtomicUsize,
 }
 
 impl Round {
-    /// Nothing is taken, and nobody makes reports.
+    /// No problem is taken, and no thread makes reports.
     pub(crate) fn new() -> Round {
         Round {
             next: AtomicUsize::new(0),
@@ -26,27 +26,27 @@ impl Round {
         }
     }
 
-    /// So many threads make reports from now on.
+    /// This many threads make reports from now on.
     pub(crate) fn begin(&self, threads: usize) {
         self.making.store(threads, SeqCst);
     }
 
-    /// One of them makes no more.
+    /// One of them ends.
     pub(crate) fn leave(&self) {
         self.making.fetch_sub(1, SeqCst);
     }
 
-    /// Whether nobody makes reports beside the one that sends.
+    /// Whether only the sending thread is left to make reports.
     pub(crate) fn is_left(&self) -> bool {
         self.making.load(SeqCst) == 0
     }
 
-    /// The reports of all problems before this one are sent.
+    /// Records that the reports of all problems before this one are sent.
     pub(crate) fn tell_sent(&self, sent: usize) {
         self.sent.store(sent, SeqCst);
     }
 
-    /// Nobody takes a problem any more.
+    /// Marks all problems as taken.
     pub(crate) fn stop(&self) {
         self.next.store(usize::MAX / 2, SeqCst);
     }
@@ -56,7 +56,7 @@ impl Round {
         self.next.load(SeqCst) >= job.queries.len()
     }
 
-    /// Takes problems that come next: none where all are taken, or where those before them are too far from being sent.
+    /// Takes the next problems: none if all are taken, or if too many before them are still to be sent.
     pub(crate) fn take(&self, job: Job<'_>) -> Option<Span> {
         let count = job.queries.len();
         let most = self.sent.load(SeqCst).saturating_add(job.plan.ahead);

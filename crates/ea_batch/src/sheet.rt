@@ -1,23 +1,24 @@
-//! Texts in memory.
+//! A device that keeps its bytes in memory.
 ghost use Rattle.std.specs.Prelude.{◌≡◌, [], Some};
 ghost use Rattle.ea_bytes.specs.Device.{Seen, one_more};
 
 use ea_bytes::{ByteOut, Device, DeviceFault};
 
-/// A device that keeps the bytes that it takes, up to so many. A write of more fails, and so does one for which memory is
-/// refused; it takes nothing then.
+/// A device that keeps up to `most` bytes. A write beyond that fails, as does one for which memory is
+/// refused; it takes nothing.
 #[derive(Drop)]
 pub(crate) struct Sheet {
-    /// The bytes that it took.
+    /// The bytes written so far.
     pub text: Vec<u8>,
-    /// How many it takes at most.
+    /// The most bytes that it takes.
     pub most: usize,
-    /// How many writes failed.
+    /// The number of failed writes.
     pub failures: u64,
 }
 
 impl Sheet {
-    /// An empty sheet for so many bytes, in memory in which another text stood. It takes no more memory yet.
+    /// An empty sheet for up to `most` bytes, which reuses the memory of another text. Takes no more memory
+    /// yet.
     pub(crate) fn over(mut memory: Vec<u8>, most: usize) -> Sheet
         ensures text { result.text.items ≡ [] }
         ensures most { result.most ≡ most }
