@@ -1,4 +1,4 @@
--- Two calls that answered the same sent one report.
+-- Two calls with the same answer sent one report.
 use Rattle.std.proofs.Common.{◌≡◌, ℕ, List, ◌++◌, refl, ap, subst}
 use Rattle.std.specs.Prelude.{Option, Some, None, option_map}
 use Rattle.std.specs.Io.KnownBytes.{Appends}
@@ -12,14 +12,14 @@ use Rattle.ea_load.specs.Asked.{Files, tp_had}
 use Rattle.earliest.specs.SameBytes.{AnsweredPairsAgree, AnsweredRunsAgree, Answering, AnswersPairs, AnswersRun, HadTexts, IsPairReport, IsRunReport}
 use Rattle.earliest.proofs.OneReport.{pairs_have_one_report, runs_have_one_report}
 
--- A text that is known, where there is one.
+-- A known text, if there is one.
 known_text : (tp text : Option (List ℕ)) → IsAllIfThere (option_map Some tp) text → text ≡ tp
 known_text None None is = refl
 known_text (Some left) (Some text) is = ap Some is
 known_text None (Some text) is = absurd is
 known_text (Some left) None is = absurd is
 
--- What texts that are known denote.
+-- What known texts denote.
 denoted_by : {X : Type 0} (DenotesStarts : ℕ → List (List (List ℕ)) → X → Type 0) (gr starts : List ℕ) (tp : Option (List ℕ)) (given : Given) (found : X) → AreGiven DenotesStarts (Some gr) (Some starts) (option_map Some tp) given found
     → Denotes gr tp given × DenotesStarts given.graph.nodes (field_lines starts) found
 denoted_by DenotesStarts gr starts tp given found read = (
@@ -27,7 +27,7 @@ denoted_by DenotesStarts gr starts tp given found read = (
   subst (λ text. DenotesStarts given.graph.nodes (field_lines text) found) read.all_starts read.starts_denoted,
 )
 
--- The same of readers that had them.
+-- The same for readers that had them.
 denoted_had : {X : Type 0} (DenotesStarts : ℕ → List (List (List ℕ)) → X → Type 0) (gr starts : List ℕ) (tp : Option (List ℕ)) (files : Files) (given : Given) (found : X) → HadTexts gr starts tp files → AreGiven DenotesStarts files.gr.old.bytes files.starts.old.bytes (tp_had files) given found
     → Denotes gr tp given × DenotesStarts given.graph.nodes (field_lines starts) found
 denoted_had {X} DenotesStarts gr starts tp files given found had read =

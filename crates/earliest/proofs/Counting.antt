@@ -1,4 +1,4 @@
--- Counts of problems, one after the other.
+-- The counts of problems, one after another.
 use Rattle.std.proofs.Common.{◌≡◌, ℕ, ◌+◌, ◌<◌, List, [], ◌∷◌, ◌++◌, length, take, get_or, refl, ap, sym, ◌∙◌, arith, subst}
 use Rattle.std.proofs.lemmas.List.{take_more}
 use Rattle.std.proofs.lemmas.List.Sums.{sum_by_push}
@@ -7,7 +7,7 @@ use Rattle.ea_engine.specs.declared.settings.Settings.{Settings}
 use Rattle.ea_report.specs.declared.stats.Totals.{Totals}
 use Rattle.earliest.specs.Counted.{AreCountsOf, AreCountsOfAll, AreTotals, Counts, IsTotal, plus, totals_by, totals_of}
 
--- An element of a list, at a number that is in it.
+-- An element of a list, by an index inside it.
 pub one_of : {X : Type 0} (xs : List X) (k : ℕ) → k < length xs → X
 one_of [] k lt = absurd (omega (arith, lt))
 one_of (x ∷ xs) k lt = x

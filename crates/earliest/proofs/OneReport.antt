@@ -28,7 +28,7 @@ use Rattle.ea_load.proofs.Denoting.{denoting_is_sound, few_arcs, pairs_are_nodes
 use Rattle.ea_load.proofs.Departing.{each_pair}
 use Rattle.earliest.specs.SameBytes.{RunsHaveOneReport, PairsHaveOneReport}
 
--- A walk is there just where an arrival is.
+-- There is a walk exactly if there is an arrival.
 no_walk : (label : ℕ) (walk : List ℕ) → time_of label ≡ None → (if label == NONE then None else Some walk) ≡ None
 no_walk label walk none = by (label == NONE) refl none where
   by : (b : Bool) → label == NONE ≡ b → (if b then None else Some label) ≡ None → (if b then None else Some walk) ≡ None
@@ -65,7 +65,7 @@ each_same f g n same = up n (λ node is_node. is_node) where
   up zero inside = refl
   up (suc k) inside = ap₂ (λ a b. a ++ b) (up k (λ node is_node. inside node (record { from_one = is_node.from_one; to_last = omega (arith, is_node.to_last) }))) (same (suc k) (inside (suc k) (record { from_one = omega arith; to_last = omega arith })))
 
--- A problem has one report, where its target is a node.
+-- A problem has one report, if its target is a node.
 one_problem : (walks : Bool) (roads : Roads) (answers : ℕ → ℕ → ℕ → ℕ → Type 0) (query : Asking) → ((node : ℕ) → query.target ≡ Some node → IsNode roads.nodes node) → (first second : List ℕ) → IsReportOf walks roads answers query first → IsReportOf walks roads answers query second → first ≡ second
 one_problem walks roads answers query inside first second this that = this.says ∙ asked query.target refl ∙ sym that.says where
   node_is : (node : ℕ) → IsNode roads.nodes node → IsAskedBy query.target node → node_text walks this.answer node ≡ node_text walks that.answer node
@@ -81,7 +81,7 @@ one_problem walks roads answers query inside first second this that = this.says 
       ∙ ap (λ t. flat_map (pair_line target) query.sources ++ t) (node_is target (inside target some) (subst (λ t. IsAskedBy t target) (sym some) refl))
       ∙ target_text walks roads.nodes query that.answer target some
 
--- So have many.
+-- The same for many problems.
 many : (walks : Bool) (roads : Roads) (answers : ℕ → ℕ → ℕ → ℕ → Type 0) (problems : List Asking) → ((k : ℕ) (d : Asking) (node : ℕ) → k < length problems → (get_or problems k d).target ≡ Some node → IsNode roads.nodes node) → (first second : List ℕ) → AreReported walks roads answers problems first → AreReported walks roads answers problems second → first ≡ second
 many walks roads answers [] inside first second this that = this ∙ sym that
 many walks roads answers (query ∷ problems) inside first second this that =

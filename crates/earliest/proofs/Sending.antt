@@ -1,4 +1,4 @@
--- Reports that went out with their totals, or were cut short.
+-- Reports that were sent with their totals, or cut short.
 use Rattle.std.proofs.Common.{◌≡◌, ℕ, ◌+◌, true, List, refl, sym, ◌∙◌, arith, subst}
 use Rattle.std.specs.Io.KnownBytes.{Appends}
 use Rattle.std.proofs.KnownBytes.{Appends-trans}
@@ -45,7 +45,7 @@ module _ (options : RunOptions) (roads : Roads) (answers : ℕ → ℕ → ℕ �
     borne = omega (arith, bears.1, sent.borne);
   }
 
--- What cuts a report short is the device or memory.
+-- A report is cut short by the device or by refused memory.
 pub cuts_short : (options : RunOptions) (roads : Roads) (answers : ℕ → ℕ → ℕ → ℕ → Type 0) (problems : List Asking) (first now : Seen) (fault : AnswerFault) → IsCutShort options roads answers problems first now fault → IsCutting fault
 cuts_short options roads answers problems first now fault (in_totals written is cut) = subst IsCutting (sym is) tt
 cuts_short options roads answers problems first now fault (in_problem cut) = by fault cut.stopped where

@@ -1,4 +1,4 @@
--- What a checked report comes to.
+-- The outcomes of checking a report.
 use Rattle.std.proofs.Common.{◌≡◌, ℕ, List, refl, subst, inl}
 use Rattle.std.specs.Prelude.{Result}
 use Rattle.ea_road.specs.Queries.{Asking}
@@ -19,7 +19,7 @@ use Rattle.earliest.specs.Checks.{IsReadWhole, IsFirstAtFault, IsJudged, IsUnjud
 use Rattle.earliest.specs.Runs.{run_asks}
 
 module _ (options : RunOptions) (files : Files) (report : Reading) where
-  -- A file was at fault.
+  -- A file had a fault.
   pub unread : (fault : FileFault) → IsFirstAtFault options files report fault → IsUnjudged options files report (answer_fault fault)
   unread (file.Read word fault) is = is
   unread (file.Input word fault) is = is

@@ -1,4 +1,4 @@
--- What a checked report comes to, with the network and the sources that its files denote.
+-- The outcome of checking a report, for the network and the sources that its files denote.
 use Rattle.std.specs.Prelude.{◌≡◌, ◌⊎◌, ℕ, List, Result}
 use Rattle.std.specs.Io.KnownBytes.{IsAtEnd}
 use Rattle.ea_load.specs.declared.file_fault.FileWord.TheVariants.{Report}
@@ -15,7 +15,7 @@ use Rattle.ea_load.specs.declared.answer_fault.AnswerFault.TheVariants.{Read, In
 use Rattle.ea_options.specs.declared.options.RunOptions.{RunOptions}
 use Rattle.earliest.specs.Runs.{run_asks}
 
--- A report was read as a file is, and no byte of it is left.
+-- A report was read like a file, to its end.
 pub record IsReadWhole (report : Reading) (text : List ℕ) : Type 0 where
   pub is_text : IsFileText report text
   pub end : IsAtEnd report.new.bytes
@@ -24,19 +24,20 @@ pub record IsReadWhole (report : Reading) (text : List ℕ) : Type 0 where
 abbrev pub DenoteSome : RunOptions → Files → Type 0
 DenoteSome options files = (given : Given) × (found : List ℕ) × AreSound (run_asks options) files given found
 
--- All files were read, all departures are within the horizon, and this is said of the report's text.
+-- All files were read, all departures are within the horizon, and this is the verdict on the report's text.
 pub record IsJudged (options : RunOptions) (files : Files) (report : Reading) (verdict : Result (Unit {0}) CheckFault) : Type 0 where
   pub text : List ℕ
   pub whole : IsReadWhole report text
   pub checked : AreAsked (run_asks options) files (λ roads answers problems. IsChecked roads answers (sources_of problems) (lines_of_report text) verdict)
 
--- The first fault of the files in their order: that of a file of the run; or where these are sound, the report wasn't read.
+-- The first fault of the files in their order: that of a file of the run, or, if these have none, of the
+-- report.
 pub data IsFirstAtFault (options : RunOptions) (files : Files) (report : Reading) (fault : FileFault) : Type 0 where
   in_run : IsFault (run_asks options) files fault → IsFirstAtFault options files report fault
   in_report : DenoteSome options files → IsUnreadBy Report report fault → IsFirstAtFault options files report fault
 
--- Why nothing is said of a report: the first fault of the files; or a late departure, with all files read; or memory, in a file or
--- once all were read. Nothing is ever written.
+-- Why there is no verdict on a report: the first fault of the files; or a departure beyond the horizon, with
+-- all files read; or refused memory, in a file or after all were read. Nothing is ever written.
 abbrev pub IsUnjudged : RunOptions → Files → Reading → AnswerFault → Type 0
 IsUnjudged options files report (Read word fault) = IsFirstAtFault options files report (file.Read word fault)
 IsUnjudged options files report (Input word fault) = IsFirstAtFault options files report (file.Input word fault)

@@ -1,4 +1,4 @@
--- What was counted while problems were solved, and their totals.
+-- The counts of searches, and their totals.
 use Rattle.std.specs.Prelude.{◌≡◌, ℕ, ◌+◌, ◌*◌, ◌^◌, ◌≤◌, List, [], ◌∷◌, All, length, sum_by}
 use Rattle.std.specs.List.{FoldsTo}
 use Rattle.ea_road.specs.Queries.{Asking}
@@ -13,8 +13,8 @@ use Rattle.ea_engine.specs.Tallies.{IsTally, IsLoneTally, pushed_by_all, popped_
 use Rattle.ea_engine.specs.Turns.{Told, IsTurnList, AreCounters}
 use Rattle.ea_report.specs.declared.stats.Totals.{Totals}
 
--- The counts of one problem: entries that were seeded, handed back and drained, nodes that were open at the finish, and what
--- each worker counted.
+-- The counts of one problem: entries that were seeded, handed back and drained, nodes that were open when the
+-- finishing pass began, and each worker's counters.
 pub record Counts : Type 0 where
   pub seeded : ℕ
   pub returned : ℕ
@@ -22,35 +22,35 @@ pub record Counts : Type 0 where
   pub finish : ℕ
   pub workers : List Counters
 
--- A worker alone goes on after each turn; one of several leaves as one of a company may.
+-- A worker alone continues after each turn; one of several leaves as one of a company may.
 abbrev pub StaysAmong : ℕ → List Told → Type 0
 StaysAmong workers turns = StaysOn 0 turns × (workers ≡ 1 → All (λ t. t.1 ≡ Go) turns)
 
--- Whatever turns a tracer is shown, its worker stays on.
+-- For all turns that a tracer sees, its worker stays.
 abbrev pub KeepsOn : {T : Type 0} → (T → Turn → Flow → T → Type 0) → ℕ → T → Type 0
 KeepsOn {T} shows workers tracer = (turns : List Told) (last : T) → FoldsTo (λ p t q. shows p t.0 t.1 q) tracer turns last → StaysAmong workers turns
 
--- A worker counted the turns of a lawful list of turns, and stayed on.
+-- A worker counted the turns of a lawful list of turns, and stayed.
 pub record CountsTurns (settings : Settings) (counters : Counters) : Type 0 where
   pub turns : List Told
   pub lawful : IsTurnList (pace_of settings) turns
   pub counted : AreCounters settings.batch turns counters
   pub stays : StaysAmong settings.workers turns
 
--- A run of a problem with these settings counts so.
+-- A run of a problem with these settings has these counts.
 pub record AreCountsOf (settings : Settings) (query : Asking) (counts : Counts) : Type 0 where
   pub one_each : length counts.workers ≡ settings.workers
   pub turns : All (CountsTurns settings) counts.workers
   pub tally : IsTally (length query.sources) counts.seeded counts.returned counts.drained counts.finish counts.workers
   pub lone : IsLoneTally settings.batch (settings.workers * settings.heaps) counts.drained counts.workers
 
--- Runs of problems, one after the other, count so.
+-- Runs of problems, one after another, have these counts.
 abbrev pub AreCountsOfAll : Settings → List Asking → List Counts → Type 0
 AreCountsOfAll settings [] [] = Unit {0}
 AreCountsOfAll settings (query ∷ queries) (counts ∷ more) = AreCountsOf settings query counts × AreCountsOfAll settings queries more
 AreCountsOfAll settings _ _ = ⊥
 
--- The totals of one problem: what workers did is the sum over all workers.
+-- The totals of one problem: the sums over all workers.
 abbrev pub totals_by : Counts → Totals
 totals_by counts = record {
   seeded = counts.seeded;
@@ -93,18 +93,19 @@ plus these those = record {
 abbrev pub IsTotal : Settings → Asking → Totals → Type 0
 IsTotal settings query totals = (counts : Counts) × AreCountsOf settings query counts × (totals ≡ totals_by counts)
 
--- The totals of runs of problems: the sums over what was counted of each.
+-- The totals of runs of problems: the sums over each one's counts.
 pub record AreTotals (settings : Settings) (problems : List Asking) (totals : Totals) : Type 0 where
   pub all : List Counts
   pub counted : AreCountsOfAll settings problems all
   pub sums : totals ≡ totals_of all
 
--- What was pushed was popped or drained, and no more nodes were open at the finish than were drained and handed back.
+-- What was pushed was popped or drained. No more nodes were open when the finishing pass began than entries
+-- were drained and handed back.
 pub record AreBalanced (totals : Totals) : Type 0 where
   pub balance : totals.seeded + totals.pushed ≡ totals.popped + totals.drained
   pub few_open : totals.finish ≤ totals.drained + totals.returned
 
--- The totals of so many problems: each of a problem is at most 2^80.
+-- The totals of this many problems: each problem's are at most 2^80.
 pub record AreSmall (problems : ℕ) (totals : Totals) : Type 0 where
   pub seeded : totals.seeded ≤ problems * 2 ^ 80
   pub pushed : totals.pushed ≤ problems * 2 ^ 80

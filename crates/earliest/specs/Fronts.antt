@@ -1,4 +1,4 @@
--- What went out of a report, whole or cut short.
+-- What was sent of a report, whole or cut short.
 use Rattle.std.specs.Prelude.{◌≡◌, ℕ, ◌+◌, ◌*◌, ◌≤◌, true, List, [], ◌++◌, if◌then◌else◌, length}
 use Rattle.std.specs.Io.KnownBytes.{Appends}
 use Rattle.ea_bytes.specs.Device.{GivesUp, Seen}
@@ -16,13 +16,13 @@ use Rattle.earliest.specs.Workers.{settings_by}
 use Rattle.ea_load.specs.declared.answer_fault.AnswerFault.{AnswerFault}
 use Rattle.ea_load.specs.declared.answer_fault.AnswerFault.TheVariants.{Write}
 
--- With statistics the totals stand after the reports.
+-- With statistics, the totals follow the reports.
 abbrev pub totals_text : RunOptions → Totals → List ℕ
 totals_text options totals = if options.stats then stats_text totals else []
 
--- The reports of all problems went out, and with statistics their totals: sums over runs of the problems, in balance. Without
--- statistics the totals say nothing of runs. No call of
--- the device failed, and so many were interrupted at most: 1,000 for each problem and for the totals.
+-- The reports of all problems were sent and, with statistics, their totals: sums over runs of the problems,
+-- which balance. Without statistics the totals say nothing of runs. No call of the device failed, and at most
+-- 1,000 for each problem and for the totals were interrupted.
 pub record IsWritten (options : RunOptions) (roads : Roads) (answers : ℕ → ℕ → ℕ → ℕ → Type 0) (problems : List Asking) (first now : Seen) (totals : Totals) : Type 0 where
   pub report : List ℕ
   pub are_reported : AreReported options.walks roads answers problems report
@@ -34,7 +34,7 @@ pub record IsWritten (options : RunOptions) (roads : Roads) (answers : ℕ → �
 
 -- ---- cut short
 
--- The reports of all problems went out, and of the totals of runs of them only a front: the device gave up there.
+-- The reports of all problems were sent, and of their totals only the first bytes: the device gave up there.
 pub record AreTotalsCut (options : RunOptions) (roads : Roads) (answers : ℕ → ℕ → ℕ → ℕ → Type 0) (problems : List Asking) (first now : Seen) (written : ℕ) : Type 0 where
   pub asked : options.stats ≡ true
   pub old : Seen
@@ -47,7 +47,8 @@ pub record AreTotalsCut (options : RunOptions) (roads : Roads) (answers : ℕ �
   pub cut : IsCutAt old.bytes now.bytes (stats_text totals) size
   pub gives_up : GivesUp old now
 
--- What went out was cut short: the reports of so many problems went out whole, and the next one's stopped; or the totals did.
+-- What was sent was cut short: the reports of this many problems were sent whole, and the next one's stopped;
+-- or the totals did.
 pub data IsCutShort (options : RunOptions) (roads : Roads) (answers : ℕ → ℕ → ℕ → ℕ → Type 0) (problems : List Asking) (first now : Seen) (fault : AnswerFault) : Type 0 where
   in_problem : AreCutShort options.walks roads answers problems first now fault → IsCutShort options roads answers problems first now fault
   in_totals : (written : ℕ) → fault ≡ Write written → AreTotalsCut options roads answers problems first now written → IsCutShort options roads answers problems first now fault

@@ -1,4 +1,4 @@
--- What each command does with its files.
+-- The effect of each command, given its files.
 use Rattle.std.specs.Prelude.{◌≡◌, Option, Some, None, Result, Ok, Err, option_map}
 use Rattle.ea_bytes.specs.Device.{Seen}
 use Rattle.ea_load.specs.Files.{Reading, reading}
@@ -15,7 +15,7 @@ use Rattle.earliest.specs.Runs.{run_asks, pair_asks}
 use Rattle.earliest.specs.declared.commands.Performed.{Performed}
 use Rattle.earliest.specs.declared.commands.Performed.TheVariants.{Reported, Ranked, Checked}
 
--- The files of a command, and a report's reader before and after, where there is one.
+-- The files of a command, and a report's reader before and after, if there is one.
 pub record PerformedOn : Type 0 where
   pub files : Files
   pub report_old : Option Seen
@@ -28,13 +28,13 @@ performed_on seen old new = record {
   report_new = option_map seen new.report;
 }
 
--- A report that was there was judged, or why not.
+-- The report, if there is one, was judged, or not for this reason.
 abbrev pub IsCheckedBy : (Reading → Type 0) → Option Seen → Option Seen → Type 0
 IsCheckedBy IsSo (Some old) (Some new) = IsSo (record { old = old; new = new })
 IsCheckedBy IsSo _ _ = ⊥
 
--- Each command comes to what its own call promises, with its own files and options: a run and pairs to a report, rank errors to
--- their lines, a check to a verdict and nothing written.
+-- Each command has the effect that its call promises for its files and options: a run and pairs write a
+-- report, rank errors their lines, and a check gives a verdict and writes nothing.
 abbrev pub IsPerformed : Command → PerformedOn → Seen → Seen → Result Performed AnswerFault → Type 0
 IsPerformed (Run gr ss tp output options) on first now (Ok (Reported totals)) = IsAnswered (run_asks options) on.files first now totals
 IsPerformed (Run gr ss tp output options) on first now (Err fault) = IsFailed (run_asks options) on.files first now fault
@@ -48,7 +48,7 @@ IsPerformed (Check gr ss tp name options) on first now (Err fault) =
     (now ≡ first) × IsCheckedBy (λ report. IsUnjudged options on.files report fault) on.report_old on.report_new
 IsPerformed _ on first now _ = ⊥
 
--- What is told: nothing of what was written whole, the verdict of a check, and each fault.
+-- The outcome that is reported: none if everything was written, the verdict of a check, or a fault.
 abbrev pub outcome_by : Result Performed AnswerFault → Option Outcome
 outcome_by (Ok (Reported totals)) = None
 outcome_by (Ok Ranked) = None

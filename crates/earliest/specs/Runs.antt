@@ -1,4 +1,4 @@
--- What runs and pairs ask of their files, and what goes out.
+-- The problems of runs and pairs, and what is sent.
 use Rattle.std.specs.Prelude.{ℕ, List, length}
 use Rattle.ea_input.specs.Formats.{source_format, pair_format}
 use Rattle.ea_input.specs.Sources.{DenotesSources}
@@ -10,7 +10,7 @@ use Rattle.ea_report.specs.declared.stats.Totals.{Totals}
 use Rattle.ea_options.specs.declared.options.RunOptions.{RunOptions}
 use Rattle.earliest.specs.Fronts.{IsCutShort, IsWritten}
 
--- A run asks each source by itself, or all together: the report of its problems, and with statistics the totals.
+-- A run asks each source alone, or all together: the report of its problems and, with statistics, the totals.
 abbrev pub run_asks : RunOptions → Asks (List ℕ) Totals
 run_asks options = record {
   word = Ss;
@@ -22,7 +22,7 @@ run_asks options = record {
   IsCut = IsCutShort options;
 }
 
--- Pairs are asked each by itself.
+-- Each pair is asked alone.
 abbrev pub pair_asks : RunOptions → Asks (List (ℕ × ℕ)) Totals
 pair_asks options = record {
   word = P2p;

@@ -1,5 +1,5 @@
 use Rattle.ea_bytes.specs.Device.{Seen}
--- The report of a run, or of pairs, as a fact about its texts and options alone.
+-- The report of a run or of pairs, determined by its texts and options alone.
 use Rattle.std.specs.Prelude.{◌≡◌, ℕ, Bool, List, ◌++◌, Option, Some, option_map}
 use Rattle.std.specs.Io.KnownBytes.{Appends}
 use Rattle.ea_bytes.specs.Text.{field_lines}
@@ -14,7 +14,8 @@ use Rattle.ea_batch.specs.Reported.{AreReported}
 use Rattle.ea_load.specs.Asked.{Files, IsAnswered, tp_had}
 use Rattle.earliest.specs.Runs.{run_asks, pair_asks}
 
--- The report of a run of these texts, from these departures on. No word of workers, heaps, turns or seed occurs here.
+-- The report of a run of these texts, from these departures on. Workers, heaps, turns and the seed don't
+-- occur here.
 pub record IsRunReport (gr ss : List ℕ) (tp : Option (List ℕ)) (joint : Bool) (depart gap : ℕ) (walks : Bool) (report : List ℕ) : Type 0 where
   pub given : Given
   pub sources : List ℕ
@@ -22,7 +23,7 @@ pub record IsRunReport (gr ss : List ℕ) (tp : Option (List ℕ)) (joint : Bool
   pub starts : DenotesSources given.graph.nodes (field_lines ss) sources
   pub reported : AreReported walks (roads_of given) (times_of given.table) (run_problems joint depart gap sources) report
 
--- The report of these texts' pairs.
+-- The report of the pairs of these texts.
 pub record IsPairReport (gr p2p : List ℕ) (tp : Option (List ℕ)) (depart gap : ℕ) (walks : Bool) (report : List ℕ) : Type 0 where
   pub given : Given
   pub pairs : List (ℕ × ℕ)
@@ -39,7 +40,7 @@ PairsHaveOneReport = (gr p2p : List ℕ) (tp : Option (List ℕ)) (depart gap : 
 
 -- ---- two calls
 
--- A call that answered: its options, its files, its output before and after, and the totals that it gave.
+-- A call that returned without a fault: its options, its files, its output before and after, and its totals.
 pub record Answering : Type 0 where
   pub options : RunOptions
   pub files : Files
@@ -47,7 +48,8 @@ pub record Answering : Type 0 where
   pub now : Seen
   pub totals : Totals
 
--- The readers of files had these texts: of the network, of the starts, and of the timetables where there are any.
+-- The readers of files had these texts: of the network, of the starts, and of the timetables if there are
+-- any.
 pub record HadTexts (gr starts : List ℕ) (tp : Option (List ℕ)) (files : Files) : Type 0 where
   pub of_gr : files.gr.old.bytes ≡ Some gr
   pub of_starts : files.starts.old.bytes ≡ Some starts
@@ -69,16 +71,16 @@ pub record AskForOne (this that : RunOptions) : Type 0 where
   pub depart : this.depart ≡ that.depart
   pub gap : this.gap ≡ that.gap
 
--- What a call sent is this report, and then its totals where it has statistics.
+-- A call sent this report and, with statistics, its totals.
 abbrev pub Sends : Answering → List ℕ → Type 0
 Sends call report = Appends call.first.bytes call.now.bytes (report ++ totals_text call.options call.totals)
 
--- Two calls that answered runs of the same texts, and asked for the same, sent one report, which is that of the run.
+-- Two calls that answered runs of the same texts and asked for the same sent one report, that of the run.
 abbrev pub AnsweredRunsAgree : Type 0
 AnsweredRunsAgree = (gr ss : List ℕ) (tp : Option (List ℕ)) (this that : Answering) → AskForOne this.options that.options → this.options.joint ≡ that.options.joint → AnswersRun gr ss tp this → AnswersRun gr ss tp that
     → (report : List ℕ) × IsRunReport gr ss tp this.options.joint this.options.depart this.options.gap this.options.walks report × Sends this report × Sends that report
 
--- The same of pairs, whatever `joint` is.
+-- The same for pairs, for any `joint`.
 abbrev pub AnsweredPairsAgree : Type 0
 AnsweredPairsAgree = (gr p2p : List ℕ) (tp : Option (List ℕ)) (this that : Answering) → AskForOne this.options that.options → AnswersPairs gr p2p tp this → AnswersPairs gr p2p tp that
     → (report : List ℕ) × IsPairReport gr p2p tp this.options.depart this.options.gap this.options.walks report × Sends this report × Sends that report

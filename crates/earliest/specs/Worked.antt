@@ -1,9 +1,9 @@
--- What all workers of a problem did together.
+-- The sums over all workers of a problem.
 use Rattle.std.specs.Prelude.{◌+◌, ◌^◌, ◌<◌, ◌≤◌}
 use Rattle.ea_engine.specs.declared.worker.counters.Counters.{Counters}
 use Rattle.earliest.specs.declared.totals.Work.{Work}
 
--- What a worker did besides.
+-- The sums with one more worker.
 abbrev pub work_with : Work → Counters → Work
 work_with work counted = record {
   pushed = work.pushed + counted.pushed;
@@ -13,19 +13,19 @@ work_with work counted = record {
   returned = work.returned + counted.returned;
 }
 
--- There is room for the counts of one more.
+-- One more worker's counts fit.
 abbrev pub HasRoom : Work → Type 0
 HasRoom work =
     (work.pushed < 2 ^ 100) × (work.popped < 2 ^ 100) × (work.stale < 2 ^ 100) × (work.scanned < 2 ^ 100)
     × (work.returned < 2 ^ 100)
 
--- The counts of one worker are of 64 bits.
+-- The counts of one worker fit in 64 bits.
 abbrev pub AreNarrow : Counters → Type 0
 AreNarrow counted =
     (counted.pushed < 2 ^ 64) × (counted.popped < 2 ^ 64) × (counted.stale < 2 ^ 64) × (counted.scanned < 2 ^ 64)
     × (counted.returned < 2 ^ 64)
 
--- Those of all workers are few.
+-- The counts of all workers are small.
 abbrev pub IsLittle : Work → Type 0
 IsLittle work =
     (work.pushed ≤ 2 ^ 70) × (work.popped ≤ 2 ^ 70) × (work.stale ≤ 2 ^ 70) × (work.scanned ≤ 2 ^ 70)

@@ -7,15 +7,15 @@ use Rattle.ea_rank_command.specs.Generators.{generator_from, seed_of_worker}
 use Rattle.ea_options.specs.Limits.{counted_workers}
 use Rattle.ea_options.specs.declared.options.RunOptions.{RunOptions}
 
--- How many entries a worker of so many takes from a heap, or gives to one, at once, where that isn't asked for.
+-- The size of batches for this many workers, if none is asked for.
 abbrev pub batch_of : ℕ → ℕ
 batch_of workers = if workers == 1 then 1 else 32
 
--- After how many idle turns in a row it ends.
+-- The consecutive idle turns after which a worker ends.
 abbrev pub patience_of : ℕ → ℕ
 patience_of workers = if workers == 1 then 32 else 65536
 
--- So many workers, with the heaps, turns and batches that are asked for.
+-- This many workers, with the heaps, turns and batches that are asked for.
 abbrev pub settings_with : RunOptions → ℕ → Settings
 settings_with options workers = record {
   workers = workers;
@@ -25,10 +25,10 @@ settings_with options workers = record {
   patience = patience_of workers;
 }
 
--- The workers of statistics.
+-- The workers whose turns are counted.
 abbrev pub settings_by : RunOptions → Settings
 settings_by options = settings_with options (counted_workers options)
 
--- The generator of each worker is that of its seed, and keeps it mostly at its own heaps.
+-- The generator of each worker has its seed, and mostly draws its own heaps.
 abbrev pub AreAtHome : ℕ → Settings → List (Homing (List ℕ)) → Type 0
 AreAtHome seed settings rngs = (i : ℕ) (rng : Homing (List ℕ)) → i < length rngs → IsAtHome (generator_from (seed_of_worker seed i)) i settings.workers settings.heaps (slice_index_or rngs i rng)

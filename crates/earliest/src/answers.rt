@@ -15,15 +15,17 @@ use ea_report::Totals;
 use std::alloc::Global;
 use std::thread::Threads;
 
-/// Answers a run: reads the network, the sources and, where there are any, the timetables, and writes the report:
-/// for each source, or with `joint` for all together, the earliest arrival at each node, with `walks` a walk that
-/// attains it, and with `stats` the totals of what the workers did.
+/// Answers a run: reads the network, the sources and the timetables, if there are any, and writes the report.
+/// For each source, or with `joint` for all together, it has the earliest arrival at each node; with `walks`
+/// a walk that attains it; and with `stats` the totals of the workers.
 ///
-/// Source i, from 0, departs at `depart + i * gap`. What is written doesn't depend on workers, heaps, turns and seed, the
-/// totals aside. Files are read in this order, each to its end and at most 2^33 bytes, before anything is written.
+/// Source i, from 0, departs at `depart + i * gap`. Apart from the totals, the report doesn't depend on
+/// workers, heaps, turns and seed. Files are read in this order, each to its end and at most 2^33 bytes,
+/// before anything is written.
 ///
-/// `Read` and `Input` tell the first fault of the files in their order, `BadOption` a departure above 2^48 - 1;
-/// then nothing was written. After `Write` and `OutOfMemory` the bytes written are the front of the report.
+/// Fails with `Read` or `Input` for the first fault of the files in their order, and with `BadOption` for a
+/// departure above 2^48 - 1; then nothing was written. After `Write` and `OutOfMemory` the bytes written are
+/// the first of the report.
 pub fn answer<H: Threads + Sync, G: ByteIn, S: ByteIn, T: ByteIn, W: ByteOut>(
     alloc: Global,
     rt: &H,
@@ -50,7 +52,7 @@ pub fn answer<H: Threads + Sync, G: ByteIn, S: ByteIn, T: ByteIn, W: ByteOut>(
     answer_watched(alloc, rt, gr, ss, tp, watched, out)
 }
 
-/// As `answer`, and a watch is told of the problems that are done.
+/// Like `answer`; calls a watch as problems are done.
 pub(crate) fn answer_watched<
     H: Threads + Sync,
     G: ByteIn,
@@ -92,8 +94,8 @@ pub(crate) fn answer_watched<
     report_all(alloc, rt, &files.road, &queries, options, out, watch)
 }
 
-/// Answers pairs: as `answer`, with the earliest arrival at the target of each pair alone. Pair i, from 0, departs at
-/// `depart + i * gap`; `joint` has no effect.
+/// Answers pairs: like `answer`, with the earliest arrival at the target of each pair alone. Pair i, from 0,
+/// departs at `depart + i * gap`; `joint` has no effect.
 pub fn answer_pairs<H: Threads + Sync, G: ByteIn, P: ByteIn, T: ByteIn, W: ByteOut>(
     alloc: Global,
     rt: &H,
@@ -120,7 +122,7 @@ pub fn answer_pairs<H: Threads + Sync, G: ByteIn, P: ByteIn, T: ByteIn, W: ByteO
     pairs_watched(alloc, rt, gr, p2p, tp, watched, out)
 }
 
-/// As `answer_pairs`, and a watch is told of the problems that are done.
+/// Like `answer_pairs`; calls a watch as problems are done.
 pub(crate) fn pairs_watched<
     H: Threads + Sync,
     G: ByteIn,

@@ -1,4 +1,4 @@
-//! Reports, checked.
+//! Checking reports.
 ghost use Rattle.std.specs.Prelude.{IfOk, IfErr};
 ghost use Rattle.ea_load.specs.Files.{reading};
 ghost use Rattle.ea_load.specs.Asked.{files_of};
@@ -12,15 +12,16 @@ use ea_load::{AnswerFault, departures_fit, read_report, read_run, run_queries};
 use ea_options::RunOptions;
 use std::alloc::Global;
 
-/// Checks a report of a run: reads the network, the sources and, where there are any, the timetables, and then the report,
-/// and answers whether it is right: its form, each time the least arrival, and each walk the canonical one. If not, its
-/// first fault.
+/// Checks a report of a run: reads the network, the sources, the timetables, if there are any, and the
+/// report. Returns whether it is right: its form, each time the least arrival, and each walk the canonical
+/// one; otherwise its first fault.
 ///
-/// Source i, from 0, departs at `depart + i * gap`. Files are read in this order, each to its end and at most 2^33 bytes;
-/// with `joint` the sources are one problem, of the other options none has an effect.
+/// Source i, from 0, departs at `depart + i * gap`. Files are read in this order, each to its end and at most
+/// 2^33 bytes. With `joint` the sources are one problem; no other option has an effect.
 ///
-/// `Read` and `Input` tell the first fault of the files in their order, `BadOption` a departure above 2^48 - 1, with all
-/// files sound. `OutOfMemory` says that memory was refused before the check began; during the check it is a `CheckFault`.
+/// Fails with `Read` or `Input` for the first fault of the files in their order, and with `BadOption` for a
+/// departure above 2^48 - 1 if no file has a fault. `OutOfMemory` means that memory was refused before the
+/// check began; during the check it is a `CheckFault`.
 pub fn check_report<G: ByteIn, S: ByteIn, T: ByteIn, R: ByteIn>(
     alloc: Global,
     gr: &mut G,
@@ -42,7 +43,7 @@ pub fn check_report<G: ByteIn, S: ByteIn, T: ByteIn, R: ByteIn>(
     check_watched(alloc, gr, ss, tp, options, report, &mut Silent)
 }
 
-/// As `check_report`, and a watch is told of each problem that is done.
+/// Like `check_report`; calls a watch after each problem.
 pub(crate) fn check_watched<G: ByteIn, S: ByteIn, T: ByteIn, R: ByteIn, V: Watch>(
     alloc: Global,
     gr: &mut G,

@@ -1,4 +1,4 @@
-//! What each command does with its files.
+//! The effect of each command, given its files.
 ghost use Rattle.std.specs.Prelude.{◌≡◌};
 ghost use Rattle.ea_options.specs.Limits.{HasLimits};
 ghost use Rattle.ea_messages.specs.Named.{HasFiles};
@@ -18,7 +18,7 @@ use ea_report::Totals;
 use std::alloc::Global;
 use std::thread::Threads;
 
-/// What a command came to that was carried out.
+/// The result of a command that was carried out.
 #[derive(Clone, Copy)]
 pub enum Performed {
     /// The report of a run or of pairs was written.
@@ -29,9 +29,9 @@ pub enum Performed {
     Checked(Result<(), CheckFault>),
 }
 
-/// Carries out a command that names files, with these files: a run by `answer`, pairs by `answer_pairs`, rank errors by
-/// `rank_report` and a check by `check_report`, each with the command's own options. Its faults are those of that call. The watch
-/// is told how many problems are done; what it does with that is no matter to what goes out.
+/// Carries out a command with these files: a run by `answer`, pairs by `answer_pairs`, rank errors by
+/// `rank_report` and a check by `check_report`, each with the command's options. Fails as that call does.
+/// Calls the watch with the number of problems done; the output doesn't depend on it.
 pub fn perform<H: Threads + Sync, R: ByteIn, W: ByteOut, V: Watch>(
     alloc: Global,
     rt: &H,
@@ -108,7 +108,7 @@ pub fn perform<H: Threads + Sync, R: ByteIn, W: ByteOut, V: Watch>(
     }
 }
 
-/// What is to be told of a command that was carried out; none where its report or its rank errors were written whole.
+/// The outcome to report; none if the report or the rank errors were written whole.
 pub fn outcome_of(performed: Result<Performed, AnswerFault>) -> Option<Outcome>
     ensures { result ≡ outcome_by performed }
 {

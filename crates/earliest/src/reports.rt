@@ -1,4 +1,4 @@
-//! Reports of problems, written one after the other, and their totals.
+//! Writing the reports of problems one after another, and their totals.
 ghost use Rattle.std.specs.Prelude.{◌≡◌, ◌≤◌, ◌<◌, ◌+◌, ◌*◌, ◌^◌, ℕ, [], IfOk, IfErr, IfSome, None, OnOk, if◌then◌else◌, length, true};
 ghost use Rattle.std.specs.Io.KnownBytes.{Appends};
 ghost use Rattle.ea_bytes.specs.Device.{BearsOn, GivesUp};
@@ -27,7 +27,7 @@ use ea_road::Query;
 use std::alloc::Global;
 use std::thread::Threads;
 
-/// What went out so far, and the totals of its problems.
+/// What was sent so far, and the totals of its problems.
 #[derive(Drop)]
 pub(crate) struct Reports {
     pub totals: Totals,
@@ -35,7 +35,7 @@ pub(crate) struct Reports {
 }
 
 impl Reports {
-    /// Nothing went out.
+    /// Nothing sent yet.
     fn begin() -> Reports
         ensures totals { result.totals ≡ totals_of [] }
         ensures balanced { AreBalanced result.totals }
@@ -51,7 +51,7 @@ impl Reports {
 }
 
 impl Reports {
-    /// Writes the report of a problem that workers have answered, and adds its totals.
+    /// Writes the report of a problem that workers answered, and adds its totals.
     fn write_found<W: ByteOut>(
         &mut self,
         alloc: Global,
@@ -88,8 +88,8 @@ impl Reports {
         Ok(())
     }
 
-    /// Finds the answer of a problem and writes its report. One worker is the search of one thread where nothing is to be
-    /// counted.
+    /// Finds the answer of a problem and writes its report. One worker is the search of one thread, unless
+    /// its turns are counted.
     fn report<H: Threads + Sync, W: ByteOut>(
         &mut self,
         alloc: Global,
@@ -138,7 +138,7 @@ impl Reports {
     }
 }
 
-/// Writes the reports of problems in their order, and tells the watch after each.
+/// Writes the reports of problems in their order, and calls the watch after each.
 fn report_each<H: Threads + Sync, W: ByteOut, V: Watch>(
     alloc: Global,
     rt: &H,
@@ -163,7 +163,7 @@ fn report_each<H: Threads + Sync, W: ByteOut, V: Watch>(
     ensures balanced { IfOk result (λ reports. AreBalanced reports.totals) }
 {
     let mut reports = Reports::begin();
-    // Tells that the count is one of 64 bits.
+    // Proof hint: the count fits in u64.
     let _ = out.interruptions();
     let mut done = 0;
     for query in queries {
@@ -174,7 +174,8 @@ fn report_each<H: Threads + Sync, W: ByteOut, V: Watch>(
     Ok(reports)
 }
 
-/// Writes the reports of problems in their order: by several threads at once where the options or the processors say so.
+/// Writes the reports of problems in their order: by several threads at once if the options or the number of
+/// processors say so.
 fn report_problems<H: Threads + Sync, W: ByteOut, V: Watch>(
     alloc: Global,
     rt: &H,
@@ -213,7 +214,7 @@ fn report_problems<H: Threads + Sync, W: ByteOut, V: Watch>(
     }
 }
 
-/// Writes with statistics the totals.
+/// Writes the totals, if statistics are asked for.
 fn write_totals<W: ByteOut>(reports: &Reports, stats: bool, out: &mut W) -> Result<(), AnswerFault>
     requires { reports.now.progress.written ≤ MOST_STARTS * 2 ^ 90 }
     ensures ok { OnOk result (Appends (W.seen out.old).bytes (W.seen out.new).bytes
@@ -237,7 +238,7 @@ fn write_totals<W: ByteOut>(reports: &Reports, stats: bool, out: &mut W) -> Resu
     }
 }
 
-/// Writes the reports of problems in their order, and then with statistics the totals.
+/// Writes the reports of problems in their order and, with statistics, the totals.
 pub(crate) fn report_all<H: Threads + Sync, W: ByteOut, V: Watch>(
     alloc: Global,
     rt: &H,

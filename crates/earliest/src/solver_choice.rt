@@ -1,4 +1,4 @@
-//! The answer of a problem, by workers or by the search of one thread.
+//! Choosing how a problem is searched: by workers or by the search of one thread.
 ghost use Rattle.std.specs.Prelude.{◌≡◌, ◌≤◌, ℕ, All, IfOk, IfSome, length, replicate, true, vec_len};
 ghost use Rattle.ea_base.specs.declared.limits.TheConstants.{MOST_AT_ONCE, MOST_STARTS, MOST_WORKERS};
 ghost use Rattle.ea_road.specs.Queries.{IsProblem};
@@ -33,26 +33,27 @@ struct Asked<'a> {
     walks: bool,
 }
 
-/// An answer, and the totals of finding it.
+/// An answer, and the totals of its search.
 #[derive(Drop)]
 pub(crate) struct Found {
     pub answer: Answer,
     pub totals: Totals,
 }
 
-/// Workers are not worth starting on fewer nodes, also where they are asked for.
+/// On fewer nodes workers aren't worth starting, even if they are asked for.
 const FEW_NODES: u32 = 10_000;
 
-/// Two or three are not on fewer than so many: each does half of the work and waits for the other's labels.
+/// On fewer nodes two or three workers aren't: each does half of the work and waits for the other's labels.
 const FEW_FOR_TWO: u32 = 1_000_000;
 
-/// Four workers or more are quicker than the search of one thread from so many nodes on, where all nodes are asked for without walks.
+/// From this number of nodes on, four or more workers are faster than the search of one thread, if all nodes
+/// are asked for without walks.
 const MANY_NODES: u32 = 200_000;
 
-/// Two or three workers are from so many on.
+/// From this number of nodes on, two or three workers are.
 const MANY_FOR_TWO: u32 = 2_000_000;
 
-/// How many processors there are; none where the system doesn't tell.
+/// The number of processors; none if the system doesn't say.
 fn processors<H: Threads>(rt: &H) -> Option<usize>
     ensures { IfSome result (λ count. 1 ≤ count) }
 {
@@ -62,7 +63,7 @@ fn processors<H: Threads>(rt: &H) -> Option<usize>
     }
 }
 
-/// How many problems are searched at once: as many as are asked for, else one where workers or statistics are asked for,
+/// The number of problems searched at once: as asked for; else one if workers or statistics are asked for;
 /// else one for each processor.
 pub(crate) fn threads_at_once<H: Threads>(rt: &H, options: &RunOptions) -> usize
     requires { AreOptions options.now }
@@ -79,7 +80,7 @@ pub(crate) fn threads_at_once<H: Threads>(rt: &H, options: &RunOptions) -> usize
     }
 }
 
-/// One worker for each processor, where so many are quicker on so many nodes than one thread.
+/// One worker for each processor, if that many are faster on this number of nodes than one thread; else one.
 fn workers_on(processors: Option<usize>, nodes: u32) -> u32
     requires { IfSome processors (λ count. 1 ≤ count) }
     ensures { (1 ≤ result) × (result ≤ MOST_WORKERS) }
@@ -92,8 +93,8 @@ fn workers_on(processors: Option<usize>, nodes: u32) -> u32
     }
 }
 
-/// So many workers as are asked for, but no more than there are processors: more wait for one another. One where they are too few
-/// for so many nodes.
+/// As many workers as asked for, and at most one for each processor, since more would wait for one another.
+/// One if they are too few for this number of nodes.
 fn workers_asked(processors: Option<usize>, workers: u32, nodes: u32) -> u32
     requires processors { IfSome processors (λ count. 1 ≤ count) }
     requires workers { (1 ≤ workers) × (workers ≤ MOST_WORKERS) }
@@ -108,8 +109,9 @@ fn workers_asked(processors: Option<usize>, workers: u32, nodes: u32) -> u32
     }
 }
 
-/// How many workers search a problem. With statistics it is those that are counted. Else those that are asked for, and where the
-/// program may choose, one for each processor where that is quicker; one is the search of one thread.
+/// The number of workers that search a problem. With statistics, those that are counted. Else those that are
+/// asked for or, if the program may choose, one for each processor if that is faster. One means the search of
+/// one thread.
 pub(crate) fn workers_of<H: Threads>(
     rt: &H,
     road: &Road,
@@ -136,16 +138,17 @@ pub(crate) fn workers_of<H: Threads>(
     workers_on(processors(rt), nodes)
 }
 
-/// The budget of turns where none is asked for.
+/// The budget of turns if none is asked for.
 const TURNS: u64 = 1_000_000;
 
-/// After how many idle turns in a row a worker among several ends, at most: where nothing is left they notice it long before.
+/// The most consecutive idle turns of one of several workers. If nothing is left, they notice it long before.
 const PATIENCE: u32 = 65_536;
 
-/// How many entries a worker among several takes from a heap, or gives to one, at once.
+/// The batch size of one of several workers.
 const BATCH: u64 = 32;
 
-/// The settings of so many workers. Turns are counted where statistics are asked for, or where not the default is.
+/// The settings of this number of workers. Turns are limited if statistics are asked for, or if the option
+/// isn't the default.
 fn settings_of(options: &RunOptions, workers: u32) -> Settings
     requires options { AreOptions options.now }
     requires workers { (1 ≤ workers) × (workers ≤ MOST_WORKERS) }
@@ -168,7 +171,7 @@ fn settings_of(options: &RunOptions, workers: u32) -> Settings
     }
 }
 
-/// The generators of workers: worker i's is seeded with `seed + i`, modulo 2^64.
+/// The generators of workers: worker i's seed is `seed + i`, modulo 2^64.
 fn generators(alloc: Global, seed: u64, workers: u32) -> Result<Vec<Xoshiro256PlusPlus>, AllocError>
     ensures one_each { IfOk result (λ rngs. vec_len rngs ≡ workers) }
     ensures seeded { IfOk result (λ rngs. rngs.items ≡ generators_from seed workers) }
@@ -180,7 +183,7 @@ fn generators(alloc: Global, seed: u64, workers: u32) -> Result<Vec<Xoshiro256Pl
     Ok(rngs)
 }
 
-/// Such generators, each of which keeps its worker mostly at its own heaps.
+/// The same generators, each of which mostly draws its worker's own heaps.
 fn homing_generators(
     alloc: Global,
     seed: u64,
@@ -199,7 +202,7 @@ fn homing_generators(
     Ok(rngs)
 }
 
-/// So many copies of a value.
+/// `count` copies of a value.
 fn copies<T: Copy + Drop>(alloc: Global, value: T, count: u32) -> Result<Vec<T>, AllocError>
     ensures { IfOk result (λ made. made.items ≡ replicate count value) }
 {
@@ -336,7 +339,8 @@ fn find_arrivals<H: Threads + Sync, R: Rng + Send + Drop, T: FnMut(Turn) -> Flow
     })
 }
 
-/// The answer of a problem by workers of these settings and generators, where each one's tracer is a copy of this.
+/// The answer of a problem by workers with these settings and generators; each one's tracer is a copy of
+/// `tracer`.
 fn find_by<H: Threads + Sync, R: Rng + Send + Drop, T: FnMut(Turn) -> Flow + Send + Drop + Copy>(
     alloc: Global,
     rt: &H,
@@ -369,7 +373,7 @@ fn find_by<H: Threads + Sync, R: Rng + Send + Drop, T: FnMut(Turn) -> Flow + Sen
     }
 }
 
-/// The answer of a problem, with walks where the options ask for them, by so many workers.
+/// The answer of a problem by this number of workers, with walks if the options ask for them.
 pub(crate) fn find<H: Threads + Sync>(
     alloc: Global,
     rt: &H,

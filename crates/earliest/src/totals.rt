@@ -9,7 +9,7 @@ ghost use Rattle.earliest.specs.Worked.{AreNarrow, HasRoom, IsLittle, work_with}
 use ea_engine::Counters;
 use ea_report::Totals;
 
-/// No problem yet.
+/// Totals of 0.
 pub(crate) fn no_totals() -> Totals
     ensures none { result ≡ totals_of [] }
     ensures balanced { AreBalanced result }
@@ -27,7 +27,7 @@ pub(crate) fn no_totals() -> Totals
     }
 }
 
-/// What all workers did. By what they handed back it is known that what a problem handed back is little.
+/// The sums over all workers. The numbers handed back bound what a problem handed back.
 #[derive(Clone, Copy)]
 pub(crate) struct Work {
     pub pushed: u128,
@@ -37,7 +37,7 @@ pub(crate) struct Work {
     pub returned: u128,
 }
 
-/// Adds what a worker did.
+/// Adds a worker's counters.
 fn add_work(work: &mut Work, counted: &Counters)
     requires room { HasRoom work.old }
     ensures added { work.new ≡ work_with work.old counted.now }
@@ -58,7 +58,7 @@ fn add_work(work: &mut Work, counted: &Counters)
     work.returned += u128::from(returned);
 }
 
-/// What workers did together.
+/// The sums over workers.
 pub(crate) fn work_of(counters: &[Counters]) -> Work
     requires few { length counters.now ≤ 16 }
     ensures pushed { result.pushed ≡ pushed_by_all counters.now }
