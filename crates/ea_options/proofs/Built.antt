@@ -1,4 +1,4 @@
--- What commands keep as they are built.
+-- Properties that commands keep while they are built.
 use Rattle.std.proofs.Common.{◌≡◌, ◌∙◌, ap, ap₂, subst, sym, false, ◌||◌, Result, Ok, Err}
 use Rattle.std.specs.Prelude.{IfOk, IsOkAnd}
 use Rattle.clap.specs.Words.{AddsArg, AddsSubcommand, App, Rule, rule_of, with_rule, with_subcommand}
@@ -25,7 +25,7 @@ built_with before arg (Ok c) adds app rule built is is_local = record {
 }
 built_with before arg (Err e) adds app rule built is is_local = adds
 
--- A command that is named otherwise in its texts has the same arguments.
+-- A command with another name in its texts has the same arguments.
 pub built_named : {E : Type 0} (before : Command) (more : Command → Type 0) (found : Result Command E)
     → IfOk found (λ c. (fields_of c ≡ record (fields_of before) { bin_name = (fields_of c).bin_name }) × more c)
     → (app : App) → IsBuilt app before → Builds app found

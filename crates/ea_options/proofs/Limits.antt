@@ -1,4 +1,4 @@
--- Numbers that are cut off above every limit.
+-- Numbers that are capped above every limit.
 use Rattle.std.proofs.Common.{◌≡◌, ℕ, ◌<◌, ◌^◌, min, refl, arith}
 use Rattle.std.specs.Prelude.{Option, Some, None, option_and_then, option_map}
 use Rattle.std.proofs.lemmas.Bool.Decides.{nat_tests}

@@ -1,4 +1,4 @@
--- Where clap takes the words of a command, its files are named.
+-- If clap takes the words of a command, its files are named.
 use Rattle.std.proofs.Common.{◌≡◌, refl, sym, subst, arith, true, is_some, Bool, ℕ, Result, Ok, Err}
 use Rattle.std.specs.Prelude.{IsOkAnd, codes}
 use Rattle.clap.specs.Built.{IsParsedFrom}

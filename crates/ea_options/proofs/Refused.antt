@@ -1,4 +1,4 @@
--- From clap's refusals to those of the words.
+-- From clap's errors to the errors of words.
 use Rattle.std.proofs.Common.{◌≡◌, ◌∙◌, Bool, false, List, [], ◌∷◌, ap, subst, sym, refl, Some, inl}
 use Rattle.clap.specs.Words.{Kinds, Row, Text}
 use Rattle.clap.specs.declared.error.kind.ErrorKind.TheVariants.{InvalidSubcommand}
@@ -11,7 +11,7 @@ use Rattle.ea_options.specs.declared.options.RunOptions.{RunOptions}
 use Rattle.ea_options.specs.Meaning.{Files, Verb, of_files, of_explain, of_formats, of_none, app_by, second_by, reported_by, ask_by, asked, files_by, files_of, options_by, options_of, meaning_by, has_input_twice}
 use Rattle.ea_options.specs.Refusals.{AsksBy, HasBadOption, IsAskedBy, IsTextOf, IsRefusalBy, IsRefusedBy, IsComplaint, IsUnasked, some_kind}
 
--- A refusal stays one where a kind is there in any case.
+-- A refusal stays one if there is always a kind.
 pub kept_by_some : (kinds : Kinds) (help : Bool) → IsTextOf kinds help → IsTextOf (some_kind kinds) help
 kept_by_some [] help text = absurd text.1
 kept_by_some (kind ∷ kinds) help text = text
@@ -54,7 +54,7 @@ unasked_refused verb words second wants rows BadOption called is same taken unas
     (taken, subst (λ (rows : List Row). HasBadOption (second_by verb) (reported_by verb) rows) same (subst (λ (wants : Bool). HasBadOption (second_by verb) wants rows) is (subst (λ (second : Text). HasBadOption second wants rows) called unasked)))
 unasked_refused verb words second wants rows OutOfMemory called is same taken unasked = absurd unasked
 
--- And else it names its files and has its options.
+-- Otherwise it names its files and has its options.
 pub asked_by : (verb : Verb) (words : List Text) (second : Text) (wants : Bool) (rows : List Row) (files : Files) (options : RunOptions) → second ≡ second_by verb → wants ≡ reported_by verb
     → rows ≡ matches_of (app_by verb) words → fault_of (app_by verb) words ≡ [] → files_of second wants rows ≡ Some files → options_of rows ≡ Some options → has_input_twice files ≡ false
     → IsAskedBy verb words files options

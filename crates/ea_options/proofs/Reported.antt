@@ -1,4 +1,4 @@
--- A command that wants a report has one, and a command's files are named where each name is there.
+-- A command that wants a report has one; a command's files are named if each name is present.
 use Rattle.std.proofs.Common.{◌≡◌, List, Bool, true, false, true≢false, is_some, refl, ap, sym, ◌∙◌}
 use Rattle.std.specs.Prelude.{Option, Some, None, codes, option_map, unwrap_or}
 use Rattle.std.proofs.lemmas.Option.{none-some}
@@ -49,7 +49,7 @@ report_there second rows files made = go files.report refl
     go None none = absurd (has_report second rows files made none)
     go (Some report) some = refl
 
--- What is asked for where the report that is checked is named.
+-- The command, if the report that is checked is named.
 pub check_asked : (names : Names) (report : Text) (options : RunOptions) → option_map (λ t. t.now) names.report ≡ Some report
     → ask_by check_verb (files names) options ≡ check (record { gr = names.gr.now; starts = names.starts.now; tp = option_map (λ t. t.now) names.tp; report = Some report; output = None }) options
 check_asked names report options is = ap (λ (o : Option Text). check (record (files names) { report = o; output = None }) options) is

@@ -1,4 +1,4 @@
--- A file's name that a command requires is there, where clap takes the words.
+-- If clap takes the words, each required name of a file is present.
 use Rattle.std.proofs.Common.{◌≡◌, ◌∙◌, ◌<◌, ◌≤◌, ◌&&◌, ℕ, Bool, true, false, not, zero, suc, refl, sym, ap, subst, arith, true≢false, inl, inr, List, [], ◌∷◌, map, length, Option, Some, None, is_some}
 use Rattle.std.proofs.lemmas.List.{get_or-map, length-map}
 use Rattle.std.proofs.lemmas.Slice.Eq.{bytes_eq-Decides}
@@ -70,7 +70,7 @@ alone (rule ∷ rules) zero id only (suc j) e lt same = absurd (other rules id o
 alone (rule ∷ rules) (suc k) id only zero e lt same = absurd (true≢false (sym same ∙ is_false _ (both _ _ only).0))
 alone (rule ∷ rules) (suc k) id only (suc j) e lt same = ap suc (alone rules k id (both _ _ only).1 j e (omega arith) same)
 
--- The rule at a place asks for one value, under an id that no other rule has.
+-- The rule at a place requires one value, with an id that no other rule has.
 pub record IsWanted (rules : List Rule) (k : ℕ) (id : Text) : Type 0 where
   pub there : k < length rules
   pub named : (slice_index_or rules k (new_rule [])).id ≡ id
@@ -82,7 +82,7 @@ pub record IsWanted (rules : List Rule) (k : ℕ) (id : Text) : Type 0 where
   pub not_help : bytes_eq id (codes "help") ≡ false
   pub not_version : bytes_eq id (codes "version") ≡ false
 
--- A command whose arguments are simple and have no rule on another, and which asks for its names in any case.
+-- A command whose arguments are simple, with no rule on another, and which always requires its names.
 pub record IsStrict (shape : Shape) : Type 0 where
   pub simple : has_simple_rules shape ≡ true
   pub free : has_free_rules shape ≡ true

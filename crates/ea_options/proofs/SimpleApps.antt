@@ -1,4 +1,4 @@
--- The commands are of the sort of which clap tells the matches and the kinds of error.
+-- The commands are of the kind for which clap's contract says the matches and the kinds of error.
 use Rattle.std.proofs.Common.{◌≡◌, ◌∙◌, ap, true, refl, Result, Ok, Err}
 use Rattle.std.specs.Prelude.{IfOk}
 use Rattle.clap.specs.Words.{App, app_of, is_simple, is_simple_and_free}
@@ -76,7 +76,7 @@ free_by pairs_verb = free_pairs
 free_by rank_verb = free_rank
 free_by check_verb = free_check
 
--- And so are the commands that clap knows so.
+-- And so are the commands that clap knows in this form.
 pub simple_built : {E : Type 0} (app : App) (found : Result Command E) → is_simple app ≡ true → Builds app found → IfOk found (λ c. is_simple (app_of c) ≡ true)
 simple_built app (Ok c) is built = ap is_simple built.known ∙ is
 simple_built app (Err e) is built = built

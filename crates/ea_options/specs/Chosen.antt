@@ -1,4 +1,4 @@
--- The options of a command in parts, each of which is read by itself.
+-- The options of a command in parts, each read alone.
 use Rattle.std.specs.Prelude.{◌≤◌, IfSome, List, Option, Some, codes}
 use Rattle.ea_base.specs.declared.limits.TheConstants.{HORIZON, LEAST_HEAPS, MOST_AT_ONCE, MOST_BATCH, MOST_HEAPS, MOST_TURNS, MOST_WORKERS}
 use Rattle.clap.specs.Words.{Row}

@@ -13,7 +13,7 @@ flag name = record (new_rule name) { long = Some name; action = Some SetTrue }
 abbrev pub file : Text → Rule
 file name = record (new_rule name) { action = Some Set; required = true; value_names = 1 }
 
--- A word that may be left out.
+-- An optional word.
 abbrev pub optional : Text → Rule
 optional name = record (new_rule name) { action = Some Set; value_names = 1 }
 
@@ -24,21 +24,21 @@ output = record (valued (codes "output")) { short = Some 111 }
 abbrev pub with_output : App → App
 with_output app = with_rule app output
 
--- What is told on standard error: how far a run is, and what a fault means.
+-- The options for standard error: progress, and what a fault means.
 abbrev pub with_telling : App → App
 with_telling app = with_rule (with_rule app (flag (codes "progress"))) (flag (codes "explain"))
 
--- The file of timetables and the departures, which each command has.
+-- The timetables and the departures, which each command has.
 abbrev pub with_departures : App → App
 with_departures app = with_rule (with_rule (with_rule app
     (valued (codes "tp"))) (valued (codes "depart"))) (valued (codes "gap"))
 
--- How the workers go.
+-- The options for workers.
 abbrev pub with_workers : App → App
 with_workers app = with_rule (with_rule (with_rule app
     (valued (codes "workers"))) (valued (codes "heaps"))) (valued (codes "seed"))
 
--- How many problems are searched at once, by how many entries at once and for how many turns the workers go, and what a report shows.
+-- The problems searched at once, the batches and turns of workers, and the contents of a report.
 abbrev pub with_report : App → App
 with_report app = with_rule (with_rule (with_rule (with_rule (with_rule app
     (valued (codes "at-once"))) (valued (codes "batch"))) (valued (codes "turns"))) (flag (codes "walks"))) (flag (codes "stats"))
@@ -59,7 +59,7 @@ unfoldable pub check_app : App
 check_app = with_telling (with_rule (with_departures (with_rule (with_rule (with_rule (new_app (codes "check"))
     (file (codes "gr"))) (file (codes "ss"))) (file (codes "report")))) (flag (codes "joint")))
 
--- The commands that need no files.
+-- The commands without files.
 unfoldable pub explain_app : App
 explain_app = with_rule (new_app (codes "explain")) (optional (codes "fault"))
 

@@ -1,11 +1,11 @@
--- The limits of options, and what those are that aren't given.
+-- The limits of options, and their defaults.
 use Rattle.std.specs.Prelude.{ℕ, ◌≤◌, IfSome, unwrap_or}
 use Rattle.ea_base.specs.declared.limits.TheConstants.{HORIZON, LEAST_HEAPS, MOST_AT_ONCE, MOST_BATCH, MOST_HEAPS, MOST_TURNS, MOST_WORKERS}
 use Rattle.ea_options.specs.declared.options.RunOptions.{RunOptions}
 use Rattle.ea_options.specs.declared.options.Command.{Command}
 use Rattle.ea_options.specs.declared.options.Command.TheVariants.{Stored, Run, Pairs, Rank, Check, Explain, Formats}
 
--- A number that may be left to the program is from 1 to its limit where it is given.
+-- An optional number is from 1 to its limit, if it is given.
 abbrev pub IsUpTo : ℕ → ℕ → Type 0
 IsUpTo most n = (1 ≤ n) × (n ≤ most)
 
@@ -19,7 +19,7 @@ pub record AreOptions (options : RunOptions) : Type 0 where
   pub depart : options.depart ≤ HORIZON
   pub gap : options.gap ≤ HORIZON
 
--- The options of a command are within them.
+-- The options of a command are within the limits.
 abbrev pub HasLimits : Command → Type 0
 HasLimits Stored = Unit {0}
 HasLimits (Run gr ss tp output options) = AreOptions options
@@ -29,6 +29,6 @@ HasLimits (Check gr ss tp report options) = AreOptions options
 HasLimits (Explain fault) = Unit {0}
 HasLimits Formats = Unit {0}
 
--- The workers of statistics and of rank errors: those that are asked for, else 4.
+-- The workers that statistics and rank errors count: as asked for, else 4.
 abbrev pub counted_workers : RunOptions → ℕ
 counted_workers options = unwrap_or options.workers 4

@@ -1,5 +1,5 @@
--- What words ask for: no words ask for the stored run; words that begin with a command's name ask for what clap makes of
--- the others, with the defaults and limits of each option.
+-- What words ask for. No words ask for the built-in run. Words that begin with a command's name ask for what
+-- clap makes of the others, with the defaults and limits of each option.
 use Rattle.std.specs.Prelude.{ℕ, ◌+◌, Bool, true, false, nat_le, List, codes, Option, Some, None, option_and_then, option_map, if◌then◌else◌}
 use Rattle.std.specs.Str.{bytes_eq}
 use Rattle.ea_base.specs.declared.limits.TheConstants.{HORIZON, LEAST_HEAPS, MOST_AT_ONCE, MOST_BATCH, MOST_HEAPS, MOST_TURNS, MOST_WORKERS}
@@ -15,7 +15,7 @@ infixl 10 ◌>>=◌
 abbrev pub ◌>>=◌ : {A B : Type 0} → Option A → (A → Option B) → Option B
 o >>= f = option_and_then f o
 
--- The numbers of the options, where each is a number within its limits.
+-- The numbers of the options, if each is within its limits.
 unfoldable pub options_of : List Row → Option RunOptions
 options_of rows = do
   workers ← chosen_of (codes "workers") 1 MOST_WORKERS rows
@@ -41,7 +41,7 @@ options_of rows = do
     gap = gap;
   })
 
--- The names of a command's files; a report is checked, or put into a file.
+-- The names of a command's files. A report is checked, or an output written.
 pub record Files : Type 0 where
   pub gr : Text
   pub starts : Text
@@ -58,7 +58,7 @@ files names = record {
   output = option_map (λ t. t.now) names.output;
 }
 
--- The name `-` stands for standard input, which one file alone can be.
+-- The name `-` means standard input, for at most one file.
 abbrev pub input_by : Text → ℕ
 input_by name = if bytes_eq name (codes "-") then 1 else 0
 
@@ -70,13 +70,13 @@ abbrev pub has_input_twice : Files → Bool
 has_input_twice files =
     nat_le 2 (input_by files.gr + input_by files.starts + input_if_named files.tp + input_if_named files.report)
 
--- A name that may be left out where it isn't wanted.
+-- A name that is required only if it is wanted.
 abbrev pub wanted : Bool → Option Text → Option (Option Text)
 wanted true None = None
 wanted true (Some name) = Some (Some name)
 wanted false name = Some name
 
--- The files that a command's rows name; the second is called so, and a report may be wanted.
+-- The files in a command's rows. `second` names the second file; a report may be wanted.
 unfoldable pub files_of : Text → Bool → List Row → Option Files
 files_of second reported rows = do
   gr ← first_of (codes "gr") rows
@@ -84,7 +84,7 @@ files_of second reported rows = do
   report ← wanted reported (first_of (codes "report") rows)
   Some (record { gr = gr; starts = starts; tp = first_of (codes "tp") rows; report = report; output = first_of (codes "output") rows })
 
--- What is asked: the stored run, a command's files and options, what a fault means, or the formats.
+-- What is asked for: the built-in run, a command's files and options, what a fault means, or the formats.
 pub data Asked : Type 0 where
   stored : Asked
   run : Files → RunOptions → Asked
@@ -103,7 +103,7 @@ asked (command.Check gr ss tp report options) = check (record { gr = gr.now; sta
 asked (command.Explain fault) = explain (option_map (λ t. t.now) fault)
 asked command.Formats = formats
 
--- The commands, as clap knows them, what each calls its second file, and whether it wants a report.
+-- The commands, as clap knows them, the name of each one's second file, and whether it wants a report.
 pub data Verb : Type 0 where
   run_verb : Verb
   pairs_verb : Verb
@@ -144,7 +144,7 @@ reported_by pairs_verb = false
 reported_by rank_verb = false
 reported_by check_verb = true
 
--- A command that checks a report has no output, and the others check none.
+-- A command that checks a report has no output; the others check none.
 abbrev pub named_report : Verb → Files → Files
 named_report check_verb files = record files { output = None }
 named_report _ files = record files { report = None }
@@ -162,7 +162,7 @@ files_by verb words = files_of (second_by verb) (reported_by verb) (matches_of (
 abbrev pub options_by : Verb → List Text → Option RunOptions
 options_by verb words = options_of (matches_of (app_by verb) words)
 
--- What they ask for, where standard input stands for one file at most.
+-- What they ask for, if at most one file is standard input.
 abbrev pub asked_once : Verb → Files → RunOptions → Option Asked
 asked_once verb files options = if has_input_twice files then None else Some (ask_by verb files options)
 

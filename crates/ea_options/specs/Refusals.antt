@@ -1,4 +1,4 @@
--- Why words ask for nothing.
+-- Why words are refused.
 use Rattle.std.specs.Prelude.{◌≡◌, ◌⊎◌, Bool, true, false, List, [], ◌∷◌, codes, Result, Some, None}
 use Rattle.clap.specs.Words.{Kinds, IsAmong, Row, Text, fault_of, first_of, matches_of}
 use Rattle.clap.specs.Words.{kind_of}
@@ -21,8 +21,8 @@ is_shown DisplayHelp = true
 is_shown DisplayVersion = true
 is_shown _ = false
 
--- The kinds of error that clap gives for the words, none where it takes them. Words that begin with no command's name
--- are refused in any case.
+-- The kinds of error that clap gives for the words, none if it takes them. Words that begin with no command's
+-- name are always refused.
 abbrev pub some_kind : Kinds → Kinds
 some_kind [] = InvalidSubcommand ∷ []
 some_kind (kind ∷ kinds) = kind ∷ kinds
@@ -33,7 +33,8 @@ kinds_by of_explain words = fault_of explain_app words
 kinds_by of_formats words = fault_of formats_app words
 kinds_by of_none words = some_kind (fault_of program words)
 
--- The names are there, and some option's value is no number or out of its limits, or two files are standard input.
+-- The names are present, and some option's value is no number or outside its limits, or two files are
+-- standard input.
 abbrev pub HasBadOption : Text → Bool → List Row → Type 0
 HasBadOption second reported rows =
     (files : Files) × (files_of second reported rows ≡ Some files) × ((options_of rows ≡ None) ⊎ (has_input_twice files ≡ true))
@@ -42,42 +43,42 @@ abbrev pub IsBadBy : Head → List Text → Type 0
 IsBadBy (of_files verb) words = HasBadOption (second_by verb) (reported_by verb) (matches_of (app_by verb) words)
 IsBadBy _ words = ⊥
 
--- A text has one of the kinds, and tells whether it was asked for.
+-- A text has one of the kinds, and says whether it was asked for.
 abbrev pub IsTextOf : Kinds → Bool → Type 0
 IsTextOf kinds help = (kind : ErrorKind) × IsAmong kind kinds × (help ≡ is_shown kind)
 
--- A refusal where clap gives these kinds.
+-- A refusal for these kinds of clap's.
 abbrev pub IsRefusalBy : Kinds → CommandFault → Type 0
 IsRefusalBy kinds (Words help text) = IsTextOf kinds help
 IsRefusalBy kinds BadOption = ⊥
 IsRefusalBy kinds OutOfMemory = Unit {0}
 
--- What is said of clap's error.
+-- The fault for clap's error.
 abbrev pub IsFaultOf : Error → CommandFault → Type 0
 IsFaultOf error (Words help text) = ((kind_of error ≡ kind.OutOfMemory) → ⊥) × (help ≡ is_shown (kind_of error))
 IsFaultOf error BadOption = ⊥
 IsFaultOf error OutOfMemory = Unit {0}
 
--- A text that nobody asked for, or refused memory.
+-- A text that was not asked for, or refused memory.
 abbrev pub IsComplaint : CommandFault → Type 0
 IsComplaint (Words help text) = help ≡ false
 IsComplaint BadOption = ⊥
 IsComplaint OutOfMemory = Unit {0}
 
--- Why rows that name all files ask for nothing: an option's value is bad, and nothing else.
+-- Why rows that name all files are refused: an option's value is bad, and nothing else.
 abbrev pub IsUnasked : Text → Bool → List Row → CommandFault → Type 0
 IsUnasked second reported rows (Words help text) = ⊥
 IsUnasked second reported rows BadOption = HasBadOption second reported rows
 IsUnasked second reported rows OutOfMemory = ⊥
 
--- Words that begin with a command's name, or with none, are refused for this. A text comes only where clap refuses the
--- words, and tells whether it was asked for; BadOption comes only where clap takes them; memory may always be refused.
+-- Why words with this head are refused. A text only if clap refuses the words, and it says whether it was
+-- asked for; BadOption only if clap takes them; memory may always be refused.
 abbrev pub IsRefusedBy : Head → List Text → CommandFault → Type 0
 IsRefusedBy head words (Words help text) = IsTextOf (kinds_by head words) help
 IsRefusedBy head words BadOption = (kinds_by head words ≡ []) × IsBadBy head words
 IsRefusedBy head words OutOfMemory = Unit {0}
 
--- A command with files as it is built, what its second file is called, and whether it wants a report.
+-- A command with files as it is built, the name of its second file, and whether it wants a report.
 pub record IsReadBy (verb : Verb) {E : Type 0} (command : Result Clap E) (second : Text) (reported : Bool) : Type 0 where
   pub built : Builds (app_by verb) command
   pub called : second ≡ second_by verb
@@ -99,7 +100,8 @@ abbrev pub IsRefusal : List Text → CommandFault → Type 0
 IsRefusal [] fault = ⊥
 IsRefusal (word ∷ words) fault = IsRefusedBy (head_of word) (word ∷ words) fault
 
--- Clap takes words that ask what a fault means, and they name this one or none; or words that ask for the formats.
+-- Clap takes words that ask what a fault means, and they name this one or none; or words that ask for the
+-- formats.
 abbrev pub AsksAs : Head → List Text → Command → Type 0
 AsksAs (of_files verb) words command = AsksBy verb words command
 AsksAs of_explain words command =
@@ -107,7 +109,7 @@ AsksAs of_explain words command =
 AsksAs of_formats words command = (kinds_by of_formats words ≡ []) × (asked command ≡ formats)
 AsksAs of_none words command = ⊥
 
--- No words ask for the stored run, others for what their command makes of them.
+-- No words ask for the built-in run, others for what their command makes of them.
 abbrev pub Asks : List Text → Command → Type 0
 Asks [] command = asked command ≡ stored
 Asks (word ∷ words) command = AsksAs (head_of word) (word ∷ words) command

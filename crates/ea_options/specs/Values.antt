@@ -1,4 +1,4 @@
--- The values that a command's options have in clap's matches.
+-- The values of a command's options in clap's matches.
 use Rattle.std.specs.Prelude.{ℕ, Bool, false, ◌&&◌, List, codes, nat_le, if◌then◌else◌, Option, Some, None, option_and_then, option_map}
 use Rattle.std.specs.Str.{bytes_eq}
 use Rattle.clap.specs.Words.{Row, Text, first_of}
@@ -8,7 +8,7 @@ use Rattle.ea_bytes.specs.Text.{number_of}
 abbrev pub within_limits : ℕ → ℕ → ℕ → Option ℕ
 within_limits low high n = if nat_le low n && nat_le n high then Some n else None
 
--- The number of an option: the default where it isn't used, nothing where its text is no number or out of its limits.
+-- The number of an option: the default if it isn't used, none if its text is no number or outside its limits.
 abbrev pub number_in : ℕ → ℕ → ℕ → Option Text → Option ℕ
 number_in default low high None = Some default
 number_in default low high (Some text) = option_and_then (within_limits low high) (number_of text)
@@ -16,7 +16,7 @@ number_in default low high (Some text) = option_and_then (within_limits low high
 abbrev pub option_of : Text → ℕ → ℕ → ℕ → List Row → Option ℕ
 option_of name default low high rows = number_in default low high (first_of name rows)
 
--- The number of an option that may be left to the program.
+-- The number of an optional option.
 abbrev pub number_if_given : ℕ → ℕ → Option Text → Option (Option ℕ)
 number_if_given low high None = Some None
 number_if_given low high (Some text) = option_map Some (option_and_then (within_limits low high) (number_of text))
@@ -24,7 +24,7 @@ number_if_given low high (Some text) = option_map Some (option_and_then (within_
 abbrev pub chosen_of : Text → ℕ → ℕ → List Row → Option (Option ℕ)
 chosen_of name low high rows = number_if_given low high (first_of name rows)
 
--- Whether a flag is there: clap gives it the text `true` then.
+-- Whether a flag is set: clap gives it the text `true` then.
 abbrev pub is_true : Option Text → Bool
 is_true None = false
 is_true (Some text) = bytes_eq text (codes "true")

@@ -1,4 +1,4 @@
-//! The arguments of the commands, with the texts that explain them.
+//! The arguments of the commands, with their help.
 ghost use Rattle.std.specs.Prelude.{◌≡◌, false};
 ghost use Rattle.clap.specs.Words.{App, Rule, rule_of, with_rule};
 ghost use Rattle.ea_options.specs.Building.{Builds};
@@ -42,7 +42,7 @@ fn file<'a>(alloc: Global, name: &'a str, value: &'a str, help: &'a str) -> Arg<
         .help(help)
 }
 
-/// A word that may be left out.
+/// An optional word.
 pub(crate) fn optional<'a>(alloc: Global, name: &'a str, value: &'a str, help: &'a str) -> Arg<'a>
     ensures rule { rule_of result ≡ Rattle.ea_options.specs.Grammar.optional name.entry.now }
     ensures local { result.global ≡ false }
@@ -67,9 +67,9 @@ fn output_file<'a>(alloc: Global) -> Arg<'a>
     .short('o')
 }
 
-/// A command with one more argument, where memory has not been refused so far.
+/// Adds an argument to a command, unless memory was refused before.
 ///
-/// An argument that is left over is let go of by a call: without one, each of its fields would be by steps of this function.
+/// If memory was refused, the argument is dropped in a helper: inline drops slow the proof.
 pub(crate) fn with_arg<'a>(
     command: Result<Command<'a>, AllocError>,
     arg: Arg<'a>,
@@ -86,7 +86,7 @@ pub(crate) fn with_arg<'a>(
     }
 }
 
-/// A command with one more option that has a value.
+/// Adds an option with a value to a command.
 fn with_valued<'a>(
     alloc: Global,
     command: Result<Command<'a>, AllocError>,
@@ -100,7 +100,7 @@ fn with_valued<'a>(
     with_arg(command, valued(alloc, name, value, help))
 }
 
-/// A command with one more flag.
+/// Adds a flag to a command.
 pub(crate) fn with_flag<'a>(
     alloc: Global,
     command: Result<Command<'a>, AllocError>,
@@ -113,7 +113,7 @@ pub(crate) fn with_flag<'a>(
     with_arg(command, flag(alloc, name, help))
 }
 
-/// A command with the name of one more file.
+/// Adds the name of a file to a command.
 pub(crate) fn with_file<'a>(
     alloc: Global,
     command: Result<Command<'a>, AllocError>,
@@ -127,7 +127,7 @@ pub(crate) fn with_file<'a>(
     with_arg(command, file(alloc, name, value, help))
 }
 
-/// The options that say when sources depart and which timetables the arcs follow.
+/// Adds the options for departures and timetables.
 pub(crate) fn with_departures<'a>(
     alloc: Global,
     command: Result<Command<'a>, AllocError>,
@@ -157,7 +157,7 @@ pub(crate) fn with_departures<'a>(
     )
 }
 
-/// The options that say how the workers go. They change how long `run` and `pairs` take and never what these report.
+/// Adds the options for workers. They change how long `run` and `pairs` take, never their reports.
 fn with_workers<'a>(
     alloc: Global,
     command: Result<Command<'a>, AllocError>,
@@ -187,7 +187,7 @@ fn with_workers<'a>(
     )
 }
 
-/// The options that say when sources depart and how the workers go.
+/// Adds the options for departures and workers.
 pub(crate) fn with_search<'a>(
     alloc: Global,
     command: Result<Command<'a>, AllocError>,
@@ -198,8 +198,8 @@ pub(crate) fn with_search<'a>(
     with_workers(alloc, with_departures(alloc, command))
 }
 
-/// The options that say how many problems are searched at once, by how many entries at once and for how many turns the workers
-/// go, and what a report shows.
+/// Adds the options for the problems searched at once, the batches and turns of workers, and the contents of
+/// a report.
 pub(crate) fn with_report<'a>(
     alloc: Global,
     command: Result<Command<'a>, AllocError>,
@@ -241,7 +241,7 @@ pub(crate) fn with_report<'a>(
     )
 }
 
-/// The option that says where a report goes.
+/// Adds the option for a report's file.
 fn with_output<'a>(
     alloc: Global,
     command: Result<Command<'a>, AllocError>,
@@ -251,7 +251,7 @@ fn with_output<'a>(
     with_arg(command, output_file(alloc))
 }
 
-/// The options that say what is told on standard error.
+/// Adds the options for standard error.
 pub(crate) fn with_telling<'a>(
     alloc: Global,
     command: Result<Command<'a>, AllocError>,
@@ -272,7 +272,7 @@ pub(crate) fn with_telling<'a>(
     )
 }
 
-/// The options that say where a report goes and what is told on standard error.
+/// Adds the options for a report's file and for standard error.
 pub(crate) fn with_output_and_telling<'a>(
     alloc: Global,
     command: Result<Command<'a>, AllocError>,

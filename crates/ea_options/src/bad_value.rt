@@ -1,4 +1,4 @@
-//! What is bad in words that clap takes, and whether words ask for explanations.
+//! The bad value in words that clap takes, and whether words ask for explanations.
 ghost use Rattle.std.specs.Prelude.{IfSome};
 ghost use Rattle.ea_options.specs.Bad.{IsBad};
 
@@ -21,7 +21,7 @@ pub struct BadValue<'a> {
     pub most: u64,
 }
 
-/// An option's value, where it is bad.
+/// An option's value, if it is bad.
 fn bad_value<'a>(
     matches: &ArgMatches<'a>,
     option: &'static str,
@@ -63,8 +63,8 @@ fn first_bad<'a>(matches: &ArgMatches<'a>) -> Option<BadValue<'a>>
     None
 }
 
-/// The first option with a bad value, where `of_words` answers `BadOption` for the words. None where it doesn't, where two
-/// files are standard input and all values are good, and where memory is refused.
+/// The first option with a bad value, if `of_words` returns `BadOption` for the words. None if it doesn't, if
+/// all values are good but two files are standard input, or if memory is refused.
 pub fn bad_value_of<'a, S: AsStr>(alloc: Global, words: &'a [S]) -> Option<BadValue<'a>>
     ensures { IfSome result IsBad }
 {

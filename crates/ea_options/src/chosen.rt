@@ -1,4 +1,4 @@
-//! The options that words give, part by part.
+//! The options in words, part by part.
 ghost use Rattle.std.specs.Prelude.{◌≡◌, IfSome};
 ghost use Rattle.clap.specs.Words.{found_of, rows_of};
 ghost use Rattle.ea_options.specs.Chosen.{AreCounts, AreDepartures, IsQueue, counts_of, departures_of, flags_of, queue_of};
@@ -12,7 +12,8 @@ use ea_base::{
     HORIZON, LEAST_HEAPS, MOST_AT_ONCE, MOST_BATCH, MOST_HEAPS, MOST_TURNS, MOST_WORKERS,
 };
 
-/// How many workers, problems and entries go at once; none leaves it to the program.
+/// The numbers of workers, of problems at once and of entries in a batch; None leaves the choice to the
+/// program.
 #[derive(Clone, Copy)]
 struct Counts {
     workers: Option<u64>,
@@ -35,7 +36,7 @@ fn counts_in(matches: &ArgMatches<'_>) -> Option<Counts>
     })
 }
 
-/// How the shared queue is made, for how many turns it is used, and the seed of its choices.
+/// The size of the shared queue, the budget of turns, and the seed of its random words.
 #[derive(Clone, Copy)]
 struct Queue {
     heaps: u64,
@@ -72,7 +73,7 @@ fn departures_in(matches: &ArgMatches<'_>) -> Option<Departures>
     Some(Departures { depart, gap })
 }
 
-/// Which flags are there.
+/// Which flags are set.
 #[derive(Clone, Copy)]
 struct Flags {
     joint: bool,
@@ -92,7 +93,7 @@ fn flags_in(matches: &ArgMatches<'_>) -> Flags
     }
 }
 
-/// The options of a command, where each is a number within its limits.
+/// The options of a command, if each is a number within its limits.
 pub(crate) fn options_in(matches: &ArgMatches<'_>) -> Option<RunOptions>
     ensures options { result ≡ options_of (rows_of (found_of matches.now)) }
     ensures limits { IfSome result AreOptions }

@@ -1,4 +1,4 @@
-//! The commands, as clap is told of them.
+//! The commands, in clap's terms.
 ghost use Rattle.std.specs.Prelude.{◌≡◌, false};
 ghost use Rattle.clap.specs.Words.{App, app_of, new_app, with_subcommand};
 ghost use Rattle.clap.specs.declared.builder.command.Command.TheViews.{out-Command as fields_of};
@@ -44,14 +44,14 @@ const CHECK: &str = "Says whether a report of a run is right, or its first fault
 const CHECK_MORE: &str =
     "Example:\n  earliest run roads.gr starts.ss --walks > report\n  earliest check roads.gr starts.ss report\n\nGive the options --tp, --depart, --gap and --joint with which the report was made. It\nprints `ok` where each arrival is the earliest and each walk the canonical one.";
 
-/// A command that is called so in its texts.
+/// Sets the name of a command in its texts.
 fn named<'a>(command: Command<'a>, name: &str) -> Result<Command<'a>, AllocError>
     ensures { (app : App) → IsBuilt app command.entry → Builds app result }
 {
     command.bin_name(name)
 }
 
-/// A command without arguments, with its texts and the name by which these call it.
+/// A command without arguments, with its texts and its name in them.
 fn begun<'a>(
     alloc: Global,
     name: &'a str,
@@ -161,9 +161,9 @@ fn bare_program<'a>(alloc: Global) -> Command<'a>
         .subcommand_required(true)
 }
 
-/// A command with one more command below it, where memory has not been refused so far.
+/// Adds a subcommand, unless memory was refused before.
 ///
-/// What is left over is let go of by a call: without one, each of its fields would be by steps of this function.
+/// Dropped in a helper: inline drops slow the proof.
 fn with_command<'a>(
     command: Result<Command<'a>, AllocError>,
     below: Result<Command<'a>, AllocError>,

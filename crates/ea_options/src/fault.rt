@@ -3,18 +3,18 @@ ghost use Rattle.std.specs.Prelude.{◌≡◌};
 use std::alloc::AllocError;
 use thiserror::Error as ErrorTexts;
 
-/// Why words ask for nothing.
+/// Why words are refused.
 #[derive(Debug, Drop, ErrorTexts)]
 pub enum CommandFault {
-    /// The words name no command, lack a file's name, or aren't understood; or they ask for help or the version.
-    /// The text is for the user.
+    /// The words name no command, lack a file's name or aren't understood, or they ask for help or the
+    /// version. The text is for the user.
     #[error("{text}")]
     Words {
         /// Whether the text was asked for.
         help: bool,
         text: String,
     },
-    /// The value of an option is no number, or is out of its limits.
+    /// The value of an option is no number, or outside its limits.
     #[error("an option's value is no number or is out of its limits")]
     BadOption,
     /// Memory was refused.

@@ -1,4 +1,4 @@
-//! What words ask for.
+//! Reading the words of a command line.
 ghost use Rattle.std.specs.Prelude.{◌≡◌, IfOk, IsOkAnd, IfErr, IfSome, true, map, codes, option_map, is_some, Some, false, [], ◌∷◌, ◌≤◌};
 ghost use Rattle.clap.specs.Built.{IsParsedFrom};
 ghost use Rattle.clap.specs.Words.{App, app_of, fault_of, found_of, kind_of, matches_of, rows_of, is_simple, is_simple_and_free, IsAmong};
@@ -29,7 +29,7 @@ fn is_asked_for(kind: ErrorKind) -> bool
     matches!(kind, ErrorKind::DisplayHelp | ErrorKind::DisplayVersion)
 }
 
-/// What clap's error says.
+/// The fault for clap's error.
 fn fault_of_error(alloc: Global, error: Error) -> CommandFault
     ensures { IsFaultOf error result }
 {
@@ -46,7 +46,7 @@ fn fault_of_error(alloc: Global, error: Error) -> CommandFault
     }
 }
 
-/// What clap makes of words.
+/// Parses words with clap.
 fn matches_in<'a, S: AsStr>(
     alloc: Global,
     command: clap::Command<'a>,
@@ -69,7 +69,7 @@ fn matches_in<'a, S: AsStr>(
     }
 }
 
-/// What clap makes of words where memory has not been refused for the command.
+/// Parses words with clap, unless memory was refused while the command was built.
 fn matches_of_built<'a, S: AsStr>(
     alloc: Global,
     command: Result<clap::Command<'a>, AllocError>,
@@ -101,7 +101,7 @@ struct Names<'a> {
     output: Option<&'a str>,
 }
 
-/// 1 where a name stands for standard input, else 0.
+/// 1 if a name means standard input, else 0.
 fn input_by(name: &str) -> u8
     ensures input { result ≡ Meaning.input_by name.now }
     ensures bound { result ≤ 1 }
@@ -109,7 +109,7 @@ fn input_by(name: &str) -> u8
     if name == "-" { 1 } else { 0 }
 }
 
-/// The same of a name that may be left out.
+/// The same for an optional name.
 fn input_if_named(name: Option<&str>) -> u8
     ensures input { result ≡ Meaning.input_if_named (option_map (λ t. t.now) name.entry) }
     ensures bound { result ≤ 1 }
@@ -121,7 +121,7 @@ fn input_if_named(name: Option<&str>) -> u8
 }
 
 impl Names<'_> {
-    /// Whether two of the files that are read are standard input.
+    /// Whether two of the files to read are standard input.
     fn has_input_twice(&self) -> bool
         ensures { result ≡ has_input_twice (files self.now) }
     {
@@ -130,7 +130,7 @@ impl Names<'_> {
     }
 }
 
-/// A name, which may be left out where it isn't wanted.
+/// A name that is required only if it is wanted.
 fn wanted(is_wanted: bool, name: Option<&str>) -> Option<Option<&str>>
     ensures { option_map (λ name. option_map (λ t. t.now) name) result
         ≡ Meaning.wanted is_wanted (option_map (λ t. t.now) name.entry) }
@@ -141,7 +141,8 @@ fn wanted(is_wanted: bool, name: Option<&str>) -> Option<Option<&str>>
     }
 }
 
-/// The names of a command's files; the second is called so, and a report may be wanted.
+/// The names of a command's files. `second` names the second file; `reported` says whether a report is
+/// wanted.
 #[tactic(auto, unfolding(crate::specs::Meaning::files_of))]
 fn names_in<'a>(matches: &ArgMatches<'a>, second: &str, reported: bool) -> Option<Names<'a>>
     ensures { option_map files result
@@ -159,7 +160,7 @@ fn names_in<'a>(matches: &ArgMatches<'a>, second: &str, reported: bool) -> Optio
     })
 }
 
-/// What a command asks for: its files, whose names are all there, and its options.
+/// The command of these words: its files, if all names are present, and its options.
 fn asked_in<'a>(
     matches: &ArgMatches<'a>,
     second: &str,
@@ -187,7 +188,7 @@ fn asked_in<'a>(
     }
 }
 
-/// What is said where no command is named.
+/// The refusal if no command is named.
 fn no_command(alloc: Global) -> CommandFault
     ensures { IsComplaint result }
 {
@@ -197,7 +198,7 @@ fn no_command(alloc: Global) -> CommandFault
     }
 }
 
-/// What the words of a command with files ask for.
+/// The command of words that begin with the name of a command with files.
 fn asked_of_words<'a, S: AsStr>(
     alloc: Global,
     command: Result<clap::Command<'a>, AllocError>,
@@ -218,7 +219,7 @@ fn asked_of_words<'a, S: AsStr>(
     }
 }
 
-/// What words that begin with `run` ask for.
+/// The command of words that begin with `run`.
 fn run_of_words<'a, S: AsStr>(alloc: Global, words: &'a [S]) -> Result<Command<'a>, CommandFault>
     ensures ok { IfOk result (AsksBy run_verb (map S.text words.entry.now)) }
     ensures limits { IfOk result HasLimits }
@@ -235,7 +236,7 @@ fn run_of_words<'a, S: AsStr>(alloc: Global, words: &'a [S]) -> Result<Command<'
     })
 }
 
-/// What words that begin with `pairs` ask for.
+/// The command of words that begin with `pairs`.
 fn pairs_of_words<'a, S: AsStr>(alloc: Global, words: &'a [S]) -> Result<Command<'a>, CommandFault>
     ensures ok { IfOk result (AsksBy pairs_verb (map S.text words.entry.now)) }
     ensures limits { IfOk result HasLimits }
@@ -252,7 +253,7 @@ fn pairs_of_words<'a, S: AsStr>(alloc: Global, words: &'a [S]) -> Result<Command
     })
 }
 
-/// What words that begin with `rank` ask for.
+/// The command of words that begin with `rank`.
 fn rank_of_words<'a, S: AsStr>(alloc: Global, words: &'a [S]) -> Result<Command<'a>, CommandFault>
     ensures ok { IfOk result (AsksBy rank_verb (map S.text words.entry.now)) }
     ensures limits { IfOk result HasLimits }
@@ -269,7 +270,7 @@ fn rank_of_words<'a, S: AsStr>(alloc: Global, words: &'a [S]) -> Result<Command<
     })
 }
 
-/// What words that begin with `check` ask for.
+/// The command of words that begin with `check`.
 fn check_of_words<'a, S: AsStr>(alloc: Global, words: &'a [S]) -> Result<Command<'a>, CommandFault>
     ensures ok { IfOk result (AsksBy check_verb (map S.text words.entry.now)) }
     ensures limits { IfOk result HasLimits }
@@ -286,7 +287,7 @@ fn check_of_words<'a, S: AsStr>(alloc: Global, words: &'a [S]) -> Result<Command
     })
 }
 
-/// What words that begin with `explain` ask for.
+/// The command of words that begin with `explain`.
 fn explain_of_words<'a, S: AsStr>(
     alloc: Global,
     words: &'a [S],
@@ -301,7 +302,7 @@ fn explain_of_words<'a, S: AsStr>(
     })
 }
 
-/// What words that begin with `formats` ask for.
+/// The command of words that begin with `formats`.
 fn formats_of_words<'a, S: AsStr>(
     alloc: Global,
     words: &'a [S],
@@ -314,7 +315,7 @@ fn formats_of_words<'a, S: AsStr>(
     Ok(Command::Formats)
 }
 
-/// Why words that begin with no command's name ask for nothing.
+/// Why words that begin with no command's name are refused.
 fn refusal_of_words<'a, S: AsStr>(alloc: Global, words: &'a [S]) -> CommandFault
     ensures { IsRefusedBy of_none (map S.text words.entry.now) result }
 {
@@ -324,7 +325,7 @@ fn refusal_of_words<'a, S: AsStr>(alloc: Global, words: &'a [S]) -> CommandFault
     }
 }
 
-/// What words whose first is this ask for.
+/// The command of words with this first word.
 fn answer_to<'a, S: AsStr>(
     alloc: Global,
     verb: &str,
@@ -352,14 +353,14 @@ fn answer_to<'a, S: AsStr>(
 }
 
 impl RunOptions {
-    /// What the words of a command line, without the program's name, ask for.
+    /// The command of the words of a command line, without the program's name.
     ///
-    /// No words ask for the stored run. The first of other words is a command's name; an option's value is read as the
-    /// numbers of the input files are.
+    /// No words ask for the built-in run. Otherwise the first word is a command's name. Values of options are
+    /// read like the numbers of input files.
     ///
-    /// Errors: `Words` where clap refuses the words or is asked for a text, `BadOption` where it takes them and an
-    /// option's value is no number or out of its limits or two files are standard input, `OutOfMemory` where memory is
-    /// refused.
+    /// Fails with `Words` if clap refuses the words or a text is asked for; with `BadOption` if clap takes
+    /// them but an option's value is no number or outside its limits, or two files are standard input; with
+    /// `OutOfMemory` if memory is refused.
     pub fn of_words<'a, S: AsStr>(
         alloc: Global,
         words: &'a [S],

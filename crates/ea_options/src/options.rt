@@ -1,38 +1,39 @@
-//! What words may ask for.
+//! Commands and their options.
 ghost use Rattle.std.specs.Prelude.{◌≡◌};
 ghost use Rattle.ea_options.specs.Limits.{counted_workers};
 
-/// How a run is to go and what its report shows. Each number is within its limits.
+/// The options of a run and of its report. Each number is within its limits.
 #[derive(Clone, Copy, Debug, PartialEq, Eq)]
 pub struct RunOptions {
-    /// All sources are one problem.
+    /// Whether all sources are one problem.
     pub joint: bool,
-    /// The report shows the walk to each node that is reached.
+    /// Whether the report has the walk to each node that is reached.
     pub walks: bool,
-    /// The report ends with totals of what the workers did.
+    /// Whether the report ends with the totals of the workers.
     pub stats: bool,
-    /// Lines on standard error tell how far it is.
+    /// Whether progress is written to standard error.
     pub progress: bool,
-    /// How many workers search each problem: 1 to 16; none leaves it to the program.
+    /// The workers that search each problem: 1 to 16; None leaves the choice to the program.
     pub workers: Option<u64>,
-    /// How many problems are searched at once: 1 to 16; none leaves it to the program.
+    /// The problems searched at once: 1 to 16; None leaves the choice to the program.
     pub at_once: Option<u64>,
-    /// How many entries a worker takes from a heap, or gives to one, at once: 1 to 64; none leaves it to the program.
+    /// The most entries that a worker takes from a heap, or gives to one, at once: 1 to 64; None leaves the
+    /// choice to the program.
     pub batch: Option<u64>,
-    /// How many heaps the queue has for each worker: 2 to 8.
+    /// The heaps for each worker: 2 to 8.
     pub heaps: u64,
-    /// How many turns a worker takes at most: 0 to 1,000,000,000.
+    /// The most turns of a worker: 0 to 1,000,000,000.
     pub turns: u64,
-    /// The seed of worker 0's random words; worker i's is greater by i, modulo 2^64.
+    /// The seed of worker 0's random words; worker i's is `seed + i`, modulo 2^64.
     pub seed: u64,
     /// The departure of the first source: 0 to HORIZON.
     pub depart: u64,
-    /// By how much the departure of each later source is greater: 0 to HORIZON.
+    /// The time by which each later source departs after the one before: 0 to HORIZON.
     pub gap: u64,
 }
 
 impl RunOptions {
-    /// How many workers statistics and rank errors are of: those that are asked for, else 4.
+    /// The workers that statistics and rank errors count: as asked for, else 4.
     pub fn counted_workers(&self) -> u64
         ensures { result ≡ counted_workers self.now }
     {
@@ -40,12 +41,13 @@ impl RunOptions {
     }
 }
 
-/// What words ask for. The names of files lie in the words.
+/// A command. The names of files are borrowed from the words.
 #[derive(Clone, Copy, Debug)]
 pub enum Command<'a> {
-    /// The run that is built in.
+    /// The built-in run.
     Stored,
-    /// Arrivals from the sources of the file `ss`. The report goes into the file `output`, where one is named.
+    /// Arrivals from the sources of the file `ss`. The report goes to the file `output`, if one is named,
+    /// else to standard output.
     Run {
         gr: &'a str,
         ss: &'a str,
@@ -77,7 +79,7 @@ pub enum Command<'a> {
         report: &'a str,
         options: RunOptions,
     },
-    /// What a fault means, by its number or name; which faults there are, where none is named.
+    /// What a fault means, by its number or name; the list of faults if none is named.
     Explain {
         fault: Option<&'a str>,
     },

@@ -1,4 +1,4 @@
-//! The numbers that options have.
+//! The numbers of options.
 ghost use Rattle.std.specs.Prelude.{◌≡◌, ◌≤◌, ◌<◌, ◌^◌, IfSome, Some, option_and_then, option_map};
 ghost use Rattle.clap.specs.Words.{found_of, rows_of, first_of};
 ghost use Rattle.ea_bytes.specs.Text.{number_of};
@@ -7,7 +7,7 @@ ghost use Rattle.ea_options.specs.Values.{chosen_of, number_in, option_of, is_gi
 use clap::ArgMatches;
 use ea_bytes::number;
 
-/// A number, where it is within its limits.
+/// A number, if it is within its limits.
 fn within_limits(low: u64, high: u64, value: u128) -> Option<u64>
     ensures value { result ≡ Rattle.ea_options.specs.Values.within_limits low high value }
     ensures limits { IfSome result (λ n. (low ≤ n) × (n ≤ high)) }
@@ -19,7 +19,7 @@ fn within_limits(low: u64, high: u64, value: u128) -> Option<u64>
     }
 }
 
-/// The number that a text is, where it is within its limits.
+/// The number in a text, if it is within its limits.
 pub(crate) fn number_of_text(low: u64, high: u64, text: &str) -> Option<u64>
     ensures value { result ≡ option_and_then (Rattle.ea_options.specs.Values.within_limits low high)
         (number_of text.now) }
@@ -28,7 +28,7 @@ pub(crate) fn number_of_text(low: u64, high: u64, text: &str) -> Option<u64>
     within_limits(low, high, number(text.as_bytes())?)
 }
 
-/// The number of a text, or the default where there is none.
+/// The number in a text, or the default if there is no text.
 fn number_or(default: u64, low: u64, high: u64, text: Option<&str>) -> Option<u64>
     requires default { (low ≤ default) × (default ≤ high) }
     ensures value { result ≡ number_in default low high (option_map (λ t. t.now) text.entry) }
@@ -40,7 +40,7 @@ fn number_or(default: u64, low: u64, high: u64, text: Option<&str>) -> Option<u6
     }
 }
 
-/// The number of a text that is there.
+/// The number in a text, if there is a text.
 fn number_if_given(low: u64, high: u64, text: Option<&str>) -> Option<Option<u64>>
     ensures value { result ≡ Rattle.ea_options.specs.Values.number_if_given low high
         (option_map (λ t. t.now) text.entry) }
@@ -55,14 +55,14 @@ fn number_if_given(low: u64, high: u64, text: Option<&str>) -> Option<Option<u64
     }
 }
 
-/// The text that an argument has.
+/// The text of an argument.
 pub(crate) fn text_of<'a>(matches: &ArgMatches<'a>, name: &str) -> Option<&'a str>
     ensures { option_map (λ t. t.now) result ≡ first_of name.now (rows_of (found_of matches.now)) }
 {
     matches.get_str(name)
 }
 
-/// The number that an option has.
+/// The number of an option.
 pub(crate) fn option_number(
     matches: &ArgMatches<'_>,
     name: &str,
@@ -77,7 +77,7 @@ pub(crate) fn option_number(
     number_or(default, low, high, matches.get_str(name))
 }
 
-/// The number that an option has which may be left to the program.
+/// The number of an optional option.
 pub(crate) fn chosen_number(
     matches: &ArgMatches<'_>,
     name: &str,
@@ -90,7 +90,7 @@ pub(crate) fn chosen_number(
     number_if_given(low, high, matches.get_str(name))
 }
 
-/// Whether a flag is there.
+/// Whether a flag is set.
 pub(crate) fn has_flag(matches: &ArgMatches<'_>, name: &str) -> bool
     ensures { result ≡ is_given name.now (rows_of (found_of matches.now)) }
 {

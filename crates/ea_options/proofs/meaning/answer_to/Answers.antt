@@ -8,7 +8,7 @@ use Rattle.ea_options.specs.Meaning.{Head, run_verb, pairs_verb, rank_verb, chec
 use Rattle.ea_options.specs.Refusals.{AsksAs, IsRefusedBy}
 use Rattle.ea_options.proofs.meaning.answer_to.Goals as goal
 
--- What is known for a head is known for a word that has it.
+-- What is known for a head is known for a word with that head.
 asked_as : (result : Result Command CommandFault) (words : List Text) (head named : Head) → head ≡ named → IfOk result (AsksAs named words) → IfOk result (AsksAs head words)
 asked_as result words head named is = subst (λ (h : Head). IfOk result (AsksAs h words)) (sym is)
 
