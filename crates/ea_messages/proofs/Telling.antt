@@ -1,4 +1,4 @@
--- Lines that went out.
+-- Lines that were sent.
 use Rattle.std.proofs.Common.{◌≡◌, ℕ, ◌+◌, ◌-◌, ◌^◌, ◌≤◌, List, length, sym, arith, subst, inl, inr}
 use Rattle.std.specs.Prelude.{Result, Ok, Err, IfOk, IfErr}
 use Rattle.std.specs.Io.KnownBytes.{Appends}
@@ -14,7 +14,7 @@ gone : (first now : Seen) → GivesUp first now → now.failed ≤ first.failed 
 gone first now (inl h) few below calm fits = omega (arith, h.0)
 gone first now (inr h) few below calm fits = elim h.2 [ inl e ↦ omega (arith, e) | inr e ↦ omega (arith, e) ]
 
--- A device that gave up counted one failure, or the first interruption that isn't borne.
+-- A device that gave up counted one failure, or one interruption too many.
 counted : (first now : Seen) → GivesUp first now → (now.failed ≤ first.failed + 1) × (now.interrupted ≤ first.interrupted + 1001)
 counted first now (inl h) = (omega (arith, h.0), omega (arith, h.1))
 counted first now (inr h) = (omega (arith, h.0), omega (arith, h.1))

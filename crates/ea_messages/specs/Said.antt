@@ -1,4 +1,4 @@
--- The lines by which the program tells outcomes, and its statuses.
+-- The lines for outcomes, and the exit statuses.
 use Rattle.std.specs.Prelude.{ℕ, ◌+◌, ◌-◌, ◌^◌, ◌≤◌, true, List, [], ◌∷◌, Option, Some, None, codes, decimal, if◌then◌else◌}
 use Rattle.std.specs.List.{flat_map}
 use Rattle.std.specs.Io.KnownBytes.{Appends}
@@ -22,7 +22,7 @@ use Rattle.ea_load.specs.declared.answer_fault.AnswerFault.TheVariants.{Read, In
 use Rattle.ea_messages.specs.declared.outcome_lines.Outcome.{Outcome}
 use Rattle.ea_messages.specs.declared.outcome_lines.Outcome.TheVariants.{Command, Unopened, Answer, Accepted, Check}
 
--- Parts of a line, put together.
+-- Parts of a line, joined.
 abbrev pub joined : List (List ℕ) → List ℕ
 joined parts = flat_map (λ part. part) parts
 
@@ -46,7 +46,7 @@ written_line written = joined (codes "earliest: 12 WriteFailed after " ∷ decim
 abbrev pub check_line : List ℕ → ℕ → List ℕ
 check_line verdict line = joined (codes "earliest: check " ∷ verdict ∷ codes " line " ∷ decimal line ∷ codes "\n" ∷ [])
 
--- Want of memory has this line, wherever it came.
+-- The line for refused memory, wherever it happened.
 abbrev pub memory_line : List ℕ
 memory_line = plain_line (codes "13 OutOfMemory")
 
@@ -61,7 +61,7 @@ abbrev pub input_line : FileWord → ℕ → FaultKind → List ℕ
 input_line file line kind.OutOfMemory = memory_line
 input_line file line found = text_line (file_word file) line (kind_number found) (kind_name found)
 
--- The line of a command that wasn't understood: for words the text that explains them.
+-- The line of a command that wasn't understood; for `Words`, their text.
 abbrev pub command_line : CommandFault → List ℕ
 command_line (command.Words help text) = text.bytes.items
 command_line command.BadOption = plain_line (codes "14 BadOption")
@@ -90,7 +90,7 @@ line_of (Answer fault) = answer_line fault
 line_of Accepted = codes "ok\n"
 line_of (Check fault) = refused_line fault
 
--- The text that was asked for, where there is no fault to tell.
+-- The text that was asked for, if the outcome is no fault.
 abbrev pub asked_text : Outcome → Option (List ℕ)
 asked_text (Command (command.Words true text)) = Some text.bytes.items
 asked_text Accepted = Some (codes "ok\n")
@@ -132,8 +132,8 @@ status_of (Check fault) = refused_status fault
 
 -- ---- what went out
 
--- A front of a line went out, and nothing was sent after a failure or the 1,001st interruption; and all of it went out where no
--- call failed, at most 1,000 were interrupted, and neither count is at its end.
+-- The first bytes of a line were sent, and nothing after a failure or the 1,001st interruption. All of it was
+-- sent if no call failed, at most 1,000 were interrupted, and neither count is at its end.
 pub record IsSaid (line : List ℕ) (first now : Seen) : Type 0 where
   pub sent : ℕ
   pub front : IsCutAt first.bytes now.bytes line sent
@@ -141,11 +141,11 @@ pub record IsSaid (line : List ℕ) (first now : Seen) : Type 0 where
   pub few_interruptions : now.interrupted ≤ first.interrupted + (MOST_INTERRUPTIONS + 1)
   pub whole : now.failed ≤ first.failed → now.failed + 1 ≤ 2 ^ 64 - 1 → now.interrupted ≤ first.interrupted + MOST_INTERRUPTIONS → now.interrupted + 1 ≤ 2 ^ 64 - 1 → Appends first.bytes now.bytes line
 
--- A text went out whole: no call failed, and the interruptions were borne.
+-- A text was sent whole: no call failed, and at most 1,000 were interrupted.
 abbrev pub IsShown : List ℕ → Seen → Seen → Type 0
 IsShown text first now = Appends first.bytes now.bytes text × BearsOn first now
 
--- Just a front of it went out, as long as the fault tells, and the device gave up.
+-- Only its first bytes were sent, as many as the fault says, and the device gave up.
 abbrev pub IsUnshown : List ℕ → Seen → Seen → AnswerFault → Type 0
 IsUnshown text first now (Write written) = IsCutAt first.bytes now.bytes text written × GivesUp first now
 IsUnshown text first now _ = ⊥

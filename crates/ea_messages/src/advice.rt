@@ -1,6 +1,6 @@
-//! What a file looks like by its first bytes.
+//! Guessing the kind of a file by its first bytes.
 
-/// What a file may be in place of plain text with line feeds.
+/// What a file may be other than plain text with line feeds.
 #[derive(Clone, Copy, Debug, PartialEq, Eq)]
 pub enum Look {
     /// Compressed by gzip.
@@ -33,7 +33,7 @@ impl Look {
     }
 }
 
-/// What a text looks like by the bytes at its front; none where it may be plain text.
+/// What a text seems to be by its first bytes; none if it may be plain text.
 pub fn look_of(front: &[u8]) -> Option<Look> {
     if front.starts_with(&[0x1f, 0x8b]) {
         Some(Look::Gzip)

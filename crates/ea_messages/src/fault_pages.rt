@@ -1,13 +1,13 @@
 //! A paragraph on each fault.
 
-/// A fault, as `earliest explain` tells it.
+/// A fault, as `earliest explain` shows it.
 #[derive(Clone, Copy, Debug)]
 pub struct Fault {
     /// The number in its line.
     pub number: &'static str,
     /// The name in its line.
     pub name: &'static str,
-    /// What it means in a line.
+    /// What it means, in one line.
     pub meaning: &'static str,
     /// Its usual causes, and an example before and after.
     pub more: &'static str,
@@ -131,8 +131,8 @@ pub const FAULTS: [Fault; 19] = [
     },
 ];
 
-/// The fault of a number or a name, in letters of either case. A number is that of a file's fault or the program's; `check 3`
-/// is the number of one that `check` tells.
+/// The fault with a number or a name, in either case of letters. A number is that of a file's fault or of the
+/// program's; `check 3` is the number of a fault that `check` finds.
 pub fn fault_named(word: &str) -> Option<Fault> {
     for fault in &FAULTS {
         if word == fault.number || word.eq_ignore_ascii_case(fault.name) {

@@ -1,4 +1,4 @@
-//! What a line of a file has to be, told by the line that is at fault.
+//! The required form of a line, given the line at fault.
 use ea_blocks::FaultKind;
 use ea_bytes::first_field;
 use ea_load::FileWord;
@@ -52,7 +52,7 @@ const TP_UNDUE: &str =
 const TP_LINES: &str =
     "a file of timetables (.tp) has a line `p tp K T`, then lines `k J KIND ..`, `t E J` and `v T X`; comments begin with c";
 
-/// What lines a file has.
+/// The lines that a file has.
 fn lines_of(file: FileWord) -> &'static str {
     match file {
         FileWord::Gr => GR_LINES,
@@ -63,7 +63,7 @@ fn lines_of(file: FileWord) -> &'static str {
     }
 }
 
-/// What the problem line of a file is.
+/// The problem line of a file.
 fn problem_of(file: FileWord) -> &'static str {
     match file {
         FileWord::Gr => GR_PROBLEM,
@@ -74,7 +74,7 @@ fn problem_of(file: FileWord) -> &'static str {
     }
 }
 
-/// What a line of a file is whose first field is one letter.
+/// The form of a line whose first field is one letter.
 fn shape_of(file: FileWord, letter: u8) -> &'static str {
     match letter {
         b'p' => problem_of(file),
@@ -89,7 +89,7 @@ fn shape_of(file: FileWord, letter: u8) -> &'static str {
     }
 }
 
-/// What a line has to be by its first field.
+/// The form of a line, by its first field.
 fn shape_of_line(file: FileWord, line: &[u8]) -> &'static str {
     match first_field(line) {
         Some(([letter], _)) => shape_of(file, *letter),
@@ -97,7 +97,7 @@ fn shape_of_line(file: FileWord, line: &[u8]) -> &'static str {
     }
 }
 
-/// Which file a problem line belongs to, where its words tell one.
+/// The file to which a problem line belongs, if its words say.
 fn file_of_problem(line: &[u8]) -> Option<FileWord> {
     let (_, rest) = first_field(line)?;
     let (kind, rest) = first_field(rest)?;
@@ -118,7 +118,7 @@ fn file_of_problem(line: &[u8]) -> Option<FileWord> {
     }
 }
 
-/// What is said of a kind word that isn't the one asked.
+/// What is said of a kind word other than the required one.
 fn kind_wanted(file: FileWord, line: &[u8]) -> &'static str {
     match file_of_problem(line) {
         Some(FileWord::Gr) =>
@@ -133,7 +133,8 @@ fn kind_wanted(file: FileWord, line: &[u8]) -> &'static str {
     }
 }
 
-/// What was wanted in place of a line at fault, or in place of the whole text where the line is 0 and empty.
+/// What was required in place of a line at fault; if the line is number 0 and empty, in place of the whole
+/// text.
 pub fn wanted_of_line(file: FileWord, kind: FaultKind, line: &[u8]) -> &'static str {
     match kind {
         FaultKind::NoProblemLine => problem_of(file),

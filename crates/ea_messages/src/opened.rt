@@ -1,8 +1,8 @@
 //! The files of a command.
 use ea_bytes::ByteIn;
 
-/// The files that a command names, opened: the network, where searches start, the timetables where they are named, and the
-/// report that is to be checked.
+/// The files that a command names, opened: the network, the starts of searches, the timetables if they are
+/// named, and the report to check.
 #[derive(Drop)]
 pub struct Opened<R: ByteIn> {
     pub gr: R,

@@ -1,4 +1,4 @@
-//! Outcomes, told in one line and a status.
+//! Outcomes as a line and an exit status.
 ghost use Rattle.std.specs.Prelude.{◌≡◌, ◌≤◌, IfOk, IfErr, length, option_map};
 ghost use Rattle.std.specs.List.{flat_map};
 ghost use Rattle.ea_messages.specs.Said;
@@ -12,10 +12,10 @@ use ea_options::CommandFault;
 use ea_report::write_pieces;
 use itoa::Buffer;
 
-/// What the program has to tell beside a report.
+/// An outcome that the program reports beside a report.
 #[derive(Drop)]
 pub enum Outcome {
-    /// The words ask for nothing.
+    /// The words are refused.
     Command(CommandFault),
     /// A file can't be opened.
     Unopened(FileWord),
@@ -118,7 +118,7 @@ fn put_verdict<W: ByteOut>(verdict: &str, line: u64, out: &mut W)
     put(pieces.as_slice(), out);
 }
 
-/// Tells why words ask for nothing.
+/// Says why words are refused.
 fn say_command<W: ByteOut>(fault: &CommandFault, out: &mut W) -> u8
     ensures status { result ≡ command_status fault.now }
     ensures line { IsSaid (command_line fault.now) (W.seen out.old)
@@ -141,7 +141,7 @@ fn say_command<W: ByteOut>(fault: &CommandFault, out: &mut W) -> u8
     }
 }
 
-/// Tells why a file wasn't read.
+/// Says why a file wasn't read.
 fn say_read<W: ByteOut>(file: FileWord, fault: ReadFault, out: &mut W) -> u8
     ensures status { result ≡ read_status fault }
     ensures line { IsSaid (read_line file fault) (W.seen out.old)
@@ -163,7 +163,7 @@ fn say_read<W: ByteOut>(file: FileWord, fault: ReadFault, out: &mut W) -> u8
     }
 }
 
-/// Tells the fault of a file's text.
+/// Says the fault of a file's text.
 fn say_input<W: ByteOut>(file: FileWord, fault: InputFault, out: &mut W) -> u8
     ensures status { result ≡ input_status fault.kind }
     ensures line { IsSaid (input_line file fault.line fault.kind) (W.seen out.old)
@@ -179,7 +179,7 @@ fn say_input<W: ByteOut>(file: FileWord, fault: InputFault, out: &mut W) -> u8
     }
 }
 
-/// Tells why a report is not whole.
+/// Says why a report is not whole.
 fn say_answer<W: ByteOut>(fault: AnswerFault, out: &mut W) -> u8
     ensures status { result ≡ answer_status fault }
     ensures line { IsSaid (answer_line fault) (W.seen out.old)
@@ -203,7 +203,7 @@ fn say_answer<W: ByteOut>(fault: AnswerFault, out: &mut W) -> u8
     }
 }
 
-/// Tells why a report is refused.
+/// Says why a report is refused.
 fn say_check<W: ByteOut>(fault: CheckFault, out: &mut W) -> u8
     ensures status { result ≡ refused_status fault }
     ensures line { IsSaid (refused_line fault) (W.seen out.old)
@@ -223,7 +223,8 @@ fn say_check<W: ByteOut>(fault: CheckFault, out: &mut W) -> u8
 }
 
 impl Outcome {
-    /// The text that was asked for: `ok`, or what clap shows for `--help` and its like. None where there is a fault to tell.
+    /// The text that was asked for: `ok`, or clap's text for `--help` and the like. None if the outcome is a
+    /// fault.
     pub fn asked_text(&self) -> Option<&str>
         ensures { option_map (λ text. text.now) result ≡ asked_text self.now }
     {
@@ -235,10 +236,10 @@ impl Outcome {
     }
 }
 
-/// Writes a text that was asked for, with no memory.
+/// Writes a text that was asked for, without taking memory.
 ///
-/// Errors: `Write` where a write failed, took nothing of bytes that were left, or was interrupted for the 1,001st time; so
-/// many bytes of the text went out, its front.
+/// Fails with `Write` if a write failed, took none of the bytes left, or was interrupted for the 1,001st
+/// time. The fault has the number of bytes written, the first of the text.
 pub fn show<W: ByteOut>(text: &str, out: &mut W) -> Result<(), AnswerFault>
     ensures ok { IfOk result (λ done. IsShown text.now (W.seen out.old) (W.seen out.new)) }
     ensures err { IfErr result (IsUnshown text.now (W.seen out.old) (W.seen out.new)) }
@@ -252,9 +253,9 @@ pub fn show<W: ByteOut>(text: &str, out: &mut W) -> Result<(), AnswerFault>
     }
 }
 
-/// Tells an outcome in its line, as far as the device takes it, and answers the status of the program: 0 where all is well
-/// or help was asked for, 1 where a file's text is at fault, 2 where the words are, 3 for want of memory, 4 where a file or
-/// the output is at fault, 5 where a report is refused. It takes no memory.
+/// Writes the line of an outcome, as far as the device takes it, without taking memory. Returns the exit
+/// status: 0 for success or help, 1 if a file's text is at fault, 2 for the words, 3 if memory was refused, 4
+/// if a file or the output failed, 5 if a report is refused.
 pub fn say<W: ByteOut>(outcome: &Outcome, out: &mut W) -> u8
     ensures status { result ≡ status_of outcome.now }
     ensures line { IsSaid (line_of outcome.now) (W.seen out.old)
