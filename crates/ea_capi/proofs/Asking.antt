@@ -1,4 +1,4 @@
--- Sources of a road make a problem on it.
+-- A road's sources make a problem on it.
 use Rattle.std.proofs.Common.{◌≡◌, ℕ, ◌≤◌, List, refl, sym, subst}
 use Rattle.std.specs.Prelude.{Option, Some, None}
 use Rattle.std.proofs.lemmas.Option.{none-some}

@@ -1,4 +1,4 @@
--- A search begun.
+-- A new search.
 use Rattle.std.proofs.Common.{◌≡◌, ℕ, Bool, refl, sym, subst, inl, inr}
 use Rattle.std.specs.Prelude.{Option, Some, None}
 use Rattle.ea_load.specs.declared.road.Road.{Road}

@@ -1,4 +1,4 @@
--- What a report comes to, of problems.
+-- The verdict on a report of problems.
 use Rattle.std.proofs.Common.{◌≡◌, ◌<◌, ℕ, List, length, subst}
 use Rattle.std.specs.Prelude.{All}
 use Rattle.ea_road.specs.Queries.{Asking}

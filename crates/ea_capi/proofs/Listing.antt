@@ -1,4 +1,4 @@
--- Roads of lists: what a text of timetables is fit for, and faults that are told on.
+-- Roads from lists: which timetables fit, and passing faults on.
 use Rattle.std.proofs.Common.{◌≡◌, ◌∙◌, ℕ, List, ap, length, sym, subst}
 use Rattle.std.specs.Prelude.{Option, Some, None, Result, Ok, Err, IfErr}
 use Rattle.ea_input.specs.Table.{Table}

@@ -1,4 +1,4 @@
--- A query, from what the search says to what the handle holds.
+-- A query, from the search's contract to the handle's content.
 use Rattle.std.proofs.Common.{◌≡◌, ℕ, refl, ap, sym, subst}
 use Rattle.std.specs.Prelude.{◌≢◌, Option, Some}
 use Rattle.ea_road.specs.Queries.{Asking}

@@ -1,4 +1,4 @@
--- Labels written place by place, and who is asked.
+-- Labels written place by place, and the asked node.
 use Rattle.std.proofs.Common.{◌≡◌, ◌≢◌, ℕ, zero, suc, ◌+◌, ◌-◌, ◌<◌, ◌≤◌, List, length, get_or, slice_set, refl, ap, sym, ◌∙◌, subst, arith, inl, inr}
 use Rattle.std.specs.Prelude.{Option, Some, None, slice_index}
 use Rattle.ea_road.specs.Labels.{time_of}

@@ -1,4 +1,4 @@
--- Faults as callers are told of them.
+-- Faults as callers see them.
 use Rattle.std.specs.Prelude.{ℕ}
 use Rattle.ea_blocks.specs.FaultNames.{kind_number}
 use Rattle.ea_load.specs.declared.file_fault.FileWord.{FileWord}
@@ -16,7 +16,7 @@ text_number P2p = 0
 text_number Report = 0
 text_number Out = 0
 
--- Line and kind of a text's fault.
+-- The line and kind of a text's fault.
 abbrev pub told : FileFault → Fault
 told (Input file fault) = record { line = fault.line; number = kind_number fault.kind; text = text_number file }
 told (Read file fault) = record { line = 0; number = 11; text = 0 }

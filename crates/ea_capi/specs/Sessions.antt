@@ -1,4 +1,4 @@
--- Searches as callers see them: what a query asks, what it is answered, and why it is refused.
+-- Searches as callers see them: queries, answers and refusals.
 use Rattle.std.specs.Prelude.{◌≡◌, ◌≢◌, ℕ, ◌<◌, ◌≤◌, true, List, [], ◌∷◌, length, Option, Some, None}
 use Rattle.std.specs.List.{IsAmong}
 use Rattle.ea_base.specs.declared.limits.TheConstants.{HORIZON}
@@ -12,11 +12,11 @@ use Rattle.ea_load.specs.declared.road.Road.{Road}
 use Rattle.ea_capi.specs.declared.handle.content.Session.{Session}
 use Rattle.ea_capi.specs.States.{road_of}
 
--- When an arc of the road arrives.
+-- The arrival by an arc of the road.
 abbrev pub answers_on : Road → ℕ → ℕ → ℕ → ℕ → Type 0
 answers_on road = TimetablesAnswer road.times.list.items (steps_in road.times.steps)
 
--- A source among so many nodes: one of these, and a departure within the horizon.
+-- A source for this number of nodes: one of these, with a departure within the horizon.
 pub record IsStart (nodes : ℕ) (source : Source) : Type 0 where
   pub node : IsNode nodes source.node
   pub departure : source.departure ≤ HORIZON
@@ -27,12 +27,12 @@ starts [] departures = []
 starts (node ∷ nodes) [] = []
 starts (node ∷ nodes) (departure ∷ departures) = record { node = node; departure = departure } ∷ starts nodes departures
 
--- The search has the answer of a query on its road, and where it has room for walks the canonical ones.
+-- The search has the answer of a query on its road, with canonical walks if it has room for walks.
 pub record IsAnswered (query : Asking) (session : Session) : Type 0 where
   pub arrivals : HasArrivals (road_of session).network (answers_on (road_of session)) query session.search.answer
   pub walks : session.walks ≡ true → IsAnswer (road_of session).network (answers_on (road_of session)) query session.search.answer
 
--- A search is of the same road and room.
+-- The road and the room are unchanged.
 pub record IsSame (old new : Session) : Type 0 where
   pub road : road_of new ≡ road_of old
   pub walks : new.walks ≡ old.walks

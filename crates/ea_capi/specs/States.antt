@@ -1,4 +1,4 @@
--- What callers see of a handle: the road that it holds, or the search.
+-- The content of a handle, as callers see it: a road or a search.
 use Rattle.std.specs.Prelude.{ℕ, Option, Some, None}
 use Rattle.std.specs.Arc.{arc_value}
 use Rattle.ea_load.specs.declared.road.Road.{Road}
@@ -20,6 +20,6 @@ session_in (Some (content.Road terrain)) = None
 session_in (Some (content.Search session)) = Some session
 session_in (Some content.Away) = None
 
--- The road on which a search searches.
+-- The road of a search.
 abbrev pub road_of : Session → Road
 road_of session = (arc_value session.terrain).road

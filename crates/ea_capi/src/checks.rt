@@ -14,19 +14,19 @@ use ea_load::{Road, departures_fit, run_queries};
 use ea_road::Query;
 use std::alloc::Global;
 
-/// When the searches of a report start.
+/// The departures of a report's searches.
 #[repr(C)]
 #[derive(Clone, Copy, Debug, PartialEq, Eq)]
 pub struct Starts {
-    /// When the first node departs.
+    /// The departure from the first node.
     pub depart: u64,
-    /// By how much each next one departs later.
+    /// How much later each next node departs.
     pub gap: u64,
-    /// 0 where each node is a problem of its own; else all are one.
+    /// 0 if each node is a separate problem; else all are one.
     pub joint: u32,
 }
 
-/// A fault of a report as callers are told of it: 30 and its number, and 13 for want of memory.
+/// A report's fault as callers see it: 30 plus its number, or 13 if memory was refused.
 fn tell_of_check(fault: CheckFault) -> Fault
     ensures { result ≡ told_of_check fault }
 {
@@ -59,7 +59,7 @@ fn tell_of_check(fault: CheckFault) -> Fault
     }
 }
 
-/// A refusal with no text's fault.
+/// A refusal without a text's fault.
 pub(crate) fn refusal(number: u32) -> Fault
     ensures { result ≡ refused_by number }
 {
@@ -70,7 +70,7 @@ pub(crate) fn refusal(number: u32) -> Fault
     }
 }
 
-/// What a checked report comes to.
+/// The verdict on a report.
 fn verdict(alloc: Global, road: &Road, queries: &[Query], report: &[u8]) -> Fault
     requires { AreCheckable road.now.network (length road.now.times.list.items) queries.now }
     ensures { IsVerdict road.now (sources_of queries.now) (lines_of_report report.now) result }
@@ -81,7 +81,7 @@ fn verdict(alloc: Global, road: &Road, queries: &[Query], report: &[u8]) -> Faul
     }
 }
 
-/// What a report of queries on a road comes to, where they are queries on it.
+/// The verdict on a report of queries, if they are queries on the road.
 fn judge(alloc: Global, road: &Road, queries: &[Query], report: &[u8]) -> Fault
     ensures { IsJudged road.now queries.now (lines_of_report report.now) result }
 {
@@ -91,14 +91,15 @@ fn judge(alloc: Global, road: &Road, queries: &[Query], report: &[u8]) -> Fault
     verdict(alloc, road, queries, report)
 }
 
-/// Whether numbers are from 1 on.
+/// Whether all numbers are at least 1.
 fn are_numbered(nodes: &[u32]) -> bool
     ensures { IsTrue result ↔ All (λ node. 0 < node) nodes.now }
 {
     nodes.iter().all(|node| *node > 0)
 }
 
-/// What a report comes to, of problems from nodes that depart one after the other, where these are problems on the road.
+/// The verdict on a report of problems from nodes that depart one after another, if these are problems on the
+/// road.
 fn judge_run(alloc: Global, road: &Road, nodes: &[u32], starts: &Starts, report: &[u8]) -> Fault
     ensures { IsAnswerTo road.now starts.now nodes.now (lines_of_report report.now) result }
 {
@@ -115,7 +116,7 @@ fn judge_run(alloc: Global, road: &Road, nodes: &[u32], starts: &Starts, report:
     }
 }
 
-/// What a report comes to by a content's road.
+/// The verdict on a report, by the road of a handle's content.
 fn judge_on(
     alloc: Global,
     content: &Content,
@@ -132,9 +133,9 @@ fn judge_on(
     }
 }
 
-/// Checks a report on a road, of searches from these nodes that depart as `starts` says.
+/// Checks a report of searches from these nodes on a road, which depart as `starts` says.
 ///
-/// The number is 0 where the report is right. Where it isn't, `fault` tells the line of its first fault, and the number is 31
+/// Returns 0 if the report is right. Otherwise `fault` gets the line of its first fault, and the number is 31
 /// BadLine, 32 NotAttained, 33 NotLeast or 35 NotCanonical.
 #[unsafe(no_mangle)]
 pub extern "C" fn earliest_check(

@@ -1,14 +1,14 @@
-//! The numbers by which calls refuse: those of the program where they fit, and the library's own above.
+//! The numbers of refusals: the program's where they fit, and the library's above.
 ghost use Rattle.std.specs.Prelude.{◌≡◌};
 ghost use Rattle.ea_capi.specs.Faults.{told};
 
 use ea_load::{FileFault, FileWord};
 
-/// It is done.
+/// The call succeeded.
 pub const DONE: u32 = 0;
 /// A number is out of its range.
 pub const OUT_OF_RANGE: u32 = 6;
-/// A text couldn't be read, which no text in memory comes to.
+/// A text couldn't be read. Never for a text in memory.
 pub const READ_FAILED: u32 = 11;
 /// Memory was refused.
 pub const OUT_OF_MEMORY: u32 = 13;
@@ -20,7 +20,7 @@ pub const NO_SEARCH: u32 = 17;
 pub const NO_SUCH_NODE: u32 = 18;
 /// A departure is beyond the horizon.
 pub const BEYOND_HORIZON: u32 = 19;
-/// The last query asked for another node alone.
+/// The last query asked for another node only.
 pub const NOT_ASKED: u32 = 20;
 /// The search has no room for walks.
 pub const NO_WALKS: u32 = 21;
@@ -31,19 +31,19 @@ pub const LENGTHS_DIFFER: u32 = 23;
 /// There is no room for the result.
 pub const ROOM_TOO_SMALL: u32 = 24;
 
-/// What is wrong with a text that a caller passed.
+/// The fault of a text that a caller passed.
 #[repr(C)]
 #[derive(Clone, Copy, Debug, PartialEq, Eq)]
 pub struct Fault {
     /// The line, from 1; 0 for a fault of the whole text.
     pub line: u64,
-    /// The refusal's number, 0 where there is no fault.
+    /// The refusal's number, 0 if there is no fault.
     pub number: u32,
-    /// Which text: 1 the network, 2 the timetables, 3 the report; 0 none.
+    /// The text: 1 the network, 2 the timetables, 3 the report; 0 none.
     pub text: u32,
 }
 
-/// A fault as callers are told of it.
+/// A fault as callers see it.
 pub(crate) fn tell(fault: FileFault) -> Fault
     ensures { result ≡ told fault }
 {

@@ -1,4 +1,4 @@
-//! Roads of C: made of texts or of lists, counted, given back.
+//! Roads of C: made from texts or lists, counted, freed.
 
 pub mod arc_lists;
 pub mod roads;

@@ -1,4 +1,4 @@
-//! Searches of C: begun, asked, and their answers.
+//! Searches of C: made, queried, and their answers.
 
 pub mod arrivals;
 pub mod begin;

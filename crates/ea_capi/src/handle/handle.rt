@@ -77,7 +77,7 @@ impl Handle {
         }
     }
 
-    /// What the handle holds, and the box in which it was; the handle holds nothing then.
+    /// Takes the content of the handle and its box; the handle is empty then.
     pub fn empty_out(&mut self, alloc: Global) -> Option<(Box<Content, Global>, Content)>
         ensures old { MatchOption result (self.old.value ≡ None)
             (λ it. self.old.value ≡ Some it.1) }
@@ -90,7 +90,7 @@ impl Handle {
         Some((room, content))
     }
 
-    /// Puts something into a box and that into the handle.
+    /// Puts a content into a box, and the box into the handle.
     pub fn fill(&mut self, room: Box<Content, Global>, content: Content)
         ensures { self.new.value ≡ Some content }
     {

@@ -1,4 +1,4 @@
-//! Roads of lists that a caller has.
+//! Roads from a caller's lists.
 ghost use Rattle.std.specs.Prelude.{◌≡◌, ◌↔◌, ◌≤◌, IfErr, IfOk, IsTrue, length};
 ghost use Rattle.ea_input.specs.TableViews.{table as table_of};
 ghost use Rattle.ea_road.specs.Roads.{IsNetwork, top_class};
@@ -22,7 +22,7 @@ use ea_road::{Arc, Network};
 use ea_travel_times::Timetables;
 use std::alloc::{AllocError, Global};
 
-/// The lists of a network's arcs: of each its tail, its head and its weight, and its class, which is 0 where the list is empty.
+/// The lists of a network's arcs: tails, heads, weights, and classes, which are all 0 if their list is empty.
 #[derive(Clone, Copy)]
 pub struct Lists<'a> {
     pub tails: &'a [u32],
@@ -63,8 +63,8 @@ fn arcs_in(alloc: Global, lists: Lists<'_>) -> Result<Vec<Arc>, AllocError>
     Ok(arcs)
 }
 
-/// The line of a text with these nodes and arcs that makes no network: that of its problem, or of the first arc whose ends
-/// aren't nodes.
+/// The line of the fault in a text of these nodes and arcs, which make no network: the problem line, or that
+/// of the first arc with an end that is no node.
 fn unfit_line(nodes: u32, arcs: &[Arc]) -> u64 {
     if !Network::fits(nodes, &[]) || arcs.len() > MOST_ARCS as usize {
         return 1;
@@ -77,7 +77,7 @@ fn unfit_line(nodes: u32, arcs: &[Arc]) -> u64 {
     1
 }
 
-/// The fault of a text of timetables as that of its file.
+/// The fault of a text of timetables as its file's.
 fn fault_of(fault: InputFault) -> FileFault
     ensures { IsFaultAs Tp fault result }
 {
@@ -91,7 +91,7 @@ fn fault_of(fault: InputFault) -> FileFault
     }
 }
 
-/// The timetables of a text that assigns no classes; none of an empty one.
+/// The timetables of a text that assigns no classes; an empty text has none.
 fn table_in(alloc: Global, tp: &[u8]) -> Result<RawTable, FileFault>
     ensures denoted { IfOk result (λ found. IsTableOf 0 (text_if_any tp.now) (table_of found)) }
     ensures fault { IfErr result (IsTableFault 0 tp.now) }
@@ -181,11 +181,13 @@ fn road_of(alloc: Global, nodes: u32, lists: Lists<'_>, tp: &[u8]) -> Result<Roa
     road_with(alloc, nodes, arcs, tp)
 }
 
-/// Makes the road of lists: of so many nodes, and of arcs with these tails, heads, weights and classes, where an empty list
-/// of classes makes all 0, the plain one; and of the text of timetables, which has kinds and assigns none.
+/// Makes the road of lists and a text of timetables: this many nodes, and arcs with these tails, heads,
+/// weights and classes. If the list of classes is empty, all are 0, the plain class. The text has kinds and
+/// assigns none.
 ///
-/// The handle holds the road afterwards; what it held before is let go. Else it is as it was, the number is that of the
-/// fault, and `fault` tells the line that a text of the same network would have it in.
+/// The handle holds the road afterwards; its earlier content is freed. On a refusal the handle is unchanged,
+/// the fault's number is returned, and `fault` gets the line at which a text of the same network would have
+/// it.
 #[unsafe(no_mangle)]
 pub extern "C" fn earliest_road_of_lists(
     alloc: Global,

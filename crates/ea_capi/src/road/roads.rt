@@ -1,4 +1,4 @@
-//! Roads: made of texts, counted, let go.
+//! Roads: made from texts, counted, freed.
 ghost use Rattle.std.specs.Prelude.{◌≡◌, ◌≤◌, ℕ, length, None, MatchOption, IfOk, Some};
 ghost use Rattle.ea_road.specs.Roads.{top_class};
 ghost use Rattle.ea_capi.specs.Roads.{IsKept, IsRead};
@@ -11,7 +11,7 @@ use ea_load::{Road, road_of_texts};
 use std::alloc::{AllocError, Global};
 use std::sync::Arc;
 
-/// A road in a box of its own.
+/// Puts a road into a new box.
 fn boxed(alloc: Global, road: Road) -> Result<Box<Content, Global>, AllocError>
     requires { top_class road.network.arcs ≤ length road.times.list.items }
     ensures { IfOk result (λ it. road_in (Some it.value) ≡ Some road) }
@@ -34,10 +34,10 @@ pub(crate) fn keep(alloc: Global, road: Road, handle: &mut Handle) -> u32
     }
 }
 
-/// Makes the road of the text of a network and of that of its timetables; an empty text of timetables is none.
+/// Makes the road of a network's text and of its timetables' text; an empty text has no timetables.
 ///
-/// The handle holds the road afterwards; what it held before is let go. Where the texts have a fault, or memory is
-/// refused, it is as it was, the number is the fault's, and `fault` tells its text and its line.
+/// The handle holds the road afterwards; its earlier content is freed. If the texts have a fault, or memory
+/// is refused, the handle is unchanged, the fault's number is returned, and `fault` gets its text and line.
 #[unsafe(no_mangle)]
 pub extern "C" fn earliest_road_read(
     alloc: Global,
@@ -65,7 +65,7 @@ pub extern "C" fn earliest_road_read(
     }
 }
 
-/// How many nodes a content's road has.
+/// The number of nodes of a content's road.
 fn nodes_of(content: &Content) -> u32
     ensures { MatchOption (road_in (Some content.now)) (result ≡ 0)
         (λ road. result ≡ road.network.nodes) }
@@ -76,7 +76,7 @@ fn nodes_of(content: &Content) -> u32
     }
 }
 
-/// How many arcs a content's road has.
+/// The number of arcs of a content's road.
 fn arcs_of(content: &Content) -> u32
     ensures { MatchOption (road_in (Some content.now)) (result ≡ 0)
         (λ road. result ≡ length road.network.arcs) }
@@ -87,7 +87,7 @@ fn arcs_of(content: &Content) -> u32
     }
 }
 
-/// The number of a road's nodes; 0 where the handle holds no road.
+/// The number of a road's nodes; 0 if the handle holds no road.
 #[unsafe(no_mangle)]
 pub extern "C" fn earliest_road_nodes(alloc: Global, road: &mut Handle) -> u32
     ensures same { road.new.value ≡ road.old.value }
@@ -102,7 +102,7 @@ pub extern "C" fn earliest_road_nodes(alloc: Global, road: &mut Handle) -> u32
     nodes
 }
 
-/// The number of a road's arcs; 0 where the handle holds no road.
+/// The number of a road's arcs; 0 if the handle holds no road.
 #[unsafe(no_mangle)]
 pub extern "C" fn earliest_road_arcs(alloc: Global, road: &mut Handle) -> u32
     ensures same { road.new.value ≡ road.old.value }
@@ -117,7 +117,7 @@ pub extern "C" fn earliest_road_arcs(alloc: Global, road: &mut Handle) -> u32
     arcs
 }
 
-/// Lets a road go: the handle holds nothing afterwards. The searches that were made on the road keep their shares of it.
+/// Frees the handle's share of a road and empties the handle. The road stays while searches on it do.
 #[unsafe(no_mangle)]
 pub extern "C" fn earliest_road_free(alloc: Global, road: &mut Handle)
     ensures { road.new.value ≡ None }

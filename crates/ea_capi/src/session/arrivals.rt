@@ -1,4 +1,4 @@
-//! What searches tell of their answers.
+//! The arrivals in searches' answers.
 ghost use Rattle.std.specs.Prelude.{◌≡◌, ◌≢◌, ◌≤◌, ◌<◌, ◌-◌, ℕ, IfOk, IfErr, None, Some, true, IsTrue, length, slice_index};
 ghost use Rattle.ea_road.specs.Labels.{time_of};
 ghost use Rattle.ea_road.specs.Roads.{IsNode};
@@ -26,7 +26,7 @@ fn label_in(answer: &Answer, node: u32) -> u64
     }
 }
 
-/// Tells the arrival of a node by an answer: 0, or the refusal's number.
+/// Writes the arrival at a node in an answer. Returns 0 or the refusal's number.
 fn tell_arrival(answer: &Answer, node: u32, arrival: &mut u64) -> u32
     ensures told { result ≡ 0 → IsNode answer.now.nodes node × IsAskedBy answer.now.target node
         × (time_of arrival.new ≡ arrival_of answer.now node) }
@@ -43,7 +43,7 @@ fn tell_arrival(answer: &Answer, node: u32, arrival: &mut u64) -> u32
     DONE
 }
 
-/// Tells the arrival of a node by the answer of a content's search.
+/// Writes the arrival at a node in the answer of a content's search. Returns 0 or the refusal's number.
 fn arrival_in(content: &Content, node: u32, arrival: &mut u64) -> u32
     ensures { IsTold (session_in (Some content.now)) node arrival.old arrival.new result }
 {
@@ -53,8 +53,9 @@ fn arrival_in(content: &Content, node: u32, arrival: &mut u64) -> u32
     }
 }
 
-/// Tells the earliest arrival at a node that the last query asked for: a time, or 2^64 - 1 where no walk reaches the node within
-/// the horizon. Before the first query no node is reached. Where the number isn't 0, `arrival` is as it was.
+/// Writes the earliest arrival at a node that the last query asked for: a time, or 2^64 - 1 if no walk
+/// reaches the node within the horizon. Before the first query no node is reached. If the call doesn't return
+/// 0, `arrival` is unchanged.
 #[unsafe(no_mangle)]
 pub extern "C" fn earliest_search_arrival(
     alloc: Global,
@@ -73,7 +74,7 @@ pub extern "C" fn earliest_search_arrival(
     number
 }
 
-/// Whether the last query asked for all nodes: for the first and for the last.
+/// Whether the last query asked for all nodes: tests the first and the last.
 fn asks_all(answer: &Answer) -> bool
     ensures yes { IsTrue result →
         ((node : ℕ) → IsNode answer.now.nodes node → IsAskedBy answer.now.target node) }
@@ -96,7 +97,7 @@ fn write_labels(answer: &Answer, out: &mut [u64])
     }
 }
 
-/// Tells all arrivals by an answer: 0, or the refusal's number.
+/// Writes all arrivals of an answer. Returns 0 or the refusal's number.
 fn tell_all(answer: &Answer, out: &mut [u64]) -> u32
     ensures told { result ≡ 0 → (node : ℕ) → IsNode answer.now.nodes node →
         time_of (slice_index out.new (node - 1)) ≡ arrival_of answer.now node }
@@ -114,7 +115,7 @@ fn tell_all(answer: &Answer, out: &mut [u64]) -> u32
     DONE
 }
 
-/// Tells all arrivals by the answer of a content's search.
+/// Writes all arrivals of the answer of a content's search. Returns 0 or the refusal's number.
 fn arrivals_in(content: &Content, out: &mut [u64]) -> u32
     ensures { AreTold (session_in (Some content.now)) out.old out.new result }
 {
@@ -124,9 +125,9 @@ fn arrivals_in(content: &Content, out: &mut [u64]) -> u32
     }
 }
 
-/// Tells the earliest arrivals at all nodes, in their order: `out` has a place for each node of the road, the first for node 1. A time
-/// of 2^64 - 1 says that no walk reaches the node within the horizon. The last query was one for all nodes. Where the number isn't
-/// 0, `out` is as it was.
+/// Writes the earliest arrivals at all nodes, in their order: `out` needs a place for each node of the road,
+/// the first for node 1. 2^64 - 1 means that no walk reaches the node within the horizon. The last query must
+/// have asked for all nodes. If the call doesn't return 0, `out` is unchanged.
 #[unsafe(no_mangle)]
 pub extern "C" fn earliest_search_arrivals(
     alloc: Global,

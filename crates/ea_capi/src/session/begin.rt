@@ -1,4 +1,4 @@
-//! Searches, begun and let go.
+//! Making and freeing searches.
 ghost use Rattle.std.specs.Prelude.{◌≡◌, IfErr, IfOk, None, Some, nat_lt};
 ghost use Rattle.ea_capi.specs.Calls.{IsBegun, IsHeld, IsNew, IsThere};
 ghost use Rattle.ea_capi.specs.States.{road_in};
@@ -8,7 +8,7 @@ use crate::handle::content::{Content, Session};
 use crate::handle::handle::Handle;
 use std::alloc::{AllocError, Global};
 
-/// A search on the road of a content: none where it is no road, an error where memory is refused.
+/// A search on the road of a content: none if it holds no road, an error if memory is refused.
 fn session_on(alloc: Global, content: &Content, walks: bool) -> Result<Option<Session>, AllocError>
     ensures made { IfOk result (IsNew (road_in (Some content.now)) walks) }
     ensures refused { IfErr result (λ _. IsThere (road_in (Some content.now))) }
@@ -32,11 +32,11 @@ fn keep(alloc: Global, session: Session, handle: &mut Handle) -> u32
     }
 }
 
-/// Makes a search on a road, with room for walks where `walks` isn't 0: then each query finds canonical walks, too. Its arrays take
-/// some 40 bytes for each node, with walks some 60.
+/// Makes a search on a road. If `walks` isn't 0 it has room for walks, and each query finds canonical walks
+/// too. Its arrays take about 40 bytes for each node, 60 with walks.
 ///
-/// The search has a share of the road: the road may be let go before it. The handle `search` holds the search afterwards; what it
-/// held before is let go. Where the number isn't 0, it is as it was.
+/// The search has a share of the road, so the road may be freed before it. The handle `search` holds the
+/// search afterwards; its earlier content is freed. If the call doesn't return 0, the handle is unchanged.
 #[unsafe(no_mangle)]
 pub extern "C" fn earliest_search_new(
     alloc: Global,
@@ -60,7 +60,7 @@ pub extern "C" fn earliest_search_new(
     }
 }
 
-/// Lets a search go: the handle holds nothing afterwards.
+/// Frees a search and empties the handle.
 #[unsafe(no_mangle)]
 pub extern "C" fn earliest_search_free(alloc: Global, search: &mut Handle)
     ensures { search.new.value ≡ None }

@@ -41,7 +41,7 @@ impl Session {
     }
 }
 
-/// What a search answers one pair; no search is there in other contents.
+/// Answers one pair, if the content is a search; other contents are refused.
 fn pair_of(content: Content, source: u32, departure: u64, target: u32) -> (Content, u32)
     ensures { IsQueried
         (λ it. IsPair (road_of it) (record { node = source; departure = departure }) target) IsDone
@@ -57,10 +57,10 @@ fn pair_of(content: Content, source: u32, departure: u64, target: u32) -> (Conte
     }
 }
 
-/// Searches from a source, departing at a time of at most HORIZON, to one target.
+/// Searches from a source to one target, departing at a time of at most HORIZON.
 ///
-/// The search keeps the answer, which `earliest_search_arrival` and `earliest_search_walk` tell for the target. Where the
-/// number isn't 0 the search is as it was.
+/// The search keeps the answer; `earliest_search_arrival` and `earliest_search_walk` read it for the target.
+/// If the call doesn't return 0, the search is unchanged.
 #[unsafe(no_mangle)]
 pub extern "C" fn earliest_search_pair(
     alloc: Global,
@@ -82,7 +82,7 @@ pub extern "C" fn earliest_search_pair(
     number
 }
 
-/// Nodes and their departures as sources.
+/// Sources from nodes and their departures.
 fn sources_of(alloc: Global, nodes: &[u32], departures: &[u64]) -> Result<Vec<Source>, AllocError>
     requires { length nodes.now ≡ length departures.now }
     ensures { IfOk result (λ sources. sources.items ≡ starts nodes.now departures.now) }
@@ -97,14 +97,14 @@ fn sources_of(alloc: Global, nodes: &[u32], departures: &[u64]) -> Result<Vec<So
     Ok(sources)
 }
 
-/// Whether a source is one among so many nodes.
+/// Whether a source is valid for this number of nodes.
 fn is_start(nodes: u32, source: Source) -> bool
     ensures { IsTrue result ↔ IsStart nodes source }
 {
     0 < source.node && source.node <= nodes && source.departure <= HORIZON
 }
 
-/// Whether sources are some among so many nodes.
+/// Whether all sources are valid for this number of nodes.
 fn are_starts(nodes: u32, sources: &[Source]) -> bool
     ensures { IsTrue result ↔ AreStarts nodes sources.now }
 {
@@ -117,7 +117,7 @@ fn are_starts(nodes: u32, sources: &[Source]) -> bool
 }
 
 impl Session {
-    /// Why sources are not those of its road: the first refusal's number.
+    /// Why sources are invalid for the road: the first refusal's number.
     fn refusal_of(&self, sources: &[Source]) -> u32
         ensures { result ≢ 0 }
     {
@@ -130,7 +130,7 @@ impl Session {
         NO_SUCH_NODE
     }
 
-    /// Answers what is asked from sources.
+    /// Answers a query from sources.
     fn find_from(self, sources: Vec<Source>) -> (Session, u32)
         ensures found { result.1 ≡ 0 →
             IsFound (record { sources = sources.items; target = None }) self result.0 result.1 }
@@ -145,7 +145,7 @@ impl Session {
         (self.find(&query), DONE)
     }
 
-    /// Answers what is asked from nodes at departures.
+    /// Answers a query from nodes at departures.
     fn find_starts(self, alloc: Global, nodes: &[u32], departures: &[u64]) -> (Session, u32)
         ensures found { result.1 ≡ 0 →
             IsFound (from_starts nodes.now departures.now) self result.0 result.1 }
@@ -162,7 +162,7 @@ impl Session {
     }
 }
 
-/// What a search answers from nodes at departures; no search is there in other contents.
+/// Answers a query from nodes at departures, if the content is a search; other contents are refused.
 fn starts_of(alloc: Global, content: Content, nodes: &[u32], departures: &[u64]) -> (Content, u32)
     ensures { IsQueried (AreGoodStarts nodes.now departures.now) IsDoneOrScarce
         (from_starts nodes.now departures.now) (session_in (Some content))
@@ -177,10 +177,11 @@ fn starts_of(alloc: Global, content: Content, nodes: &[u32], departures: &[u64])
     }
 }
 
-/// Searches from these nodes, each departing at its time of at most HORIZON, to all nodes. Both lists have one length, which may be
-/// 0: then no node is reached.
+/// Searches from these nodes, each departing at its time of at most HORIZON, to all nodes. Both lists have
+/// one length. If it is 0, no node is reached.
 ///
-/// The search keeps the answer, which the calls that tell of it give. Where the number isn't 0 the search is as it was.
+/// The search keeps the answer, which other calls read. If the call doesn't return 0, the search is
+/// unchanged.
 #[unsafe(no_mangle)]
 pub extern "C" fn earliest_search_from(
     alloc: Global,

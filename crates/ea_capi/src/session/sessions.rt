@@ -1,4 +1,4 @@
-//! Searches: made on a road, and asked.
+//! Searches: made on a road, and queried.
 ghost use Rattle.std.specs.Prelude.{◌≡◌, ◌≢◌, ◌≤◌, ◌<◌, ℕ, [], ◌∷◌, IfOk, IfErr, None, Some, true, length, take};
 ghost use Rattle.std.specs.Arc.{arc_value};
 ghost use Rattle.ea_road.specs.Roads.{IsNode};
@@ -16,7 +16,7 @@ use ea_road::{Query, Source};
 use std::alloc::{AllocError, Global};
 use std::sync::Arc;
 
-/// Room for searches in a network of so many nodes.
+/// Arrays for searches in a network of this number of nodes.
 fn room(alloc: Global, nodes: u32, walks: bool) -> Result<Search, AllocError>
     ensures nodes { IfOk result (λ search. search.nodes ≡ nodes) }
     ensures walks { IfOk result (λ search. search.walks ≡ walks) }
@@ -28,7 +28,7 @@ fn room(alloc: Global, nodes: u32, walks: bool) -> Result<Search, AllocError>
     }
 }
 
-/// Answers a query on a road, with its walks or without.
+/// Answers a query on a road, with walks or without.
 fn search_on(road: &Road, search: Search, walks: bool, query: &Query) -> Search
     requires problem { IsProblem road.now.network (length road.now.times.list.items) query.now }
     requires nodes { search.nodes ≡ road.now.network.nodes }
@@ -45,7 +45,7 @@ fn search_on(road: &Road, search: Search, walks: bool, query: &Query) -> Search
 }
 
 impl Session {
-    /// A search on a road, of which it has a share.
+    /// A search on a road, with a share of it.
     pub fn on(
         alloc: Global,
         terrain: &Arc<Terrain, Global>,
@@ -63,7 +63,7 @@ impl Session {
         })
     }
 
-    /// How many nodes its road has.
+    /// The number of nodes of its road.
     pub fn nodes(&self) -> u32
         ensures { result ≡ (road_of self.now).network.nodes }
     {
@@ -90,7 +90,7 @@ impl Session {
         }
     }
 
-    /// Whether a node and a departure make a source of its road: 0, or the refusal's number.
+    /// 0 if a node and a departure make a source of its road, else the refusal's number.
     pub fn refusal(&self, node: u32, departure: u64) -> u32
         ensures done { result ≡ 0 → IsStart (road_of self.now).network.nodes
             (record { node = node; departure = departure }) }

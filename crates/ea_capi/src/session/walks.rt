@@ -12,7 +12,7 @@ use crate::handle::handle::Handle;
 use ea_paths::Answer;
 use std::alloc::Global;
 
-/// The walk of a node by an answer, or the refusal's number.
+/// The walk to a node in an answer, or the refusal's number.
 fn walk_in(alloc: Global, answer: &Answer, node: u32) -> Result<Vec<u32>, u32>
     ensures told { IfOk result (λ walk. walk_of answer.now node ≡ Some walk.items) }
     ensures refused { IfErr result (IsWhyNot answer.now node) }
@@ -33,7 +33,7 @@ fn walk_in(alloc: Global, answer: &Answer, node: u32) -> Result<Vec<u32>, u32>
     }
 }
 
-/// The walk of a node by the answer of a content's search, or the refusal's number.
+/// The walk to a node in the answer of a content's search, or the refusal's number.
 fn walk_by(alloc: Global, content: &Content, node: u32) -> Result<Vec<u32>, u32>
     ensures told { IfOk result (λ walk.
         walks_told (session_in (Some content.now)) node walk.items) }
@@ -45,7 +45,7 @@ fn walk_by(alloc: Global, content: &Content, node: u32) -> Result<Vec<u32>, u32>
     }
 }
 
-/// Writes a list to the head of a longer one.
+/// Writes a list to the start of a longer one.
 fn write(list: &[u32], out: &mut [u32])
     requires { length list.now ≤ length out.old }
     ensures { take (length list.now) out.new ≡ list.now }
@@ -53,7 +53,7 @@ fn write(list: &[u32], out: &mut [u32])
     out[..list.len()].copy_from_slice(list);
 }
 
-/// Gives a walk to a caller: its length, and itself where there is room.
+/// Writes a walk's length, and the walk if it fits.
 fn give(walk: &[u32], out: &mut [u32], count: &mut u64) -> u32
     ensures count { count.new ≡ length walk.now }
     ensures walk { result ≡ 0 → take (length walk.now) out.new ≡ walk.now }
@@ -67,11 +67,11 @@ fn give(walk: &[u32], out: &mut [u32], count: &mut u64) -> u32
     DONE
 }
 
-/// Tells the canonical walk to a node that the last query asked for: the numbers of its arcs, first arc first, at the head of `out`, and
-/// how many they are in `count`. A source at its own departure has the empty walk.
+/// Writes the canonical walk to a node that the last query asked for: the arc numbers, first arc first, to
+/// the start of `out`, and their number to `count`. A source at its own departure has the empty walk.
 ///
-/// Where there is too little room, `count` tells how much is needed. With every other number that isn't 0, `out` and `count` are as
-/// they were.
+/// If `out` is too short, `count` gets the length that is needed. If the call returns another number than 0,
+/// `out` and `count` are unchanged.
 #[unsafe(no_mangle)]
 pub extern "C" fn earliest_search_walk(
     alloc: Global,

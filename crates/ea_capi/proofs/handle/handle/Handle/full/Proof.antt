@@ -1,4 +1,4 @@
--- `full` takes the pointer over.
+-- `full` takes the pointer.
 use Rattle.std.proofs.Common.{◌≡◌, List, [], ◌∷◌, ◌++◌, refl, sym, subst}
 use mir.Val.{Val, vptr}
 use base.Logic.{SProp, ent, emp, id⊢}
