@@ -8,12 +8,12 @@ use Rattle.std.specs.List.{onto_first}
 use Rattle.ea_bytes.specs.Text.{lines_of}
 use Rattle.ea_blocks.specs.Streams.{EndsLine}
 
--- A truth value is one of two.
+-- a Boolean is one of two
 pub two_ways : (b : Bool) → (b ≡ true) ⊎ (b ≡ false)
 two_ways true = inl refl
 two_ways false = inr refl
 
--- Lines of which there is one.
+-- a list of lines that isn't empty
 abbrev AreSome : List (List ℕ) → Type 0
 AreSome lines = (first : List ℕ) × (others : List (List ℕ)) × (lines ≡ first ∷ others)
 
@@ -48,7 +48,7 @@ cut (b ∷ bs) (suc i) h e =
       | inr is ↦ rw is (ap (onto_first b) rest ∙ onto_both b (lines_of (take (suc i) bs)) (lines_of (drop (suc i) bs)) (front_some bs i (omega arith)))
     ]
 
--- After a line feed a new line begins.
+-- A new line begins after a line feed.
 pub ends_line : (text : List ℕ) (i : ℕ) → i < length text → get_or text i 0 ≡ 10 → EndsLine (take (suc i) text)
 ends_line text i h e = λ more.
     let front = take (suc i) text in

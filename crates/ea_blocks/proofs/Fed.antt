@@ -1,4 +1,4 @@
--- A reader that is given texts one after another.
+-- A reader that gets texts one after another.
 use Rattle.std.proofs.Common.{◌≡◌, ◌⊎◌, ℕ, List, ◌++◌, arith, subst, true, false}
 use Rattle.std.specs.Prelude.{Option, Some, None, Result, Ok, Err, is_some}
 use Rattle.ea_bytes.specs.Text.{field_lines}

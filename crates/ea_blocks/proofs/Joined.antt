@@ -36,7 +36,7 @@ lines_on step n s (x ∷ xs) ys =
 pub fields_on : (text front back : List ℕ) → lines_of text ≡ lines_of front ++ lines_of back → field_lines text ≡ field_lines front ++ field_lines back
 fields_on text front back cut = ap (map (λ l. fields_of (strip_carriage_return l))) cut ∙ map-append (λ l. fields_of (strip_carriage_return l)) (lines_of front) (lines_of back)
 
--- What a text is read to is what its back is read to after its front.
+-- Reading a text is reading its front and then its back.
 pub text_on : {S : Type 0} (step : Step S) (n : ℕ) (s : S) (text front back : List ℕ) → lines_of text ≡ lines_of front ++ lines_of back
     → lines_after step n s (field_lines text) ≡ (lines_after step n s (field_lines front) >>= λ t. lines_after step (n + length (field_lines front)) t (field_lines back))
 text_on step n s text front back cut = ap (lines_after step n s) (fields_on text front back cut) ∙ lines_on step n s (field_lines front) (field_lines back)
@@ -50,7 +50,7 @@ pub fault_on : {S : Type 0} (step : Step S) (n : ℕ) (s : S) (text front back :
 fault_on step n s text front back fault cut (inl refused) = inl refused
 fault_on step n s text front back fault cut (inr e) = inr (text_on step n s text front back cut ∙ ap (λ r. r >>= λ t. lines_after step (n + length (field_lines front)) t (field_lines back)) e)
 
--- What the back is read to after the front is what the text is read to.
+-- Reading the back after the front gives what reading the text gives.
 pub back_on : {S X : Type 0} (step : Step S) (view : X → S) (n m : ℕ) (s mid : S) (text front back : List ℕ) (read : Result X InputFault) → lines_of text ≡ lines_of front ++ lines_of back
     → lines_after step n s (field_lines front) ≡ Ok mid → m ≡ n + length (field_lines front) → Gives view read (lines_after step m mid (field_lines back))
     → Gives view read (lines_after step n s (field_lines text))
@@ -61,7 +61,7 @@ back_on step view n m s mid text front back read cut first e given =
 
 -- ---- with how many lines there are
 
--- What came of lines that were read: a state, and how many lines stand before what follows.
+-- The result of reading lines: a state, and the number of lines before what follows.
 abbrev pub Came : {S : Type 0} → (ℕ → S) → ℕ → List ℕ → Result S InputFault → Result ℕ InputFault → Type 0
 Came view n text said read = Gives view read said × IfOk read (λ line. (line ≡ n + length (field_lines text)) × (line ≤ n + length text))
 
@@ -84,7 +84,7 @@ back_read step view last n line s mid now text front back read result cut whole 
     let first : lines_after step n s (field_lines front) ≡ Ok now = got.0 ∙ ap (λ t. Ok t) (is ∙ sym same) in
     (back_on step last n line s now text front back result cut first got.1.0 later.0, back_counts n line text front back result cut whole got.1.0 got.1.1 later.1)
 
--- The same where a thread of its own read the back, which was put behind the front.
+-- The same if a separate thread read the back, which was appended to the front.
 pub both_read : {S : Type 0} (step : Step S) (n line count : ℕ) (s mid last : S) (text front back : List ℕ) (read : Result ℕ InputFault) → lines_of text ≡ lines_of front ++ lines_of back → text ≡ front ++ back
     → read ≡ Ok line → Came (λ _. mid) n front (lines_after step n s (field_lines front)) read → lines_after step line mid (field_lines back) ≡ Ok last → (count ≡ length (field_lines back)) × (count ≤ length back)
     → Came (λ _. last) n text (lines_after step n s (field_lines text)) (Ok (line + count))
@@ -94,7 +94,7 @@ both_read step n line count s mid last text front back read cut whole e came lat
       (omega (arith, got.1.0, counted.0, count_on text front back cut), omega (arith, got.1.1, counted.1, ap length whole, length-append front back)),
     )
 
--- A text that a thread of its own read.
+-- A text that a separate thread read.
 pub read_aside : {S : Type 0} (step : Step S) (s last : S) (back : List ℕ) (read : Result ℕ InputFault) (count : ℕ) → read ≡ Ok count → Came (λ _. last) 0 back (lines_after step 0 s (field_lines back)) read
     → (lines_after step 0 s (field_lines back) ≡ Ok last) × (count ≡ length (field_lines back)) × (count ≤ length back)
 read_aside step s last back read count e came =

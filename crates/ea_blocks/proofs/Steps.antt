@@ -12,7 +12,7 @@ use Rattle.ea_blocks.specs.declared.fault.InputFault.{InputFault}
 abbrev pub Step : Type 0 → Type 0
 Step S = S → List (List ℕ) → Result S FaultKind
 
--- After a line comes what is read after it.
+-- After a line comes the rest of the text.
 pub after_line : {S : Type 0} (step : Step S) (n : ℕ) (s next : S) (text line after : List ℕ) → lines_of text ≡ line ∷ lines_of after → step s (fields_of (strip_carriage_return line)) ≡ Ok next → lines_after step n s (field_lines text) ≡ lines_after step (n + 1) next (field_lines after)
 unfolding lines_after
 after_line step n s next text line after cut e = ap (λ lines. lines_after step n s (map (λ l. fields_of (strip_carriage_return l)) lines)) cut ∙ ap (λ r. in_line (n + 1) r >>= λ t. lines_after step (n + 1) t (field_lines after)) e
@@ -40,7 +40,7 @@ fault_at_is line TooFewLines = inr refl
 fault_at_is line BadKind = inr refl
 fault_at_is line OutOfMemory = inl refl
 
--- What a fault of a line says of a text that is this far.
+-- What the fault of a line says of a text read so far.
 pub fault_gives : {S : Type 0} (step : Step S) (whole : Result S InputFault) (n : ℕ) (s : S) (kind : FaultKind) (text line after : List ℕ) → lines_of text ≡ line ∷ lines_of after
     → (kind ≡ OutOfMemory) ⊎ (step s (fields_of (strip_carriage_return line)) ≡ Err kind) → lines_after step n s (field_lines text) ≡ whole
     → (fault_at (n + 1) kind ≡ out_of_memory) ⊎ (whole ≡ Err (fault_at (n + 1) kind))
@@ -50,7 +50,7 @@ fault_gives step whole n s kind text line after cut (inr e) same = elim (fault_a
   | inr p ↦ inr (sym same ∙ after_fault step n s kind text line after cut e ∙ ap (λ f. Err f) (sym p))
 ]
 
--- What a text is read to: its lines, and then its end.
+-- Reading a text: its lines, then its end.
 pub ended : {S X Y : Type 0} (step : Step S) (end : S → Result Y FaultKind) (view : X → Y) (start last : S) (lines : List (List (List ℕ))) (x : X) → lines_after step 0 start lines ≡ Ok last → GivesLine view (Ok x) (end last) → Gives view (Ok x) (text_after step end start lines)
 unfolding text_after
 ended step end view start last lines x read h = ap (λ r. r >>= λ s. in_line 0 (end s)) read ∙ ap (in_line 0) h

@@ -15,7 +15,7 @@ use Rattle.ea_blocks.proofs.Cuts.{both_end, nothing_ends}
 use Rattle.ea_blocks.proofs.Steps.{Step}
 use Rattle.ea_blocks.specs.declared.fault.InputFault.{InputFault}
 
--- Nothing was read yet.
+-- Nothing has been read yet.
 nothing_fed : {S : Type 0} (step : Step S) (start : S) → HasFed step start [] start 0 None
 unfolding lines_after
 nothing_fed step start = (refl, refl)
@@ -42,7 +42,7 @@ went_on step start limit first now next state last lines count fault known block
       subst (λ l. IsTakenBy after limit first next l) same taken,
     )
 
--- Why a device isn't read on.
+-- Why reading a device stopped.
 abbrev pub IsWhy : ReadFault → ℕ → Seen → Seen → Type 0
 IsWhy fault limit first now = FaultCounts fault first now × (fault ≡ TooLarge → IfSome first.bytes (λ had. limit < length had))
 

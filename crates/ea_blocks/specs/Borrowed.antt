@@ -1,4 +1,4 @@
--- The texts that references lead to.
+-- The texts behind references.
 use Rattle.std.specs.Prelude.{ℕ, List, map, Result, Ok, Err}
 use Rattle.std.specs.Borrow.{Bor}
 use Rattle.ea_blocks.specs.declared.fault.FaultKind.{FaultKind}

@@ -17,7 +17,7 @@ use Rattle.ea_blocks.specs.declared.stream.StreamFault.TheVariants.{Read, Input}
 
 -- WHAT A DEVICE'S TEXT IS READ TO
 
--- A text is all bytes that a device had, no more than a limit, and the device bore it.
+-- A text is all bytes that a device had, no more than a limit, and the device did not give up.
 pub record IsWhole (limit : ℕ) (old new : Seen) (text : List ℕ) : Type 0 where
   pub all : IfSome old.bytes (λ had. text ≡ had)
   pub few : length text ≤ limit
@@ -29,11 +29,11 @@ DenotesWhole Denotes limit old new x = (text : List ℕ) × IsWhole limit old ne
 
 -- HOW A READER GOES, BLOCK BY BLOCK
 
--- What follows a text begins with a line of its own.
+-- What follows a text begins with a new line.
 abbrev pub EndsLine : List ℕ → Type 0
 EndsLine text = (more : List ℕ) → lines_of (text ++ more) ≡ lines_of text ++ lines_of more
 
--- A text was read up to this state, over so many lines, or to this fault.
+-- A text was read up to this state, over this many lines, or to this fault.
 abbrev pub HasFed : {S : Type 0} → (S → List (List ℕ) → Result S FaultKind) → S → List ℕ → S → ℕ → Option InputFault → Type 0
 HasFed step start text state lines None = (lines_after step 0 start (field_lines text) ≡ Ok state) × (lines ≡ length (field_lines text))
 HasFed step start text state lines (Some fault) = (fault ≡ out_of_memory) ⊎ (lines_after step 0 start (field_lines text) ≡ Err fault)
@@ -44,7 +44,7 @@ pub record FeedsOn {S : Type 0} (step : S → List (List ℕ) → Result S Fault
   pub fed : (start : S) (before : List ℕ) → EndsLine before → HasFed step start before old old_lines old_fault → HasFed step start (before ++ text) new new_lines new_fault
   pub lines : new_lines ≤ old_lines + length text
 
--- A block was filled until it has so many bytes, or to the end of the device.
+-- A block was filled up to at least this many bytes, or to the end of the device.
 pub record IsFilled (size : ℕ) (old : Seen) (blocks : Blocks) (new : Seen) (after : Blocks) (block grown : List ℕ) (result : Result Bool ReadFault) : Type 0 where
   pub room : HasRoom after
   pub more : IfOk result (λ _. GoesOnTaking old blocks new after block grown)
@@ -53,17 +53,17 @@ pub record IsFilled (size : ℕ) (old : Seen) (blocks : Blocks) (new : Seen) (af
   pub end : IfOk result (λ ended. ended ≡ true → IsAtEnd new.bytes)
   pub fault : IfErr result (StopsTaking old blocks new)
 
--- A device is read so far: the lines of these bytes, and a block with what follows them.
+-- A device is read up to here: the lines of these bytes, and a block with what follows them.
 abbrev pub IsUnderway : {S : Type 0} → (S → List (List ℕ) → Result S FaultKind) → S → ℕ → Seen → Seen → S → ℕ → Option InputFault → Blocks → List ℕ → Type 0
 IsUnderway step start limit first now state lines fault blocks block =
     (before : List ℕ) × EndsLine before × HasFed step start before state lines fault × (lines ≤ length before) × IsTakenBy blocks limit first now (before ++ block)
 
--- What the lines so far are read to, if they are all.
+-- The result if the lines so far are all.
 abbrev pub Finishes : {S X Y : Type 0} → (S → List (List ℕ) → Result S FaultKind) → (S → Result Y FaultKind) → (X → Y) → S → ℕ → Option InputFault → Result X InputFault → Type 0
 Finishes {S} step end view state lines fault result =
     (start : S) (text : List ℕ) → HasFed step start text state lines fault → Gives view result (text_after step end start (field_lines text))
 
--- What a device's text is read to, by the checks in order.
+-- The result of reading a device's text, by the checks in order.
 abbrev pub GivesWhole : {X Y : Type 0} → (X → Y) → (List (List (List ℕ)) → Result Y InputFault) → ℕ → Seen → Seen → Result X StreamFault → Type 0
 GivesWhole view read limit old new (Ok x) = (text : List ℕ) × IsWhole limit old new text × (read (field_lines text) ≡ Ok (view x))
 GivesWhole view read limit old new (Err (Read fault)) = FaultCounts fault old new × (fault ≡ TooLarge → IfSome old.bytes (λ had. limit < length had))

@@ -1,4 +1,4 @@
-//! What is wrong with a text.
+//! The faults of a text.
 ghost use Rattle.std.specs.Prelude.{◌≡◌};
 ghost use Rattle.ea_blocks.specs.Fault.{fault_at, out_of_memory};
 ghost use Rattle.ea_blocks.specs.FaultNames.{kind_name, kind_number};
@@ -8,20 +8,20 @@ use std::alloc::AllocFailed;
 use std::fmt;
 use thiserror::Error;
 
-/// What is wrong with a line or a text.
+/// The fault of a line or a text.
 #[derive(Clone, Copy, Debug, PartialEq, Eq, Error)]
 pub enum FaultKind {
-    /// No problem line stands before a line, or in the whole text.
+    /// There is no problem line before this line, or in the whole text.
     #[error("the problem line `p ..` is missing (1 NoProblemLine)")]
     NoProblemLine = 1,
     #[error("there is a second problem line (2 SecondProblemLine)")]
     SecondProblemLine = 2,
-    /// The first word is none of those that lines of the file begin with.
+    /// The first word is none with which lines of the file begin.
     #[error("lines of this file don't begin with this word (3 UnknownLine)")]
     UnknownLine = 3,
     #[error("the line has too few or too many fields (4 FieldCount)")]
     FieldCount = 4,
-    /// A field that has to be a number has another byte than a digit.
+    /// A field that must be a number has a byte other than a digit.
     #[error("a field is not a number (5 BadNumber)")]
     BadNumber = 5,
     #[error("a number is out of its range (6 OutOfRange)")]
@@ -30,23 +30,23 @@ pub enum FaultKind {
     TooManyLines = 7,
     #[error("there are fewer lines than were announced (8 TooFewLines)")]
     TooFewLines = 8,
-    /// A kind word differs from the one that has to stand in its place.
+    /// A kind word differs from the required one.
     #[error("a kind word is not the one expected here (9 BadKind)")]
     BadKind = 9,
-    /// Memory was refused, which says nothing of the text.
+    /// Memory was refused; the text may be right or wrong.
     #[error("there is not enough memory (13 OutOfMemory)")]
     OutOfMemory = 13,
 }
 
 impl FaultKind {
-    /// The number by which messages name this kind.
+    /// The number of this kind in messages.
     pub fn number(self) -> u8
         ensures { result ≡ kind_number self }
     {
         self as u8
     }
 
-    /// The name by which messages name this kind.
+    /// The name of this kind in messages.
     pub fn name(self) -> &'static str
         ensures { result.now ≡ kind_name self }
     {
@@ -105,7 +105,7 @@ impl<T: Drop> From<AllocFailed<T>> for InputFault {
     }
 }
 
-/// A fault of a line. Want of memory is no fault of a line.
+/// The fault of a line. Refused memory has no line.
 pub fn fault_in(line: u64, kind: FaultKind) -> InputFault
     ensures { result ≡ fault_at line kind }
 {

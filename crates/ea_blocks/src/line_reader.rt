@@ -1,4 +1,4 @@
-//! Texts, read line by line.
+//! Reading texts line by line.
 ghost use Rattle.std.specs.Prelude.{◌≡◌, ◌<◌, ◌≤◌, ◌+◌, ◌^◌, ℕ, List, IfOk, Result, MatchOption, map, length, take};
 ghost use Rattle.std.specs.Str.Lines.{strip_carriage_return};
 ghost use Rattle.ea_blocks.specs.Fault.{Gives};
@@ -11,9 +11,9 @@ use crate::fault::{FaultKind, InputFault, fault_in};
 use ea_bytes as text;
 use std::alloc::Global;
 
-/// What reads a text, a line after the other.
+/// A reader of a text, line by line.
 pub trait LineReader: Drop {
-    /// What the whole text is read to.
+    /// The result of reading the whole text.
     type Text;
 
     /// What a text denotes.
@@ -21,12 +21,12 @@ pub trait LineReader: Drop {
 
     ghost view: { Self.Text → Denoted };
 
-    /// What the lines said so far.
+    /// What the lines so far say.
     ghost State: { Type 0 };
 
     ghost state: { Self → State };
 
-    /// What stands after one more line, or that line's fault.
+    /// The state after one more line, or that line's fault.
     ghost step: { State → List (List ℕ) → Result State FaultKindType };
 
     /// Reads the fields of one more line.
@@ -34,8 +34,8 @@ pub trait LineReader: Drop {
         ensures { GivesLine (λ _. state self.new) result
             (step (state self.old) (texts_now fields.now)) };
 
-    /// Reads the line at the front of a text where it is in the plain form of most lines of the
-    /// file, which may be quicker than by its fields.
+    /// Fast path: reads the first line of a text if it is in the plain form of most lines of the file.
+    /// Returns None otherwise.
     fn read_plain<'a>(&mut self, _text: &'a [u8]) -> Option<Result<&'a [u8], FaultKind>>
         ensures { MatchOption result (state self.new ≡ state self.old)
             (λ read. ReadsFront step _text.entry.now (state self.old) (state self.new) read) }
@@ -43,14 +43,14 @@ pub trait LineReader: Drop {
         None
     }
 
-    /// What the text denotes that ends here, or its fault.
+    /// What the text denotes if it ends here, or its fault.
     ghost end: { State → Result Denoted FaultKindType };
 
-    /// The end of the text.
+    /// Ends the text.
     fn finish(self) -> Result<Self::Text, FaultKind>
         ensures { GivesLine view result (end (state self)) };
 
-    /// The first seven fields of a line are enough.
+    /// No line needs more than its first seven fields.
     ghost front: { (before : State) (fields : List (List ℕ)) → step before (take 7 fields)
         ≡ step before fields };
 }
@@ -64,7 +64,7 @@ fn read_line<R: LineReader>(alloc: Global, reader: &mut R, line: &[u8]) -> Resul
     reader.read_fields(fields.as_slice())
 }
 
-/// Reads the line at the front of a text, and gives the bytes after it.
+/// Reads the first line of a text, and returns the bytes after it.
 pub fn read_front<'a, R: LineReader>(
     alloc: Global,
     reader: &mut R,
@@ -83,7 +83,8 @@ pub fn read_front<'a, R: LineReader>(
     }
 }
 
-/// Reads all lines of a text, before which so many lines stood: how many stand before what follows it.
+/// Reads all lines of a text after this many lines before it. Returns the number of lines before what
+/// follows.
 pub fn read_lines<R: LineReader>(
     alloc: Global,
     reader: &mut R,
@@ -105,7 +106,7 @@ pub fn read_lines<R: LineReader>(
     Ok(line)
 }
 
-/// What a text is read to.
+/// Reads a whole text.
 pub fn read_text<R: LineReader>(alloc: Global, start: R, text: &[u8]) -> Result<R::Text, InputFault>
     ensures { Gives R.view result (text_after R.step R.end (R.state start) (field_lines text.now)) }
 {

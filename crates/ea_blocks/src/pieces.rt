@@ -1,7 +1,7 @@
-//! Lines that are read by several threads: a text is cut after line feeds into two, three or four pieces, and each is read in a thread
-//! of its own, while the thread that starts them all does something beside. The first piece goes on where the lines before ended, the
-//! others begin aside. Where one of these has a fault, or what it read can't be put behind what stands before it, its lines are read
-//! once more from there, and the first fault is found.
+//! Reading lines by several threads: a text is cut after line feeds into two to four pieces, and each is read
+//! by a separate thread, while the calling thread does other work. The first piece continues from the lines
+//! before it; the others begin with separate readers. If one of these has a fault, or its result can't be
+//! appended, its lines are read again from there, so that the first fault is found.
 ghost use Rattle.std.specs.Prelude.{◌≡◌, ◌<◌, ◌≤◌, ◌+◌, ◌^◌, ◌++◌, IfNone, IfOk, IfSome, Ok, length, take, true};
 ghost use Rattle.std.specs.Thread.{IsSync};
 ghost use Rattle.ea_blocks.specs.Pieces.{IsTakenUp};
@@ -15,12 +15,12 @@ use crate::reading_plan::Way;
 use std::alloc::Global;
 use std::thread::{Threads, join_mut};
 
-/// A reader of lines whose texts come block by block.
+/// A reader of lines whose text comes in blocks.
 pub trait BlockReader: LineReader + Send + Sized {
-    /// Where a reader stands that is to read a later piece of the text.
+    /// The state of a reader that begins a later piece of the text.
     ghost IsAside: { Self → Type 0 };
 
-    /// A reader for a later piece of the text; none where the lines are better read by one thread.
+    /// A reader for a later piece of the text; none if one thread had better read the lines.
     fn aside(&mut self, _alloc: Global) -> Option<Self>
         ensures kept { Self.state self.new ≡ Self.state self.old }
         ensures aside { IfSome result IsAside }
@@ -28,7 +28,7 @@ pub trait BlockReader: LineReader + Send + Sized {
         None
     }
 
-    /// Puts what a reader aside read behind what this one read: whether it fits there.
+    /// Appends what a separate reader read. Returns whether it fits.
     fn take_aside(&mut self, _aside: Self) -> bool
         ensures { IsTakenUp Self.step Self.state IsAside self.old _aside self.new result }
     {
@@ -36,7 +36,7 @@ pub trait BlockReader: LineReader + Send + Sized {
     }
 }
 
-/// A text in two, cut after the first line feed that stands at this place or later.
+/// Cuts a text after the first line feed at or after this index.
 fn cut_after(text: &[u8], from: usize) -> (&[u8], &[u8])
     ensures lines { lines_of text.now ≡ lines_of result.0.now ++ lines_of result.1.now }
     ensures whole { text.now ≡ result.0.now ++ result.1.now }
@@ -49,7 +49,7 @@ fn cut_after(text: &[u8], from: usize) -> (&[u8], &[u8])
     (text, &text[text.len()..])
 }
 
-/// How many bytes a text has up to its last line feed, with that; none where it has no line feed.
+/// The length of a text up to and with its last line feed; none if it has no line feed.
 pub fn end_of_lines(text: &[u8]) -> usize
     ensures inside { result ≤ length text.now }
     ensures ends { EndsLine (take result text.now) }
@@ -64,7 +64,7 @@ pub fn end_of_lines(text: &[u8]) -> usize
     0
 }
 
-/// A text in two, before which so many lines stood.
+/// A text in two parts, after this many lines before it.
 #[derive(Clone, Copy)]
 struct Halves<'a> {
     front: &'a [u8],
@@ -72,7 +72,7 @@ struct Halves<'a> {
     before: u64,
 }
 
-/// A text in two, about at this place, before which so many lines stand.
+/// Cuts a text about at this index, after this many lines before it.
 fn parts_of(text: &[u8], place: usize, before: u64) -> Halves<'_>
     ensures lines { lines_of text.now ≡ lines_of result.front.now ++ lines_of result.back.now }
     ensures whole { text.now ≡ result.front.now ++ result.back.now }
@@ -86,7 +86,7 @@ fn parts_of(text: &[u8], place: usize, before: u64) -> Halves<'_>
     }
 }
 
-/// A text in halves, before which so many lines stand.
+/// Cuts a text about in the middle, after this many lines before it.
 fn halves_of(text: &[u8], before: u64) -> Halves<'_>
     ensures lines { lines_of text.now ≡ lines_of result.front.now ++ lines_of result.back.now }
     ensures whole { text.now ≡ result.front.now ++ result.back.now }
@@ -95,7 +95,7 @@ fn halves_of(text: &[u8], before: u64) -> Halves<'_>
     parts_of(text, text.len() / 2, before)
 }
 
-/// Reads the lines of a text in a thread of its own, while this one does something beside.
+/// Reads the lines of a text in a separate thread, while this one does other work.
 fn read_one<R: BlockReader, H: Threads + Sync, X, B: FnMut() -> X>(
     alloc: Global,
     rt: &H,
@@ -115,7 +115,8 @@ fn read_one<R: BlockReader, H: Threads + Sync, X, B: FnMut() -> X>(
     join_mut(rt, &mut reading, beside)
 }
 
-/// Reads the front of a text after the lines before it and its back aside, in two threads, while this one does something beside.
+/// Reads the front of a text after the lines before it and its back by a separate reader, in two threads,
+/// while this one does other work.
 fn read_both<R: BlockReader, H: Threads + Sync, X, B: FnMut() -> X>(
     alloc: Global,
     rt: &H,
@@ -149,7 +150,7 @@ fn read_both<R: BlockReader, H: Threads + Sync, X, B: FnMut() -> X>(
     join_mut(rt, &mut at_back, &mut others)
 }
 
-/// Puts what a reader aside read behind what stands before it, where it read all its lines and they fit: how many they are.
+/// Appends what a separate reader read, if it read all its lines and they fit. Returns their number.
 fn take_up<R: BlockReader>(reader: &mut R, aside: R, read: Result<u64, InputFault>) -> Option<u64>
     ensures none { IfNone result (R.state reader.new ≡ R.state reader.old) }
     ensures some { IfSome result (λ count. read ≡ Ok count) }
@@ -166,8 +167,8 @@ fn take_up<R: BlockReader>(reader: &mut R, aside: R, read: Result<u64, InputFaul
     }
 }
 
-/// Reads the back of a text, before which so many lines stood, and which a reader aside has read to this: it is put behind what stands
-/// before it or, where it doesn't fit there, the lines are read once more.
+/// Handles the back of a text, after this many lines before it, and the result of its separate reader:
+/// appends it or, if it doesn't fit, reads the lines again.
 fn read_back<R: BlockReader>(
     alloc: Global,
     reader: &mut R,
@@ -187,8 +188,8 @@ fn read_back<R: BlockReader>(
     }
 }
 
-/// Reads the front of a text after the lines before it, and aside its back and a further piece, in three threads, while this one
-/// does something beside.
+/// Reads the front of a text after the lines before it, and its back and a further piece by separate readers,
+/// in three threads, while this one does other work.
 fn read_three<R: BlockReader, H: Threads + Sync, X, B: FnMut() -> X>(
     alloc: Global,
     rt: &H,
@@ -228,8 +229,8 @@ fn read_three<R: BlockReader, H: Threads + Sync, X, B: FnMut() -> X>(
     join_mut(rt, &mut at_piece, &mut others)
 }
 
-/// Reads a text in four pieces, each in a thread of its own, while this one, which starts them all, does something beside: halves that
-/// follow lines before them, and halves that are read aside.
+/// Reads a text in four pieces, each in a separate thread, while this one, which starts them all, does other
+/// work: two pieces follow lines before them, two have separate readers.
 fn read_four<R: BlockReader, H: Threads + Sync, X, B: FnMut() -> X>(
     alloc: Global,
     rt: &H,
@@ -284,8 +285,8 @@ fn read_four<R: BlockReader, H: Threads + Sync, X, B: FnMut() -> X>(
     join_mut(rt, &mut at_last, &mut others)
 }
 
-/// Reads the front of a text after the lines before it and its back aside, the back by two threads where it is better read so, while
-/// this one does something beside.
+/// Reads the front of a text after the lines before it and its back by a separate reader, the back in two
+/// threads if that is better, while this one does other work.
 fn read_back_by_two<R: BlockReader, H: Threads + Sync, X, B: FnMut() -> X>(
     alloc: Global,
     rt: &H,
@@ -319,7 +320,8 @@ fn read_back_by_two<R: BlockReader, H: Threads + Sync, X, B: FnMut() -> X>(
     (there, (read, gave))
 }
 
-/// Readers aside for later pieces of what two readers read; none where the lines of one of them are better read by one thread.
+/// Separate readers for later pieces of what two readers read; none if one thread had better read the lines
+/// of either.
 fn both_aside<R: BlockReader>(alloc: Global, reader: &mut R, aside: &mut R) -> Option<(R, R)>
     ensures kept { R.state reader.new ≡ R.state reader.old }
     ensures kept_aside { R.state aside.new ≡ R.state aside.old }
@@ -334,8 +336,8 @@ fn both_aside<R: BlockReader>(alloc: Global, reader: &mut R, aside: &mut R) -> O
     }
 }
 
-/// Reads the front of a text after the lines before it and its back aside, each by two threads where both are better read so, while
-/// this one does something beside.
+/// Reads the front of a text after the lines before it and its back by a separate reader, each in two threads
+/// if that is better for both, while this one does other work.
 fn read_both_by_two<R: BlockReader, H: Threads + Sync, X, B: FnMut() -> X>(
     alloc: Global,
     rt: &H,
@@ -374,8 +376,8 @@ fn read_both_by_two<R: BlockReader, H: Threads + Sync, X, B: FnMut() -> X>(
     (there, (read, gave))
 }
 
-/// What a text in two is read to, whose front was read to this: its back, which a reader aside has read, is put behind it or, where
-/// it doesn't fit there, read once more.
+/// Handles a text in two parts, given the result of its front: appends the back's, which a separate reader
+/// read, or, if it doesn't fit, reads the back again.
 fn read_on<R: BlockReader>(
     alloc: Global,
     reader: &mut R,
@@ -401,8 +403,8 @@ fn read_on<R: BlockReader>(
     }
 }
 
-/// Reads the front of a text after the lines before it and its back aside, by three or four threads where there are as many, this one
-/// among them, while this one does something beside.
+/// Reads the front of a text after the lines before it and its back by a separate reader, in three or four
+/// threads if there are that many, this one included, while this one does other work.
 fn read_halves<R: BlockReader, H: Threads + Sync, X, B: FnMut() -> X>(
     way: Way,
     rt: &H,
@@ -429,7 +431,7 @@ fn read_halves<R: BlockReader, H: Threads + Sync, X, B: FnMut() -> X>(
     }
 }
 
-/// How a text of so many bytes is read in pieces: by two threads where it isn't long.
+/// How a text of this length is read in pieces: by two threads unless it is long.
 fn way_of_pieces(way: Way, bytes: usize) -> Way {
     if bytes < way.least.saturating_mul(OF_MORE) {
         Way { threads: 2, ..way }
@@ -438,7 +440,7 @@ fn way_of_pieces(way: Way, bytes: usize) -> Way {
     }
 }
 
-/// Where a text of so many bytes is cut into a front and a back: three threads read a third of it each.
+/// The length of the front of a text: three threads read a third each.
 fn cut_of(way: Way, bytes: usize) -> usize {
     if way.threads == 4 {
         bytes / 3
@@ -447,9 +449,9 @@ fn cut_of(way: Way, bytes: usize) -> usize {
     }
 }
 
-/// Reads the lines of a text as `read_lines` does, in two pieces of about the same size, each in a thread of its own, while this thread
-/// does something beside. A long text is read in three pieces where there are four threads, this one among them, and in four where
-/// there are more.
+/// Reads the lines of a text like `read_lines`, in two pieces of about the same size, each in a separate
+/// thread, while this thread does other work. A long text is read in three pieces if there are four threads,
+/// this one included, and in four if there are more.
 fn read_in_pieces<R: BlockReader, H: Threads + Sync, X, B: FnMut() -> X>(
     way: Way,
     rt: &H,
@@ -473,11 +475,11 @@ fn read_in_pieces<R: BlockReader, H: Threads + Sync, X, B: FnMut() -> X>(
     (read, gave)
 }
 
-/// How many times as many bytes as two threads more than two read at least.
+/// More than two threads read at least this many times the least length for two.
 const OF_MORE: usize = 8;
 
-/// Reads all lines of a text, before which so many lines stood, in pieces where that is better, and does something beside, at the same
-/// time where there are several threads.
+/// Reads all lines of a text after this many lines before it, in pieces if that is better, and does other
+/// work, at the same time if there are several threads.
 pub fn read_more<R: BlockReader, H: Threads + Sync, X, B: FnMut() -> X>(
     rt: &H,
     way: Way,

@@ -3,29 +3,29 @@ ghost use Rattle.std.specs.Prelude.{◌<◌};
 
 use std::alloc::Global;
 
-/// How the text of a device is read. What it gives is the same for each.
+/// How the text of a device is read. The result is the same for each.
 #[derive(Clone, Copy)]
 pub struct Way {
-    /// Where memory is taken.
+    /// The allocator.
     pub alloc: Global,
-    /// By how many threads at most.
+    /// The most threads.
     pub threads: usize,
-    /// How many bytes a block has, 1 or more: as many lie in memory, and those of the next block.
+    /// The length of a block in bytes, at least 1. Two blocks are in memory at a time.
     pub size: usize,
-    /// How many bytes of lines are read by two threads at least; three or four threads read eight times as many at least.
+    /// The fewest bytes that two threads read; three or four threads read at least eight times as many.
     pub least: usize,
 }
 
-/// How many bytes a block has that one thread fills and reads.
+/// The length of a block that one thread fills and reads.
 const BLOCK: usize = 1_048_576;
 
-/// How many it has where it is read while the next one is filled.
+/// The length of a block that is read while the next one is filled.
 const LARGE_BLOCK: usize = 4_194_304;
 
-/// How many bytes of lines two threads read at least.
+/// The fewest bytes that two threads read.
 const LEAST_OF_TWO: usize = 65_536;
 
-/// How a device is read by so many threads.
+/// How a device is read by this number of threads.
 pub fn way_of(alloc: Global, threads: usize) -> Way
     ensures { 0 < result.size }
 {

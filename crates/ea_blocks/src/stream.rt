@@ -1,5 +1,5 @@
-//! Texts of devices, read line by line as their bytes come, so that no text lies in memory whole: while the whole lines of a block
-//! are read, the next block is filled.
+//! Reading the texts of devices line by line as their bytes come, so that no text is in memory whole: while
+//! the lines of a block are read, the next block is filled.
 ghost use Rattle.std.specs.Prelude.{◌≡◌, ◌<◌, ◌+◌, ◌^◌, ◌++◌, IfSome, length};
 ghost use Rattle.ea_blocks.specs.Reading.{text_after};
 ghost use Rattle.ea_blocks.specs.Streams.{EndsLine, FeedsOn, Finishes, GivesWhole, IsFilled};
@@ -14,18 +14,18 @@ use std::mem;
 use std::thread::Threads;
 use thiserror::Error;
 
-/// Why the text of a device gave nothing.
+/// Why the text of a device has no result.
 #[derive(Clone, Copy, Debug, PartialEq, Eq, Error)]
 pub enum StreamFault {
-    /// The device couldn't be read, or has more bytes than are allowed.
+    /// The device couldn't be read, or has more bytes than allowed.
     #[error("{0}")]
     Read(ReadFault),
-    /// Its text has a fault, or memory was refused as it was read.
+    /// Its text has a fault, or memory was refused while it was read.
     #[error("{0}")]
     Input(InputFault),
 }
 
-/// A reader of lines, how many it was given, and their first fault.
+/// A reader of lines, the number of lines that it got, and their first fault.
 #[derive(Drop)]
 pub struct Feed<R: BlockReader> {
     reader: R,
@@ -34,7 +34,7 @@ pub struct Feed<R: BlockReader> {
 }
 
 impl<R: BlockReader> Feed<R> {
-    /// Gives the reader the lines of one more text, where those before it have no fault, and does something beside.
+    /// Gives the reader the lines of one more text, if those before it have no fault, and does other work.
     fn take<H: Threads + Sync, X, B: FnMut() -> X>(
         &mut self,
         rt: &H,
@@ -59,7 +59,7 @@ impl<R: BlockReader> Feed<R> {
         gave
     }
 
-    /// What the lines so far are read to, if they are all.
+    /// The result if the lines so far are all.
     fn finish(self) -> Result<R::Text, InputFault>
         ensures { Finishes R.step R.end R.view (R.state self.reader) self.lines self.fault result }
     {
@@ -73,10 +73,10 @@ impl<R: BlockReader> Feed<R> {
     }
 }
 
-/// How many bytes the first block has at most. One thread reads it, since two need to know what its first lines announce.
+/// The length of the first block. One thread reads it: two need to know what its first lines announce.
 const FIRST_BLOCK: usize = 65_536;
 
-/// Fills a block until it has so many bytes, or the device ends: whether it ended.
+/// Fills a block up to at least this many bytes, or to the end of the device. Returns whether it ended.
 fn fill<D: ByteIn>(
     device: &mut D,
     blocks: &mut Blocks,
@@ -90,8 +90,8 @@ fn fill<D: ByteIn>(
     blocks.fill(device, block, size)
 }
 
-/// Gives lines to a reader, and fills a block with what follows them, both at once where there are several threads: whether the
-/// device ended.
+/// Gives lines to a reader, and fills a block with what follows them, at the same time if there are several
+/// threads. Returns whether the device ended.
 fn go_on<H: Threads + Sync, R: BlockReader, D: ByteIn>(
     rt: &H,
     way: Way,
@@ -118,7 +118,7 @@ fn go_on<H: Threads + Sync, R: BlockReader, D: ByteIn>(
     feed.take(rt, way, lines, &mut filling)
 }
 
-/// The lines of a block, and room for the block after it, into which what follows the last line feed is put; none where memory was
+/// The lines of a block. Copies what follows the last line feed to the block after it; none if memory was
 /// refused.
 fn lines_and_rest<'a>(block: &'a [u8], next: &mut Vec<u8>) -> Option<&'a [u8]>
     ensures { IfSome result
@@ -132,7 +132,7 @@ fn lines_and_rest<'a>(block: &'a [u8], next: &mut Vec<u8>) -> Option<&'a [u8]>
     }
 }
 
-/// What a device's text is read to, whose bytes are taken up to a limit.
+/// Reads a device's text, up to a limit of bytes.
 pub fn read_device<H: Threads + Sync, R: BlockReader, D: ByteIn>(
     rt: &H,
     way: Way,
@@ -163,7 +163,7 @@ pub fn read_device<H: Threads + Sync, R: BlockReader, D: ByteIn>(
         let Some(lines) = lines_and_rest(&block, &mut next) else {
             return Err(StreamFault::Read(ReadFault::OutOfMemory));
         };
-        // A line that is longer than a block makes longer blocks.
+        // A line longer than a block makes longer blocks.
         let wanted = Way {
             size: next.len().saturating_mul(2).max(way.size),
             ..way
