@@ -1,4 +1,4 @@
--- Where lines and fields are cut.
+-- Where lines and fields end.
 use Rattle.std.proofs.Common.{◌≡◌, ◌≢◌, ℕ, suc, zero, ◌<◌, true, false, cond, List, [], ◌∷◌, ◌++◌, length, get_or, take, drop, refl, ap, sym, ◌∙◌, arith, tests}
 use Rattle.std.specs.List.{slice_split, onto_first}
 use Rattle.std.specs.Prelude.{nat_lt, filter}
@@ -9,7 +9,7 @@ use Rattle.std.proofs.lemmas.List.Splits.{slice_split-cons_yes, slice_split-cons
 use Rattle.memchr.specs.Find.{Passes, is_byte}
 use Rattle.ea_bytes.specs.Text.{lines_of, fields_of, is_blank}
 
--- Whether a byte is a line feed, as the search for it says.
+-- A byte is a line feed if the search says so.
 pub feed_at : (text : List ℕ) (i : ℕ) → Passes (is_byte 10) text i → get_or text i 0 ≡ 10
 feed_at text i found = grind (arith, tests)
 
@@ -74,6 +74,6 @@ pub not_at_start : (line : List ℕ) (i : ℕ) → is_blank (get_or line 0 0) �
 not_at_start line zero plain blank = absurd (false≢true (sym plain ∙ blank))
 not_at_start line (suc i) plain blank = omega arith
 
--- The front of a list, by its length.
+-- The first elements of a list, by their number.
 pub front_of : (front rest whole : List (List ℕ)) (n : ℕ) → length front ≡ n → front ++ rest ≡ whole → front ≡ take n whole
 front_of front rest whole n size e = rw (← e, ← size) (sym (take-append_seam front rest))

@@ -41,14 +41,14 @@ digit_is b low high = grind (arith, tests)
 cut_off : (v old digit limit : ℕ) → v ≡ min old limit → min (v * 10 + digit) limit ≡ min (old * 10 + digit) limit
 cut_off v old digit limit e = rw e (omega arith)
 
--- One more digit of a number that is cut off at a limit.
+-- One more digit of a number that is capped at a limit.
 pub value_more : (bs : List ℕ) (i v d limit : ℕ) → i < length bs → 48 ≤ get_or bs i 0 → get_or bs i 0 ≤ 57 → d ≡ get_or bs i 0 - 48 → v ≡ min (digits_value 10 (take i bs)) limit → min (v * 10 + d) limit ≡ min (digits_value 10 (take (i + 1) bs)) limit
 value_more bs i v d limit h low high e inv =
     let more = digits_value_more 10 bs i h in
     let digit = digit_is (get_or bs i 0) low high in
     rw (more, digit, ← e) (cut_off v (digits_value 10 (take i bs)) d limit inv)
 
--- A field that has another byte is no number.
+-- A field with another byte is no number.
 pub no_number : (field : List ℕ) (limit : ℕ) → all_ascii_digits field ≡ false → option_map (λ n. min n limit) (number_of field) ≡ None
 no_number field limit e = ap (λ t. option_map (λ n. min n limit) (cond t (Some (digits_value 10 field)) None)) (and_false (nat_lt 0 (length field)) _ e)
 

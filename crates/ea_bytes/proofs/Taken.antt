@@ -10,7 +10,7 @@ use Rattle.ea_bytes.specs.Taking.{IsStopped, IsTaken, Takes}
 use Rattle.ea_bytes.specs.declared.blocks.ReadFault.{ReadFault}
 use Rattle.ea_bytes.specs.declared.blocks.ReadFault.TheVariants.{OutOfMemory, ReadFailed, TooLarge}
 
--- A device had more than a limit where more than that was taken.
+-- If more bytes than a limit were taken, the device had more.
 pub more_left : (a b : Option (List ℕ)) (bytes : List ℕ) (limit : ℕ) → limit < length bytes → Consumes a b bytes → IfSome a (λ left. limit < length left)
 more_left None b bytes limit more taken = tt
 more_left (Some x) None bytes limit more taken = absurd taken
@@ -22,7 +22,7 @@ taken_more a b c bytes more most front back fits = (bytes ++ back.0, Consumes-tr
 
 -- ---- block by block
 
--- Interruptions that are counted on, as far as the counts go.
+-- Interruptions counted so far, as far as the counts reach.
 counted_more : (first mid now n : ℕ) → now ≡ one_more mid → (first + n ≤ mid) ⊎ (mid ≡ 2 ^ 64 - 1) → (first + (n + 1) ≤ now) ⊎ (now ≡ 2 ^ 64 - 1)
 counted_more first mid now n e (inl h) = grind (arith, tests, common_steps)
 counted_more first mid now n e (inr h) = inr (omega (arith, e, h))
@@ -31,13 +31,13 @@ one_too_many : (first mid now n : ℕ) → now ≡ one_more mid → 1000 ≤ n �
 one_too_many first mid now n e over (inl h) = grind (arith, tests, common_steps)
 one_too_many first mid now n e over (inr h) = inr (omega (arith, e, h))
 
--- Bytes taken after those before, where so many are left and there were so many interruptions.
+-- Bytes taken after those before, for the bytes left and the number of interruptions.
 abbrev Goes : Seen → ℕ → ℕ → Seen → ℕ → ℕ → List ℕ → List ℕ → Type 0
 Goes old left n new left_after n_after block grown =
     (got : List ℕ) × (grown ≡ block ++ got)
     × ((limit : ℕ) (first : Seen) (bytes : List ℕ) → IsTaken limit first old bytes left n → IsTaken limit first new (bytes ++ got) left_after n_after)
 
--- No more are taken, for a reason.
+-- No more are taken, for this reason.
 abbrev Stops : Seen → ℕ → ℕ → Seen → ReadFault → Type 0
 Stops old left n new fault = (limit : ℕ) (first : Seen) (bytes : List ℕ) → IsTaken limit first old bytes left n → IsStopped limit first new fault
 
@@ -130,7 +130,7 @@ stops_failed mid now before after left n t failed interrupted same = λ limit fi
       too_large = λ e. cc;
     }
 
--- An interruption that is not borne.
+-- One interruption too many.
 pub stops_interrupted : (mid now : Seen) (before after : List ℕ) (left n : ℕ) → Takes mid now before after → now.failed ≡ mid.failed → now.interrupted ≡ one_more mid.interrupted
     → after ≡ before → 1000 ≤ n → Stops mid left n now ReadFailed
 stops_interrupted mid now before after left n t failed interrupted same over = λ limit first bytes is.
@@ -172,7 +172,7 @@ from_start limit first now left n left_after n_after none block empty goes start
     let same : block ≡ [] ++ goes.0 = goes.1 ∙ ap (λ l. l ++ goes.0) empty in
     subst (λ l. IsTaken limit first now l left_after n_after) (sym same) (goes.2 limit first [] start)
 
--- What was taken is within the limit, and the device bore it.
+-- What was taken is within the limit, and the device did not give up.
 pub within_limit : (limit : ℕ) (first now : Seen) (bytes : List ℕ) (left n : ℕ) → IsTaken limit first now bytes left n → length bytes ≤ limit
 within_limit limit first now bytes left n is = omega (arith, is.within)
 

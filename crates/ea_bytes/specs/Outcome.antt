@@ -4,13 +4,13 @@ use Rattle.ea_bytes.specs.Device.{Seen, GivesUp, BearsOn}
 use Rattle.ea_bytes.specs.declared.blocks.ReadFault.{ReadFault}
 use Rattle.ea_bytes.specs.declared.blocks.ReadFault.TheVariants.{TooLarge, ReadFailed, OutOfMemory}
 
--- Only a read that failed, or one interruption too many, is ReadFailed; all else was borne.
+-- Only a failed read, or one interruption too many, is ReadFailed; all other interruptions were tolerated.
 abbrev pub FaultCounts : ReadFault → Seen → Seen → Type 0
 FaultCounts ReadFailed old new = GivesUp old new
 FaultCounts TooLarge old new = BearsOn old new
 FaultCounts OutOfMemory old new = BearsOn old new
 
--- The same where all may have been read.
+-- The same if all bytes may have been read.
 abbrev pub CountsAfter : {X : Type 0} → Result X ReadFault → Seen → Seen → Type 0
 CountsAfter (Err fault) old new = FaultCounts fault old new
 CountsAfter (Ok bytes) old new = BearsOn old new

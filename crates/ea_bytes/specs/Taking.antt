@@ -16,7 +16,8 @@ Takes old new before after = (got : List ℕ) × (after ≡ before ++ got) × Co
 abbrev pub HasRoom : Blocks → Type 0
 HasRoom blocks = vec_len blocks.piece ≡ 65536
 
--- These bytes were taken of a device since it was first seen, within a limit: what is left of it, and the interruptions so far.
+-- These bytes were taken from a device since it was first seen, within a limit: what is left of it, and the
+-- interruptions so far.
 pub record IsTaken (limit : ℕ) (first now : Seen) (bytes : List ℕ) (left interruptions : ℕ) : Type 0 where
   pub all : Consumes first.bytes now.bytes bytes
   pub within : length bytes + left ≡ limit
@@ -25,7 +26,7 @@ pub record IsTaken (limit : ℕ) (first now : Seen) (bytes : List ℕ) (left int
   pub at_most : now.interrupted ≤ first.interrupted + interruptions
   pub failed : now.failed ≡ first.failed
 
--- The same by what reads the device block by block.
+-- The same for a reader of blocks.
 abbrev pub IsTakenBy : Blocks → ℕ → Seen → Seen → List ℕ → Type 0
 IsTakenBy blocks limit first now bytes = IsTaken limit first now bytes blocks.left blocks.interruptions
 
@@ -35,16 +36,17 @@ GoesOnTaking old blocks new after block grown =
     (got : List ℕ) × (grown ≡ block ++ got)
     × ((limit : ℕ) (first : Seen) (bytes : List ℕ) → IsTakenBy blocks limit first old bytes → IsTakenBy after limit first new (bytes ++ got))
 
--- A block is longer than before, or one more interruption was borne.
+-- A block is longer than before, or one more interruption was tolerated.
 abbrev pub IsTakenOn : Blocks → Blocks → ℕ → ℕ → Type 0
 IsTakenOn blocks after len grown = ((len < grown) × (after.interruptions ≡ blocks.interruptions)) ⊎ ((grown ≡ len) × (blocks.interruptions < MOST_INTERRUPTIONS) × (after.interruptions ≡ blocks.interruptions + 1))
 
--- A device that isn't read on, for this reason: its counts, at most one byte beyond the limit, and for `TooLarge` more than it.
+-- A device is read no further, for this reason: its counts, at most one byte beyond the limit, and more than
+-- the limit for `TooLarge`.
 pub record IsStopped (limit : ℕ) (first now : Seen) (fault : ReadFault) : Type 0 where
   pub counts : FaultCounts fault first now
   pub taken : TakesAtMost (limit + 1) first now
   pub too_large : fault ≡ TooLarge → IfSome first.bytes (λ left. limit < length left)
 
--- The same of one that was read before.
+-- The same for a device that was read before.
 abbrev pub StopsTaking : Seen → Blocks → Seen → ReadFault → Type 0
 StopsTaking old blocks new fault = (limit : ℕ) (first : Seen) (bytes : List ℕ) → IsTakenBy blocks limit first old bytes → IsStopped limit first new fault

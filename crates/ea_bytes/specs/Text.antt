@@ -5,7 +5,8 @@ use Rattle.std.specs.Str.{all_ascii_digits}
 use Rattle.std.specs.Str.Lines.{strip_carriage_return}
 use Rattle.std.specs.Str.Parse.{digits_value}
 
--- The lines of a text: each line feed ends one, and the bytes after the last line feed are one where there are any.
+-- The lines of a text: each line feed ends one, and the bytes after the last line feed are one if there are
+-- any.
 abbrev pub lines_of : List ℕ → List (List ℕ)
 lines_of [] = []
 lines_of (b ∷ bs) = if b == 10 then [] ∷ lines_of bs else onto_first b (lines_of bs)
@@ -18,11 +19,11 @@ is_blank b = (b == 32) || (b == 9)
 abbrev pub fields_of : List ℕ → List (List ℕ)
 fields_of line = filter (λ part. nat_lt 0 (length part)) (slice_split is_blank line)
 
--- The lines of a text, each as its fields, after one carriage return at the end of a line is dropped.
+-- The lines of a text, each as its fields, without one carriage return at the end of a line.
 abbrev pub field_lines : List ℕ → List (List (List ℕ))
 field_lines text = map (λ line. fields_of (strip_carriage_return line)) (lines_of text)
 
--- The number that a field is, of any length: one or more digits.
+-- The number in a field, of any length: one or more digits.
 abbrev pub number_of : List ℕ → Option ℕ
 number_of field = if nat_lt 0 (length field) && all_ascii_digits field then Some (digits_value 10 field) else None
 
@@ -31,7 +32,7 @@ abbrev pub is_comment : List ℕ → Bool
 is_comment [] = false
 is_comment (b ∷ bs) = b == 99
 
--- A line says nothing where it has no field or is a comment.
+-- A line says nothing if it has no field or is a comment.
 abbrev pub is_silent : List (List ℕ) → Bool
 is_silent [] = true
 is_silent (word ∷ others) = is_comment word

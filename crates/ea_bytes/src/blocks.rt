@@ -1,4 +1,4 @@
-//! All bytes of a device.
+//! Reading all bytes of a device.
 ghost use Rattle.std.specs.Prelude.{◌≡◌, ◌<◌, ◌≤◌, ◌^◌, ◌+◌, IfOk, ◌≢◌, List, [], ℕ, Option, IfErr, IfSome, IsOkAnd, OnErr, OnOk, vec_len, IsErrOf, length, true, false};
 ghost use Rattle.std.specs.Io.KnownBytes.{Consumes, IsAtEnd};
 ghost use Rattle.ea_bytes.specs.Device.{AreAlike, HasGivenUp, Seen, TakesAtMost};
@@ -12,13 +12,13 @@ use ea_base::MOST_INTERRUPTIONS;
 use std::alloc::{AllocError, Global};
 use thiserror::Error;
 
-/// Why not all bytes of a device were read.
+/// Why a device was not read whole.
 #[derive(Clone, Copy, Debug, PartialEq, Eq, Error)]
 pub enum ReadFault {
     /// There are more bytes than the limit.
     #[error("there are more bytes than are allowed (10 TooLarge)")]
     TooLarge,
-    /// A read failed, or the interruptions were more than 1,000.
+    /// A read failed, or was interrupted more than 1,000 times.
     #[error("the input could not be read (11 ReadFailed)")]
     ReadFailed,
     /// Memory for the bytes was refused.
@@ -27,7 +27,7 @@ pub enum ReadFault {
 }
 
 impl ReadFault {
-    /// The number by which messages name this fault.
+    /// The number of this fault in messages.
     pub fn number(self) -> u8
         ensures { result ≡ fault_number self }
     {
@@ -38,7 +38,7 @@ impl ReadFault {
         }
     }
 
-    /// The name by which messages name this fault.
+    /// The name of this fault in messages.
     pub fn name(self) -> &'static str
         ensures { result.now ≡ fault_name self }
     {
@@ -58,21 +58,21 @@ impl From<AllocError> for ReadFault {
     }
 }
 
-/// How many bytes one read asks for at most.
+/// The most bytes that one read asks for.
 const PIECE: usize = 65_536;
 
-/// Room for a piece.
+/// A buffer of this length.
 fn room(alloc: Global, len: usize) -> Result<Vec<u8>, AllocError>
     ensures { IfOk result (λ piece. vec_len piece ≡ len) }
 {
     vec![in alloc; 0u8; len]
 }
 
-/// Up to how many bytes a text gets room for four times as many as there are.
+/// Up to this length a buffer grows to four times its length.
 const MOST_AHEAD: usize = 67_108_864;
 
-/// Makes room for so many more bytes where there is none: for four times as many as there are, so that they are seldom moved.
-/// Where that is refused or they are very many the next growth asks for less.
+/// Makes room for `more` bytes. Grows to four times the length, so that the bytes are seldom moved. If that
+/// is refused, or there are very many, the next growth asks for less.
 fn make_room(bytes: &mut Vec<u8>, more: usize)
     ensures { bytes.new.items ≡ bytes.old.items }
 {
@@ -82,7 +82,7 @@ fn make_room(bytes: &mut Vec<u8>, more: usize)
     }
 }
 
-/// What one read came to.
+/// The outcome of one read.
 enum Piece {
     Some,
     End,
@@ -96,7 +96,7 @@ fn read_piece<R: ByteIn>(
     bytes: &mut Vec<u8>,
 ) -> Result<Piece, AllocError>
     requires { 0 < length piece.old }
-    // What was taken before and what is taken now stay together what the device had.
+    // What was taken before and what is taken now together stay what the device had.
     ensures taken { IfOk result (λ _. (first : Option (List ℕ)) →
         Consumes first (R.seen reader.old).bytes bytes.old.items →
         Consumes first (R.seen reader.new).bytes bytes.new.items) }
@@ -126,8 +126,8 @@ fn read_piece<R: ByteIn>(
     }
 }
 
-/// What reads a device block by block, up to a limit: room for one read, how many bytes may still be taken, and how often the device
-/// was interrupted.
+/// A reader of a device in blocks, up to a limit: a buffer for one read, how many bytes may still be taken,
+/// and how often the device was interrupted.
 #[derive(Drop)]
 pub struct Blocks {
     piece: Vec<u8>,
@@ -136,7 +136,7 @@ pub struct Blocks {
 }
 
 impl Blocks {
-    /// Blocks of a device that was not read yet, of which at most so many bytes are taken.
+    /// Blocks of a device that was not read yet, of at most `limit` bytes in all.
     pub fn new(alloc: Global, limit: u64) -> Result<Blocks, AllocError>
         ensures { IfOk result (λ blocks. HasRoom blocks
             × ((first : Seen) → IsTakenBy blocks limit first first [])) }
@@ -148,7 +148,7 @@ impl Blocks {
         })
     }
 
-    /// Appends the bytes of one read to a block: whether the device ended.
+    /// Appends the bytes of one read to a block. Returns whether the device ended.
     fn take<R: ByteIn>(&mut self, reader: &mut R, block: &mut Vec<u8>) -> Result<bool, ReadFault>
         requires { HasRoom self.old }
         ensures room { HasRoom self.new }
@@ -188,10 +188,12 @@ impl Blocks {
         Ok(ended)
     }
 
-    /// Appends bytes of the device to a block until it has `size` or more, or the device ends: whether it ended.
+    /// Appends bytes of the device to a block until it has `size` or more, or the device ends. Returns
+    /// whether it ended.
     ///
-    /// `TooLarge` where the device had more bytes than the limit, of which one more is taken then; `ReadFailed` where a read failed, or
-    /// was interrupted for the 1,001st time in all; `OutOfMemory` where memory for the bytes was refused.
+    /// Fails with `TooLarge` if the device had more bytes than the limit, after taking one more; with
+    /// `ReadFailed` if a read failed, or was interrupted for the 1,001st time in all; with `OutOfMemory` if
+    /// memory for the bytes was refused.
     pub fn fill<R: ByteIn>(
         &mut self,
         reader: &mut R,
@@ -223,11 +225,11 @@ impl Blocks {
 
 /// All bytes of a device to its end.
 ///
-/// `TooLarge` where there are more than `limit`, which takes `limit + 1` bytes of the device and
-/// no more; `ReadFailed` where a read failed or was interrupted for the 1,001st time;
-/// `OutOfMemory` where memory for the bytes was refused. Bytes taken before a fault are lost.
+/// Fails with `TooLarge` if there are more than `limit` bytes, after taking `limit + 1`; with `ReadFailed` if
+/// a read failed or was interrupted for the 1,001st time; with `OutOfMemory` if memory for the bytes was
+/// refused. Bytes taken before a fault are lost.
 pub fn read_all<R: ByteIn>(alloc: Global, reader: &mut R, limit: u64) -> Result<Vec<u8>, ReadFault>
-    // All bytes that the device had, and none is left.
+    // All bytes that the device had; none is left.
     ensures all { IfOk result
         (λ bytes. IfSome (R.seen reader.old).bytes (λ left. bytes.items ≡ left)) }
     ensures end { OnOk result (IsAtEnd (R.seen reader.new).bytes) }
@@ -240,7 +242,7 @@ pub fn read_all<R: ByteIn>(alloc: Global, reader: &mut R, limit: u64) -> Result<
 
     // What is left is the end of what there was, and at most one byte beyond the limit is taken.
     ensures left { TakesAtMost (limit + 1) (R.seen reader.old) (R.seen reader.new) }
-    // A failure or the 1,001st interruption is a fault at once, and nothing else is ReadFailed.
+    // A failure or the 1,001st interruption ends the call at once, and nothing else is ReadFailed.
     ensures counts { CountsAfter result (R.seen reader.old) (R.seen reader.new) }
 {
     let mut blocks = Blocks::new(alloc, limit)?;

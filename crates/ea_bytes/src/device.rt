@@ -1,36 +1,35 @@
-//! Devices: what gives and takes bytes, and counts its faults.
+//! Devices: they give or take bytes, and count their faults.
 ghost use Rattle.std.specs.Prelude.{◌≡◌, ◌<◌, IfOk, length};
 ghost use Rattle.std.specs.Io.{ReadsAtMost, WritesAtMost};
 ghost use Rattle.std.specs.Io.KnownBytes.{ReadConsumes, WriteAppends};
 ghost use Rattle.ea_bytes.specs.Device.{Seen, failures_after, interruptions_after};
 
-/// Why a read or a write did nothing: it was interrupted and may be tried again, or it failed.
+/// Why a read or a write did nothing: it was interrupted and may be retried, or it failed.
 #[derive(Clone, Copy, Debug, PartialEq, Eq)]
 pub enum DeviceFault {
     Interrupted,
     Failed,
 }
 
-/// What reads or writes, and counts its faults of either kind; a count stays at `u64::MAX`.
+/// A reader or writer that counts its faults of either kind; a count stops at `u64::MAX`.
 ///
-/// A call that answers a fault raises that fault's count by one, and nothing else raises one.
+/// A call that returns a fault raises that fault's count by one; nothing else raises a count.
 pub trait Device {
-    /// What contracts see: the bytes that are left of a reader, or that a writer took, where its type
-    /// tells them, and the two counts.
+    /// In contracts: the bytes left of a reader, or taken by a writer, if its type says, and the two counts.
     ghost seen: { Self → Seen };
 
-    /// How many calls failed.
+    /// The number of calls that failed.
     fn failures(&self) -> u64
         ensures { result ≡ (seen self.now).failed };
 
-    /// How many calls were interrupted.
+    /// The number of calls that were interrupted.
     fn interruptions(&self) -> u64
         ensures { result ≡ (seen self.now).interrupted };
 }
 
-/// What gives bytes.
+/// A device that gives bytes.
 pub trait ByteIn: Device {
-    /// Puts bytes into the front of `buf`; none only at the end, or where `buf` is empty.
+    /// Writes bytes to the start of `buf`, and returns their number; 0 only at the end, or if `buf` is empty.
     fn read(&mut self, buf: &mut [u8]) -> Result<usize, DeviceFault>
         ensures bound { ReadsAtMost result buf.new }
         ensures bytes { ReadConsumes (Self.seen self.old).bytes
@@ -41,9 +40,9 @@ pub trait ByteIn: Device {
             ≡ interruptions_after result (Self.seen self.old).interrupted };
 }
 
-/// What takes bytes.
+/// A device that takes bytes.
 pub trait ByteOut: Device {
-    /// Takes bytes from the front of `buf`; at least one where it has any.
+    /// Takes bytes from the start of `buf`, at least one if it has any, and returns their number.
     fn write(&mut self, buf: &[u8]) -> Result<usize, DeviceFault>
         ensures bound { WritesAtMost result buf.now }
         ensures some { IfOk result (λ n. 0 < length buf.now → 0 < n) }

@@ -25,7 +25,7 @@ pub(crate) fn no_faults() -> Counts
 }
 
 impl Counts {
-    /// Counts a fault, and gives it back.
+    /// Counts a fault, and returns it.
     pub fn count(&mut self, fault: DeviceFault) -> DeviceFault
         ensures fault { result ≡ fault }
         ensures failed { self.new.failures ≡ failures_by fault self.old.failures }
@@ -42,7 +42,7 @@ impl Counts {
     }
 }
 
-/// Which fault an error of std is.
+/// The fault for an error of std.
 pub(crate) fn fault_of(error: &Error) -> DeviceFault
     ensures { result ≡ fault_by (error_kind error.now) }
 {

@@ -13,7 +13,7 @@ pub fn is_blank(b: u8) -> bool
     b == b' ' || b == b'\t'
 }
 
-/// What is left of a line after the blanks at its front.
+/// A line after its leading blanks.
 fn skip_blanks(line: &[u8]) -> &[u8]
     ensures same { fields_of result.now ≡ fields_of line.now }
     ensures start { 0 < length result.now → spec.is_blank (slice_index result.now 0) ≡ false }
@@ -27,7 +27,7 @@ fn skip_blanks(line: &[u8]) -> &[u8]
     &line[line.len()..]
 }
 
-/// The field at the front of a line, and the bytes after it and its blank.
+/// The field at the start of a line, and the bytes after it and its blank.
 fn split_field(line: &[u8]) -> (&[u8], &[u8])
     requires some { 0 < length line.now }
     requires start { spec.is_blank (slice_index line.now 0) ≡ false }
@@ -42,7 +42,7 @@ fn split_field(line: &[u8]) -> (&[u8], &[u8])
     (line, &line[line.len()..])
 }
 
-/// The first field of a line, and the bytes after it and its blank; none where the line has no field.
+/// The first field of a line, and the bytes after it and its blank; none if the line has no field.
 pub fn first_field(line: &[u8]) -> Option<(&[u8], &[u8])>
     ensures cut { MatchOption result (fields_of line.now ≡ [])
         (λ x. fields_of line.now ≡ x.0.now ∷ fields_of x.1.now) }
@@ -56,7 +56,7 @@ pub fn first_field(line: &[u8]) -> Option<(&[u8], &[u8])>
     }
 }
 
-/// The most fields of a line that any line of a file has, and one more.
+/// One more than the most fields in any line of a file.
 pub const KEPT_FIELDS: usize = 7;
 
 /// The fields of a line, at most seven of them.

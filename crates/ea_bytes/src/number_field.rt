@@ -1,9 +1,9 @@
-//! Numbers of fields.
+//! Numbers in fields.
 ghost use Rattle.std.specs.Prelude.{◌≡◌, ◌<◌, ◌^◌, length, min};
 ghost use Rattle.std.specs.Option.{option_map};
 ghost use Rattle.ea_bytes.specs.Text.{number_of};
 
-/// The number that a field of digits is, however long it is, cut off at 2^64.
+/// The number in a field of digits of any length, capped at 2^64.
 fn long_number(field: &[u8]) -> Option<u128>
     requires { 0 < length field.now }
     ensures { result ≡ option_map (λ n. min n (2 ^ 64)) (number_of field.now) }
@@ -18,7 +18,7 @@ fn long_number(field: &[u8]) -> Option<u128>
     Some(value)
 }
 
-/// The number that a field is, cut off at 2^64; none where it has another byte than a digit.
+/// The number in a field, capped at 2^64; none if it has a byte other than a digit.
 pub fn number(field: &[u8]) -> Option<u128>
     ensures { result ≡ option_map (λ n. min n (2 ^ 64)) (number_of field.now) }
 {

@@ -6,10 +6,9 @@ use crate::fault_counts::{Counts, fault_of, no_faults};
 use std::io::Read;
 use std::marker::Model;
 
-/// A reader of std as a device. An error of kind `Interrupted` is `Interrupted`, every other one
-/// is `Failed`.
+/// A reader of std as a device. An error of kind `Interrupted` is `Interrupted`; every other one is `Failed`.
 ///
-/// Contracts see it as the reader and the two counts.
+/// In contracts it is the reader and the two counts.
 #[derive(Drop)]
 pub struct StdIn<R: Read> {
     reader: R,
@@ -29,7 +28,7 @@ impl<R: Read> Model for StdIn<R> {
 }
 
 impl<R: Read> StdIn<R> {
-    /// A device that has what the reader has, and no faults yet.
+    /// A device over a reader, with no faults counted.
     pub fn new(reader: R) -> Self
         ensures { result ≡ record { inner = reader; failures = 0; interruptions = 0 } }
     {

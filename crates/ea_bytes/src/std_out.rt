@@ -6,10 +6,10 @@ use crate::fault_counts::{Counts, fault_of, no_faults};
 use std::io::Write;
 use std::marker::Model;
 
-/// A writer of std as a device. An error of kind `Interrupted` is `Interrupted`, every other one
-/// is `Failed`, and so is a write that takes nothing of a slice that isn't empty.
+/// A writer of std as a device. An error of kind `Interrupted` is `Interrupted`; every other one is `Failed`,
+/// and so is a write that takes nothing of a slice that isn't empty.
 ///
-/// Contracts see it as the writer and the two counts.
+/// In contracts it is the writer and the two counts.
 #[derive(Drop)]
 pub struct StdOut<W: Write> {
     writer: W,
@@ -29,7 +29,7 @@ impl<W: Write> Model for StdOut<W> {
 }
 
 impl<W: Write> StdOut<W> {
-    /// A device that holds what the writer holds, and has no faults yet.
+    /// A device over a writer, with no faults counted.
     pub fn new(writer: W) -> Self
         ensures { result ≡ record { inner = writer; failures = 0; interruptions = 0 } }
     {
