@@ -1,4 +1,4 @@
--- What holds of the first part of a row and of the rest holds of the whole row.
+-- What holds of the first part of a slice and of the rest holds of the whole slice.
 use mathlib.Core.Path.{◌≡◌, refl, sym, subst, ap, ◌∙◌}
 use mathlib.Core.List.{List, ◌++◌}
 use mathlib.Core.Logic.{⊎_elim}

@@ -1,4 +1,4 @@
-//! Each part of a row, in a thread of its own, and something beside.
+//! Each part of a slice in a separate thread, and other work in this one.
 ghost use Rattle.std.specs.Prelude.{◌≡◌, ◌<◌, length};
 ghost use denote.Param.Send.{IsSend, IsSync};
 ghost use Rattle.std.specs.Fork.{AcceptsAt, AcceptsChunksMut, AllInChunks, ChangesAt, ChangesChunks};
@@ -7,9 +7,9 @@ ghost use Rattle.std.specs.Fork.Halves.{ChangesByChunks, IsChunked};
 use crate::rows::parts_from;
 use std::thread::{Threads, join_mut};
 
-/// Calls f(start, part) at each part of so many places that a row has, the last one maybe shorter, each in a thread of its own
-/// where one can be started, while this thread does something beside, and answers what that gave. Each part makes the stack deeper:
-/// for as few parts as there are threads to use.
+/// Calls f(start, part) for each part of `size` elements of a slice, the last one maybe shorter, each in a
+/// separate thread if one can be started, while this thread does other work. Returns the result of that work.
+/// The stack grows with each part, so there should be as few parts as threads to use.
 pub fn for_each_chunk_mut_beside<
     R: Threads + Sync,
     T: Send,
@@ -30,7 +30,8 @@ pub fn for_each_chunk_mut_beside<
     parts_beside(rt, f, 0, size, row.len().div_ceil(size), row, beside)
 }
 
-/// Calls f at so many parts of a row, which stands at this place of the whole row, while this thread does something beside.
+/// Calls f for the parts of a slice that begins at index `base` of the whole slice, while this thread does
+/// other work.
 #[cycle(beside)]
 fn parts_beside<R: Threads + Sync, T: Send, F: Fn(usize, &mut [T]) + Sync, X, B: FnMut() -> X>(
     rt: &R,
@@ -64,7 +65,7 @@ fn parts_beside<R: Threads + Sync, T: Send, F: Fn(usize, &mut [T]) + Sync, X, B:
     )
 }
 
-/// Starts a thread for one part, while this one does something beside.
+/// Starts a thread for one part, while this one does other work.
 fn part_beside<R: Threads + Sync, T: Send, F: Fn(usize, &mut [T]) + Sync, X, B: FnMut() -> X>(
     rt: &R,
     f: &F,
@@ -89,7 +90,7 @@ fn part_beside<R: Threads + Sync, T: Send, F: Fn(usize, &mut [T]) + Sync, X, B: 
     gave
 }
 
-/// Starts a thread for the first part, and goes on with the others in this one.
+/// Starts a thread for the first part, and continues with the others in this one.
 #[cycle(beside)]
 fn first_beside_rest<R: Threads + Sync, T: Send, F: Fn(usize, &mut [T]) + Sync, X, B: FnMut() -> X>(
     rt: &R,

@@ -1,7 +1,8 @@
 //! Work on the parts of a row, by threads that one thread starts.
 //!
-//! One thread starts all others. The calls of `std::thread` halve the row: two threads start others at the same moment then, which Linux
-//! often puts on one processor, where they stay for as long as 30 ms while another processor has nothing to do.
+//! One thread starts all others. The calls of `std::thread` halve the slice, so that two threads start others
+//! at the same moment. Linux often puts these on one processor, where they stay for up to 30 ms while another
+//! is idle.
 #![tactic(auto)]
 
 mod beside_join;
@@ -10,5 +11,5 @@ mod rows;
 pub use beside_join::for_each_chunk_mut_beside;
 pub use rows::for_each_mut;
 
-/// How many threads `for_each_mut` starts at most.
+/// The most threads that `for_each_mut` starts.
 pub const MOST_THREADS: usize = 64;

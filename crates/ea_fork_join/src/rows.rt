@@ -1,4 +1,4 @@
-//! Each part of a row, in a thread of its own.
+//! Each part of a slice in a separate thread.
 ghost use Rattle.std.specs.Prelude.{◌≡◌, ◌<◌, ◌≤◌, length, slice_index_or};
 ghost use Rattle.ea_fork_join.specs.declared.TheConstants.{MOST_THREADS};
 ghost use denote.Param.Send.{IsSend, IsSync};
@@ -8,8 +8,8 @@ ghost use Rattle.std.specs.Fork.Halves.{ChangesByChunks, IsChunked};
 
 use std::thread::{Threads, join_mut};
 
-/// Calls f(start, part) at each part of so many places that a row has, the last one maybe shorter, each in a thread of its own
-/// where one can be started. The last is called in this thread.
+/// Calls f(start, part) for each part of `size` elements of a slice, the last one maybe shorter, each in a
+/// separate thread if one can be started. The last is called in this thread.
 fn for_each_chunk_mut<R: Threads + Sync, T: Send, F: Fn(usize, &mut [T]) + Sync>(
     rt: &R,
     row: &mut [T],
@@ -26,7 +26,7 @@ fn for_each_chunk_mut<R: Threads + Sync, T: Send, F: Fn(usize, &mut [T]) + Sync>
     }
 }
 
-/// Calls f at the place of a part of one place.
+/// Calls f for a part of one element.
 fn at_one<T, F: Fn(usize, &mut T)>(f: &F, start: usize, part: &mut [T])
     requires one { length part.old ≡ 1 }
     requires accepts { (d : T) → AcceptsAt F.Fn f.now start (slice_index_or part.old 0 d) }
@@ -35,8 +35,8 @@ fn at_one<T, F: Fn(usize, &mut T)>(f: &F, start: usize, part: &mut [T])
     f(start, &mut part[0]);
 }
 
-/// Calls f(i, &mut row[i]) at each place of a row, each in a thread of its own where one can be started. The last is called in this
-/// thread.
+/// Calls f(i, &mut row[i]) for each element of a slice, each in a separate thread if one can be started. The
+/// last is called in this thread.
 pub fn for_each_mut<R: Threads + Sync, T: Send, F: Fn(usize, &mut T) + Sync>(
     rt: &R,
     row: &mut [T],
@@ -55,7 +55,7 @@ pub fn for_each_mut<R: Threads + Sync, T: Send, F: Fn(usize, &mut T) + Sync>(
     for_each_chunk_mut(rt, row, 1, &at_part);
 }
 
-/// Calls f at so many parts of a row, which stands at this place of the whole row.
+/// Calls f for the parts of a slice that begins at index `base` of the whole slice.
 #[cycle(parts)]
 pub(crate) fn parts_from<R: Threads + Sync, T: Send, F: Fn(usize, &mut [T]) + Sync>(
     rt: &R,
@@ -76,8 +76,8 @@ pub(crate) fn parts_from<R: Threads + Sync, T: Send, F: Fn(usize, &mut [T]) + Sy
     first_and_rest(rt, f, size, base, 1, first, base + size, count - 1, rest);
 }
 
-/// Starts a thread for the first part, and goes on with the others in this one. It is a function of its own so that what the closures
-/// require is what it is given.
+/// Starts a thread for the first part, and continues with the others in this one. A separate function, so
+/// that what the closures require is its parameters' contract.
 #[cycle(parts)]
 fn first_and_rest<R: Threads + Sync, T: Send, F: Fn(usize, &mut [T]) + Sync>(
     rt: &R,
