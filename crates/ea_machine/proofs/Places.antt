@@ -1,4 +1,4 @@
--- What stands at a place of a list, and what holds of some member.
+-- The elements of a list by place, and what holds of some member.
 use Rattle.std.proofs.Common.{◌≡◌, ℕ, zero, suc, ◌<◌, List, [], ◌∷◌, ◌++◌, length, get_or, set, sym, refl, ap, ◌∙◌, subst, arith}
 use Rattle.std.specs.Prelude.{All, Any, Contains}
 use Rattle.std.proofs.lemmas.List.Elements.{Contains-get_or}
@@ -24,7 +24,7 @@ module _ {A : Type 0} where
   at_value (y ∷ ys) zero d h = refl
   at_value (y ∷ ys) (suc i) d h = at_value ys i d (omega arith)
 
-  -- a place whose value weighs something, where the default weighs nothing, is inside
+  -- if the default weighs nothing, a place with a weight is inside
   pub at_weighed : (f : A → ℕ) (xs : List A) (i : ℕ) (d : A) → f d ≡ 0 → 0 < f (get_or xs i d) → get_elem? xs i ≡ some (get_or xs i d)
   at_weighed f [] i d light heavy = absurd (omega arith)
   at_weighed f (y ∷ ys) zero d light heavy = refl

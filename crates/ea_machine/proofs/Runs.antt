@@ -1,4 +1,4 @@
--- Runs of a machine, and what each of their states keeps.
+-- Runs of a machine, and their invariants.
 use Rattle.std.proofs.Common.{◌≡◌, List, [], ◌∷◌, ◌++◌, sym, refl, ap, ◌∙◌, subst}
 use Rattle.ea_machine.specs.Runs.{after_all, MayRun, IsReached}
 
@@ -16,7 +16,7 @@ module _ {Core Event : Type 0} (after : Core → Event → Core) where
     pub reached_first : (first : Core) → IsReached after may_come first first
     reached_first first = record { events = []; may_run = tt; leads = refl }
 
-    -- a run goes on by each event that may come
+    -- a run continues with each possible event
     pub reached_next : (first core : Core) (event : Event) → IsReached after may_come first core → may_come core event → IsReached after may_come first (after core event)
     reached_next first core event h may = record {
       events = h.events ++ event ∷ [];
@@ -25,7 +25,7 @@ module _ {Core Event : Type 0} (after : Core → Event → Core) where
     }
 
     module _ (P : Core → Type 0) (keeps : (core : Core) (event : Event) → P core → may_come core event → P (after core event)) where
-      -- what each event keeps, each run keeps
+      -- an invariant of each event is one of each run
       pub kept_by_run : (core : Core) (events : List Event) → P core → MayRun after may_come core events → P (after_all after core events)
       kept_by_run core [] h may = h
       kept_by_run core (event ∷ events) h may = kept_by_run (after core event) events (keeps core event h may.0) may.1

@@ -34,7 +34,7 @@ module _ {A : Type 0} (f : A → ℕ) where
   total-set (x ∷ xs) zero v w e = omega (arith, ap f (some-injective x v e))
   total-set (x ∷ xs) (suc j) v w e = omega (arith, total-set xs j v w e)
 
-  -- the same, at a place that is inside
+  -- the same for a place inside
   pub total_set_at : (l : List A) (j : ℕ) (w : A) → j < length l → total f (set l j w) + f (get_or l j w) ≡ total f l + f w
   total_set_at l j w h = total-set l j (get_or l j w) w (at_value l j w h)
 
@@ -57,12 +57,12 @@ module _ {A : Type 0} (f : A → ℕ) where
       (λ e. Any_tail (λ y. 0 < f y) x xs (some_weighs xs (omega arith)))
       (λ ne. Any_head (λ y. 0 < f y) x xs (omega arith))
 
-  -- where the members with no g weigh nothing
+  -- if the members with no g weigh nothing
   pub total_none : (g : A → ℕ) (l : List A) → total g l ≡ 0 → ((j : ℕ) (b : A) → get_elem? l j ≡ some b → g b ≡ 0 → f b ≡ 0) → total f l ≡ 0
   total_none g [] z none = refl
   total_none g (x ∷ xs) z none = omega (arith, none 0 x refl (omega arith), total_none g xs (omega arith) (λ j b e. none (suc j) b e))
 
--- where one member has all the g there is, and those with none weigh nothing, it has all the weight
+-- if one member has all of g, and those with none weigh nothing, it has all the weight
 pub total_alone : {A : Type 0} (f g : A → ℕ) (l : List A) (i : ℕ) (a : A) → get_elem? l i ≡ some a → total g l ≡ g a → ((j : ℕ) (b : A) → get_elem? l j ≡ some b → g b ≡ 0 → f b ≡ 0) → total f l ≡ f a
 total_alone f g [] i a e one none = absurd (some-ne-none a (sym e))
 total_alone f g (x ∷ xs) zero a e one none =

@@ -1,4 +1,4 @@
--- Runs of a machine: events one after another, each of which may come where the machine then is.
+-- Runs of a machine: a sequence of events, each possible in the state before it.
 use Rattle.std.specs.Prelude.{◌≡◌, List, [], ◌∷◌}
 
 module _ {Core Event : Type 0} (after : Core → Event → Core) where
@@ -11,7 +11,7 @@ module _ {Core Event : Type 0} (after : Core → Event → Core) where
     MayRun core [] = Unit {0}
     MayRun core (event ∷ events) = may_come core event × MayRun (after core event) events
 
-    -- some run leads from the first state to this one
+    -- Some run leads from the first state to this one.
     pub record IsReached (first core : Core) : Type 0 where
       pub events : List Event
       pub may_run : MayRun first events

@@ -4,7 +4,7 @@
 ghost use Rattle.std.specs.Prelude.{◌≡◌, ℕ, ◌+◌, ◌<◌, List, length, slice_set, slice_index_or};
 ghost use Rattle.ea_machine.specs.Totals.{total};
 
-/// Where one place of a list changes, its total changes by that member alone.
+/// If one place of a list changes, its total changes by that member alone.
 pub fn totals_follow_places<T>()
     ensures { (weight : T → ℕ) (members : List T) (place : ℕ) (new : T) → place < length members
         → total weight (slice_set members place new) + weight (slice_index_or members place new)
