@@ -1,4 +1,4 @@
--- Where two ways to say times agree up to a time, they have the same tight arcs, levels and canonical walks up to it.
+-- If two assignments of times agree up to a time, so do their tight arcs, levels and canonical walks.
 use Rattle.std.proofs.Common.{◌≡◌, ℕ, ◌≤◌, List, arith, subst}
 use Rattle.std.specs.List.{IsAmong}
 use Rattle.ea_base.specs.declared.limits.TheConstants.{HORIZON}
@@ -13,7 +13,7 @@ pub record AreTimes (times : ℕ → ℕ → Type 0) : Type 0 where
   pub within : (node time : ℕ) → times node time → time ≤ HORIZON
   pub one : (node time other : ℕ) → times node time → times node other → time ≡ other
 
--- What the first says up to the bound, the second says too.
+-- A time of the first up to the bound is one of the second.
 abbrev pub SaysToo : ℕ → (ℕ → ℕ → Type 0) → (ℕ → ℕ → Type 0) → ℕ → Type 0
 SaysToo nodes first second top = (node time : ℕ) → IsNode nodes node → time ≤ top → first node time → second node time
 

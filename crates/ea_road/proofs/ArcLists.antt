@@ -1,4 +1,4 @@
--- Arcs that lie beside their classes.
+-- Arcs stored beside their classes.
 use Rattle.std.proofs.Common.{◌≡◌, ◌∙◌, refl, sym, ℕ, zero, suc, ◌+◌, ◌<◌, List, [], ◌∷◌, length, map, get_or, arith, ap}
 use Rattle.std.specs.Prelude.{Some, slice_get}
 use Rattle.std.proofs.lemmas.Option.{get_or_from_slice_get}
@@ -33,7 +33,7 @@ found_at classes raw place inside =
 pub read_at : (classes : List ℕ) (raw : List RawArc) (place : ℕ) (none : Arc) → place < length raw → get_or (arcs_beside classes 0 raw) place none ≡ classed_arc (get_or raw place no_raw) (get_or classes place 0)
 read_at classes raw place none inside = get_or_from_slice_get (arcs_beside classes 0 raw) place _ none (found_at classes raw place inside)
 
--- where the classes are those that are assigned
+-- if the classes are those that are assigned
 pub beside_assigned : (classes : List ℕ) (assigned : List (ℕ × ℕ)) (from : ℕ) (raw : List RawArc) → ((place : ℕ) → place < length raw → get_or classes (from + place) 0 ≡ class_of assigned (from + place + 1)) → arcs_beside classes from raw ≡ arcs_from assigned (from + 1) raw
 beside_assigned classes assigned from [] each = refl
 beside_assigned classes assigned from (arc ∷ rest) each =
@@ -56,7 +56,7 @@ without_class arc = record { tail = arc.tail; head = arc.head; weight = arc.weig
 abbrev pub class_in : Arc → ℕ
 class_in arc = arc.class
 
--- where the classes are those of arcs
+-- if the classes are those of arcs
 pub beside_of : (classes : List ℕ) (from : ℕ) (arcs : List Arc) (none : Arc) → ((place : ℕ) → place < length arcs → get_or classes (from + place) 0 ≡ (get_or arcs place none).class) → arcs_beside classes from (map without_class arcs) ≡ arcs
 beside_of classes from [] none each = refl
 beside_of classes from (arc ∷ rest) none each =

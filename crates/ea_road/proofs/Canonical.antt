@@ -1,4 +1,4 @@
--- Canonical walks over any times of nodes: a node has at most one, and it attains the node's time.
+-- Canonical walks for any times of nodes: a node has at most one, and it attains the node's time.
 use Rattle.std.proofs.Common.{◌≡◌, ◌∙◌, refl, ℕ, suc, ◌≤◌, List, [], ◌∷◌, ◌++◌, arith, ap, subst, sym}
 use Rattle.std.specs.List.{IsAmong}
 use Rattle.ea_base.specs.declared.limits.TheConstants.{HORIZON}

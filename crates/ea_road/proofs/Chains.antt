@@ -1,5 +1,5 @@
--- Whether a chain of a length leads to a node can be decided; so a node with a chain has a level, and a node with a level
--- has exactly one canonical walk.
+-- It is decidable whether a chain of a length leads to a node; so a node with a chain has a level, and a node
+-- with a level has exactly one canonical walk.
 use Rattle.std.proofs.Common.{◌≡◌, ◌∙◌, refl, ℕ, zero, suc, ◌+◌, ◌-◌, ◌<◌, ◌≤◌, List, [], ◌∷◌, ◌++◌, length, get_or, inl, inr, arith, ap, subst, sym}
 use Rattle.std.proofs.lemmas.Bool.Decides.{eqb_tells}
 use Rattle.std.proofs.lemmas.List.{get_or_read, get_or_default}

@@ -1,8 +1,8 @@
--- What can be decided, and the least number with a property that can be decided.
+-- Decidable facts, and the least number with a decidable property.
 use Rattle.std.proofs.Common.{◌≡◌, ℕ, zero, suc, ◌+◌, ◌<◌, ◌≤◌, ◌⊎◌, inl, inr, arith, subst, sym}
 use Rattle.std.proofs.lemmas.Bool.Decides.{eqb_tells, leb_tells}
 
--- a fact or its contrary
+-- a fact or its negation
 abbrev pub Decided : Type 0 → Type 0
 Decided P = P ⊎ (P → ⊥)
 
@@ -30,7 +30,7 @@ decide_below P decide (suc n) =
       ]
     ]
 
--- the least number with a property that can be decided
+-- the least number with a decidable property
 pub record Least (P : ℕ → Type 0) : Type 0 where
   pub number : ℕ
   pub holds : P number

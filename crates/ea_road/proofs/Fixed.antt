@@ -1,4 +1,4 @@
--- Labels that are fixed are least, up to the target's label.
+-- Fixed labels are least, up to the target's label.
 use Rattle.std.proofs.Common.{◌≡◌, ◌∙◌, refl, ℕ, ◌≤◌, List, Bool, true, false, arith, subst, sym, ap, inl, inr, eq-eqb, eqb-true}
 use Rattle.std.proofs.lemmas.Bool.{false≢true}
 use Rattle.std.proofs.lemmas.Bool.Decides.{eqb_tells, leb_tells}
@@ -38,7 +38,7 @@ module _
     (fifo : IsFifo answers classes)
     (fixed : IsFixed roads answers query label)
   where
-    -- a node's label at a time bounds what its arcs lead to
+    -- a node's label bounds the arrivals by its arcs
     pub label_le-by_arc : (number node time arrival : ℕ) (arc : Arc) → label node ≤ time → time ≤ HORIZON → IsArc roads number arc → arc.tail ≡ node → answers arc.class arc.weight time arrival → arrival ≤ HORIZON → arrival ≤ limit query.target label → label arc.head ≤ arrival
     label_le-by_arc number node time arrival arc bound within is_arc tail answer horizon below =
         let sooner : label node ≤ HORIZON = omega arith in
@@ -100,7 +100,7 @@ module _
     pub asked_labels_are_least : (node : ℕ) → IsNode roads.nodes node → IsAsked query node → IsLeast roads answers query.sources node (time_of (label node))
     asked_labels_are_least node is_node asked = labels_are_least node is_node (asked_up_to node is_node asked)
 
-    -- labels up to the target's say the least arrivals up to it
+    -- labels up to the target's are the least arrivals up to it
     pub label_is_least : (node time : ℕ) → IsNode roads.nodes node → time ≤ limit query.target label → IsLabel label node time → IsLeastAt roads answers query.sources node time
     label_is_least node time is_node below says =
         let some : label node ≢ NONE = labelled (label node) (omega (arith, says)) in

@@ -1,4 +1,4 @@
--- The last arc of a canonical walk, over any times of nodes.
+-- The last arc of a canonical walk, for any times of nodes.
 use Rattle.std.proofs.Common.{◌≡◌, refl, ℕ, suc, ◌+◌, ◌≤◌, List, [], ◌∷◌, ◌++◌, arith, subst}
 use Rattle.std.proofs.lemmas.List.{same_from_push}
 use Rattle.ea_road.specs.declared.source.Source.{Source}

@@ -1,4 +1,4 @@
--- What is reached: from a source, by one arc more, and only nodes.
+-- What is reached: from a source, by one more arc, and only nodes.
 use Rattle.std.proofs.Common.{◌≡◌, ℕ, ◌≤◌, List, [], ◌∷◌, ◌++◌, subst}
 use Rattle.std.specs.List.{IsAmong}
 use Rattle.ea_base.specs.declared.limits.TheConstants.{HORIZON}
@@ -7,7 +7,7 @@ use Rattle.ea_road.specs.declared.source.Source.{Source}
 use Rattle.ea_road.specs.Roads.{Roads, IsArc, IsNode, IsNetwork}
 use Rattle.ea_road.specs.Arrivals.{Arrives, stays, goes, Reaches}
 
--- an arc leads on from a pair that is reached
+-- an arc extends a walk to a pair that is reached
 pub reaches_more : (roads : Roads) (answers : ℕ → ℕ → ℕ → ℕ → Type 0) (sources : List Source) (node time number head arrival : ℕ) (arc : Arc) → Reaches roads answers sources node time → IsArc roads number arc → arc.tail ≡ node → arc.head ≡ head → answers arc.class arc.weight time arrival → arrival ≤ HORIZON → Reaches roads answers sources head arrival
 reaches_more roads answers sources node time number head arrival arc reaches is_arc tail is_head answer within = record {
   source = reaches.source;

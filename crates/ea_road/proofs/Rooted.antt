@@ -1,4 +1,4 @@
--- Where labels are fixed, tight arcs lead to each node that has a label up to the target's.
+-- With fixed labels, tight arcs lead to each node that has a label up to the target's.
 use Rattle.std.proofs.Common.{◌≡◌, refl, ℕ, zero, suc, ◌<◌, ◌≤◌, List, ◌⊎◌, inl, inr, arith, subst}
 use Rattle.std.proofs.lemmas.Bool.Decides.{eqb_tells}
 use Rattle.std.specs.Prelude.{◌≢◌}

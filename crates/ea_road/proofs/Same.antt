@@ -1,4 +1,4 @@
--- Two relations of answers, one of which answers what the other does, have the same arrivals.
+-- Two relations of answers, one contained in the other, have the same arrivals.
 use Rattle.std.proofs.Common.{◌≡◌, ℕ, ◌≤◌, List, arith, subst}
 use Rattle.std.specs.Prelude.{Option, Some, None}
 use Rattle.ea_road.specs.declared.source.Source.{Source}

@@ -1,4 +1,4 @@
--- Walks: the last arc, the beginnings, and that a walk has one end and one arrival.
+-- Walks: the last arc, the prefixes, and that a walk has one end and one arrival.
 use Rattle.std.proofs.Common.{◌≡◌, ◌∙◌, refl, ℕ, zero, suc, ◌+◌, ◌<◌, ◌≤◌, List, [], ◌∷◌, ◌++◌, take, length, get_or, inl, inr, arith, ap, subst, sym, length-append}
 use Rattle.std.proofs.lemmas.Bool.Decides.{leb_tells}
 use Rattle.std.proofs.lemmas.List.{same_from_push, take-append-le, take_all, take_more}
@@ -16,7 +16,7 @@ module _
     (classes : ℕ)
     (start departure : ℕ)
   where
-    -- a walk that arrives within the horizon goes on
+    -- a walk that arrives within the horizon can be extended
     pub arrives_more : (walk : List ℕ) (node time number head arrival : ℕ) → Arrives roads answers start departure walk node time → time ≤ HORIZON → GoesOn roads answers node time number head arrival → Arrives roads answers start departure (walk ++ number ∷ []) head arrival
     arrives_more walk node time number head arrival front within on =
         subst (λ h. Arrives roads answers start departure (walk ++ number ∷ []) h arrival) on.is_head (goes front within on.is_arc on.is_tail on.answer)
@@ -52,7 +52,7 @@ module _
           head = refl;
         }
 
-    -- each beginning of a walk that arrives within the horizon does so too
+    -- each prefix of a walk that arrives within the horizon does so too
     pub record Begins (walk : List ℕ) : Type 0 where
       pub node : ℕ
       pub time : ℕ
@@ -105,7 +105,7 @@ module _
               same_answer number time last.at arrival other arc last.arc arcs ends.1 inside is_arc answer last.answer,
             )
 
-        -- where no arc of the next number goes on, the whole walk does not arrive within the horizon
+        -- if no arc of the next number extends the walk, the whole walk does not arrive within the horizon
         pub stops : (walk : List ℕ) (count node time : ℕ) → count < length walk → Arrives roads answers start departure (take count walk) node time → ((head arrival : ℕ) → GoesOn roads answers node time (get_or walk count 0) head arrival → HORIZON < arrival) → (place other : ℕ) → Arrives roads answers start departure walk place other → HORIZON < other
         stops walk count node time inside front none place other whole =
             elim (leb_tells other HORIZON) [

@@ -1,5 +1,4 @@
--- Walks and the times at which they arrive.
--- `answers` says at which arrival an arc of a class and a weight may answer a departure.
+-- Walks and their arrivals. `answers` relates class, weight and departure of an arc to its arrival.
 use Rattle.std.specs.Prelude.{◌≡◌, ℕ, ◌≤◌, Option, Some, None, List, [], ◌∷◌, ◌++◌}
 use Rattle.std.specs.List.{IsAmong}
 use Rattle.ea_base.specs.declared.limits.TheConstants.{HORIZON}
@@ -7,8 +6,9 @@ use Rattle.ea_road.specs.declared.arc.Arc.{Arc}
 use Rattle.ea_road.specs.declared.source.Source.{Source}
 use Rattle.ea_road.specs.Roads.{Roads, IsArc}
 
--- A walk from a node, left at a departure, arrives at a node at a time. The empty walk arrives where it begins, at its
--- departure. A walk that arrives within the horizon is followed by an arc that leaves where it arrives.
+-- A walk that leaves a node at a departure arrives at a node at a time. The empty walk arrives at its
+-- beginning at the departure. A walk that arrives within the horizon may be extended by an arc left then and
+-- there.
 pub data Arrives
     (roads : Roads)
     (answers : ℕ → ℕ → ℕ → ℕ → Type 0)
@@ -29,7 +29,8 @@ pub record Attains
   pub among : IsAmong sources source
   pub arrives : Arrives roads answers source.node source.departure walk node time
 
--- Some source has a walk to the node that, left at the source's departure, arrives at the time, within the horizon.
+-- Some source has a walk to the node that, left at the source's departure, arrives at the time, within the
+-- horizon.
 pub record Reaches
     (roads : Roads)
     (answers : ℕ → ℕ → ℕ → ℕ → Type 0)
@@ -42,18 +43,18 @@ pub record Reaches
   pub arrives : Arrives roads answers source.node source.departure walk node time
   pub within : time ≤ HORIZON
 
--- A time that reaches the node, where no smaller time does; or none, where no time does.
+-- A time that reaches the node, if no smaller one does; or none, if no time does.
 abbrev pub IsLeast : Roads → (ℕ → ℕ → ℕ → ℕ → Type 0) → List Source → ℕ → Option ℕ → Type 0
 IsLeast roads answers sources node (Some time) =
     Reaches roads answers sources node time × ((other : ℕ) → Reaches roads answers sources node other → time ≤ other)
 IsLeast roads answers sources node None =
     (other : ℕ) → Reaches roads answers sources node other → ⊥
 
--- The least arrivals: the node's is the time.
+-- The least arrivals, as a relation: the node's is the time.
 abbrev pub IsLeastAt : Roads → (ℕ → ℕ → ℕ → ℕ → Type 0) → List Source → ℕ → ℕ → Type 0
 IsLeastAt roads answers sources node time = IsLeast roads answers sources node (Some time)
 
--- The arc of the number leads on from the node, left at the time.
+-- The arc with this number extends the walk from the node, left at the time.
 pub record GoesOn
     (roads : Roads)
     (answers : ℕ → ℕ → ℕ → ℕ → Type 0)

@@ -6,7 +6,7 @@ use Rattle.ea_base.specs.declared.graph.RawArc.{RawArc}
 use Rattle.ea_base.specs.declared.timetable.RawTable.{RawTable}
 use Rattle.ea_road.specs.declared.arc.Arc.{Arc}
 
--- An arc of a text, with a class.
+-- An arc as it was read, with a class.
 abbrev pub classed_arc : RawArc → ℕ → Arc
 classed_arc raw class = record { tail = raw.tail; head = raw.head; weight = raw.weight; class = class }
 
@@ -24,11 +24,11 @@ abbrev pub class_after : List (ℕ × ℕ) → ℕ → ℕ → ℕ
 class_after [] number class = class
 class_after (given ∷ rest) number class = class_after rest number (if given.0 == number then given.1 else class)
 
--- The class that the last assignment of the number gives, 0 where there is none.
+-- The class of the number's last assignment, or 0.
 abbrev pub class_of : List (ℕ × ℕ) → ℕ → ℕ
 class_of assigned number = class_after assigned number 0
 
--- The arcs in their order, the first of which has the number, with their classes.
+-- The arcs in their order, with their classes; the first has this number.
 abbrev pub arcs_from : List (ℕ × ℕ) → ℕ → List RawArc → List Arc
 arcs_from assigned number [] = []
 arcs_from assigned number (raw ∷ rest) =

@@ -9,7 +9,7 @@ use Rattle.ea_road.specs.Roads.{Roads, IsArc, IsNode}
 use Rattle.ea_road.specs.Queries.{Asking}
 use Rattle.ea_road.specs.Arrivals.{Reaches}
 
--- What a label says: a time, or none.
+-- The meaning of a label: a time, or none.
 abbrev pub time_of : ℕ → Option ℕ
 time_of label = if label == NONE then None else Some label
 
@@ -17,22 +17,23 @@ time_of label = if label == NONE then None else Some label
 abbrev pub label_of : List ℕ → ℕ → ℕ
 label_of table node = slice_index table (node - 1)
 
--- The times that labels say: the node's is the time.
+-- Labels as a relation: the node's is the time.
 abbrev pub IsLabel : (ℕ → ℕ) → ℕ → ℕ → Type 0
 IsLabel label node time = (label node ≡ time) × (time ≤ HORIZON)
 
--- Up to where labels have to be right: the target's label, and NONE where all nodes are asked.
+-- The bound up to which labels have to be right: the target's label, or NONE if all nodes are asked.
 abbrev pub limit : Option ℕ → (ℕ → ℕ) → ℕ
 limit None label = NONE
 limit (Some target) label = label target
 
--- Each arc from the node, left at the time, arrives no earlier than the label of its head, or beyond the horizon.
+-- Each arc from the node, left at the time, arrives no earlier than the label of its head, or beyond the
+-- horizon.
 abbrev pub Satisfies : Roads → (ℕ → ℕ → ℕ → ℕ → Type 0) → (ℕ → ℕ) → ℕ → ℕ → Type 0
 Satisfies roads answers label node time =
     (number : ℕ) (arc : Arc) (arrival : ℕ) → IsArc roads number arc → arc.tail ≡ node → answers arc.class arc.weight time arrival → arrival ≤ HORIZON → label arc.head ≤ arrival
 
--- Each source's label is at most its departure, each label is reached, and each node that has a label is satisfied at it,
--- or, in a pair query, its label is above the target's.
+-- Each source's label is at most its departure, each label is reached, and each node with a label is
+-- satisfied or, in a pair query, has a label above the target's.
 pub record IsFixed
     (roads : Roads)
     (answers : ℕ → ℕ → ℕ → ℕ → Type 0)

@@ -1,5 +1,5 @@
--- Tight arcs, levels and canonical walks, over any times of nodes: the least arrivals, the labels of a table, or the
--- times of a report. `times` says that a node's time is so.
+-- Tight arcs, levels and canonical walks, for any times of nodes: the least arrivals, the labels of a table,
+-- or the times of a report. `times` relates a node to its time.
 use Rattle.std.specs.Prelude.{◌≡◌, ℕ, suc, ◌≤◌, List, [], ◌∷◌, ◌++◌}
 use Rattle.std.specs.List.{IsAmong}
 use Rattle.ea_road.specs.declared.arc.Arc.{Arc}
@@ -23,7 +23,7 @@ pub record IsTight
   pub at_head : times head arrival
   pub answer : answers arc.class arc.weight departure arrival
 
--- Some tight arcs, in a number, lead to the node from a source whose departure is its time.
+-- This number of tight arcs leads to the node from a source whose departure is its time.
 pub data HasChain
     (roads : Roads)
     (answers : ℕ → ℕ → ℕ → ℕ → Type 0)
@@ -33,7 +33,7 @@ pub data HasChain
   begins : {source : Source} → IsAmong sources source → times source.node source.departure → HasChain roads answers sources times source.node 0
   follows : {tail head number count : ℕ} → HasChain roads answers sources times tail count → IsTight roads answers times number tail head → HasChain roads answers sources times head (suc count)
 
--- The fewest tight arcs that lead to the node so.
+-- The fewest tight arcs in such a chain to the node.
 pub record IsLevel
     (roads : Roads)
     (answers : ℕ → ℕ → ℕ → ℕ → Type 0)
@@ -44,7 +44,7 @@ pub record IsLevel
   pub chain : HasChain roads answers sources times node level
   pub fewest : (count : ℕ) → HasChain roads answers sources times node count → level ≤ count
 
--- The canonical walk: empty at level 0, and else the canonical walk of a node one level below, followed by the
+-- The canonical walk: empty at level 0; else the canonical walk of a node one level below, followed by the
 -- lowest-numbered tight arc from such a node.
 pub data IsCanonical
     (roads : Roads)

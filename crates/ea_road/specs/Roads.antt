@@ -30,21 +30,21 @@ pub record IsNetwork (roads : Roads) : Type 0 where
   pub arcs_limit : length roads.arcs ≤ 268435456
   pub each_fits : (number : ℕ) (arc : Arc) → IsArc roads number arc → FitsNodes roads.nodes arc
 
--- The greatest class of an arc, 0 with no arc.
+-- The greatest class of an arc, 0 without arcs.
 abbrev pub top_class : List Arc → ℕ
 top_class [] = 0
 top_class (arc ∷ arcs) = max arc.class (top_class arcs)
 
--- The weights of all arcs together.
+-- The sum of all weights.
 abbrev pub total_weight : List Arc → ℕ
 total_weight [] = 0
 total_weight (arc ∷ arcs) = arc.weight + total_weight arcs
 
--- The mean weight of the arcs, rounded down; 0 with no arc.
+-- The mean weight of the arcs, rounded down; 0 without arcs.
 abbrev pub mean_weight : List Arc → ℕ
 mean_weight arcs = total_weight arcs / max (length arcs) 1
 
--- The numbers of the arcs that leave a node, ascending, where the first arc of the list has the number given.
+-- The numbers of the arcs that leave a node, ascending, if the first arc of the list has this number.
 abbrev pub leaving_from : ℕ → ℕ → List Arc → List ℕ
 leaving_from node number [] = []
 leaving_from node number (arc ∷ arcs) =
@@ -57,11 +57,11 @@ leaving roads node = leaving_from node 1 roads.arcs
 abbrev pub with_tail : LeavingArc → ℕ → Arc
 with_tail arc node = record { tail = node; head = arc.head; weight = arc.weight; class = arc.class }
 
--- An arc as it lies among those that leave its tail.
+-- An arc without its tail.
 abbrev pub without_tail : Arc → LeavingArc
 without_tail arc = record { head = arc.head; weight = arc.weight; class = arc.class }
 
--- Numbers of arcs that leave a node and the arcs themselves, side by side.
+-- The numbers of arcs that leave a node, and the arcs in that order.
 pub record AreSideBySide (roads : Roads) (node : ℕ) (numbers : List ℕ) (arcs : List LeavingArc) : Type 0 where
   pub lengths : length arcs ≡ length numbers
   pub each : (place : ℕ) (arc : LeavingArc) → slice_get arcs place ≡ Some arc → IsArc roads (slice_index numbers place) (with_tail arc node)

@@ -1,4 +1,4 @@
-//! The arcs of a network in the order of their numbers, as they lie in memory.
+//! The arcs of a network in the order of their numbers, as they are stored.
 ghost use Rattle.std.specs.Prelude.{◌≡◌, ◌<◌, IfOk, Some, length, slice_get};
 ghost use Rattle.ea_road.specs.Assigned.{AreAssigned, arcs_with};
 
@@ -8,9 +8,8 @@ use ea_base::{RawArc, RawTable};
 use std::alloc::{AllocError, Global};
 use std::marker::Model;
 
-/// Arcs in their order: as a text has them, and their classes beside them, in a list that `with_classes` leaves empty
-/// where no arc is given one.
-/// Contracts see the list of the arcs.
+/// Arcs in their order: as they were read, with their classes in a separate list, which is empty if
+/// `with_classes` assigned none. In contracts it is the list of the arcs.
 #[derive(Drop)]
 pub struct ArcList {
     raw: Vec<RawArc>,
@@ -28,9 +27,9 @@ impl Model for ArcList {
 }
 
 impl ArcList {
-    /// The arcs of a text, each with the class that the table assigns to it last, and class 0 where it assigns none. Each assigned
-    /// number is that of an arc. An error comes only where memory for the classes was refused; none is taken where the table
-    /// assigns no class.
+    /// The arcs as they were read, each with the class that the table assigns to it last, or class 0.
+    /// Assigned numbers must be those of arcs. Fails only if memory for the classes is refused; none is taken
+    /// if the table assigns no class.
     pub fn with_classes(
         alloc: Global,
         raw: Vec<RawArc>,
@@ -43,7 +42,7 @@ impl ArcList {
         Ok(ArcList { raw, classes })
     }
 
-    /// These arcs. An error comes only where memory for the list was refused.
+    /// A list of these arcs. Fails only if memory for the list is refused.
     pub fn of(alloc: Global, arcs: &[Arc]) -> Result<ArcList, AllocError>
         ensures { IfOk result (λ list. list ≡ arcs.now) }
     {
@@ -60,14 +59,14 @@ impl ArcList {
         Ok(ArcList { raw, classes })
     }
 
-    /// How many arcs there are.
+    /// The number of arcs.
     pub fn len(&self) -> usize
         ensures { result ≡ length self.now }
     {
         self.raw.len()
     }
 
-    /// The arc at a place, from 0 on: that of the number which is one more.
+    /// The arc at an index, from 0; its number is one more.
     #[inline(always)]
     pub fn at(&self, place: usize) -> Arc
         requires { place < length self.now }

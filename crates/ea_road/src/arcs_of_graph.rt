@@ -1,4 +1,4 @@
-//! The arcs of a graph, with the classes that a timetable file gives them.
+//! The arcs of a graph, with the classes from a timetable file.
 ghost use Rattle.std.specs.Prelude.{◌≡◌, ℕ, ◌+◌, ◌<◌, IfOk, length, slice_index};
 ghost use Rattle.ea_road.specs.Assigned.{AreAssigned, arcs_with, assigned_of, class_of, classed_arc as spec_arc};
 
@@ -6,7 +6,7 @@ use crate::arc::Arc;
 use ea_base::{RawArc, RawGraph, RawTable};
 use std::alloc::{AllocError, Global};
 
-/// An arc of a text, with a class.
+/// An arc as it was read, with a class.
 #[inline(always)]
 pub(crate) fn classed_arc(raw: RawArc, class: u32) -> Arc
     ensures { result ≡ spec_arc raw class }
@@ -19,7 +19,7 @@ pub(crate) fn classed_arc(raw: RawArc, class: u32) -> Arc
     }
 }
 
-/// The class at a place, 0 where none stands there.
+/// The class at an index, 0 outside the list.
 #[inline(always)]
 pub(crate) fn class_at(classes: &[u32], place: usize) -> u32
     ensures { result ≡ slice_index classes.now place }
@@ -30,8 +30,8 @@ pub(crate) fn class_at(classes: &[u32], place: usize) -> u32
     }
 }
 
-/// The classes of so many arcs: each is the last that is assigned to the arc, and 0 where none is. The list is empty where
-/// nothing is assigned.
+/// The classes of this many arcs: for each arc the last that is assigned to it, or 0. Empty if nothing is
+/// assigned.
 pub(crate) fn classes_of(
     alloc: Global,
     arcs: usize,
@@ -51,8 +51,8 @@ pub(crate) fn classes_of(
     Ok(classes)
 }
 
-/// The arcs of a graph in their order. An arc's class is the last that the table assigns to it, and 0 where it assigns
-/// none. Each assigned number is that of an arc. An error comes only where memory for the list was refused.
+/// The arcs of a graph in their order. An arc's class is the last that the table assigns to it, or 0.
+/// Assigned numbers must be those of arcs. Fails only if memory for the list is refused.
 pub fn arcs_of(
     alloc: Global,
     graph: &RawGraph,
@@ -68,7 +68,7 @@ pub fn arcs_of(
     }
 }
 
-/// Arcs of a text, with the classes that are assigned to them.
+/// Arcs as they were read, with the classes that are assigned to them.
 fn arcs_by(alloc: Global, raw: &[RawArc], assigned: &[(u32, u32)]) -> Result<Vec<Arc>, AllocError>
     requires { AreAssigned (length raw.now) assigned.now }
     ensures { IfOk result (λ arcs. arcs.items ≡ arcs_with assigned.now raw.now) }

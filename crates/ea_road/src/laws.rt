@@ -14,7 +14,7 @@ use crate::network::Network;
 use crate::query::Query;
 use ea_travel_times::TravelTimes;
 
-/// The numbers of the arcs that leave a node are those of all arcs with that tail, and no others, and they ascend.
+/// The numbers of the arcs that leave a node are exactly those of the arcs with that tail, ascending.
 pub fn leaving_arcs_ascend(network: &Network)
     ensures members { (node number : ℕ) → Contains (leaving network.now node) number
         ↔ ((arc : Arc) × IsArc network.now number arc × (arc.tail ≡ node)) }
@@ -24,7 +24,7 @@ pub fn leaving_arcs_ascend(network: &Network)
         < slice_index (leaving network.now node) later }
 {}
 
-/// A node has at most one least arrival, be it a time or none.
+/// A node has at most one least arrival, a time or none.
 pub fn least_arrivals_are_one<T: TravelTimes>(network: &Network, times: &T, query: &Query)
     ensures { (node : ℕ) (this that : Option ℕ)
         → IsLeast network.now (T.answers times.now) query.now.sources node this
@@ -32,9 +32,9 @@ pub fn least_arrivals_are_one<T: TravelTimes>(network: &Network, times: &T, quer
         → this ≡ that }
 {}
 
-/// Labels that are at most the departures at the sources, that are reached, and at which each node is satisfied, are the
-/// least arrivals. In a pair query a node may also have a label above the target's; then the target's label is its least
-/// arrival, and so is each label up to it.
+/// Labels are the least arrivals if they are at most the departures at the sources, are reached, and satisfy
+/// each node. In a pair query a node may also have a label above the target's; then each label up to the
+/// target's is the least arrival.
 pub fn fixed_labels_are_least<T: TravelTimes>(
     network: &Network,
     times: &T,
@@ -58,7 +58,7 @@ pub fn fixed_labels_are_least<T: TravelTimes>(
     network.keeps_limits();
 }
 
-/// Where labels are so, each node with a least arrival up to the target's label has a level.
+/// With such labels, each node with a least arrival up to the target's label has a level.
 pub fn reached_nodes_have_levels<T: TravelTimes>(
     network: &Network,
     times: &T,
@@ -76,8 +76,8 @@ pub fn reached_nodes_have_levels<T: TravelTimes>(
     network.keeps_limits();
 }
 
-/// Where labels are so, each node with a least arrival up to the target's label has exactly one canonical walk, and that
-/// walk attains its least arrival.
+/// With such labels, each node with a least arrival up to the target's label has exactly one canonical walk,
+/// which attains its least arrival.
 pub fn reached_nodes_have_one_canonical_walk<T: TravelTimes>(
     network: &Network,
     times: &T,
@@ -106,8 +106,7 @@ pub fn reached_nodes_have_one_canonical_walk<T: TravelTimes>(
     network.keeps_limits();
 }
 
-/// The last arc of a canonical walk has the lowest number of the tight arcs that lead to its node from a node one level
-/// below.
+/// The last arc of a canonical walk is the lowest-numbered tight arc to its node from a node one level below.
 pub fn last_arcs_are_lowest<T: TravelTimes>(network: &Network, times: &T, query: &Query)
     ensures { (node level from number other : ℕ) (walk : List ℕ)
         → IsCanonical network.now (T.answers times.now) query.now.sources
@@ -121,7 +120,7 @@ pub fn last_arcs_are_lowest<T: TravelTimes>(network: &Network, times: &T, query:
         → number ≤ other }
 {}
 
-/// `AnyPair` knows each node at each time within the horizon, and nothing else.
+/// `AnyPair` knows exactly the pairs of a node and a time within the horizon.
 pub fn any_pair_is_within_the_horizon()
     ensures { (node time : ℕ) → ⟦<AnyPair as Known>⟧.is_known node time ↔ (time ≤ HORIZON) }
 {}

@@ -13,16 +13,17 @@ use std::alloc::{AllocError, Global};
 use std::marker::Model;
 use std::thread::{Threads, join};
 
-/// From how many arcs on a network is made by two threads.
+/// From this number of arcs on, two threads build a network.
 const MANY_ARCS: usize = 65_536;
 
-/// A network of roads: nodes numbered from 1, and arcs numbered from 1 in the order in which they were given. Contracts
-/// see it as its number of nodes and its arcs.
+/// A road network: nodes numbered from 1, and arcs numbered from 1 in the order in which they were given. In
+/// contracts it is its number of nodes and its arcs.
 #[derive(Drop)]
 pub struct Network {
     nodes: u32,
     arcs: ArcList,
-    /// Where the arcs from each node begin in `numbers` and `by_tail`, and at the end where those of the last node end.
+    /// Where each node's arcs begin in `numbers` and `by_tail`, and at the end where those of the last node
+    /// end.
     starts: Vec<u32>,
     /// The numbers of the arcs by their tails, ascending for each tail.
     numbers: Vec<u32>,
@@ -30,7 +31,7 @@ pub struct Network {
     by_tail: Vec<LeavingArc>,
     /// The greatest class of an arc.
     top: u32,
-    /// The mean weight of the arcs.
+    /// The mean weight of the arcs, rounded down.
     mean: u64,
 }
 
@@ -49,7 +50,7 @@ impl Model for Network {
         n.starts.items n.numbers.items n.by_tail.items };
 }
 
-/// The arcs that leave a node, as they lie in memory: their numbers, ascending, and beside them the arcs.
+/// The arcs that leave a node, contiguous in memory, and their numbers, ascending.
 #[derive(Clone, Copy)]
 pub struct Leaving<'a> {
     pub numbers: &'a [u32],
@@ -57,8 +58,8 @@ pub struct Leaving<'a> {
 }
 
 impl Network {
-    /// A network of so many nodes, numbered from 1, and these arcs. It takes time in proportion to both. An error comes only
-    /// where memory for the list of arcs or for their index by tail was refused; then the arcs are dropped.
+    /// A network of this many nodes, numbered from 1, and these arcs. Takes time in proportion to both. Fails
+    /// only if memory for the list of arcs or for their index by tail is refused; then the arcs are dropped.
     pub fn new(alloc: Global, nodes: u32, arcs: Vec<Arc>) -> Result<Network, AllocError>
         requires { IsNetwork (record { nodes = nodes; arcs = arcs.items }) }
         ensures { IfOk result (λ network. network ≡ record { nodes = nodes; arcs = arcs.items }) }
@@ -68,7 +69,7 @@ impl Network {
         Network::of_list(alloc, nodes, list)
     }
 
-    /// A network of so many nodes and the arcs of a list, as `new` makes it.
+    /// Like `new`, from a list of arcs.
     pub fn of_list(alloc: Global, nodes: u32, arcs: ArcList) -> Result<Network, AllocError>
         requires { IsNetwork (record { nodes = nodes; arcs = arcs }) }
         ensures { IfOk result (λ network. network ≡ record { nodes = nodes; arcs = arcs }) }
@@ -78,8 +79,9 @@ impl Network {
         Ok(indexed(nodes, arcs, sums, Room { numbers, by_tail }))
     }
 
-    /// As `of_list`, in two threads where there are many arcs and a second one can be started: one counts the arcs and takes memory
-    /// for their numbers by tail while the other takes that for the arcs by tail, which is most of the time.
+    /// Like `of_list`, in two threads if there are many arcs and a second thread can be started. One counts
+    /// the arcs and allocates their numbers by tail; the other allocates the arcs by tail, which takes most
+    /// of the time.
     pub fn of_list_by<H: Threads + Sync>(
         alloc: Global,
         rt: &H,
@@ -107,7 +109,7 @@ impl Network {
         Network::new(alloc, self.nodes(), arcs)
     }
 
-    /// Whether so many nodes and these arcs make a network: 1 to 67,108,864 nodes, at most 268,435,456 arcs, and each
+    /// Whether these nodes and arcs make a network: 1 to 67,108,864 nodes, at most 268,435,456 arcs, and each
     /// tail and head a node.
     pub fn fits(nodes: u32, arcs: &[Arc]) -> bool
         ensures { IsTrue result ↔ IsNetwork (record { nodes = nodes; arcs = arcs.now }) }
@@ -123,14 +125,14 @@ impl Network {
         true
     }
 
-    /// The greatest class of an arc, 0 with no arc.
+    /// The greatest class of an arc, 0 without arcs.
     pub fn top_class(&self) -> u32
         ensures { result ≡ top_class self.now.arcs }
     {
         self.top
     }
 
-    /// The mean weight of the arcs, rounded down; 0 with no arc. A search may choose by it how it goes on.
+    /// The mean weight of the arcs, rounded down; 0 without arcs. A search may choose its method by it.
     pub fn mean_weight(&self) -> u64
         ensures { result ≡ mean_weight self.now.arcs }
     {
@@ -145,7 +147,7 @@ impl Network {
         self.nodes
     }
 
-    /// That the limits hold, and that each arc's ends are nodes, for proofs. It does nothing when it runs.
+    /// For proofs: the limits hold, and each arc's ends are nodes. Does nothing at run time.
     pub fn keeps_limits(&self)
         ensures { IsNetwork self.now }
     {
@@ -181,7 +183,7 @@ impl Network {
         &self.numbers[from..to]
     }
 
-    /// The arcs that leave a node, with their numbers. They lie side by side, so that a scan reads memory in order.
+    /// The arcs that leave a node, with their numbers. They are contiguous, so a scan reads memory in order.
     pub fn leaving(&self, node: u32) -> Leaving<'_>
         requires { IsNode self.now.nodes node }
         ensures numbers { result.numbers.now ≡ leaving self.now node }
@@ -196,7 +198,7 @@ impl Network {
         }
     }
 
-    /// Reads where the arcs that leave a node begin, ahead of a scan that needs it. Of the number nothing is promised.
+    /// Prefetches the offset of a node's leaving arcs. The returned number has no meaning.
     pub fn touch_place(&self, node: u32) -> u32 {
         match self.starts.get((node as usize).wrapping_sub(1)) {
             Some(place) => *place,
@@ -204,7 +206,7 @@ impl Network {
         }
     }
 
-    /// Reads the first arc that leaves a node, ahead of a scan that needs it. Of the number nothing is promised.
+    /// Prefetches the first arc that leaves a node. The returned number has no meaning.
     pub fn touch_arc(&self, node: u32) -> u32 {
         match self.by_tail.get(self.touch_place(node) as usize) {
             Some(arc) => arc.head,
@@ -213,7 +215,7 @@ impl Network {
     }
 }
 
-/// What is known of all of a network's arcs, and their numbers in order.
+/// The sums over a network's arcs, and the arcs' numbers in order.
 fn sums_and_numbers(
     alloc: Global,
     nodes: u32,
@@ -227,7 +229,7 @@ fn sums_and_numbers(
     Ok((sums, numbers))
 }
 
-/// The same, and beside them the arcs without their tails, in two threads where a second one can be started.
+/// The same, and the arcs without their tails, in two threads if a second one can be started.
 fn sums_and_room<H: Threads + Sync>(
     alloc: Global,
     rt: &H,
@@ -251,7 +253,7 @@ fn sums_and_room<H: Threads + Sync>(
     join(rt, sums, by_tail)
 }
 
-/// A network, by what is known of all its arcs, with its index in this room.
+/// A network from the sums over its arcs, with its index built in this room.
 fn indexed(nodes: u32, arcs: ArcList, sums: Sums, room: Room) -> Network
     requires network { IsNetwork (record { nodes = nodes; arcs = arcs }) }
     requires sums { AreSums nodes arcs sums }

@@ -4,8 +4,8 @@ ghost use Rattle.ea_road.specs.Queries.{IsProblem};
 use crate::network::Network;
 use crate::query::Query;
 
-/// Whether a network, travel times with classes up to the greatest, and a query make a problem: the travel times have
-/// each arc's class, and sources and target are nodes of the network.
+/// Whether a network, travel times with classes up to the greatest, and a query make a problem: the travel
+/// times have each arc's class, and sources and target are nodes of the network.
 pub fn is_problem(network: &Network, classes: usize, query: &Query) -> bool
     ensures { IsTrue result ↔ IsProblem network.now classes query.now }
 {

@@ -5,8 +5,8 @@ use crate::HORIZON;
 use crate::source::Source;
 use std::marker::Model;
 
-/// What is asked: from these sources the earliest arrivals at all nodes, or from one source that at one target.
-/// Contracts see it as its sources and its target.
+/// A query: the earliest arrivals from these sources at all nodes, or from one source at one target. In
+/// contracts it is its sources and its target.
 #[derive(Drop)]
 pub struct Query {
     asked: Asked,
@@ -33,7 +33,7 @@ impl Model for Query {
 }
 
 impl Query {
-    /// Asks for all nodes.
+    /// A query for all nodes.
     pub fn new(sources: Vec<Source>) -> Query
         requires { AreSources sources.items }
         ensures { result ≡ record { sources = sources.items; target = None } }
@@ -43,7 +43,7 @@ impl Query {
         }
     }
 
-    /// Asks for all nodes, from one source. It takes no memory.
+    /// A query for all nodes, from one source. Takes no memory.
     pub fn from_one(source: Source) -> Query
         requires { IsSource source }
         ensures { result ≡ record { sources = source ∷ []; target = None } }
@@ -53,7 +53,7 @@ impl Query {
         }
     }
 
-    /// Whether sources may be those of a query: each a node's number from 1, and a departure up to HORIZON.
+    /// Whether sources are valid for a query: node numbers from 1, departures up to HORIZON.
     pub fn fits(sources: &[Source]) -> bool
         ensures { IsTrue result ↔ AreSources sources.now }
     {
@@ -65,7 +65,7 @@ impl Query {
         true
     }
 
-    /// Asks for the target alone, from one source.
+    /// A query for one target, from one source.
     pub fn pair(source: Source, target: u32) -> Query
         requires source { IsSource source }
         requires target { 0 < target }
@@ -88,7 +88,7 @@ impl Query {
         }
     }
 
-    /// The node that is asked alone; none where all nodes are asked.
+    /// The target of a pair query; none if all nodes are asked.
     pub fn target(&self) -> Option<u32>
         ensures target { result ≡ self.now.target }
         ensures query { IsQuery self.now }

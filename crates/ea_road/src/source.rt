@@ -1,8 +1,8 @@
-/// Where and when a walk may begin.
+/// A node and a time at which walks may begin.
 #[derive(Clone, Copy, Debug, PartialEq, Eq)]
 pub struct Source {
     /// The node's number, from 1.
     pub node: u32,
-    /// The time at which it is left, at most HORIZON.
+    /// The departure, at most HORIZON.
     pub departure: u64,
 }

@@ -7,8 +7,8 @@ use crate::HORIZON;
 use crate::network::Network;
 use ea_travel_times::TravelTimes;
 
-/// Where and when a walk ends that leaves a node at a departure; none where a number is no arc's, the arcs do not join,
-/// or the horizon is passed.
+/// The node and the time at which a walk ends that leaves a node at a departure. None if a number is no
+/// arc's, the arcs don't join, or the horizon is passed.
 pub fn run_walk<T: TravelTimes>(
     network: &Network,
     times: &T,
@@ -38,7 +38,7 @@ pub fn run_walk<T: TravelTimes>(
     Some((node, time))
 }
 
-/// Goes on by one arc.
+/// Follows one arc.
 fn go_on<T: TravelTimes>(
     network: &Network,
     times: &T,

@@ -1,8 +1,8 @@
-//! Windows of times: so many last bits in which times may differ.
+//! Windows of times: the low bits in which times may differ.
 ghost use Rattle.ea_road.specs.Windows.{AreWindowBits};
 
-/// The last bits of a time in which the times of one window may differ: a window has from a half to the whole of a width of times, and
-/// one time where the width is 0.
+/// The mask of the low bits in which the times of one window may differ. A window holds between half of
+/// `width` and `width` times; if `width` is 0, one time.
 pub fn window_bits(width: u64) -> u64
     ensures { AreWindowBits width result }
 {
