@@ -1,4 +1,4 @@
--- What pushes and pops do to what all heaps weigh.
+-- How pushes and pops change the weight of all heaps.
 use Rattle.std.proofs.Common.{◌≡◌, ◌≢◌, ℕ, zero, suc, ◌+◌, ◌-◌, ◌%◌, ◌<◌, ◌≤◌, List, [], ◌∷◌, length, set, replicate, refl, sym, ap, ◌∙◌, arith, subst, inl, inr}
 use Rattle.std.proofs.lemmas.List.{length-set}
 use Rattle.std.proofs.lemmas.Bool.{cases_lt}
@@ -61,7 +61,7 @@ exact_of_two n first second e old new two long t =
     let all = both_lengths old i j (long ∙ two) draws.0 draws.1 draws.2 in
     omega arith
 
--- where the heaps have no entry, nothing weighs anything
+-- if the heaps have no entry, nothing has weight
 pub none_weighs : (f : Entry → ℕ) (heaps : List (List Entry)) → total (λ (es : List Entry). length es) heaps ≡ 0 → weighs f heaps ≡ 0
 none_weighs f [] none = refl
 none_weighs f ([] ∷ heaps) none = omega (arith, none_weighs f heaps (omega arith))
@@ -71,12 +71,12 @@ pub fresh_weighs : (f : Entry → ℕ) (n : ℕ) → weighs f (replicate {A = Li
 fresh_weighs f zero = refl
 fresh_weighs f (suc n) = omega (arith, fresh_weighs f n)
 
--- where each heap is empty, there is no entry
+-- if each heap is empty, there is no entry
 no_entries : (heaps : List (List Entry)) → ((k : ℕ) → k < length heaps → content heaps k ≡ []) → total (λ (es : List Entry). length es) heaps ≡ 0
 no_entries [] all = refl
 no_entries (h ∷ heaps) all = omega (arith, ap (λ (l : List Entry). length l) (all 0 (omega arith)), no_entries heaps (λ k near. all (suc k) (omega arith)))
 
--- the words after a rest look at each heap
+-- the words after a remainder reach each heap
 turned : (n first k : ℕ) → 0 < n → k < n → (s : ℕ) × (s < n) × ((first % n + s) % n ≡ k)
 turned n first k some near = elim (cases_lt k (first % n)) [
   | inl l ↦ (n + k - first % n, omega arith, (let e : first % n + (n + k - first % n) ≡ n + k = omega arith in ap (λ (m : ℕ). m % n) e ∙ wraps n k some near))

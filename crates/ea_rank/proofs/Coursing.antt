@@ -1,4 +1,4 @@
--- The next step of a course, by what the calls on the generator tell.
+-- The next step of a course, from the contracts of the generator's calls.
 use Rattle.std.proofs.Common.{◌≡◌, ℕ, ◌<◌, ◌≤◌, List, [], ◌∷◌, ◌++◌, sym, subst}
 use Rattle.rand_core.specs.Stream.{Stream, next_u64}
 use Rattle.ea_base.specs.declared.limits.TheConstants.{HORIZON}

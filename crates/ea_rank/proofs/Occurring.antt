@@ -1,4 +1,4 @@
--- How often a time stands among the labels and among the keys that were popped.
+-- How often a time occurs among the labels and among the popped keys.
 use Rattle.std.proofs.Common.{◌≡◌, ℕ, suc, ◌+◌, ◌-◌, ◌<◌, ◌≤◌, eqb, leb, cond, ◌&&◌, List, [], ◌∷◌, length, map, get_or, refl, ap, ◌∙◌, arith, subst, inl, inr}
 use Rattle.std.proofs.lemmas.Bool.Decides.{eqb_tells, nat_tests}
 use Rattle.ea_pool.specs.declared.heap.entry.Entry.{Entry}
@@ -38,7 +38,7 @@ from_place time n (x ∷ labels) popped each =
       | inr e ↦ (let none : cond {A = ℕ} (eqb x time) 1 0 ≡ 0 = rw e.0 refl in omega arith)
     ]
 
--- where the entry of each label at the time was popped, the time was popped as often as it is a label
+-- if the entry of each label at the time was popped, the time was popped as often as it is a label
 pub popped_as_often : (time : ℕ) (labels : List ℕ) (popped : List Entry) (keys : List ℕ) → ((node : ℕ) → 0 < node → node ≤ length labels → get_or labels (node - 1) 0 ≡ time → 0 < times (entry_of node time) popped) → keys ≡ map (λ (e : Entry). e.key) popped → occurrences time labels ≤ occurrences time keys
 popped_as_often time labels popped keys each is =
     let low = from_place time 1 labels popped (λ k near at. each (1 + k) (omega arith) (omega arith) (let e : 1 + k - 1 ≡ k = omega arith in ap (λ (m : ℕ). get_or labels m 0) e ∙ at)) in

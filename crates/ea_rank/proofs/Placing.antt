@@ -1,4 +1,4 @@
--- Where the keys of events stand among the different keys.
+-- The places of events' keys among the distinct keys.
 use Rattle.std.proofs.Common.{◌≡◌, ◌≢◌, ℕ, zero, suc, ◌+◌, ◌<◌, ◌≤◌, ltb, lt-ltb, List, [], ◌∷◌, ◌++◌, length, get_or, set, take, map, Contains, Option, Some, None, refl, sym, ap, ◌∙◌, arith, inl, inr, subst, ◌⊎◌, true, false}
 use Rattle.std.specs.List.Sorted.{IsPermutation, IsSorted, IsStrictlyIncreasing}
 use Rattle.std.specs.Ordering.{is_lt, nat_cmp, ordering_then}
@@ -85,7 +85,7 @@ are_marks events old new is moved sorted = record {
 abbrev pub none : Mark
 none = record { key = 0; index = 0 }
 
--- As many marks were done: their keys are the keys so far, and their places are written.
+-- The first marks were processed: their keys are the keys so far, and their places are written.
 pub record Numbered (all : List ℕ) (marks : List Mark) (done : ℕ) (places : List ℕ) (place last : ℕ) : Type 0 where
   pub keys : List ℕ
   pub ascending : IsStrictlyIncreasing keys

@@ -1,4 +1,4 @@
--- What a push and a pop do to an ascending queue.
+-- How a push and a pop change an ascending queue.
 use Rattle.std.proofs.Common.{◌≡◌, ◌≢◌, ℕ, suc, ◌+◌, ◌<◌, ◌≤◌, ltb, eqb, lt-ltb, le-ltb, eq-eqb, ne_eqb, cond, List, [], ◌∷◌, Some, None, option_map, refl, ap, ◌∙◌, arith, inl, inr}
 use Rattle.std.specs.List.{AllByRecursion}
 use Rattle.std.proofs.lemmas.Bool.Decides.{eqb_tells, leb_tells}
@@ -11,11 +11,11 @@ same key k = cond (eqb k key) 1 0
 abbrev pub less : ℕ → ℕ → ℕ
 less key k = cond (ltb k key) 1 0
 
--- how often the key is there
+-- how often the key occurs
 abbrev pub many : ℕ → List ℕ → ℕ
 many key queue = total (same key) queue
 
--- how many smaller keys are there
+-- how many keys are smaller
 abbrev pub fewer : ℕ → List ℕ → ℕ
 fewer key queue = total (less key) queue
 
@@ -93,7 +93,7 @@ below_each k key (x ∷ xs) h there = elim (eqb_tells x key) [
   | inr e ↦ (let none = same-no key x e.1 in below_each k key xs h.1 (omega arith))
 ]
 
--- the rank of a key that is there is how many smaller ones are there
+-- the rank of a key in the queue is the number of smaller ones
 pub rank_there : (key : ℕ) (queue : List ℕ) → IsAscending queue → 0 < many key queue → rank_error key queue ≡ Some (fewer key queue)
 rank_there key [] h there = absurd (omega arith)
 rank_there key (k ∷ ks) h there = elim (eqb_tells k key) [

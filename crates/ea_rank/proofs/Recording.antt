@@ -1,4 +1,4 @@
--- What a record says after one more event.
+-- The record after one more event.
 use Rattle.std.proofs.Common.{◌≡◌, ℕ, suc, ◌+◌, ◌<◌, List, [], ◌∷◌, ◌++◌, length, map, Option, Some, None, Result, Ok, Err, refl, sym, ap, ◌∙◌, arith}
 use Rattle.std.specs.List.{AllByRecursion}
 use Rattle.ea_pool.specs.declared.heap.entry.Entry.{Entry}
@@ -126,6 +126,6 @@ recorded-none state events none = record {
   exact = λ two. tt;
 }
 
--- where no entry is left, the queue is empty
+-- if no entry is left, the queue is empty
 pub recorded-empty : (popped : List Entry) (state : State) → weighs (λ e. 1) state.heaps ≡ 0 → IsRecorded popped state → queue_after [] state.events ≡ []
 recorded-empty popped state none r = no_keys (queue_after [] state.events) (r.queue (λ k. 1) ∙ none)

@@ -1,4 +1,4 @@
--- How the moves of a run keep what it is sure of.
+-- How the moves of a run keep its invariant.
 use Rattle.std.proofs.Common.{◌≡◌, ◌≢◌, ℕ, zero, suc, ◌+◌, ◌-◌, ◌<◌, ◌≤◌, List, [], ◌∷◌, ◌++◌, length, get_or, set, replicate, refl, sym, ap, ◌∙◌, arith, subst, ◌⊎◌, inl, inr, Contains, Option}
 use Rattle.std.specs.List.{IsAmong}
 use Rattle.std.proofs.lemmas.Bool.{cases_eq, cases_lt}
@@ -50,7 +50,7 @@ added-set [] k x near = absurd (omega arith)
 added-set (y ∷ xs) zero x near = omega arith
 added-set (y ∷ xs) (suc k) x near = omega (arith, added-set xs k x (omega arith))
 
--- a lowering takes one from the sum at least, and adds one entry
+-- a lowering takes at least one from the sum, and adds one entry
 pub less-lowers : (node time : ℕ) (old new : State) → 0 < node → node ≤ length old.labels → time < label_of old.labels node → LowersNode node time old new → added new.labels + weighs (λ e. 1) new.heaps ≤ added old.labels + weighs (λ e. 1) old.heaps
 less-lowers node time old new some near low m =
     omega (arith, ap added m.labels, added-set old.labels (node - 1) time (omega arith), m.heaps (λ e. 1))
@@ -135,7 +135,7 @@ module _ (roads : Roads) (answers : ℕ → ℕ → ℕ → ℕ → Type 0) (sou
           let is : entry_of v (label_of new.labels v) ≡ entry_of node time = ap (λ (x : ℕ). entry_of v x) (here v e) ∙ ap (λ (n : ℕ). entry_of n time) e in
           subst (λ (x : Entry). 0 < weighs (only x) new.heaps) (sym is) (let sum = m.heaps (only (entry_of node time)) in let one = only-same (entry_of node time) in omega arith)
 
-  -- what was popped was no entry of a node at its label, or the arcs from its node are left
+  -- what was popped was stale, or the arcs from its node are left
   pub underway-pops : (left : List ℕ) (popped : List Entry) (first second : ℕ) (entry : Entry) (old new : State)
       → (label_of old.labels entry.node < entry.key) ⊎ ((number : ℕ) (arc : Arc) → IsArc roads number arc → arc.tail ≡ entry.node → Contains left number)
       → IsUnderway roads answers sources sources [] popped old → PopsFound first second entry old new → IsUnderway roads answers sources sources left (popped ++ entry ∷ []) new
@@ -181,7 +181,7 @@ module _ (roads : Roads) (answers : ℕ → ℕ → ℕ → ℕ → Type 0) (sou
             | inr none ↦ inl (omega arith)
           ]
 
-  -- the next arc that was left has been passed
+  -- the next arc that was left is relaxed
   pub underway-passes : (number : ℕ) (rest : List ℕ) (popped : List Entry) (arc : Arc) (state : State) → IsArc roads number arc
       → ((arrival : ℕ) → answers arc.class arc.weight (label_of state.labels arc.tail) arrival → arrival ≤ HORIZON → label_of state.labels arc.head ≤ arrival)
       → IsUnderway roads answers sources sources (number ∷ rest) popped state → IsUnderway roads answers sources sources rest popped state
@@ -205,7 +205,7 @@ module _ (roads : Roads) (answers : ℕ → ℕ → ℕ → ℕ → Type 0) (sou
     ];
   }
 
-  -- where no entry is left, the labels are fixed
+  -- if no entry is left, the labels are fixed
   pub underway-fixed : (target : Option ℕ) (popped : List Entry) (state : State) → total (λ (es : List Entry). length es) state.heaps ≡ 0 → IsUnderway roads answers sources sources [] popped state → IsFixed roads answers (record { sources = sources; target = target }) (label_of state.labels)
   underway-fixed target popped state none u = record {
     at_sources = u.at_sources;
@@ -256,7 +256,7 @@ module _ (roads : Roads) (answers : ℕ → ℕ → ℕ → ℕ → Type 0) (sou
     same_arrival number departure arrival other arc within is_arc this that =
         one_answer answers classes fifo arc.class arc.weight departure arrival other (is_question roads classes number departure arc network classed is_arc within) this that
 
-    -- an arc that lowers the label of its head has been passed
+    -- an arc that lowers the label of its head is relaxed
     pub pass-lowers : (rest : List ℕ) (popped : List Entry) (number node departure arrival : ℕ) (arc : Arc) (old new : State) → IsNode roads.nodes node → departure ≤ HORIZON → label_of old.labels node ≡ departure → IsArc roads number arc → arc.tail ≡ node
         → answers arc.class arc.weight departure arrival → departure ≤ arrival → arrival ≤ HORIZON → arrival < label_of old.labels arc.head
         → IsUnderway roads answers sources sources (number ∷ rest) popped old → LowersNode arc.head arrival old new → IsUnderway roads answers sources sources rest popped new × (label_of new.labels node ≡ departure)
@@ -282,7 +282,7 @@ module _ (roads : Roads) (answers : ℕ → ℕ → ℕ → ℕ → Type 0) (sou
         kept : label_of new.labels node ≡ departure
         kept = ap (λ (l : List ℕ). label_of l node) m.labels ∙ label-other old.labels arc.head node arrival head.from_one is_node.from_one (λ e. absurd (omega (arith, ap (λ (n : ℕ). label_of old.labels n) e))) ∙ label
 
-    -- and so has one that arrives no earlier than that, or too late
+    -- and so is one that arrives no earlier than the label, or too late
     pub pass-keeps : (rest : List ℕ) (popped : List Entry) (number node departure arrival : ℕ) (arc : Arc) (state : State) → departure ≤ HORIZON → label_of state.labels node ≡ departure → IsArc roads number arc → arc.tail ≡ node
         → answers arc.class arc.weight departure arrival → (HORIZON < arrival) ⊎ (label_of state.labels arc.head ≤ arrival)
         → IsUnderway roads answers sources sources (number ∷ rest) popped state → IsUnderway roads answers sources sources rest popped state

@@ -1,4 +1,4 @@
--- The course of a run of one thread: what it does in turn, by the words of its generator.
+-- The course of a run of one thread, determined by the words of its generator.
 use Rattle.std.specs.Prelude.{◌≡◌, ℕ, ◌+◌, ◌<◌, ◌≤◌, ◌⊎◌, List, [], ◌∷◌, ◌++◌, length, replicate}
 use Rattle.rand_core.specs.Stream.{Stream, next_u64}
 use Rattle.ea_machine.specs.Totals.{total}
@@ -14,34 +14,36 @@ use Rattle.ea_pool.specs.Solos.{AddsTo}
 use Rattle.ea_rank.specs.declared.event.Event.{Event}
 use Rattle.ea_rank.specs.Runs.{State, LowersNode, PopsFound, entry_of}
 
--- The label of a node falls to a time, and its entry is pushed to the heap that the word picks.
+-- The label of a node falls to a time, and its entry is pushed to the heap that the word draws.
 pub record LowersBy (word node time : ℕ) (old new : State) : Type 0 where
   pub lowers : LowersNode node time old new
   pub into : AddsTo (first_draw (length old.heaps) word) (entry_of node time) old.heaps new.heaps
 
--- Sources are offered their departures in order. The pushes have the words 0, 1, 2 and so on: how many there were is told.
+-- Sources are offered their departures in order. The pushes have the words 0, 1, 2 and so on; the number is
+-- how many there were.
 pub data Sows : List Source → State → ℕ → State → Type 0 where
   begins : {state : State} → Sows [] state 0 state
   passes : {sources : List Source} {old new : State} {pushes : ℕ} (source : Source) → Sows sources old pushes new → label_of new.labels source.node ≤ source.departure → Sows (sources ++ source ∷ []) old pushes new
   pushes : {sources : List Source} {old middle new : State} {pushes : ℕ} (source : Source) → Sows sources old pushes middle → source.departure < label_of middle.labels source.node → LowersBy pushes source.node source.departure middle new → Sows (sources ++ source ∷ []) old (pushes + 1) new
 
 module _ (roads : Roads) (answers : ℕ → ℕ → ℕ → ℕ → Type 0) where
-  -- The arcs of some numbers are passed in order, left at a departure. A head whose label falls takes the next word for its push.
+  -- The arcs with these numbers are relaxed in order, at a departure. If a head's label falls, its push takes
+  -- the next word.
   pub data Scans (departure : ℕ) : List ℕ → Stream → State → Stream → State → Type 0 where
     begins : {words : Stream} {state : State} → Scans departure [] words state words state
     passes : {numbers : List ℕ} {words words' : Stream} {old new : State} {number arrival : ℕ} {arc : Arc} → Scans departure numbers words old words' new → IsArc roads number arc → answers arc.class arc.weight departure arrival → (HORIZON < arrival) ⊎ (label_of new.labels arc.head ≤ arrival) → Scans departure (numbers ++ number ∷ []) words old words' new
     pushes : {numbers : List ℕ} {words words' : Stream} {old middle new : State} {number arrival : ℕ} {arc : Arc} → Scans departure numbers words old words' middle → IsArc roads number arc → answers arc.class arc.weight departure arrival → arrival ≤ HORIZON → arrival < label_of middle.labels arc.head → LowersBy (next_u64 words').0 arc.head arrival middle new → Scans departure (numbers ++ number ∷ []) words old (next_u64 words').1 new
 
-  -- Turns follow each other: two words are drawn and an entry is popped. One above its node's label is stale; else the arcs from
-  -- its node are passed.
+  -- Consecutive turns: two words are drawn and an entry is popped. If it is above its node's label it is
+  -- stale; else the arcs from the node are relaxed.
   pub data Turns : Stream → State → Stream → State → Type 0 where
     begins : {words : Stream} {state : State} → Turns words state words state
     stale : {words words' : Stream} {old middle new : State} {entry : Entry} → Turns words old words' middle → PopsFound (next_u64 words').0 (next_u64 (next_u64 words').1).0 entry middle new → label_of new.labels entry.node < entry.key → Turns words old (next_u64 (next_u64 words').1).1 new
     scans : {words words' words'' : Stream} {old middle popped new : State} {entry : Entry} → Turns words old words' middle → PopsFound (next_u64 words').0 (next_u64 (next_u64 words').1).0 entry middle popped → entry.key ≤ label_of popped.labels entry.node
         → Scans entry.key (leaving roads entry.node) (next_u64 (next_u64 words').1).1 popped words'' new → Turns words old words'' new
 
-  -- A run with so many heaps and these words, which began with no labels, empty heaps and an empty record, went over the sources'
-  -- entries and then over turns.
+  -- A run with this number of heaps and these words began with no labels, empty heaps and an empty record,
+  -- and went over the sources' entries and then over turns.
   pub record Begun (heaps : ℕ) (words : Stream) (sources : List Source) (rest : Stream) (state : State) : Type 0 where
     pub start : State
     pub sown : State

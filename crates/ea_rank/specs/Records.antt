@@ -1,4 +1,4 @@
--- What is said of the record of a run.
+-- Properties of the record of a run.
 use Rattle.std.specs.Prelude.{◌≡◌, ℕ, ◌≤◌, ◌==◌, if◌then◌else◌, List, length, Ok}
 use Rattle.std.specs.List.{AllByRecursion}
 use Rattle.ea_machine.specs.Totals.{total}
@@ -10,17 +10,17 @@ use Rattle.ea_road.specs.Roads.{Roads, IsNode}
 use Rattle.ea_rank.specs.declared.event.Event.{Event}
 use Rattle.ea_rank.specs.Ranks.{rank_errors}
 
--- Each pop has a rank error, so its key was there; with two heaps all of them are 0.
+-- Each pop has a rank error, so its key was in the queue; with two heaps all rank errors are 0.
 pub record HasRanks (heaps : ℕ) (events : List Event) : Type 0 where
   pub ranks : List ℕ
   pub found : rank_errors events ≡ Ok ranks
   pub exact : heaps ≡ 2 → AllByRecursion (λ rank. rank ≡ 0) ranks
 
--- how often a number stands in a list
+-- How often a number occurs in a list.
 abbrev pub occurrences : ℕ → List ℕ → ℕ
 occurrences number numbers = total (λ n. if n == number then 1 else 0) numbers
 
--- The keys contain the least arrivals of all nodes that are reached, each as often as it is one.
+-- The keys contain the least arrivals of all reached nodes, as a multiset.
 pub record ContainArrivals
     (roads : Roads)
     (answers : ℕ → ℕ → ℕ → ℕ → Type 0)

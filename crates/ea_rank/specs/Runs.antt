@@ -1,4 +1,4 @@
--- A run of one thread: its labels, its heaps and what it has recorded.
+-- A run of one thread: its labels, its heaps and its record.
 use Rattle.std.specs.Prelude.{◌≡◌, ◌≢◌, ℕ, ◌+◌, ◌-◌, ◌%◌, ◌<◌, ◌≤◌, ◌⊎◌, List, [], ◌∷◌, ◌++◌, length, map, Ok, slice_set, Contains}
 use Rattle.std.specs.List.{IsAmong, AllByRecursion}
 use Rattle.ea_base.specs.declared.limits.TheConstants.{HORIZON}
@@ -17,24 +17,24 @@ use Rattle.ea_rank.specs.declared.event.Event.{Event}
 use Rattle.ea_rank.specs.declared.event.Event.TheVariants.{Push, Pop}
 use Rattle.ea_rank.specs.Ranks.{rank_errors, popped_keys, queue_after}
 
--- f of each entry of all heaps, added up
+-- The sum of f over the entries of all heaps.
 abbrev pub weighs : (Entry → ℕ) → List (List Entry) → ℕ
 weighs f heaps = total (total f) heaps
 
--- the heaps that a pop looks at with the words have no entry
+-- The heaps that a pop inspects with these words are empty.
 abbrev pub BothEmpty : List (List Entry) → ℕ → ℕ → Type 0
 BothEmpty heaps first second =
     (content heaps (first_draw (length heaps) first) ≡ []) × (content heaps (second_draw (length heaps) first second) ≡ [])
 
--- A pop with the words takes the entry: with the first word, or else with the first of the words after its rest that
--- looks at a heap that has an entry.
+-- A pop with these words takes the entry: with the first word, or with the first of the words after its
+-- remainder that draws a heap with an entry.
 pub record Finds (first second : ℕ) (entry : Entry) (old new : List (List Entry)) : Type 0 where
   pub step : ℕ
   pub near : step < length old
   pub none_before : (k : ℕ) → k < step → BothEmpty old (first % length old + k) second
   pub taken : TakesFrom (lesser_heap old (first_draw (length old) (first % length old + step)) (second_draw (length old) (first % length old + step) second)) entry old new
 
--- what a run holds
+-- The state of a run.
 pub record State : Type 0 where
   pub labels : List ℕ
   pub heaps : List (List Entry)
@@ -64,8 +64,8 @@ pub record IsRecorded (popped : List Entry) (state : State) : Type 0 where
   pub keys : popped_keys state.events ≡ map (λ e. e.key) popped
   pub exact : length state.heaps ≡ 2 → AllByRecursion (λ rank. rank ≡ 0) ranks
 
--- Each node that has a label has its entry in the heaps, or it was popped and the arcs from the node were passed,
--- but for those that are left.
+-- Each node with a label has its entry in the heaps, or the entry was popped and the arcs from the node were
+-- relaxed, except those that are left.
 pub record IsUnderway
     (roads : Roads)
     (answers : ℕ → ℕ → ℕ → ℕ → Type 0)
@@ -81,7 +81,7 @@ pub record IsUnderway
   pub entered : (node : ℕ) → IsNode roads.nodes node → label_of state.labels node ≢ NONE → 0 < weighs (only (entry_of node (label_of state.labels node))) state.heaps + times (entry_of node (label_of state.labels node)) popped
   pub passed : (number : ℕ) (arc : Arc) → IsArc roads number arc → label_of state.labels arc.tail ≢ NONE → (0 < weighs (only (entry_of arc.tail (label_of state.labels arc.tail))) state.heaps) ⊎ (Contains left number ⊎ ((arrival : ℕ) → answers arc.class arc.weight (label_of state.labels arc.tail) arrival → arrival ≤ HORIZON → label_of state.labels arc.head ≤ arrival))
 
--- a run that is under way, whatever it has popped so far
+-- A run that is under way, whatever it has popped so far.
 abbrev pub IsOnCourse : Roads → (ℕ → ℕ → ℕ → ℕ → Type 0) → List Source → List Source → List ℕ → State → Type 0
 IsOnCourse roads answers sources begun left state =
     (popped : List Entry) × IsUnderway roads answers sources begun left popped state × IsRecorded popped state

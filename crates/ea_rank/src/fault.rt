@@ -8,10 +8,10 @@ use thiserror::Error;
 /// Why a record has no rank errors.
 #[derive(Clone, Copy, Debug, PartialEq, Eq, Error)]
 pub enum RankFault {
-    /// The event of this number, from 0, is the first that pops a key that isn't in the queue.
+    /// The event with this number, from 0, is the first that pops a key that isn't in the queue.
     #[error("event {0} pops a key that is not in the queue")]
     NotThere(usize),
-    /// Memory was refused, which says nothing of the record.
+    /// Memory was refused; the record may be right or wrong.
     #[error("there is not enough memory (13 OutOfMemory)")]
     OutOfMemory,
 }

@@ -1,4 +1,4 @@
-//! How far each pop of a record was from the least key.
+//! The rank errors of the pops in a record.
 ghost use Rattle.std.specs.Prelude.{◌≡◌, Ok, IfOk, IfErr};
 ghost use Rattle.ea_rank.specs.Faults.{IsRankFault};
 ghost use Rattle.ea_rank.specs.Ranks.{rank_errors};
@@ -9,8 +9,8 @@ use crate::places::places_of;
 use crate::tally::Tally;
 use std::alloc::Global;
 
-/// The rank error of each pop, in order: how many entries of the queue just before it have a smaller key. It takes
-/// n log n for n events.
+/// The rank error of each pop, in order: the number of entries in the queue before it with a smaller key.
+/// Takes O(n log n) for n events.
 pub fn ranks(alloc: Global, recorded: &Record) -> Result<Vec<u64>, RankFault>
     ensures ranks { IfOk result (λ ranks. rank_errors recorded.now.events.items ≡ Ok ranks.items) }
     ensures fault { IfErr result (IsRankFault recorded.now.events.items) }

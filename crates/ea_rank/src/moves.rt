@@ -14,8 +14,8 @@ use ea_pool::{Entry, OutOfMemory, Solo};
 use ea_road::NONE;
 use std::alloc::Global;
 
-/// The entry that a pop with the words gives. Where the two heaps have no entry, the words after the rest of the
-/// first are tried. None where no heap has an entry.
+/// Pops an entry by two words. If the two heaps are empty, tries the words that follow the first one's
+/// remainder. None if all heaps are empty.
 fn find_entry(solo: &mut Solo<Global>, heaps: usize, first: u64, second: u64) -> Option<Entry>
     requires heaps { length solo.old ≡ heaps }
     requires range { (LEAST_HEAPS ≤ heaps) × (heaps ≤ MOST_IN_POOL) }
@@ -32,7 +32,7 @@ fn find_entry(solo: &mut Solo<Global>, heaps: usize, first: u64, second: u64) ->
 }
 
 impl Run {
-    /// No labels, empty heaps and an empty record.
+    /// A run without labels, with empty heaps and an empty record.
     pub(crate) fn new(alloc: Global, nodes: u32, heaps: usize) -> Result<Run, OutOfMemory>
         requires { (LEAST_HEAPS ≤ heaps) × (heaps ≤ MOST_IN_POOL) }
         ensures { IfOk result (λ run. (run.labels.items ≡ replicate nodes NONE)
@@ -56,7 +56,7 @@ impl Run {
         self.labels[node as usize - 1]
     }
 
-    /// The label of a node falls to a time, and its entry is pushed.
+    /// Lowers the label of a node to a time, and pushes its entry.
     pub(crate) fn lower(&mut self, word: u64, node: u32, time: u64) -> Result<(), OutOfMemory>
         requires node { (0 < node) × (node ≤ length self.old.labels.items) }
         requires heaps { 2 ≤ length self.old.heaps }
@@ -73,7 +73,7 @@ impl Run {
         Ok(())
     }
 
-    /// The next entry. None where there is none.
+    /// Pops the next entry. None if there is none.
     pub(crate) fn pop(
         &mut self,
         heaps: usize,

@@ -1,4 +1,4 @@
-//! Which place each event's key has among the keys.
+//! The place of each event's key among the keys.
 ghost use Rattle.std.specs.Prelude.{◌≡◌, ℕ, List, length, map, IfOk};
 ghost use Rattle.ea_rank.specs.Places.{AreMarks, ArePlaces};
 ghost use Rattle.ea_rank.specs.Ranks.{key_of};
@@ -13,7 +13,7 @@ pub(crate) struct Mark {
     pub(crate) index: usize,
 }
 
-/// For each event the place of its key among the different keys, ascending, and how many different keys there are.
+/// For each event the place of its key among the distinct keys, ascending, and the number of distinct keys.
 #[derive(Drop)]
 pub(crate) struct Places {
     pub(crate) of_events: Vec<usize>,
@@ -35,7 +35,7 @@ fn marks_of(alloc: Global, events: &[Event]) -> Result<Vec<Mark>, AllocError>
     Ok(marks)
 }
 
-/// The places of the events' keys, in n log n.
+/// The places of the events' keys, in O(n log n).
 pub(crate) fn places_of(alloc: Global, events: &[Event]) -> Result<Places, AllocError>
     ensures { IfOk result (λ places. (keys : List ℕ)
         × ArePlaces keys (map key_of events.now) places.of_events.items

@@ -2,7 +2,7 @@
 ghost use Rattle.std.specs.Prelude.{◌≡◌};
 ghost use Rattle.ea_rank.specs.Summaries.{summary_of};
 
-/// How many pops there were, the greatest of their rank errors, 0 with no pop, and the sum of all.
+/// The number of pops, the greatest of their rank errors (0 without pops), and the sum of all.
 #[derive(Clone, Copy, Debug, PartialEq, Eq)]
 pub struct Summary {
     pub pops: u64,

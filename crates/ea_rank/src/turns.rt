@@ -23,7 +23,7 @@ use ea_travel_times::{ArrivalFunction, Profiles, TravelTimes};
 use rand_core::Rng;
 use std::alloc::Global;
 
-/// Offers each head the arrival along the arcs from a node, left at its label. A word is drawn for each push.
+/// Relaxes the arcs from a node, left at its label. Draws a word for each push.
 fn scan<T: TravelTimes, R: Rng>(
     network: &Network,
     times: &T,
@@ -90,9 +90,9 @@ fn sow<T: TravelTimes>(
     Ok(())
 }
 
-/// What one thread pushes and pops until its heaps, 2 to 128, are empty: the sources' entries with the words 0, 1, 2
-/// and so on, and then turns as a worker makes them, with the generator's words. Where a pop finds nothing while some
-/// heap has an entry, the words after the rest of its first are tried.
+/// Records the pushes and pops of one thread until its heaps, 2 to 128, are empty: the sources' entries with
+/// the words 0, 1, 2 and so on, then turns like a worker's, with the generator's words. If a pop finds
+/// nothing while some heap has an entry, the words after its first one's remainder are tried.
 pub fn record_run<T: TravelTimes, R: Rng + Drop>(
     alloc: Global,
     network: &Network,
@@ -104,12 +104,12 @@ pub fn record_run<T: TravelTimes, R: Rng + Drop>(
     requires heaps { (LEAST_HEAPS ≤ heaps) × (heaps ≤ MOST_IN_POOL) }
     requires problem { IsProblem network.now (T.classes times.now) query.now }
     requires asks_all { query.now.target ≡ None }
-    // each key is there when it is popped, and with two heaps no smaller one is
+    // Each popped key was in the queue; with two heaps, no smaller one was.
     ensures ranks { IfOk result (λ recorded. HasRanks heaps recorded.events.items) }
     ensures empty { IfOk result (λ recorded. queue_after [] recorded.events.items ≡ []) }
     ensures least { IfOk result (λ recorded. ContainArrivals network.now (T.answers times.now)
         query.now.sources (popped_keys recorded.events.items)) }
-    // which record it is: the course of the turns by the generator's words
+    // The course of the turns by the generator's words determines the record.
     ensures course { IfOk result (λ recorded.
         IsRunBy network.now (T.answers times.now) heaps (R.stream rng)
         query.now.sources recorded.events.items) }
@@ -132,7 +132,8 @@ pub fn record_run<T: TravelTimes, R: Rng + Drop>(
     Ok(Record { events })
 }
 
-/// `record_run` by a caller's closure from class, weight and departure to the arrival, for classes up to the greatest.
+/// `record_run` with a caller's closure from class, weight and departure to the arrival, for classes up to
+/// the greatest.
 pub fn record_run_by<F: ArrivalFunction + Drop, R: Rng + Drop>(
     alloc: Global,
     network: &Network,

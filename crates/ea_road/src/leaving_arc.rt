@@ -8,7 +8,7 @@ use crate::arc::Arc;
 pub struct LeavingArc {
     /// The node that it leads to.
     pub head: u32,
-    /// The travel time of an arc of the plain class.
+    /// The travel time if the class is plain; travel times of other classes may use it.
     pub weight: u32,
     /// The class of its travel times; class 0 is plain.
     pub class: u32,

@@ -12,6 +12,6 @@ invariant-loop-run g l = record {
   course : Begun l.network (g.T.TravelTimes.answers l.times) l.heaps (g.R.Rng.stream l.fn.rng) l.query.sources (g.R.Rng.stream l.rng) (state_of l.run);
 }
 
--- each turn takes an entry, and each lowering takes one from the sum at least and adds one entry
+-- each turn takes an entry, and each lowering takes at least one from the sum and adds one entry
 abbrev pub decreases-loop-run : goal.decreases-loop-run
 decreases-loop-run g l = added l.run.labels.items + weighs (λ e. 1) l.run.heaps

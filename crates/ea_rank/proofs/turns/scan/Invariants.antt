@@ -7,7 +7,7 @@ use Rattle.ea_rank.specs.States.{state_of}
 use Rattle.ea_rank.specs.Tallies.{added}
 use Rattle.ea_rank.proofs.turns.scan.Given as goal
 
--- the arcs so far were passed
+-- the arcs so far were relaxed
 abbrev pub invariant-loop-place : goal.invariant-loop-place
 invariant-loop-place g l = record {
   underway : IsOnCourse l.network (g.T.TravelTimes.answers l.times) l.query.sources l.query.sources (drop l.place (leaving l.network l.node)) (state_of l.run);
