@@ -1,4 +1,4 @@
--- Lines of rank errors that went out, one problem after the other.
+-- Lines of rank errors that were sent, problem by problem.
 use Rattle.std.proofs.Common.{◌≡◌, ℕ, zero, suc, map, ◌+◌, ◌*◌, ◌≤◌, ◌<◌, false, List, [], ◌∷◌, ◌++◌, length, take, get_or, refl, ap, ap₂, sym, ◌∙◌, arith, subst, inl, inr, append-nil, append_assoc}
 use Rattle.std.specs.Prelude.{All, Option, Result, Ok, Err, IfErr, IfOk, OnOk, codes}
 use Rattle.std.specs.List.{flat_map}
@@ -24,11 +24,11 @@ use Rattle.ea_load.proofs.Outcomes.{IsCutting}
 use Rattle.ea_load.specs.declared.answer_fault.AnswerFault.{AnswerFault}
 use Rattle.ea_load.specs.declared.answer_fault.AnswerFault.TheVariants.{Read, Input, BadOption, Write, OutOfMemory}
 
--- Some workers with some heaps each have some heaps.
+-- The number of all workers' heaps is within its limits.
 pub few_heaps : (workers heaps : ℕ) → 1 ≤ workers → workers ≤ 16 → 2 ≤ heaps → heaps ≤ 8 → (2 ≤ workers * heaps) × (workers * heaps ≤ 128)
 few_heaps workers heaps some few two eight = (mul-le-mul some two, mul-le-mul few eight)
 
--- The parts of a line of two fields that others follow, and of one of three fields.
+-- The parts of a line of two fields before others, and of one of three fields.
 two_fields : (a b rest : List ℕ) → ((a ++ 32 ∷ (b ++ [])) ++ 10 ∷ []) ++ rest ≡ a ++ 32 ∷ (b ++ 10 ∷ rest)
 two_fields a b rest = append_assoc (a ++ 32 ∷ (b ++ [])) (10 ∷ []) rest ∙ append_assoc a (32 ∷ (b ++ [])) (10 ∷ rest) ∙ ap (λ (t : List ℕ). a ++ 32 ∷ (t ++ 10 ∷ rest)) (append-nil b)
 
@@ -61,7 +61,7 @@ only_line [] d one = absurd (omega (arith, one))
 only_line (source ∷ []) d one = append-nil (source_line source)
 only_line (source ∷ other ∷ sources) d one = absurd (omega (arith, one))
 
--- A text that stopped for the device alone.
+-- A text that stopped because of the device alone.
 pub stops_for_device : (old new : Seen) (text : List ℕ) (d : Delivery) (fault : WriteFault) → fault.kind ≡ WriteFailed → Stops old d new fault text → Stops old d new (record { written = fault.written; kind = WriteFailed }) text
 stops_for_device old new text d fault device stops = λ first before way.
     let cut = stops first before way in
@@ -87,7 +87,7 @@ module _ (heaps seed : ℕ) (roads : Roads) (answers : ℕ → ℕ → ℕ → �
     one_more : take (i + 1) all ≡ take i all ++ query ∷ []
     one_more = take_more all i query inside ∙ ap (λ q. take i all ++ q ∷ []) (sym at)
 
-    -- The next problem's lines go out.
+    -- The next problem's lines are sent.
     pub next_delivered : (first old now : Seen) (d e : Delivery) → AreDelivered heaps seed roads answers (take i all) first old d → AddsRanks heaps seed roads answers query old d now e → AreDelivered heaps seed roads answers (take (i + 1) all) first now e
     next_delivered first old now d e way more =
         (way.0 ++ more.0, subst (λ qs. AreRankTexts heaps seed roads answers qs (way.0 ++ more.0)) (sym one_more) (texts_more (take i all) query way.0 more.0 way.1 more.1), more.2 first way.0 way.2)
@@ -107,7 +107,7 @@ module _ (heaps seed : ℕ) (roads : Roads) (answers : ℕ → ℕ → ℕ → �
             cut = (omega (arith, size), subst (λ t. Appends first.bytes now.bytes t) (sym front) (subst (λ (s : Seen). Appends first.bytes s.bytes way.2.sent) (sym still) way.2.appended));
           }
 
-      -- And the device bore what was.
+      -- And the device did not give up.
       still_borne : now ≡ old → BearsOn first now
       still_borne still = subst (BearsOn first) (sym still) (way.2.borne.0, omega (arith, way.2.borne.1.0, borne))
 
@@ -128,7 +128,7 @@ module _ (heaps seed : ℕ) (roads : Roads) (answers : ℕ → ℕ → ℕ → �
       ranks_stop (Input word fault) stop = absurd stop
       ranks_stop BadOption stop = absurd stop
 
--- Each source by itself is a problem with one source.
+-- Each source alone is a problem with one source.
 each_mapped : {X Y : Type 0} (P : Y → Type 0) (f : X → Y) → ((x : X) → P (f x)) → (xs : List X) → All P (map f xs)
 each_mapped P f holds [] k d lt = absurd (omega arith)
 each_mapped P f holds (x ∷ xs) zero d lt = holds x
@@ -137,7 +137,7 @@ each_mapped P f holds (x ∷ xs) (suc k) d lt = each_mapped P f holds xs k d (om
 pub each_alone : (depart gap : ℕ) (nodes : List ℕ) → All HasOneSource (run_problems false depart gap nodes)
 each_alone depart gap nodes = each_mapped HasOneSource (λ source. asks_all (source ∷ [])) (λ source. record { one = refl; all = refl }) (sources_from depart gap 0 nodes)
 
--- What cuts the lines short is the device or memory.
+-- The lines are cut short by the device or by refused memory.
 pub ranking_cuts : (heaps seed : ℕ) (roads : Roads) (answers : ℕ → ℕ → ℕ → ℕ → Type 0) (queries : List Asking) (first now : Seen) (fault : AnswerFault) → IsRankingCut heaps seed roads answers queries first now fault → IsCutting fault
 ranking_cuts heaps seed roads answers queries first now (Write written) cut = tt
 ranking_cuts heaps seed roads answers queries first now (OutOfMemory written) cut = tt
@@ -145,7 +145,7 @@ ranking_cuts heaps seed roads answers queries first now (Read word fault) cut = 
 ranking_cuts heaps seed roads answers queries first now (Input word fault) cut = cut
 ranking_cuts heaps seed roads answers queries first now BadOption cut = cut
 
--- A fact of a call that answers nothing more.
+-- A fact of a call whose result is a unit.
 pub on_ok : {E : Type 0} (P : Type 0) (r : Result (Unit {0}) E) → OnOk r P → IfOk r (λ done. P)
 on_ok P (Ok done) holds = holds
 on_ok P (Err fault) holds = tt

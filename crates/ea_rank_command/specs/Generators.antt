@@ -9,11 +9,11 @@ use Rattle.rand_xoshiro.specs.Xoshiro256.{of_seed, plus_plus}
 abbrev pub seed_of_worker : ℕ → ℕ → ℕ
 seed_of_worker seed number = (seed + number) % 2 ^ 64
 
--- The state of the generator Xoshiro256++ that a seed gives.
+-- The state of the generator Xoshiro256++ for a seed.
 abbrev pub generator_from : ℕ → List ℕ
 generator_from seed = of_seed (splitmix_seed 32 seed)
 
--- The generators of so many workers, in their order.
+-- The generators of this many workers, in their order.
 abbrev pub generators_from : ℕ → ℕ → List (List ℕ)
 generators_from seed zero = []
 generators_from seed (suc number) = generators_from seed number ++ generator_from (seed_of_worker seed number) ∷ []

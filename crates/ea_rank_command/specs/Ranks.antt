@@ -1,4 +1,4 @@
--- What is written of rank errors, source by source.
+-- The lines of rank errors, source by source.
 use Rattle.std.specs.Prelude.{◌≡◌, ◌⊎◌, ℕ, ◌*◌, List, [], ◌∷◌, ◌++◌, false, Option, Ok, codes, decimal, length, take, None}
 use Rattle.std.specs.List.{flat_map}
 use Rattle.std.specs.Io.KnownBytes.{Appends}
@@ -41,8 +41,9 @@ pub record HasOneSource (query : Asking) : Type 0 where
   pub all : query.target ≡ None
 
 module _ (heaps seed : ℕ) (roads : Roads) (answers : ℕ → ℕ → ℕ → ℕ → Type 0) where
-  -- The rank errors are those of a recorded run with so many heaps and the words of the seed: each pop's key was there, and with
-  -- two heaps no smaller one was; the queue ends empty; and the least arrivals are among the popped keys.
+  -- The rank errors are those of a recorded run with this number of heaps and the words of the seed: each
+  -- popped key was in the queue, and with two heaps no smaller one was; the queue ends empty; and the least
+  -- arrivals are among the popped keys.
   pub record AreRanks (sources : List Source) (ranks : List ℕ) : Type 0 where
     pub events : List Event
     pub course : IsRunBy roads answers heaps (words_from seed) sources events
@@ -57,28 +58,29 @@ module _ (heaps seed : ℕ) (roads : Roads) (answers : ℕ → ℕ → ℕ → �
     pub are_ranks : AreRanks query.sources ranks
     pub says : text ≡ flat_map source_line query.sources ++ rank_line (summary_of ranks)
 
-  -- The lines of problems, one after the other.
+  -- The lines of problems, one after another.
   abbrev pub AreRankTexts : List Asking → List ℕ → Type 0
   AreRankTexts [] text = text ≡ []
   AreRankTexts (query ∷ queries) text =
       (first : List ℕ) × (others : List ℕ) × IsRankText query first × AreRankTexts queries others × (text ≡ first ++ others)
 
-  -- The lines of all problems went out; over all of them no call failed, and the interruptions were borne.
+  -- The lines of all problems were sent; no call failed, and the interruptions over all of them were
+  -- tolerated.
   pub record IsRanking (queries : List Asking) (first now : Seen) : Type 0 where
     pub text : List ℕ
     pub are_texts : AreRankTexts queries text
     pub appended : Appends first.bytes now.bytes text
     pub borne : BearsOn first now
 
-  -- The bytes that went out are the front of the lines of so many problems.
+  -- The bytes that were sent are the first of the lines of this many problems.
   pub record IsRankFront (queries : List Asking) (old new : Option (List ℕ)) (written : ℕ) : Type 0 where
     pub count : ℕ
     pub text : List ℕ
     pub are_texts : AreRankTexts (take count queries) text
     pub cut : IsCutAt old new text written
 
-  -- The lines were cut short: a front of them went out. Where writing was the cause a call failed, or the interruptions over all
-  -- lines were more than are borne; where memory was, neither.
+  -- The lines were cut short: the first bytes were sent. If the device is the reason, a call failed, or there
+  -- was one interruption too many over all lines; if memory is, neither.
   abbrev pub IsRankingCut : List Asking → Seen → Seen → AnswerFault → Type 0
   IsRankingCut queries first now (Write written) =
       IsRankFront queries first.bytes now.bytes written × GivesUp first now
@@ -105,8 +107,8 @@ module _ (heaps seed : ℕ) (roads : Roads) (answers : ℕ → ℕ → ℕ → �
 
 -- ---- from files
 
--- Each source is asked by itself, whatever `joint` says; its lines are those of a run with the heaps of all workers and the words
--- of the seed.
+-- Each source is asked alone, for any `joint`; its lines are those of a run with the heaps of all workers and
+-- the words of the seed.
 abbrev pub rank_asks : RunOptions → Asks (List ℕ) (Unit {0})
 rank_asks options = record {
   word = Ss;

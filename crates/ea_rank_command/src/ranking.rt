@@ -25,7 +25,7 @@ use rand_core::SeedableRng;
 use rand_xoshiro::Xoshiro256PlusPlus;
 use std::alloc::{AllocError, Global};
 
-/// How many heaps a recorded run has: as many as all workers together.
+/// The number of heaps of a recorded run: those of all workers.
 fn heaps_of_run(options: &RunOptions) -> usize
     requires { AreOptions options.now }
     ensures heaps { result ≡ heaps_of options.now }
@@ -52,12 +52,12 @@ fn ranks_of(
     let recorded = record_run(alloc, &road.network, &road.times, query, heaps, rng)?;
     match ranks(alloc, &recorded) {
         Ok(found) => Ok(found),
-        // Each key was there when it was popped, so memory alone can be short.
+        // Each popped key was in the queue, so only memory can be refused.
         Err(_) => Err(AllocError),
     }
 }
 
-/// Sends the line of a source and that of its rank errors.
+/// Sends the line of a source and the line of its rank errors.
 fn put_ranks<W: ByteOut>(
     direct: &mut Direct,
     source: Source,
@@ -129,7 +129,7 @@ fn rank_one<W: ByteOut>(
     }
 }
 
-/// Records a run from each source, and sends the lines of all as one text. The watch is told after each.
+/// Records a run from each source, and sends the lines of all as one text. Calls the watch after each.
 fn rank_each<W: ByteOut, V: Watch>(
     alloc: Global,
     road: &Road,
@@ -164,15 +164,18 @@ fn rank_each<W: ByteOut, V: Watch>(
     Ok(())
 }
 
-/// Writes how relaxed the queue is: for each source of a run a line `s S D` and a line `r POPS MAX SUM`, with the number of
-/// pops of a recorded run of one thread from that source, the greatest of their rank errors, 0 with no pop, and the sum of
-/// all. The run has `workers * heaps` heaps and the words of the generator seeded with `seed`, anew for each source.
+/// Writes how relaxed the queue is: for each source a line `s S D` and a line `r POPS MAX SUM`, with the
+/// number of pops in a recorded run of one thread from that source, the greatest of their rank errors (0
+/// without pops), and the sum of all. The run has `workers * heaps` heaps and the words of the generator
+/// seeded with `seed`, anew for each source.
 ///
-/// Source i, from 0, departs at `depart + i * gap`; `joint`, `walks`, `stats` and `turns` have no effect. Files are read as
-/// by `answer`, before anything is written. Over the whole text 1,000 interruptions are borne.
+/// Source i, from 0, departs at `depart + i * gap`; `joint`, `walks`, `stats` and `turns` have no effect.
+/// Files are read as by `answer`, before anything is written. Up to 1,000 interruptions over the whole text
+/// are retried.
 ///
-/// `Read` and `Input` tell the first fault of the files in their order, `BadOption` a departure above 2^48 - 1; then nothing
-/// was written. After `Write` and `OutOfMemory` the bytes written are the front of the text.
+/// Fails with `Read` or `Input` for the first fault of the files in their order, and with `BadOption` for a
+/// departure above 2^48 - 1; then nothing was written. After `Write` and `OutOfMemory` the bytes written are
+/// the first of the text.
 pub fn rank_report<G: ByteIn, S: ByteIn, T: ByteIn, W: ByteOut>(
     alloc: Global,
     gr: &mut G,
@@ -194,7 +197,7 @@ pub fn rank_report<G: ByteIn, S: ByteIn, T: ByteIn, W: ByteOut>(
     rank_watched(alloc, gr, ss, tp, options, out, &mut Silent)
 }
 
-/// As `rank_report`, and a watch is told of each source that is done.
+/// Like `rank_report`; calls a watch after each source.
 pub fn rank_watched<G: ByteIn, S: ByteIn, T: ByteIn, W: ByteOut, V: Watch>(
     alloc: Global,
     gr: &mut G,
@@ -219,7 +222,7 @@ pub fn rank_watched<G: ByteIn, S: ByteIn, T: ByteIn, W: ByteOut, V: Watch>(
     if !departures_fit(files.sources.len(), options.depart, options.gap) {
         return Err(AnswerFault::BadOption);
     }
-    // Each source is a problem of its own, whatever `joint` says.
+    // Each source is a separate problem, for any `joint`.
     let queries = run_queries(alloc, &files.sources, false, options.depart, options.gap)?;
     rank_each(
         alloc,
