@@ -20,7 +20,7 @@ use Rattle.ea_check.proofs.Placed.{remains}
 use Rattle.ea_check.proofs.Right.{task_of, right_faultless}
 use Rattle.ea_check.proofs.Steps.{no_other_walk, time_no_walk}
 
--- no walk comes at a place where a report may continue
+-- the lines of problems do not begin with a `w` line
 quiet_report : (nodes : ℕ) (queries : List (List Source)) (problems : List (List Said)) (lines : List Line) → SaysProblems nodes queries problems lines → NoWalkNext lines
 quiet_report nodes queries problems [] says = tt
 quiet_report nodes queries problems (line ∷ lines) says = λ walk. no_other_walk nodes line walk (remains 0 says)

@@ -50,7 +50,7 @@ module _ {A : Type 0} (f : A → ℕ) where
   terms_le (x ∷ xs) (suc j) zero v u n e d = omega (arith, ap f (some-injective x u d), term_le xs j v e)
   terms_le (x ∷ xs) (suc j) (suc k) v u n e d = omega (arith, terms_le xs j k v u (λ h. n (ap suc h)) e d)
 
-  -- where there is weight, some member has some
+  -- if there is weight, some member has some
   pub some_weighs : (xs : List A) → 0 < total f xs → Any (λ x. 0 < f x) xs
   some_weighs [] h = absurd (omega arith)
   some_weighs (x ∷ xs) h = dite (ℕ_discrete (f x) 0)

@@ -46,7 +46,7 @@ stray_taken words (Words help text) taken missing = stray_text (fault_of program
 stray_taken words BadOption taken missing = absurd missing
 stray_taken words OutOfMemory taken missing = missing
 
--- What clap takes is refused where an option's value is bad.
+-- If an option's value is bad, the words that clap takes are refused.
 pub unasked_refused : (verb : Verb) (words : List Text) (second : Text) (wants : Bool) (rows : List Row) (fault : CommandFault) → second ≡ second_by verb → wants ≡ reported_by verb
     → rows ≡ matches_of (app_by verb) words → fault_of (app_by verb) words ≡ [] → IsUnasked second wants rows fault → IsRefusedBy (of_files verb) words fault
 unasked_refused verb words second wants rows (Words help text) called is same taken unasked = absurd unasked

@@ -50,7 +50,7 @@ unfolding bound_of
 bound_of-set_other table v zero x h ne = refl
 bound_of-set_other table v (suc k) x h ne = get_or-set_other table (v - 1) k x NONE (omega arith)
 
--- a label that is there belongs to a node
+-- a number with a label is a node's
 pub bound_of-node : (table : List ℕ) (v : ℕ) → bound_of table v ≢ NONE → (0 < v) × (v ≤ length table)
 unfolding bound_of
 bound_of-node table zero h = absurd (omega arith)

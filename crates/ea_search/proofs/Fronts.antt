@@ -178,7 +178,7 @@ module _ (label : ℕ → ℕ) where
     walks = puts.walks ∙ takes.walks;
   }
 
-  -- an entry that is not of its node's label was nobody's
+  -- no node waits because of a stale entry
   pub Takes-stale : (entry : ℕ × ℕ) (first last : Frontage) → Takes label entry first last → (entry.0 ≡ label entry.1 → ⊥) → KeepsWaiting label first last
   Takes-stale entry first last takes stale = record {
     fewer = omega (arith, takes.fewer);

@@ -136,7 +136,7 @@ Offered-more entries c table table' table'' waits waits' waits'' met met' met'' 
     Is : ℕ → ℕ → ℕ → Type 0
     Is = IsCandidate (entries ++ c ∷ []) table''
 
-    -- it is had by the last candidate
+    -- it has the arc of the last candidate
     by_last : (v u k : ℕ) → IsHadAt c.node c.from c.place c.time table'' v u k → Is v u k
     by_last v u k is =
         let one : c ≡ record { time = bound_of table'' c.node; node = c.node; from = c.from; place = c.place } = ap (λ t. record { time = t; node = c.node; from = c.from; place = c.place }) (sym is.1) in
