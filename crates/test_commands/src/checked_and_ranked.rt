@@ -182,7 +182,8 @@ fn rank_into_failing_devices(rt: HostRuntime) {
     }
 }
 
-/// A writer of std that is interrupted so often at its first byte, and at the first of the second source's lines.
+/// A writer of std that is interrupted so often at its first byte, and at the first of the second source's
+/// lines.
 #[derive(Drop)]
 struct Interrupted {
     first: u64,

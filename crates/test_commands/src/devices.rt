@@ -47,7 +47,7 @@ fn failing_writers_of_totals(rt: HostRuntime) {
     }
 }
 
-/// A reader of std that gives one byte at a time, so many times, and then fails.
+/// A reader of std that gives one byte at a time, this many times, and then fails.
 #[derive(Drop)]
 struct Failing<'a> {
     bytes: &'a [u8],

@@ -1,4 +1,4 @@
-//! Who watches a command is told of each problem, and nothing else is different.
+//! Who watches a command learns of each problem, and nothing else is different.
 ghost use Rattle.std.specs.Prelude.{◌≤◌, IfSome};
 ghost use Rattle.ea_options.specs.Limits.{AreOptions, HasLimits};
 ghost use Rattle.ea_messages.specs.Named.{HasFiles};
@@ -50,7 +50,8 @@ impl Watch for Told {
     }
 }
 
-/// What is told of a command that comes to its end, and whether what goes out is this text, which it is without a watch too.
+/// What learns of a command that results in its end, and whether what goes out is this text, which it is
+/// without a watch too.
 fn told_of<'a, H: Threads + Sync>(
     rt: &HostRuntime,
     threads: &H,
@@ -77,7 +78,7 @@ fn told_of<'a, H: Threads + Sync>(
     (told, is_done && is_quiet && is_same)
 }
 
-/// Carries out a command on files from memory: whether it comes to its end.
+/// Carries out a command on files from memory: whether it results in its end.
 fn writes<'a, H: Threads + Sync, V: Watch>(
     rt: &HostRuntime,
     threads: &H,
@@ -105,7 +106,7 @@ fn writes<'a, H: Threads + Sync, V: Watch>(
 const REPORT: &[u8] =
     b"s 1 0\nd 1 0\nd 2 5\nd 3 2\nd 4 6\ns 2 0\nd 1 inf\nd 2 0\nd 3 inf\nd 4 1\ns 3 0\nd 1 inf\nd 2 3\nd 3 0\nd 4 4\n";
 
-/// A run by so many workers, with so many problems at once.
+/// A run by this many workers, with this many problems at once.
 fn options_of(workers: Option<u64>, at_once: Option<u64>) -> RunOptions
     requires workers { IfSome workers (λ n. (1 ≤ n) × (n ≤ 16)) }
     requires at_once { IfSome at_once (λ n. (1 ≤ n) × (n ≤ 16)) }

@@ -19,8 +19,8 @@ const VISITED: [Visit; 6] = [
     (6, 4, 0, false),
 ];
 
-/// The place of the first of the counts that is otherwise in a run of one worker over two heaps with batches of two, whose generator
-/// always gives 0; behind them all where its arrivals are, or its turns.
+/// The index of the first of the counts that is not the expected one in a run of one worker over two heaps
+/// with batches of two, whose generator always gives 0; behind them all where its arrivals are, or its turns.
 fn wrong_by_twos<H: Threads + Sync>(
     alloc: Global,
     rt: &H,
@@ -144,7 +144,8 @@ fn is_balanced(came: &Came) -> bool {
     even && pushed == popped && came.finish <= came.drained.wrapping_add(came.returned)
 }
 
-/// Whether a run of workers that leave at a turn of this number gives the answer of one thread and counts that are in balance.
+/// Whether a run of workers that leave at a turn of this number gives the answer of one thread and counts
+/// that are in balance.
 fn is_right_until<H: Threads + Sync>(
     alloc: Global,
     rt: &H,
@@ -169,7 +170,7 @@ const ENDS: [(u64, u64); 7] = [
     (900, 900),
 ];
 
-/// Whether so many workers are right, whose turns are few or whose tracers leave.
+/// Whether this many workers are right, whose turns are few or whose tracers leave.
 fn are_workers_right<H: Threads + Sync>(
     alloc: Global,
     rt: &H,
@@ -190,7 +191,7 @@ fn are_workers_right<H: Threads + Sync>(
     Ok(true)
 }
 
-/// How many workers there are, and how large their batches.
+/// The number of workers, and how large their batches.
 const CREWS: [(u32, u32); 25] = [
     (1, 1),
     (1, 2),

@@ -6,7 +6,7 @@ fn after(member: &mut Member<'_>, number: u64, kind: TurnKind) -> bool {
     after_falls(member, number, kind, 0)
 }
 
-/// Whether a worker goes on after a turn in which so many labels fell.
+/// Whether a worker continues after a turn in which this many labels fell.
 fn after_falls(member: &mut Member<'_>, number: u64, kind: TurnKind, lowered: u64) -> bool {
     let turn = Turn {
         number,
@@ -18,12 +18,13 @@ fn after_falls(member: &mut Member<'_>, number: u64, kind: TurnKind, lowered: u6
     matches!(member.after(turn), Flow::Go)
 }
 
-/// Whether a worker goes on after so many turns that found nothing.
+/// Whether a worker continues after this many turns that found nothing.
 fn goes_on(member: &mut Member<'_>, turns: u32) -> bool {
     goes_on_with(member, TurnKind::Empty, 0, u64::from(turns))
 }
 
-/// Which of two workers makes turns of a kind, from which number on and how many, and whether it goes on after all.
+/// Which of two workers makes turns of a kind, from which number on and how many, and whether it continues
+/// after all.
 type Row = (usize, TurnKind, u64, u64, bool);
 
 /// The first of the rows that goes otherwise with two workers of a new company.
@@ -44,7 +45,7 @@ fn wrong_row(rows: &[Row]) -> Option<usize> {
     None
 }
 
-/// Whether a worker goes on after so many turns of a kind.
+/// Whether a worker continues after this many turns of a kind.
 fn goes_on_with(member: &mut Member<'_>, kind: TurnKind, first: u64, turns: u64) -> bool {
     let mut goes = true;
     for turn in 0..turns {
@@ -92,7 +93,7 @@ fn a_refused_worker_leaves(rt: HostRuntime) {
     assert_none_wrong(&rt, wrong_row(&REFUSED));
 }
 
-/// After how many visits a worker leaves in each of which so many labels fall, at most 100,000.
+/// After how many visits a worker leaves in each of which this many labels fall, at most 100,000.
 fn visits_of_falls(member: &mut Member<'_>, lowered: u64) -> u64 {
     for number in 0..100_000 {
         if !after_falls(member, number, TurnKind::Scanned, lowered) {
@@ -102,7 +103,8 @@ fn visits_of_falls(member: &mut Member<'_>, lowered: u64) -> u64 {
     100_000
 }
 
-/// Whether a worker leaves after so many visits as should be, while the other one found nothing in 160 turns; and the other one then.
+/// Whether a worker leaves after this many visits as should be, while the other one found nothing in 160
+/// turns; and the other one then.
 fn leaves_alone() -> bool {
     let company = Company::new();
     let mut one = company.member();
@@ -114,11 +116,11 @@ fn leaves_alone() -> bool {
     alone > 10_000 && alone < 100_000 && !goes_on(&mut other, 2_000)
 }
 
-/// What the other one does before a worker's visits: whether it scans an entry or makes so many turns that find nothing; and how many
-/// labels fall in each visit. The worker makes 100,000 visits and goes on.
+/// What the other one does before a worker's visits: whether it scans an entry or makes this many turns that
+/// find nothing; and how many labels fall in each visit. The worker makes 100,000 visits and continues.
 const STAYS: [(bool, u32, u64); 3] = [(true, 0, 1), (false, 0, 1), (false, 160, 0)];
 
-/// Whether the other one goes on after that; there is none where it does nothing.
+/// Whether the other one continues after that; there is none if it does nothing.
 fn other_goes_on(company: &Company, scans: bool, turns: u32) -> bool {
     if !scans && turns == 0 {
         return true;
@@ -135,7 +137,7 @@ fn stays(scans: bool, turns: u32, lowered: u64) -> bool {
     other_goes_on(&company, scans, turns) && visits_of_falls(&mut one, lowered) == 100_000
 }
 
-/// The place of the first case in which a worker leaves.
+/// The index of the first case in which a worker leaves.
 fn wrong_stay() -> Option<usize> {
     for (place, (scans, turns, lowered)) in STAYS.iter().enumerate() {
         if !stays(*scans, *turns, *lowered) {
@@ -156,7 +158,8 @@ fn nobody_else_leaves(rt: HostRuntime) {
     assert_none_wrong(&rt, wrong_stay());
 }
 
-/// After how many visits a worker leaves in each of which ten labels fall, while another is active; at most 10,000.
+/// After how many visits a worker leaves in each of which ten labels fall, while another is active; at most
+/// 10,000.
 fn visits_of_ten_falls(company: &Company) -> u64 {
     let mut one = company.member();
     let mut other = company.member();
@@ -170,12 +173,13 @@ fn visits_of_ten_falls(company: &Company) -> u64 {
     10_000
 }
 
-/// Nodes of a company, and after how many such visits a worker leaves. 100 + 50 + 16,384 labels may fall: after visit 1,600 16,010 fell,
-/// and after visit 1,664 16,650. 1,000 + 500 + 16,384: after visit 1,728 17,290 fell, and after visit 1,792 17,930.
+/// Nodes of a company, and after how many such visits a worker leaves. 100 + 50 + 16,384 labels may fall:
+/// after visit 1,600 16,010 fell, and after visit 1,664 16,650. 1,000 + 500 + 16,384: after visit 1,728
+/// 17,290 fell, and after visit 1,792 17,930.
 const FALLS: [(u32, u64); 3] = [(100, 1_664), (1_000, 1_792), (1_000_000, 10_000)];
 
-/// The place of the first company whose worker leaves after another number of visits; behind them all where one of a company of which
-/// nothing is known does.
+/// The index of the first company whose worker leaves after another number of visits; behind them all where
+/// one of a company of which nothing is known does.
 fn wrong_falls() -> Option<usize> {
     for (place, (nodes, visits)) in FALLS.iter().enumerate() {
         if visits_of_ten_falls(&Company::on(*nodes)) != *visits {
@@ -193,8 +197,8 @@ fn workers_leave_where_labels_fall_too_often(rt: HostRuntime) {
     assert_none_wrong(&rt, wrong_falls());
 }
 
-/// The number of the first visit after which a worker leaves of a company on 100 nodes, where a million labels fall in each; 300 where it
-/// doesn't.
+/// The number of the first visit after which a worker leaves of a company on 100 nodes, where a million
+/// labels fall in each; 300 where it doesn't.
 fn first_look() -> u64 {
     let company = Company::on(100);
     let mut one = company.member();
@@ -211,7 +215,8 @@ fn workers_look_from_turn_256_on(rt: HostRuntime) {
     assert_that(&rt, "visit 256 is the last", first_look() == 256);
 }
 
-/// Whether a worker still goes on that found nothing in so many turns after 16,000 such ones, beside an active one.
+/// Whether a worker still continues that found nothing in this many turns after 16,000 such ones, beside an
+/// active one.
 fn goes_on_after_waits(company: &Company, turns: u32) -> bool {
     let mut one = company.member();
     let mut other = company.member();
@@ -223,14 +228,16 @@ fn goes_on_after_waits(company: &Company, turns: u32) -> bool {
 
 #[test]
 fn workers_leave_where_they_wait_too_long(rt: HostRuntime) {
-    // 16,384 may find nothing, and one for the 2 visits. After 639 more turns 512 more count, after 640 more 513.
+    // 16,384 may find nothing, and one for the 2 visits. After 639 more turns 512 more count, after 640 more
+    // 513.
     let (goes, leaves) = (Company::on(1_000_000), Company::on(1_000_000));
     assert_that(&rt, "goes on after 639", goes_on_after_waits(&goes, 639));
     assert_that(&rt, "leaves after 640", !goes_on_after_waits(&leaves, 640));
     assert_that(&rt, "goes on", goes_on_after_waits(&Company::new(), 20_000));
 }
 
-/// Whether a worker goes on that finds an entry after each 127 turns that found nothing, so often, beside an active one.
+/// Whether a worker continues that finds an entry after each 127 turns that found nothing, so often, beside
+/// an active one.
 fn goes_on_after_short_waits(company: &Company, finds: u64) -> bool {
     let mut one = company.member();
     let mut other = company.member();

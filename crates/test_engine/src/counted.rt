@@ -46,7 +46,8 @@ fn is_visit(turn: &Turn, visits: &[Visit], visit: Visit) -> bool {
     }
 }
 
-/// What a turn adds to the number of the turns before it: 1, and far more where it isn't the turn that comes next.
+/// What a turn adds to the number of the turns before it: 1, and far more where it isn't the turn that comes
+/// next.
 fn step(turn: &Turn, before: u64, visits: &[Visit]) -> u64 {
     if turn.number == before && is_right(turn, visits) {
         1
@@ -55,7 +56,8 @@ fn step(turn: &Turn, before: u64, visits: &[Visit]) -> u64 {
     }
 }
 
-/// How one worker runs on four-nodes: which visits it makes, at which turn it leaves, and how many turns its tracer is shown.
+/// How one worker runs on four-nodes: which visits it makes, at which turn it leaves, and how many turns its
+/// tracer is shown.
 #[derive(Clone, Copy)]
 pub struct Watched {
     pub settings: Settings,
@@ -64,8 +66,8 @@ pub struct Watched {
     pub turns: u64,
 }
 
-/// The place of the first of the counts that is otherwise in a run of one worker; behind them all where its arrivals are, or a turn that
-/// its tracer is shown.
+/// The index of the first of the counts that is not the expected one in a run of one worker; behind them all
+/// where its arrivals are, or a turn that its tracer is shown.
 fn wrong_on<H: Threads + Sync, R: Rng + Send + Drop>(
     alloc: Global,
     rt: &H,
@@ -101,7 +103,8 @@ pub fn wrong_watched<H: Threads + Sync, R: Rng + Send + Drop>(
     wrong_on(alloc, rt, &four(alloc)?, watched, rng, wanted)
 }
 
-/// The same of a worker that pops entry by entry, makes so many turns at most and leaves at the turn of a number.
+/// The same of a worker that pops entry by entry, makes this many turns at most and leaves at the turn of a
+/// number.
 pub fn wrong_until<H: Threads + Sync>(
     alloc: Global,
     rt: &H,
@@ -161,7 +164,8 @@ fn leave_at_once(rt: HostRuntime) -> Result<(), Fail> {
     assert_told(&rt, wrong_until(rt.alloc(), &rt, 100, 0, 1, &LEFT_AT_ONCE))
 }
 
-/// The place of the first of the counts that is otherwise in a run of workers whose turns are shown to nobody.
+/// The index of the first of the counts that is not the expected one in a run of workers whose turns are
+/// shown to no one.
 fn wrong_crew<H: Threads + Sync, R: Rng + Send + Drop>(
     alloc: Global,
     rt: &H,

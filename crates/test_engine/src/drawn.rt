@@ -16,7 +16,7 @@ use test_support::numbered::Numbered;
 /// How many entries a run of few turns seeded and popped, and the node of its last turn.
 type Few = (u128, u64, u64);
 
-/// One worker makes so many turns over eight heaps.
+/// One worker makes this many turns over eight heaps.
 fn run_turns<H: Threads + Sync, R: Rng + Send + Drop>(
     alloc: Global,
     rt: &H,
@@ -38,7 +38,8 @@ fn run_turns<H: Threads + Sync, R: Rng + Send + Drop>(
     ))
 }
 
-/// Sources, the two words that a generator gives in turn, how many turns there are, and what they come to on four-nodes.
+/// Sources, the two words that a generator gives in turn, how many turns there are, and what they come to on
+/// four-nodes.
 type Case = (&'static [(u32, u64)], u64, u64, u64, Few);
 
 /// What the turns of a case come to.
@@ -48,7 +49,7 @@ fn run_case<H: Threads + Sync>(alloc: Global, rt: &H, case: &Case) -> Result<Few
     run_turns(alloc, rt, &given, InTurn { word, next }, turns)
 }
 
-/// The place of the first case that comes to something else.
+/// The index of the first case that results in something else.
 fn wrong_case<H: Threads + Sync>(
     alloc: Global,
     rt: &H,
@@ -93,14 +94,16 @@ fn pop_draws_two_words_in_their_order(rt: HostRuntime) -> Result<(), Fail> {
 
 const PUSH: [Case; 1] = [(&[(2, 0)], 3, 11, 2, (1, 2, 4))];
 
-/// The first turn looks at heaps 3 and 0, pops the seed and pushes one entry with word 3; the second one finds it in heap 3.
+/// The first turn looks at heaps 3 and 0, pops the seed and pushes one entry with word 3; the second one
+/// finds it in heap 3.
 #[test]
 fn push_goes_to_the_heap_of_its_word(rt: HostRuntime) -> Result<(), Fail> {
     assert_told(&rt, wrong_case(rt.alloc(), &rt, &PUSH))
 }
 
-/// The place of the first of the counts that is otherwise in a run of two workers with eight heaps each, whose generators give this word
-/// alone; behind them all where they pop entries and shouldn't, or should and don't.
+/// The index of the first of the counts that is not the expected one in a run of two workers with eight heaps
+/// each, whose generators give this word alone; behind them all where they pop entries and shouldn't, or
+/// should and don't.
 fn wrong_two<H: Threads + Sync>(
     alloc: Global,
     rt: &H,
@@ -136,7 +139,7 @@ const WORDS: [OfWord; 5] = [
     (32, true, &[]),
 ];
 
-/// The place of the first word by which two workers run otherwise.
+/// The index of the first word by which two workers run otherwise.
 fn wrong_word<H: Threads + Sync>(alloc: Global, rt: &H) -> Result<Option<usize>, Fail> {
     for (place, (word, pops, wanted)) in WORDS.iter().enumerate() {
         if wrong_two(alloc, rt, *word, *pops, wanted)?.is_some() {
@@ -165,7 +168,7 @@ const FAN: [Row; 8] = [
     (1, 4, 10, 0),
 ];
 
-/// So many turns on the fan, by words that count.
+/// This many turns on the fan, by words that count.
 fn run_on_fan<H: Threads + Sync>(alloc: Global, rt: &H, turns: u64) -> Result<Few, Fail> {
     let given = posed(alloc, 7, &FAN, &[(1, 0)])?;
     run_turns(alloc, rt, &given, Numbered(0), turns)
@@ -174,7 +177,7 @@ fn run_on_fan<H: Threads + Sync>(alloc: Global, rt: &H, turns: u64) -> Result<Fe
 /// The node of each number of turns on the fan, from one turn on.
 const ON_FAN: [u64; 5] = [1, 3, 5, 7, 6];
 
-/// The place of the first number of turns that comes to something else.
+/// The index of the first number of turns that results in something else.
 fn wrong_on_fan<H: Threads + Sync>(alloc: Global, rt: &H) -> Result<Option<usize>, Fail> {
     for (place, node) in ON_FAN.iter().enumerate() {
         let turns = place as u64 + 1;
@@ -185,8 +188,8 @@ fn wrong_on_fan<H: Threads + Sync>(alloc: Global, rt: &H) -> Result<Option<usize
     Ok(None)
 }
 
-/// The words count: 0 and 1 pop the seed from heap 0, and then 2 to 7 bring the heads to heaps 2 to 7 in the order of the arcs. The
-/// next turns look at heaps 0 and 3, 2 and 7, 4 and 3, 6 and 0.
+/// The words count: 0 and 1 pop the seed from heap 0, and then 2 to 7 bring the heads to heaps 2 to 7 in the
+/// order of the arcs. The next turns look at heaps 0 and 3, 2 and 7, 4 and 3, 6 and 0.
 #[test]
 fn arcs_are_followed_in_ascending_order(rt: HostRuntime) -> Result<(), Fail> {
     assert_told(&rt, wrong_on_fan(rt.alloc(), &rt))

@@ -7,7 +7,8 @@ use std::test::Fail;
 use std::thread::Threads;
 use test_support::networks::Given;
 
-/// Counts its calls by three workers, of which each makes fewer than 1,000 turns, and notes a call whose number isn't the count so far.
+/// Counts its calls by three workers, of which each makes fewer than 1,000 turns, and notes a call whose
+/// number isn't the count so far.
 #[derive(Drop)]
 struct Counting {
     /// Those of worker 0, a thousand for each of worker 1, and a million for each of worker 2.
@@ -79,8 +80,8 @@ fn run_gated<H: Threads + Sync>(
     run(alloc, rt, given, crew)
 }
 
-/// The first worker that made no turns, or another number than the gate was called for it; behind them all where there aren't three workers,
-/// or a call was wrong.
+/// The first worker that made no turns, or another number than the gate was called for it; behind them all
+/// where there aren't three workers, or a call was wrong.
 fn wrong_worker(counters: &[Counters], gate: &Counting) -> Option<usize> {
     if counters.len() != 3 || gate.wrong.load(Ordering::SeqCst) != 0 {
         return Some(counters.len());

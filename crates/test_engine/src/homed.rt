@@ -19,7 +19,7 @@ fn draws_its_own(first: u64, second: u64, worker: u32, workers: u32, heaps: u32)
     i != j && from <= i && i < end && from <= j && j < end
 }
 
-/// Whether 20 pairs of a worker's words draw heaps of its own; not where there is no such worker.
+/// Whether 20 pairs of a worker's words draw heaps of its own; not with it no such worker.
 fn all_draw_its_own(worker: u32, workers: u32, heaps: u32) -> bool {
     if worker >= workers || workers > 16 || heaps < 2 || heaps > 8 {
         return false;
@@ -34,7 +34,7 @@ fn all_draw_its_own(worker: u32, workers: u32, heaps: u32) -> bool {
     right
 }
 
-/// Whether each of so many workers with so many heaps draws its own.
+/// Whether each of this many workers with this many heaps draws its own.
 fn all_draw_their_own(workers: u32, heaps: u32) -> bool {
     let mut right = true;
     for worker in 0..workers {
@@ -64,7 +64,8 @@ fn bit_of(heap: u64) -> u64 {
     if heap < 64 { 1 << heap } else { 0 }
 }
 
-/// How many heaps each of three workers has, and, as bits, those of worker 1 and all others but its first one.
+/// How many heaps each of three workers has, and, as bits, those of worker 1 and all others but its first
+/// one.
 const OWN: [(u32, u64, u64); 3] = [
     (2, 0b1100, 0b11_1011),
     (4, 0b1111_0000, 0b1111_1110_1111),
@@ -85,7 +86,8 @@ fn drawn(heaps: u32) -> u64 {
     bits
 }
 
-/// The heap that a pop of worker 1 of three draws as its second one by a random word; none where its first one isn't the worker's first.
+/// The heap that a pop of worker 1 of three draws as its second one by a random word; none if its first one
+/// isn't the worker's first.
 fn second_of(random: u64, heaps: u32) -> Option<u64> {
     if heaps < 2 || heaps > 8 {
         return None;
@@ -100,7 +102,7 @@ fn second_of(random: u64, heaps: u32) -> Option<u64> {
     Some(first.wrapping_add(1).wrapping_add(second) % all)
 }
 
-/// Which heaps are such a second one by some random word below their number; none where a first one is wrong.
+/// Which heaps are such a second one by some random word below their number; none if a first one is wrong.
 fn seconds(heaps: u32) -> Option<u64> {
     let mut bits = 0;
     for random in 0..(3 * u64::from(heaps)).saturating_sub(1) {
@@ -112,7 +114,7 @@ fn seconds(heaps: u32) -> Option<u64> {
     Some(bits)
 }
 
-/// The place of the first number of heaps of which others are drawn.
+/// The index of the first number of heaps of which others are drawn.
 fn wrong_drawn() -> Option<usize> {
     for (place, (heaps, own, _)) in OWN.iter().enumerate() {
         if drawn(*heaps) != *own {
@@ -122,7 +124,7 @@ fn wrong_drawn() -> Option<usize> {
     None
 }
 
-/// The place of the first number of heaps of which others are drawn by random words.
+/// The index of the first number of heaps of which others are drawn by random words.
 fn wrong_seconds() -> Option<usize> {
     for (place, (heaps, _, others)) in OWN.iter().enumerate() {
         if seconds(*heaps) != Some(*others) {

@@ -98,8 +98,8 @@ const RING: u32 = 80_000;
 
 const LATE: [Wanted; 2] = [(Count::Drained, 1), (Count::Finish, 1)];
 
-/// The place of the first of the counts that is otherwise in a run of four workers on a late ring whose generators give 2 alone; behind
-/// them all where the ring's arrivals are.
+/// The index of the first of the counts that is not the expected one in a run of four workers on a late ring
+/// whose generators give 2 alone; behind them all where the ring's arrivals are.
 fn wrong_round<H: Threads + Sync>(
     alloc: Global,
     rt: &H,
@@ -114,7 +114,7 @@ fn wrong_round<H: Threads + Sync>(
 /// How many turns are made at most. A pass in the order of opening takes quadratic time on the ring.
 const TURNS: [u32; 2] = [0, 1000];
 
-/// The place of the first number of turns with which a run goes otherwise.
+/// The index of the first number of turns with which a run goes otherwise.
 fn wrong_turns<H: Threads + Sync>(
     alloc: Global,
     rt: &H,

@@ -1,4 +1,5 @@
-//! A network whose open nodes are few for long and then many at once, on which several workers have nothing to gain.
+//! A network whose open nodes are few for long and then many at once, on which several workers have nothing
+//! to gain.
 ghost use Rattle.std.specs.Prelude.{◌<◌};
 
 use crate::ran::{Came, Count, arrives, assert_right, posed, run, total};
@@ -16,8 +17,9 @@ const PATH: u32 = 100;
 /// How many nodes the ring has.
 const RING: u32 = 20_000;
 
-/// A path of arcs of weight 0 leads to the first node of a ring of so many nodes. From there an arc of weight 2i leads to the i-th node
-/// after it, in descending order, and from each of these an arc of weight 1 to the next one.
+/// A path of arcs of weight 0 leads to the first node of a ring of this many nodes. From there an arc of
+/// weight 2i leads to the i-th node after it, in descending order, and from each of these an arc of weight 1
+/// to the next one.
 fn rows_of(alloc: Global, ring: u32) -> Result<Vec<Row>, AllocError>
     requires { ring < 1_000_000 }
 {
@@ -52,7 +54,7 @@ fn two_words(alloc: Global) -> Result<Vec<Xoshiro256PlusPlus>, AllocError> {
     Ok(rngs)
 }
 
-/// Two workers of a company on the ring, which take so many entries at once.
+/// Two workers of a company on the ring, which take this many entries at once.
 fn search<H: Threads + Sync>(
     alloc: Global,
     rt: &H,

@@ -11,7 +11,8 @@ use std::test::Fail;
 use std::thread::Threads;
 use test_support::networks::{Given, Row};
 
-/// Each of the workers raises its flag before its first turn and then looks for all others'. There are four flags.
+/// Each of the workers raises its flag before its first turn and then looks for all others'. There are four
+/// flags.
 #[derive(Drop)]
 struct Meeting {
     /// Four bits, the first one that of worker 0.
@@ -74,7 +75,8 @@ impl Gate for Meeting {
     }
 }
 
-/// Whether a run of so many workers has the arrivals, all of them were there and none missed another one, and they pop entries.
+/// Whether a run of this many workers has the arrivals, all of them were there and none missed another one,
+/// and they pop entries.
 fn have_met(came: &Came, workers: usize, meeting: &Meeting) -> bool {
     has_four(&came.answer)
         && came.counters.len() == workers
@@ -83,7 +85,7 @@ fn have_met(came: &Came, workers: usize, meeting: &Meeting) -> bool {
         && total(came, Count::Popped) > 0
 }
 
-/// Whether so many workers meet on four nodes.
+/// Whether this many workers meet on four nodes.
 fn meet<H: Threads + Sync>(
     alloc: Global,
     rt: &H,
@@ -107,7 +109,8 @@ fn four_workers_meet(rt: HostRuntime) -> Result<(), Fail> {
     assert_right(&rt, "four workers meet", meet(rt.alloc(), &rt, 4, &meeting))
 }
 
-/// A worker that popped something waits until all have. One that found nothing at its first turn waits until the star is spread.
+/// A worker that popped something waits until all have. One that found nothing at its first turn waits until
+/// the star is spread.
 #[derive(Drop)]
 struct Sharing {
     popped: Meeting,
@@ -179,7 +182,8 @@ fn run_sharing<H: Threads + Sync>(
     run(alloc, rt, given, crew)
 }
 
-/// Whether four workers share the star: each of them pops something, none misses another one, and its last node is reached.
+/// Whether four workers share the star: each of them pops something, none misses another one, and its last
+/// node is reached.
 fn is_shared(came: &Came, sharing: &Sharing) -> bool {
     let mut right = came.counters.len() == 4;
     for counters in &came.counters {

@@ -1,5 +1,5 @@
-//! Runs, and what is read of them. All tests run their workers through here, so that what a run promises is carried by one
-//! function.
+//! Runs, and what is read of them. All tests run their workers through here, so that what a run promises is
+//! carried by one function.
 ghost use Rattle.std.specs.Prelude.{◌≡◌, All, IsTrue};
 ghost use Rattle.ea_engine.specs.Limits.{AreSettings};
 
@@ -40,7 +40,7 @@ pub fn came_of<R: Drop, T: Drop>(solved: Solved<R, T>) -> Came {
     }
 }
 
-/// Whether settings are such as tests have, and so many generators and tracers are one for each worker.
+/// Whether settings are such as tests have, and this many generators and tracers are one for each worker.
 pub fn fits(settings: Settings, rngs: usize, tracers: usize) -> bool
     ensures settings { IsTrue result → AreSettings settings }
     ensures rngs { IsTrue result → rngs ≡ settings.workers }
@@ -61,7 +61,7 @@ pub fn fits(settings: Settings, rngs: usize, tracers: usize) -> bool
     rngs == settings.workers as usize && tracers == settings.workers as usize
 }
 
-/// Runs a crew; none where it doesn't fit or what is given makes no problem.
+/// Runs a crew; none if it doesn't fit or what is given makes no problem.
 pub fn attempt<
     H: Threads + Sync,
     R: Rng + Send + Drop,
@@ -117,7 +117,7 @@ pub fn singly(workers: u32, heaps: u32, turns: u64) -> Settings {
     }
 }
 
-/// Runs workers by generators of the test, one a worker, that are shown to nobody.
+/// Runs workers by generators of the test, one a worker, that are shown to no one.
 pub fn run_crew<H: Threads + Sync, R: Rng + Send + Drop, G: Gate>(
     alloc: Global,
     rt: &H,
@@ -153,7 +153,7 @@ pub fn run_crew_on_four<H: Threads + Sync, R: Rng + Send + Drop, G: Gate>(
     run_crew(alloc, rt, &four(alloc)?, heaps, turns, rngs, gate)
 }
 
-/// So many generators that give one word alone.
+/// This many generators that give one word alone.
 pub fn constants(alloc: Global, workers: u32, word: u64) -> Result<Vec<Constant>, AllocError> {
     let mut rngs = Vec::new(alloc);
     for _ in 0..workers {
@@ -162,7 +162,7 @@ pub fn constants(alloc: Global, workers: u32, word: u64) -> Result<Vec<Constant>
     Ok(rngs)
 }
 
-/// So many generators that begin with seeds.
+/// This many generators that begin with seeds.
 pub fn seeded(
     alloc: Global,
     workers: u32,
@@ -213,7 +213,7 @@ pub fn run_with<H: Threads + Sync, R: Rng + Send + Drop, T: FnMut(Turn) -> Flow 
     run(alloc, rt, given, crew)
 }
 
-/// Runs one worker over two heaps, with the words of seed 1, whose turns are shown to nobody.
+/// Runs one worker over two heaps, with the words of seed 1, whose turns are shown to no one.
 pub fn run_plain<H: Threads + Sync>(
     alloc: Global,
     rt: &H,
@@ -268,7 +268,7 @@ pub enum Count {
     Returned,
 }
 
-/// A count of a run as a whole; none where its workers count it.
+/// A count of a run as a whole; none if its workers count it.
 fn of_run(came: &Came, count: Count) -> Option<u128> {
     match count {
         Count::Workers => Some(came.counters.len() as u128),
@@ -313,7 +313,7 @@ fn all_count(workers: &[Counters], count: Count, number: u128) -> bool {
     true
 }
 
-/// The place of the first of the counts that is otherwise.
+/// The index of the first of the counts that is not the expected one.
 pub fn wrong_count(came: &Came, wanted: &[Wanted]) -> Option<usize> {
     for (place, (count, number)) in wanted.iter().enumerate() {
         let right = match of_run(came, *count) {
@@ -327,12 +327,14 @@ pub fn wrong_count(came: &Came, wanted: &[Wanted]) -> Option<usize> {
     None
 }
 
-/// The place of the first of the counts that is otherwise in a run on four-nodes; behind them all where its arrivals are.
+/// The index of the first of the counts that is not the expected one in a run on four-nodes; behind them all
+/// where its arrivals are.
 pub fn told(came: &Came, wanted: &[Wanted]) -> Option<usize> {
     wrong_beside(came, has_four(&came.answer), wanted)
 }
 
-/// The place of the first of the counts that is otherwise; behind them all where the rest of what a test looks at isn't right.
+/// The index of the first of the counts that is not the expected one; behind them all where the rest of what
+/// a test looks at isn't right.
 pub fn wrong_beside(came: &Came, right: bool, wanted: &[Wanted]) -> Option<usize> {
     if right {
         wrong_count(came, wanted)

@@ -27,7 +27,7 @@ fn rows_of(alloc: Global, nodes: u16, seed: u64) -> Result<Vec<Row>, AllocError>
     Ok(rows)
 }
 
-/// What is given by a network of so many nodes, at random by a seed, from two sources.
+/// What is given by a network of this many nodes, at random by a seed, from two sources.
 pub fn posed_by(alloc: Global, nodes: u16, seed: u64) -> Result<Given, Fail>
     requires { 0 < nodes }
 {
@@ -35,7 +35,7 @@ pub fn posed_by(alloc: Global, nodes: u16, seed: u64) -> Result<Given, Fail>
     posed(alloc, u32::from(nodes), &rows, &[(1, 3), (2, 0)])
 }
 
-/// Whether two answers give the same arrivals for so many nodes.
+/// Whether two answers give the same arrivals for this many nodes.
 pub fn are_same(one: &Answer, other: &Answer, nodes: u16) -> bool {
     let mut same = one.nodes() == other.nodes();
     for node in 1..u32::from(nodes) + 1 {
@@ -44,7 +44,7 @@ pub fn are_same(one: &Answer, other: &Answer, nodes: u16) -> bool {
     same
 }
 
-/// Whether a run of so many workers gives the answer of one thread.
+/// Whether a run of this many workers gives the answer of one thread.
 fn is_same<H: Threads + Sync>(
     alloc: Global,
     rt: &H,

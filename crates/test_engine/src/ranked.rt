@@ -56,7 +56,8 @@ fn are_two_recorded(alloc: Global) -> Result<bool, Fail> {
     is_recorded(alloc, &given)
 }
 
-/// The heads' entries go to heaps 127 and 63, and the next pop looks at heaps 127 and 0: 8,255 is 0 mod 127 and 63 mod 128.
+/// The heads' entries go to heaps 127 and 63, and the next pop looks at heaps 127 and 0: 8,255 is 0 mod 127
+/// and 63 mod 128.
 #[test]
 fn ranks_over_128_heaps(rt: HostRuntime) -> Result<(), Fail> {
     assert_right(&rt, "events and rank errors", are_two_recorded(rt.alloc()))

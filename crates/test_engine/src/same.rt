@@ -13,8 +13,8 @@ use test_support::networks::{FOUR_NODES, Given, Row, with_period};
 /// A node, its arrival and its walk.
 type Line = (u32, u64, &'static [u32]);
 
-/// Nodes, rows, the period of class 1, when it departs from node 1, the target, which is 0 where all nodes are asked, and the lines of the
-/// answer.
+/// Nodes, rows, the period of class 1, when it departs from node 1, the target, which is 0 where all nodes
+/// are asked, and the lines of the answer.
 type Case = (u32, &'static [Row], u32, u32, u32, &'static [Line]);
 
 const TWO_WAYS_TO_FIFTEEN: Case = (
@@ -124,7 +124,8 @@ fn told_by_seeds<H: Threads + Sync>(
     Ok(right)
 }
 
-/// Whether each run gives these lines: by 1, 2 and 4 workers, 2 and 8 heaps for each, 0, 1 and 100 turns, seeds 1 to 5.
+/// Whether each run gives these lines: by 1, 2 and 4 workers, 2 and 8 heaps for each, 0, 1 and 100 turns,
+/// seeds 1 to 5.
 fn all_told<H: Threads + Sync>(
     alloc: Global,
     rt: &H,
@@ -174,7 +175,7 @@ fn is_case_told<H: Threads + Sync>(alloc: Global, rt: &H, case: &Case) -> Result
     all_told(alloc, rt, &given_of(alloc, case)?, case.5)
 }
 
-/// The place of the first case of which a run gives other lines.
+/// The index of the first case of which a run gives other lines.
 fn wrong_case<H: Threads + Sync>(alloc: Global, rt: &H) -> Result<Option<usize>, Fail> {
     for (place, case) in CASES.iter().enumerate() {
         if !is_case_told(alloc, rt, case)? {

@@ -18,7 +18,8 @@ fn run_case<H: Threads + Sync>(alloc: Global, rt: &H, case: &Case) -> Result<Cam
     run_plain(alloc, rt, &given, turns)
 }
 
-/// The place of the first of the counts that is otherwise in such a run; behind them all where the arrival at node 4 is.
+/// The index of the first of the counts that is not the expected one in such a run; behind them all where the
+/// arrival at node 4 is.
 fn wrong_of_case<H: Threads + Sync>(
     alloc: Global,
     rt: &H,
@@ -64,7 +65,7 @@ const CASES: [Case; 4] = [
     (10, TEN, 0, 3, ALL_TEN),
 ];
 
-/// The place of the first case that is counted otherwise.
+/// The index of the first case that is counted otherwise.
 fn wrong_case<H: Threads + Sync>(alloc: Global, rt: &H) -> Result<Option<usize>, Fail> {
     for (place, case) in CASES.iter().enumerate() {
         if wrong_of_case(alloc, rt, case)?.is_some() {

@@ -1,9 +1,9 @@
-//! What tests assert of tables and of texts that values have.
+//! Assertions on tables and on the texts of values.
 use std::alloc::Global;
 use std::fmt::Display;
 use std::process::Abort;
 
-/// Ends the test where a row of a table is wrong, and tells its place.
+/// Fails the test if a row of a table is wrong, and reports its index.
 pub fn assert_none_wrong<H: Abort>(rt: &H, wrong: Option<usize>) {
     assert_eq!(*rt; wrong, None);
 }

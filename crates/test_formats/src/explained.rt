@@ -1,4 +1,4 @@
-//! Texts that no clause speaks of.
+//! Texts that no clause specifies.
 use crate::asserts::assert_none_wrong;
 use ea_blocks::FaultKind;
 use ea_load::FileWord;
@@ -13,7 +13,7 @@ fn names(word: &str, number: &str, name: &str) -> bool {
     }
 }
 
-/// How many faults there are.
+/// The number of faults.
 const COUNT: usize = FAULTS.len();
 
 /// Each fault by its number and its name.
@@ -39,7 +39,7 @@ const NAMES: [(&str, &str); 19] = [
     ("check 5", "NotCanonical"),
 ];
 
-/// The place of the first fault that its number or its name doesn't name.
+/// The index of the first fault whose number or name doesn't find it.
 fn unnamed() -> Option<usize> {
     for (place, (number, name)) in NAMES.iter().enumerate() {
         if !names(number, number, name) || !names(name, number, name) {
@@ -49,7 +49,7 @@ fn unnamed() -> Option<usize> {
     None
 }
 
-/// The place of the first word that names a fault.
+/// The index of the first word that names a fault.
 fn first_naming(words: &[&str]) -> Option<usize> {
     for (place, word) in words.iter().enumerate() {
         if fault_named(word).is_some() {
@@ -67,7 +67,7 @@ fn faults_by_number_and_name(rt: HostRuntime) {
     assert_none_wrong(&rt, first_naming(&["", "0", "16", "4 ", "06", "OutOf"]));
 }
 
-/// The fronts of files, and what they look like.
+/// The first bytes of files, and the guess for them.
 const LOOKS: [(&[u8], Option<Look>); 11] = [
     (b"\x1f\x8b\x08\x00", Some(Look::Gzip)),
     (b"\x28\xb5\x2f\xfd\x04", Some(Look::Zstd)),
@@ -82,7 +82,7 @@ const LOOKS: [(&[u8], Option<Look>); 11] = [
     (b"", None),
 ];
 
-/// The place of the first front that looks otherwise.
+/// The index of the first with another guess.
 fn wrong_look() -> Option<usize> {
     for (place, (front, look)) in LOOKS.iter().enumerate() {
         if look_of(front) != *look {
@@ -295,7 +295,7 @@ const WANTED: [Line; 32] = [
     ),
 ];
 
-/// The place of the first line for which the text is another.
+/// The index of the first line with another text.
 fn wrong_line() -> Option<usize> {
     for (place, (file, kind, line, text)) in WANTED.iter().enumerate() {
         if wanted_of_line(*file, *kind, line) != *text {
@@ -310,7 +310,7 @@ fn wanted_lines(rt: HostRuntime) {
     assert_none_wrong(&rt, wrong_line());
 }
 
-/// What is advised where a file looks so.
+/// The advice for each guess.
 const ADVICE: [(Look, &str); 5] = [
     (
         Look::Gzip,
@@ -334,7 +334,7 @@ const ADVICE: [(Look, &str); 5] = [
     ),
 ];
 
-/// The place of the first look with another advice.
+/// The index of the first guess with another advice.
 fn wrong_advice() -> Option<usize> {
     for (place, (look, text)) in ADVICE.iter().enumerate() {
         if look.advice() != *text {
@@ -349,7 +349,7 @@ fn advice_on_looks(rt: HostRuntime) {
     assert_none_wrong(&rt, wrong_advice());
 }
 
-/// What is told of the system's errors.
+/// The reasons for the system's errors.
 const REASONS: [(ErrorKind, &str); 15] = [
     (ErrorKind::NotFound, "there is no such file"),
     (ErrorKind::PermissionDenied, "there is no permission"),
@@ -374,7 +374,7 @@ const REASONS: [(ErrorKind, &str); 15] = [
     (ErrorKind::TimedOut, "the system refuses it"),
 ];
 
-/// The place of the first error of which another reason is told.
+/// The index of the first error with another reason.
 fn wrong_reason() -> Option<usize> {
     for (place, (kind, text)) in REASONS.iter().enumerate() {
         if reason_of(*kind) != *text {

@@ -34,7 +34,7 @@ const FIVE: [RawArc; 5] = [
     },
 ];
 
-/// Whether a text is read as a graph of so many nodes with these arcs; the fault where it is not read.
+/// Whether a text is read as a graph of this many nodes with these arcs; the fault if it is not read.
 fn reads_graph(
     alloc: Global,
     text: &[u8],
@@ -81,7 +81,7 @@ fn parallel_arcs(rt: HostRuntime) {
     assert!(rt; reads_graph(rt.alloc(), text, 2, &PARALLEL) == Ok(true));
 }
 
-/// The files that are read: a graph, sources and pairs of four nodes, timetables of one arc.
+/// The files to read: a graph, sources and pairs of four nodes, timetables of one arc.
 #[derive(Clone, Copy)]
 enum File {
     Graph,
@@ -90,7 +90,7 @@ enum File {
     Timetables,
 }
 
-/// The fault that a reader answers.
+/// The fault that a reader returns.
 fn fault_of<T: Drop>(read: Result<T, InputFault>) -> Option<InputFault> {
     match read {
         Ok(_) => None,
@@ -111,7 +111,7 @@ fn file_fault(alloc: Global, file: File, text: &[u8]) -> Option<InputFault> {
 /// A text, the line of its fault and the fault.
 type Faulty = (&'static [u8], u64, FaultKind);
 
-/// The place of the first text whose fault is another.
+/// The index of the first text with another fault.
 fn wrong_fault(alloc: Global, file: File, rows: &[Faulty]) -> Option<usize> {
     for (place, (text, line, kind)) in rows.iter().enumerate() {
         let (line, kind) = (*line, *kind);
@@ -194,7 +194,7 @@ fn every_prefix(rt: HostRuntime) {
     assert!(rt; reads_four_nodes(rt.alloc(), &GRAPH[..48]) == Ok(true));
 }
 
-/// Whether a text is read as these sources; the fault where it is not read.
+/// Whether a text is read as these sources; the fault if it is not read.
 fn reads_sources(alloc: Global, text: &[u8], sources: &[u32]) -> Result<bool, InputFault> {
     Ok(read_ss(alloc, text, 4)?.as_slice() == sources)
 }
@@ -230,7 +230,7 @@ const PAIR_FAULTS: [Faulty; 4] = [
     (b"p aux sp p2p 0\nq 1 2", 2, TooManyLines),
 ];
 
-/// Whether a text is read as these pairs; the fault where it is not read.
+/// Whether a text is read as these pairs; the fault if it is not read.
 fn reads_pairs(alloc: Global, text: &[u8], pairs: &[(u32, u32)]) -> Result<bool, InputFault> {
     Ok(read_p2p(alloc, text, 4)?.as_slice() == pairs)
 }
@@ -242,8 +242,8 @@ fn pair_form(rt: HostRuntime) {
     assert_none_wrong(&rt, wrong_fault(rt.alloc(), File::Pairs, &PAIR_FAULTS));
 }
 
-/// Whether a text is read as timetables of these kinds, with the arcs that are assigned and the steps; the fault where it is not
-/// read.
+/// Whether a text is read as timetables of these kinds, with the arcs that are assigned and the steps; the
+/// fault if it is not read.
 fn reads_table(
     alloc: Global,
     text: &[u8],
@@ -346,7 +346,7 @@ const WITH_STEPS: [&[u8]; 11] = [
     b"p tp 1 1\nk 1 trips 4294967296 1\nv 4294967295 0\nt 1 1",
 ];
 
-/// How many timetables a text has; none where it isn't read.
+/// How many timetables a text has; none if it isn't read.
 fn timetables(alloc: Global, text: &[u8]) -> Option<usize> {
     match read_tp(alloc, text, 1) {
         Ok(table) => Some(table.kinds.len()),
@@ -354,7 +354,7 @@ fn timetables(alloc: Global, text: &[u8]) -> Option<usize> {
     }
 }
 
-/// The place of the first of the texts with steps that is not read as one timetable.
+/// The index of the first of the texts with steps that is not read as one timetable.
 fn first_unread(alloc: Global) -> Option<usize> {
     for (place, text) in WITH_STEPS.iter().enumerate() {
         if timetables(alloc, text) != Some(1) {
@@ -455,7 +455,7 @@ fn step_faults(rt: HostRuntime) {
     assert_none_wrong(&rt, wrong_fault(rt.alloc(), File::Timetables, &STEP_FAULTS));
 }
 
-/// One faulty line after the other, each with all faults that come later in the order.
+/// One faulty line after another, each with all faults that come later in the order.
 const SORTS_OF_LINES: [Faulty; 6] = [
     (b"x 1 y", 1, UnknownLine),
     (b"a x", 1, NoProblemLine),
@@ -534,7 +534,7 @@ const SHOWN: [(InputFault, &str); 2] = [
     ),
 ];
 
-/// The place of the first fault that is shown otherwise.
+/// The index of the first fault with another text.
 fn wrong_shown(alloc: Global) -> Option<usize> {
     for (place, (fault, text)) in SHOWN.iter().enumerate() {
         if !is_shown(alloc, fault, text) {
@@ -583,7 +583,7 @@ const TEXTS: [(FaultKind, &str); 10] = [
     (OutOfMemory, "there is not enough memory (13 OutOfMemory)"),
 ];
 
-/// The place of the first kind of fault that has another text.
+/// The index of the first kind of fault that has another text.
 fn wrong_text(alloc: Global) -> Option<usize> {
     for (place, (kind, text)) in TEXTS.iter().enumerate() {
         let (number, name) = (kind.number(), kind.name());

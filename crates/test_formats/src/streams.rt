@@ -1,4 +1,4 @@
-//! Texts of devices, block by block and by several threads: each gives what it gives as a text in memory.
+//! Texts of devices, in blocks and by several threads: each gives the same as the text in memory.
 ghost use Rattle.std.specs.Prelude.{◌<◌, ◌≤◌};
 
 use crate::asserts::{assert_none_wrong, is_shown};
@@ -9,10 +9,11 @@ use std::thread::Threads;
 
 const PLAIN: &[u8] = b"p sp 4 5\na 1 2 7\na 1 3 2\na 3 2 3\na 2 4 1\na 3 4 9\n";
 
-/// How many bytes a device may have here.
+/// The most bytes of a device here.
 const LIMIT: u64 = 1 << 33;
 
-/// A device that gives a text by pieces, is interrupted before each second read, and fails once so many bytes were given.
+/// A device that gives a text in pieces, is interrupted before each second read, and fails after this many
+/// bytes.
 #[derive(Drop)]
 struct Slow<'a> {
     text: &'a [u8],
@@ -43,7 +44,8 @@ impl Read for Slow<'_> {
     }
 }
 
-/// By so many threads, in blocks of at least so many bytes, and by several threads where there is one byte or more.
+/// Reading by this many threads, in blocks of at least this many bytes, and by several threads from one byte
+/// on.
 fn in_blocks(alloc: Global, threads: usize, size: usize) -> Way
     ensures { 0 < result.size }
 {
@@ -55,7 +57,7 @@ fn in_blocks(alloc: Global, threads: usize, size: usize) -> Way
     }
 }
 
-/// Whether what a device gives is what is in memory: the same graph, or the same fault.
+/// Whether the device's result equals that in memory: the same graph, or the same fault.
 fn is_same(found: &Result<RawGraph, StreamFault>, whole: &Result<RawGraph, InputFault>) -> bool {
     match found {
         Ok(found) => match whole {
@@ -71,7 +73,7 @@ fn is_same(found: &Result<RawGraph, StreamFault>, whole: &Result<RawGraph, Input
     }
 }
 
-/// Whether a device gives what the text gives in memory.
+/// Whether a device gives what the text in memory gives.
 fn is_read_as_text<H: Threads + Sync>(
     alloc: Global,
     rt: &H,
@@ -89,7 +91,7 @@ fn is_read_as_text<H: Threads + Sync>(
     is_same(&found, &read_gr(alloc, text))
 }
 
-/// The first number of threads by which blocks of this size give otherwise than the text in memory.
+/// The first number of threads with which blocks of this size give another result than the text in memory.
 fn wrong_threads<H: Threads + Sync>(
     alloc: Global,
     rt: &H,
@@ -105,7 +107,7 @@ fn wrong_threads<H: Threads + Sync>(
     None
 }
 
-/// The first size of blocks below 40 that gives otherwise than the text in memory.
+/// The first size of blocks below 40 that gives another result than the text in memory.
 fn wrong_size<H: Threads + Sync>(alloc: Global, rt: &H, text: &[u8]) -> Option<usize> {
     for size in 0..40usize {
         if wrong_threads(alloc, rt, text, &[1, 2, 4, 5], size).is_some() {
@@ -115,7 +117,7 @@ fn wrong_size<H: Threads + Sync>(alloc: Global, rt: &H, text: &[u8]) -> Option<u
     None
 }
 
-/// The place of the first text that gives otherwise in blocks, or of which it is wrong whether it has a fault.
+/// The index of the first text that gives another result in blocks, or is wrongly listed as faulty or not.
 fn wrong_text<H: Threads + Sync>(
     alloc: Global,
     rt: &H,
@@ -172,7 +174,8 @@ fn blocks_of_texts_with_faults(rt: HostRuntime) {
     assert_none_wrong(&rt, wrong_text(rt.alloc(), &rt, &FAULTY, true));
 }
 
-/// The first of a text's lengths, from this one on, at which blocks of one of these sizes give otherwise than the text in memory.
+/// The first of a text's lengths, from this one on, at which blocks of one of these sizes give another result
+/// than the text in memory.
 fn wrong_length<H: Threads + Sync>(
     alloc: Global,
     rt: &H,
@@ -214,7 +217,7 @@ const IN_PIECES: [&[u8]; 8] = [
 
 const SIZES_OF_PIECES: [usize; 6] = [9, 17, 25, 33, 41, 57];
 
-/// The place of the first text that is read otherwise in pieces.
+/// The index of the first text that is read differently in pieces.
 fn wrong_piece<H: Threads + Sync>(alloc: Global, rt: &H) -> Option<usize> {
     for (place, text) in IN_PIECES.iter().enumerate() {
         if wrong_length(alloc, rt, text, 9, &SIZES_OF_PIECES, &[2, 4, 5]).is_some() {
@@ -250,14 +253,14 @@ fn add_all(text: &mut String, last: &str) -> Result<(), AllocError> {
     text.push_str(last)
 }
 
-/// A text of many arcs, among as many nodes, and then this line.
+/// A text of many arcs, between as many nodes, and then this line.
 fn large_text(alloc: Global, last: &str) -> Result<String, AllocError> {
     let mut text = format!(in alloc; "c\np sp {MANY} {MANY}\n")?;
     add_all(&mut text, last)?;
     Ok(text)
 }
 
-/// How many nodes a graph has; none where there is a fault.
+/// The number of nodes of a graph; none if there is a fault.
 fn nodes_of(read: &Result<RawGraph, InputFault>) -> Option<u32> {
     match read {
         Ok(graph) => Some(graph.nodes),
@@ -265,7 +268,7 @@ fn nodes_of(read: &Result<RawGraph, InputFault>) -> Option<u32> {
     }
 }
 
-/// Whether so many threads give what is in memory: in blocks of a size that is chosen for them, and of another.
+/// Whether this many threads give the result in memory: with blocks of the default size and of another.
 fn is_read_large<H: Threads + Sync>(
     alloc: Global,
     rt: &H,
@@ -279,7 +282,7 @@ fn is_read_large<H: Threads + Sync>(
     is_same(&chosen, whole) && is_same(&other, whole)
 }
 
-/// The first number of threads that give otherwise than the text in memory.
+/// The first number of threads that give another result than the text in memory.
 fn wrong_large<H: Threads + Sync>(
     alloc: Global,
     rt: &H,
@@ -294,8 +297,8 @@ fn wrong_large<H: Threads + Sync>(
     None
 }
 
-/// Whether a large text with this last line has so many nodes in memory, or a fault where they are none, and each number of
-/// threads reads it so.
+/// Whether a large text with this last line has this many nodes in memory, or a fault for none, and each
+/// number of threads reads the same.
 fn is_large_read<H: Threads + Sync>(
     alloc: Global,
     rt: &H,
@@ -327,7 +330,7 @@ fn is_fault<X: Drop>(read: Result<X, StreamFault>, wanted: StreamFault) -> bool 
     }
 }
 
-/// Whether a device that fails after so many bytes gives its failure, and counts it once.
+/// Whether a device that fails after this many bytes gives its failure, and counts it once.
 fn fails_once<H: Threads + Sync>(rt: &H, way: Way, text: &[u8], fails_after: usize) -> bool
     requires { 0 < way.size }
 {
@@ -341,7 +344,7 @@ fn fails_once<H: Threads + Sync>(rt: &H, way: Way, text: &[u8], fails_after: usi
     is_fault(read, StreamFault::Read(ReadFault::ReadFailed)) && device.failures() == 1
 }
 
-/// The first number of bytes after which a device fails otherwise.
+/// The first number of bytes after which a device fails in another way.
 fn wrong_after<H: Threads + Sync>(rt: &H, way: Way, text: &[u8]) -> Option<usize>
     requires { 0 < way.size }
 {
@@ -353,7 +356,8 @@ fn wrong_after<H: Threads + Sync>(rt: &H, way: Way, text: &[u8]) -> Option<usize
     None
 }
 
-/// The first number of bytes after which a device fails otherwise, with one of these sizes of blocks and numbers of threads.
+/// The first number of bytes after which a device fails in another way, with one of these block sizes and
+/// numbers of threads.
 fn wrong_failure<H: Threads + Sync>(alloc: Global, rt: &H, text: &[u8]) -> Option<usize> {
     for size in [1usize, 5, 20, 100] {
         for threads in [1usize, 2, 4, 5] {
@@ -366,7 +370,7 @@ fn wrong_failure<H: Threads + Sync>(alloc: Global, rt: &H, text: &[u8]) -> Optio
     None
 }
 
-/// The first line has a fault, and the device's is told.
+/// The first line has a fault, but the device's is reported.
 const BAD_AT_ONCE: &[u8] = b"x\na 1 2 7\na 1 3 2\na 3 2 3\na 2 4 1\na 3 4 9\n";
 
 #[test]
@@ -375,21 +379,21 @@ fn devices_that_fail(rt: HostRuntime) {
     assert_none_wrong(&rt, wrong_failure(rt.alloc(), &rt, BAD_AT_ONCE));
 }
 
-/// Whether the plain text is read in blocks of this size where as many bytes are allowed as it has.
+/// Whether the plain text is read in blocks of this size within its length as the limit.
 fn is_read_within<H: Threads + Sync>(alloc: Global, rt: &H, size: usize) -> bool {
     let way = in_blocks(alloc, 2, size);
     read_gr_by(rt, way, PLAIN.len() as u64, &mut StdIn::new(PLAIN)).is_ok()
 }
 
-/// Whether the plain text is too large where so many bytes are allowed.
+/// Whether the plain text is too large for this limit.
 fn is_too_large<H: Threads + Sync>(alloc: Global, rt: &H, size: usize, limit: u64) -> bool {
     let way = in_blocks(alloc, 2, size);
     let read = read_gr_by(rt, way, limit, &mut StdIn::new(PLAIN));
     is_fault(read, StreamFault::Read(ReadFault::TooLarge))
 }
 
-/// The first limit below the plain text's length within which blocks of this size are read otherwise; the length where it is not
-/// read within that.
+/// The first limit below the plain text's length at which blocks of this size are read without `TooLarge`;
+/// the length if it is not read within that.
 fn wrong_limit<H: Threads + Sync>(alloc: Global, rt: &H, size: usize) -> Option<u64> {
     let count = PLAIN.len() as u64;
     for limit in 0..count {
@@ -404,7 +408,7 @@ fn wrong_limit<H: Threads + Sync>(alloc: Global, rt: &H, size: usize) -> Option<
     }
 }
 
-/// The first size of blocks at which a limit is kept otherwise.
+/// The first block size at which a limit is kept wrongly.
 fn wrong_size_of_limits<H: Threads + Sync>(alloc: Global, rt: &H) -> Option<usize> {
     for size in [1usize, 5, 20, 100] {
         if wrong_limit(alloc, rt, size).is_some() {
@@ -425,7 +429,7 @@ const PAIRS: &[u8] = b"p aux sp p2p 2\nq 3 1\nq 1 2\n";
 
 const TIMETABLES: &[u8] = b"p tp 1 2\nk 1 closed 5 9\nt 2 1\nt 1 1\n";
 
-/// Whether a device gives two items, and those that are in memory.
+/// Whether a device gives two items, equal to those in memory.
 fn are_both<T: PartialEq + Drop>(
     found: &Result<Vec<T>, StreamFault>,
     whole: &Result<Vec<T>, InputFault>,
@@ -439,19 +443,19 @@ fn are_both<T: PartialEq + Drop>(
     }
 }
 
-/// Whether so many threads read two sources as they are in memory.
+/// Whether this many threads read two sources as they are in memory.
 fn are_sources_read<H: Threads + Sync>(alloc: Global, rt: &H, threads: usize) -> bool {
     let found = read_ss_from(alloc, rt, threads, LIMIT, &mut StdIn::new(SOURCES), 3);
     are_both(&found, &read_ss(alloc, SOURCES, 3))
 }
 
-/// Whether so many threads read two pairs as they are in memory.
+/// Whether this many threads read two pairs as they are in memory.
 fn are_pairs_read<H: Threads + Sync>(alloc: Global, rt: &H, threads: usize) -> bool {
     let found = read_p2p_from(alloc, rt, threads, LIMIT, &mut StdIn::new(PAIRS), 3);
     are_both(&found, &read_p2p(alloc, PAIRS, 3))
 }
 
-/// How many arcs have timetables; none where there is a fault.
+/// How many arcs have timetables; none if there is a fault.
 fn assigned<E>(read: &Result<RawTable, E>) -> Option<usize> {
     match read {
         Ok(table) => Some(table.assigned.len()),
@@ -459,14 +463,14 @@ fn assigned<E>(read: &Result<RawTable, E>) -> Option<usize> {
     }
 }
 
-/// Whether so many threads read the timetables of two arcs, as many as in memory.
+/// Whether this many threads read the timetables of two arcs, as many as in memory.
 fn are_timetables_read<H: Threads + Sync>(alloc: Global, rt: &H, threads: usize) -> bool {
     let found = read_tp_from(alloc, rt, threads, LIMIT, &mut StdIn::new(TIMETABLES), 2);
     let whole = read_tp(alloc, TIMETABLES, 2);
     assigned(&found) == Some(2) && assigned(&whole) == Some(2)
 }
 
-/// Whether so many threads find a source that is no node.
+/// Whether this many threads find a source that is no node.
 fn is_far_source_found<H: Threads + Sync>(alloc: Global, rt: &H, threads: usize) -> bool {
     let read = read_ss_from(alloc, rt, threads, LIMIT, &mut StdIn::new(SOURCES), 2);
     let far = StreamFault::Input(InputFault {
@@ -476,7 +480,7 @@ fn is_far_source_found<H: Threads + Sync>(alloc: Global, rt: &H, threads: usize)
     is_fault(read, far)
 }
 
-/// Whether so many threads read each of the other files as it is in memory.
+/// Whether this many threads read each of the other files as it is in memory.
 fn are_others_read<H: Threads + Sync>(alloc: Global, rt: &H, threads: usize) -> bool {
     are_sources_read(alloc, rt, threads)
         && are_pairs_read(alloc, rt, threads)
@@ -513,7 +517,7 @@ const TEXTS: [(StreamFault, &str); 4] = [
     ),
 ];
 
-/// The place of the first fault that has another text.
+/// The index of the first fault that has another text.
 fn wrong_shown(alloc: Global) -> Option<usize> {
     for (place, (fault, text)) in TEXTS.iter().enumerate() {
         if !is_shown(alloc, fault, text) {

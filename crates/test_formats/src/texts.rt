@@ -3,8 +3,7 @@ use ea_bytes::*;
 use std::alloc::Global;
 use std::io::{self, Error, ErrorKind, Read, Write};
 
-/// A reader of std that gives a text by pieces, is interrupted before it gives anything, and
-/// fails at a read.
+/// A reader of std that gives a text in pieces, is interrupted at first, and fails at a read.
 #[derive(Drop)]
 struct Faulty<'a> {
     text: &'a [u8],
@@ -42,7 +41,7 @@ fn reader_of(text: &[u8], piece: usize, interruptions: u64, fails_at: u64) -> St
     })
 }
 
-/// Whether a device gives this, read to its end or to a byte beyond so many.
+/// Whether a device gives this, read to its end or to one byte beyond the limit.
 fn gives<R: ByteIn>(
     alloc: Global,
     reader: &mut R,
@@ -61,7 +60,7 @@ fn gives<R: ByteIn>(
     }
 }
 
-/// Whether a text is given so within four bytes.
+/// Whether a text gives this with a limit of four bytes.
 fn gives_in_four(alloc: Global, text: &[u8], wanted: Result<&[u8], ReadFault>) -> bool {
     gives(alloc, &mut StdIn::new(text), 4, wanted)
 }
@@ -72,7 +71,7 @@ fn read_limit(rt: HostRuntime) {
     assert!(rt; gives_in_four(rt.alloc(), b"abcde", Err(ReadFault::TooLarge)));
 }
 
-/// Whether eight bytes are too many for four, and three of them are left then.
+/// Whether eight bytes are too many for a limit of four, and three of them are left.
 fn leaves_three(alloc: Global) -> bool {
     let mut eight = StdIn::new(b"abcdefgh".as_slice());
     gives(alloc, &mut eight, 4, Err(ReadFault::TooLarge)) && gives(alloc, &mut eight, 4, Ok(b"fgh"))
@@ -104,7 +103,7 @@ fn fails_once(alloc: Global, fails_at: u64) -> bool {
         && reader.interruptions() == 0
 }
 
-/// The first read at which a device fails otherwise.
+/// The first read at which a device fails in another way.
 fn wrong_failure(alloc: Global) -> Option<u64> {
     for fails_at in 1..7 {
         if !fails_once(alloc, fails_at) {
@@ -114,7 +113,7 @@ fn wrong_failure(alloc: Global) -> Option<u64> {
     None
 }
 
-/// Whether a device that would fail at the read behind its last gives its text.
+/// Whether a device that would fail at the read after its last gives its text.
 fn never_fails(alloc: Global) -> bool {
     let mut whole = reader_of(b"abcdefghij", 2, 0, 7);
     gives(alloc, &mut whole, 100, Ok(b"abcdefghij")) && whole.failures() == 0
@@ -126,7 +125,7 @@ fn failing_devices(rt: HostRuntime) {
     assert!(rt; never_fails(rt.alloc()));
 }
 
-/// Whether a device that is interrupted so often, and never fails, gives this.
+/// Whether a device that is interrupted this often, and never fails, gives this.
 fn gives_after(alloc: Global, interruptions: u64, wanted: Result<&[u8], ReadFault>) -> bool {
     let mut reader = reader_of(b"abc", 1, interruptions, 0);
     gives(alloc, &mut reader, 100, wanted)
@@ -140,7 +139,7 @@ fn interruptions(rt: HostRuntime) {
     assert!(rt; gives_after(rt.alloc(), 1001, Err(ReadFault::ReadFailed)));
 }
 
-/// A reader and a writer of std that answers an error of one kind.
+/// A reader and a writer of std that returns an error of one kind.
 #[derive(Drop)]
 struct Refusing {
     kind: ErrorKind,
@@ -162,7 +161,7 @@ impl Write for Refusing {
     }
 }
 
-/// An error of the system, the fault that it is, and how many failures and interruptions are counted then.
+/// An error of the system, its fault, and the counts of failures and interruptions after it.
 type Counted = (ErrorKind, DeviceFault, u64, u64);
 
 const COUNTED: [Counted; 5] = [
@@ -173,7 +172,7 @@ const COUNTED: [Counted; 5] = [
     (ErrorKind::BrokenPipe, DeviceFault::Failed, 1, 0),
 ];
 
-/// What a read of a device that answers this error comes to: the fault, the failures and the interruptions.
+/// The result of a read from a device with this error: the fault, the failures and the interruptions.
 fn read_of(kind: ErrorKind) -> (Option<DeviceFault>, u64, u64) {
     let mut reader = StdIn::new(Refusing { kind });
     let mut room = [0u8; 2];
@@ -181,14 +180,14 @@ fn read_of(kind: ErrorKind) -> (Option<DeviceFault>, u64, u64) {
     (read.err(), reader.failures(), reader.interruptions())
 }
 
-/// What a write to a device that answers this error comes to.
+/// The result of a write to a device with this error.
 fn write_of(kind: ErrorKind) -> (Option<DeviceFault>, u64, u64) {
     let mut writer = StdOut::new(Refusing { kind });
     let written = writer.write(b"ab");
     (written.err(), writer.failures(), writer.interruptions())
 }
 
-/// The place of the first error that is counted otherwise.
+/// The index of the first error that is counted wrongly.
 fn wrong_count() -> Option<usize> {
     for (place, (kind, fault, failures, interruptions)) in COUNTED.iter().enumerate() {
         let wanted = (Some(*fault), *failures, *interruptions);
@@ -204,7 +203,7 @@ fn only_an_interruption_is_one(rt: HostRuntime) {
     assert_none_wrong(&rt, wrong_count());
 }
 
-/// Whether a write is answered so, and so many failures and no interruptions are counted by then.
+/// Whether a write returns this, with this many failures and no interruptions counted.
 fn writes(
     out: &mut StdOut<&mut [u8]>,
     text: &[u8],
@@ -214,7 +213,7 @@ fn writes(
     out.write(text) == wanted && out.failures() == failures && out.interruptions() == 0
 }
 
-/// Whether a writer takes three bytes where there is room for three, then nothing of nothing, and then fails.
+/// Whether a writer with room for three bytes takes three, then nothing of nothing, and then fails.
 fn takes_three() -> bool {
     let mut room = [0u8; 3];
     let mut out = StdOut::new(room.as_mut_slice());
@@ -241,7 +240,7 @@ const NUMBERS: [(&[u8], Option<u128>); 7] = [
     (b"3 ", None),
 ];
 
-/// The place of the first field that is another number, or is one and should be none.
+/// The index of the first field that is another number, or is one and should be none.
 fn wrong_number() -> Option<usize> {
     for (place, (field, value)) in NUMBERS.iter().enumerate() {
         if number(field) != *value {
@@ -284,7 +283,7 @@ const TEXTS: [(ReadFault, &str); 3] = [
     ),
 ];
 
-/// The place of the first fault that has another text.
+/// The index of the first fault that has another text.
 fn wrong_text(alloc: Global) -> Option<usize> {
     for (place, (fault, text)) in TEXTS.iter().enumerate() {
         let (number, name) = (fault.number(), fault.name());

@@ -1,4 +1,4 @@
-//! The example `words`, and texts that no clause speaks of.
+//! The example `words`, and texts that no clause specifies.
 use crate::asserts::{assert_none_wrong, is_shown};
 use ea_options::*;
 use std::alloc::Global;
@@ -15,7 +15,8 @@ fn no_words(rt: HostRuntime) {
     assert!(rt; matches!(asked(rt.alloc(), &[]), Some(Command::Stored)));
 }
 
-/// A command's name, the files that it names and its options; the last file is the one for the report, or the report.
+/// A command's name, the files that it names and its options; the last file is the one for the report, or the
+/// report.
 #[derive(Clone, Copy, PartialEq, Eq)]
 struct Named<'a> {
     verb: &'a str,
@@ -26,7 +27,7 @@ struct Named<'a> {
     options: RunOptions,
 }
 
-/// What words name, with options; none where they ask for no such command.
+/// What words name, with options; none if they ask for no such command.
 fn names_of(alloc: Global, words: Words) -> Option<Named<'static>> {
     let Some(command) = asked(alloc, words) else {
         return None;
@@ -272,7 +273,7 @@ fn is_bad(alloc: Global, words: Words) -> bool {
     )
 }
 
-/// The place of the first words that have no bad option.
+/// The index of the first words that have no bad option.
 fn first_not_bad(alloc: Global, rows: &[Words]) -> Option<usize> {
     for (place, words) in rows.iter().enumerate() {
         if !is_bad(alloc, words) {
@@ -323,7 +324,7 @@ fn says(alloc: Global, words: Words, help: bool, part: &str) -> bool {
     }
 }
 
-/// The place of the first words that are not refused so.
+/// The index of the first words that are not refused in this way.
 fn wrong_refusal(alloc: Global, rows: &[Refusal]) -> Option<usize> {
     for (place, (words, help, part)) in rows.iter().enumerate() {
         if !says(alloc, words, *help, part) {
@@ -410,7 +411,7 @@ fn words_that_are_not_understood(rt: HostRuntime) {
     assert_none_wrong(&rt, wrong_refusal(rt.alloc(), &NOT_UNDERSTOOD));
 }
 
-/// The kinds of refusal that clap has for these commands, each by the front of its text.
+/// The kinds of refusal that clap has for these commands, each by the start of its text.
 const KINDS_OF_REFUSAL: [(Words, &str); 7] = [
     (
         &["run", "g", "s", "--fast"],
@@ -439,7 +440,7 @@ const KINDS_OF_REFUSAL: [(Words, &str); 7] = [
     ),
 ];
 
-/// Whether words are refused with a text that they don't ask for and that begins so.
+/// Whether words are refused with a text that they don't ask for and that begins with this.
 fn is_refused(alloc: Global, words: Words, front: &str) -> bool {
     match RunOptions::of_words(alloc, words) {
         Err(CommandFault::Words { help, text }) => !help && text.as_str().starts_with(front),
@@ -447,7 +448,7 @@ fn is_refused(alloc: Global, words: Words, front: &str) -> bool {
     }
 }
 
-/// The place of the first kind of refusal whose text begins otherwise.
+/// The index of the first kind of refusal whose text begins differently.
 fn wrong_kind(alloc: Global) -> Option<usize> {
     for (place, (words, front)) in KINDS_OF_REFUSAL.iter().enumerate() {
         if !is_refused(alloc, words, front) {
@@ -506,7 +507,7 @@ const WITH_REPORTS: [(&str, &str, Words); 6] = [
     ("rank", "s", &["rank", "g", "s", "-o", "f"]),
 ];
 
-/// The place of the first words that don't name the file f for the report.
+/// The index of the first words that don't name the file f for the report.
 fn first_without_report(alloc: Global) -> Option<usize> {
     for (place, (verb, second, words)) in WITH_REPORTS.iter().enumerate() {
         let wanted = Named {
@@ -555,7 +556,7 @@ const TWO_STANDARD_INPUTS: [Words; 9] = [
     &["check", "g", "s", "-", "--tp=-"],
 ];
 
-/// The place of the first words that are refused.
+/// The index of the first words that are refused.
 fn first_refused(alloc: Global, rows: &[Words]) -> Option<usize> {
     for (place, words) in rows.iter().enumerate() {
         if asked(alloc, words).is_none() {
@@ -565,7 +566,7 @@ fn first_refused(alloc: Global, rows: &[Words]) -> Option<usize> {
     None
 }
 
-/// The place of the first words that have a bad value.
+/// The index of the first words that have a bad value.
 fn first_bad_value(alloc: Global, rows: &[Words]) -> Option<usize> {
     for (place, words) in rows.iter().enumerate() {
         if bad_value_of(alloc, words).is_some() {
@@ -601,7 +602,7 @@ const OF_FAULTS: [(Words, Option<&str>); 2] = [
     (&["explain"], None),
 ];
 
-/// The place of the first words that ask for no explanation, or for another.
+/// The index of the first words that ask for no explanation, or for another.
 fn wrong_explanation(alloc: Global) -> Option<usize> {
     for (place, (words, named)) in OF_FAULTS.iter().enumerate() {
         if !explains(alloc, words, *named) {
@@ -656,7 +657,7 @@ const BAD_VALUES: [Bad; 6] = [
     ),
 ];
 
-/// The place of the first words whose first bad value is another.
+/// The index of the first words whose first bad value is another.
 fn wrong_bad_value(alloc: Global) -> Option<usize> {
     for (place, (words, option, value, least, most)) in BAD_VALUES.iter().enumerate() {
         let wanted = BadValue {
@@ -692,7 +693,7 @@ const EXPLAINING: [(Words, bool); 4] = [
     (&["run", "--explain=1", "explain"], false),
 ];
 
-/// The place of the first words of which it is wrong whether they ask for explanations.
+/// The index of the first words that are wrongly listed as asking for explanations or not.
 fn wrong_asking() -> Option<usize> {
     for (place, (words, asking)) in EXPLAINING.iter().enumerate() {
         if asks_to_explain(*words) != *asking {

@@ -138,7 +138,7 @@ fn two_pairs_with<H: Threads + Sync>(
     came_of(answered, room, front, whole)
 }
 
-/// What it comes to where a piece of memory is left.
+/// What it results in where a piece of memory is left.
 fn came<H: Threads + Sync>(
     alloc: Global,
     rt: &H,
@@ -161,7 +161,7 @@ fn came<H: Threads + Sync>(
     }
 }
 
-/// What it comes to with each of so many pieces of memory, which grow by a step.
+/// What it results in with each of this many pieces of memory, which grow by a step.
 fn count_of<H: Threads + Sync>(
     alloc: Global,
     rt: &H,

@@ -38,7 +38,7 @@ impl Count {
         }
     }
 
-    /// Whether none was wrong, so many were refused and some were whole.
+    /// Whether none was wrong, this many were refused and some were whole.
     pub fn is_refused_at_least(&self, refused: u32) -> bool {
         self.wrong == 0 && refused <= self.refused && 2 <= self.whole
     }
@@ -56,11 +56,12 @@ impl fmt::Display for Count {
 
 /// A call that is tried where little memory is left.
 pub trait Trial {
-    /// What it comes to where all memory but a piece is taken, at its beginning or in the middle of it.
+    /// What it results in where all memory but a piece is taken, at its beginning or in the middle of it.
     fn came(&mut self, alloc: Global, held: &mut Held, piece: Vec<u8>) -> Came;
 }
 
-/// So many pieces of memory that grow by a step, what is to hold small blocks, and what holds all large ones.
+/// This many pieces of memory that grow by a step, what is to hold small blocks, and what holds all large
+/// ones.
 pub fn taken(
     alloc: Global,
     first: u32,
@@ -72,7 +73,7 @@ pub fn taken(
     Ok((small, sizes, Held::of_large(alloc, 4)?))
 }
 
-/// What a call comes to with each of so many pieces of memory, which grow by a step.
+/// What a call results in with each of this many pieces of memory, which grow by a step.
 pub fn count_of<T: Trial>(
     alloc: Global,
     trial: &mut T,

@@ -10,7 +10,7 @@ pub const FOUR_NODES: &[u8] = b"p sp 4 5\na 1 2 7\na 1 3 2\na 3 2 3\na 2 4 1\na 
 
 pub const FROM_ONE: &[u8] = b"p aux sp ss 1\ns 1\n";
 
-/// With walks, by so many workers with two heaps each.
+/// With walks, by this many workers with two heaps each.
 pub fn walks_by(many: bool) -> RunOptions
     ensures { AreOptions result }
 {

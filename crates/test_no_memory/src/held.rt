@@ -17,7 +17,7 @@ use std::test::Fail;
 /// How many nodes the networks have.
 const NODES: u32 = 60_000;
 
-/// A network of nodes without arcs, or along a path of arcs of weight 3; none where it doesn't fit.
+/// A network of nodes without arcs, or along a path of arcs of weight 3; none if it doesn't fit.
 fn network_of(alloc: Global, is_path: bool) -> Result<Option<Network>, AllocError> {
     let mut arcs = Vec::new(alloc);
     if is_path {
@@ -63,7 +63,8 @@ impl Write for Counting {
     }
 }
 
-/// The length of the report: `s 1 0`, `d 1 0`, and `d V inf` for 8 nodes of one digit, 90 of two, 900, 9,000 and 50,001.
+/// The length of the report: `s 1 0`, `d 1 0`, and `d V inf` for 8 nodes of one digit, 90 of two, 900, 9,000
+/// and 50,001.
 const REPORT_BYTES: u128 = 12 + 8 * 8 + 90 * 9 + 900 * 10 + 9_000 * 11 + 50_001 * 12;
 
 /// How many bytes of a report went out, where some 400,000 bytes are left.
@@ -85,7 +86,7 @@ fn written_with_little(
     Ok(written)
 }
 
-/// The same of the arrivals at all nodes of a network; none where they can't be asked.
+/// The same of the arrivals at all nodes of a network; none if they can't be asked.
 fn written_of(alloc: Global, network: &Network, query: &Query) -> Result<Option<u128>, AllocError> {
     let times = Timetables::new(Vec::new(alloc));
     if !is_problem(network, times.classes(), query) {
@@ -126,7 +127,7 @@ fn short_walk(alloc: Global, answer: &Answer) -> Result<Option<Vec<u32>>, AllocE
     walk
 }
 
-/// The answer of a network from the first node; none where it can't be asked.
+/// The answer of a network from the first node; none if it can't be asked.
 fn answer_of(alloc: Global, network: &Network) -> Result<Option<Answer>, AllocError> {
     let times = Timetables::new(Vec::new(alloc));
     let query = from_first(alloc)?;
@@ -214,7 +215,8 @@ fn kind_of<T: Drop>(read: Result<T, InputFault>) -> Option<FaultKind> {
     }
 }
 
-/// The faults of texts that announce the most that there may be and have a line of it, where some 20,000 bytes are left.
+/// The faults of texts that announce the most that there may be and have a line of it, where some 20,000
+/// bytes are left.
 fn announced(alloc: Global) -> Result<[Option<FaultKind>; 4], AllocError> {
     let (mut small, sizes, mut large) = taken(alloc, 20_000, 1, 0)?;
     let mut found = [None; 4];

@@ -13,7 +13,7 @@ type Sources<'a> = &'a [(u32, u64)];
 /// A report, and what the checker says of it.
 type Case = (&'static [u8], Result<(), CheckFault>);
 
-/// What the checker says of a report; none where what it is of can't be checked.
+/// What the checker says of a report; none if what it is of can't be checked.
 type Said = Option<Result<(), CheckFault>>;
 
 /// The example two-ways-to-fifteen.
@@ -37,7 +37,7 @@ const WITH_WALKS: &[u8] =
 const ODD_WALK: &[u8] =
     b"s 1 0\nd 1 0\nw 1 0\nd 2 5\nw 2 2 02 3\nd 3 2\nw 3 1 2\nd 4 6\nw 4 3 2 3 4\n";
 
-/// The queries of problems; none where the sources of one don't fit.
+/// The queries of problems; none if the sources of one don't fit.
 fn queries_of(alloc: Global, problems: &[Sources]) -> Result<Option<Vec<Query>>, AllocError> {
     let mut queries = Vec::new(alloc);
     for sources in problems {
@@ -234,7 +234,8 @@ fn odd_reports(rt: HostRuntime) -> Result<(), Fail> {
     Ok(())
 }
 
-/// What the checker says of a report with this `w` line of node 4, its line 6: `2 3 4` is right, `1 4` attains the time.
+/// What the checker says of a report with this `w` line of node 4, its line 6: `2 3 4` is right, `1 4`
+/// attains the time.
 fn of_walk(alloc: Global, line: &[u8]) -> Result<Said, AllocError> {
     let mut report = b"s 1 1\nd 1 1\nd 2 3\nd 3 2\nd 4 15\n".to_vec(alloc)?;
     report.extend_from_slice(line)?;
@@ -326,7 +327,7 @@ fn empty_walks(rt: HostRuntime) -> Result<(), Fail> {
     Ok(())
 }
 
-/// A line with so many copies of a byte before its end.
+/// A line with this many copies of a byte before its end.
 fn padded(
     alloc: Global,
     front: &[u8],
@@ -360,7 +361,7 @@ fn of_long(alloc: Global, long: &Long, count: usize) -> Result<Said, AllocError>
     of_walk(alloc, &line)
 }
 
-/// The first of the long lines, with so many copies of their bytes, of which the checker says otherwise.
+/// The first of the long lines, with this many copies of their bytes, of which the checker says otherwise.
 fn wrong_long(alloc: Global, count: usize) -> Result<Option<usize>, AllocError> {
     for (place, long) in LONG.iter().enumerate() {
         if of_long(alloc, long, count)? != Some(long.3) {
@@ -451,7 +452,7 @@ const FAULTS_IN_THEIR_ORDER: [Case; 7] = [
         b"s 1 0\nd 1 0\nd 2 4\nw 2 3 1 2 3\nd 3 4\nw 3 1 1\n",
         Err(NotAttained(6)),
     ),
-    // A right walk that is written oddly, and another one behind it.
+    // A right walk that is written oddly, and another one after it.
     (
         b"s 1 0\nd 1 0\nd 2 4\nw 2 1 01\nd 3 4\nw 3 2 1 2\n",
         Err(NotCanonical(6)),
@@ -482,8 +483,8 @@ const CHANGED: &[u8] = b"s 1 0\nd 1 0\nd 2 5\nw 2 2 2 3\nd 3 2\nd 4 6\n";
 
 const BYTES: &[u8] = b"0123456789 sdwcinf\t\r\n-";
 
-/// The verdicts of a plain slow checker that was written apart (bench/check/slow_check.py): for each place and each byte
-/// a letter and a line.
+/// The verdicts of a plain slow checker that was written apart (bench/check/slow_check.py): for each place
+/// and each byte a letter and a line.
 const VERDICTS: [&[u8]; 40] = [
     b"b1b1b1b1b1b1b1b1b1b1b1k0b1b1b2b1b1b1b1b1b2b1",
     b"b1b1b1b1b1b1b1b1b1b1k0b1b1b1b1b1b1b1k0b1b1b1",

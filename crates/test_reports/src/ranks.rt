@@ -22,7 +22,7 @@ enum Words {
     Seeded(u64),
 }
 
-/// The record of a run on what is given; none where it makes no problem that asks all nodes.
+/// The record of a run on what is given; none if it makes no problem that asks all nodes.
 fn recorded_of(
     alloc: Global,
     given: &Given,
@@ -45,7 +45,7 @@ fn recorded_of(
     Ok(Some(record))
 }
 
-/// The record of a run from these sources; none where the rows or the sources do not fit.
+/// The record of a run from these sources; none if the rows or the sources do not fit.
 fn recorded(
     alloc: Global,
     nodes: u32,
@@ -87,7 +87,8 @@ fn recorded_by(alloc: Global, network: &Network) -> Result<Option<Record>, Alloc
     Ok(Some(record))
 }
 
-/// What the first of three heaps gives after entries of node 1 by a word and a key; none where one of them was refused.
+/// What the first of three heaps gives after entries of node 1 by a word and a key; none if one of them was
+/// refused.
 fn popped_of(alloc: Global, entries: &[(u64, u64)]) -> Result<Option<Entry>, Fail> {
     let mut solo = Solo::new(alloc, 3)?;
     for (word, key) in entries {
@@ -249,7 +250,7 @@ fn a_closure_brings_travel_times(rt: HostRuntime) -> Result<(), Fail> {
     Ok(())
 }
 
-/// How many events a record has, and the summary of its rank errors; none of them where there is a fault.
+/// How many events a record has, and the summary of its rank errors; none of them with it a fault.
 fn summed(alloc: Global, record: &Record) -> (usize, Option<Summary>) {
     match ranks(alloc, record) {
         Ok(found) => (record.events.len(), Some(Summary::of(&found))),
@@ -318,7 +319,7 @@ const KEYS: usize = 200;
 
 const NEVER_PUSHED: u64 = 5;
 
-/// How many of the keys below the key there are.
+/// The number of of the keys below the key.
 fn below(counts: &[u64], key: usize) -> u64 {
     let mut sum = 0u64;
     for count in counts.iter().take(key) {
@@ -353,7 +354,7 @@ fn add_event(
     Ok(())
 }
 
-/// Adds so many of them from a seed.
+/// Adds this many of them from a seed.
 fn add_events(
     record: &mut Record,
     expected: &mut Vec<u64>,
@@ -375,8 +376,8 @@ fn fault_behind(alloc: Global, record: &mut Record) -> Result<Option<RankFault>,
     Ok(ranks(alloc, record).err())
 }
 
-/// A random record: how many pops there are, whether their rank errors are those of the plain count, and the fault of two more
-/// pops of a key that was never pushed.
+/// A random record: how many pops there are, whether their rank errors are those of the plain count, and the
+/// fault of two more pops of a key that was never pushed.
 fn random_record(alloc: Global) -> Result<(usize, bool, Option<RankFault>), AllocError> {
     let mut record = Record {
         events: Vec::new(alloc),

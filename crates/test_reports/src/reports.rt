@@ -20,7 +20,7 @@ const REPORT: &[u8] = b"s 1 0\nd 1 0\nd 2 5\nd 3 2\nd 4 6\n";
 const WITH_WALKS: &[u8] =
     b"s 1 0\nd 1 0\nw 1 0\nd 2 5\nw 2 2 2 3\nd 3 2\nw 3 1 2\nd 4 6\nw 4 3 2 3 4\n";
 
-/// The network of what was read of a graph; none where it makes none.
+/// The network of what was read of a graph; none if it makes none.
 fn network_with(alloc: Global, graph: &RawGraph) -> Option<Network> {
     let Ok(arcs) = arcs_of(alloc, graph, None) else {
         return None;
@@ -31,7 +31,7 @@ fn network_with(alloc: Global, graph: &RawGraph) -> Option<Network> {
     Network::new(alloc, graph.nodes, arcs).ok()
 }
 
-/// The network of a graph; none where it makes none.
+/// The network of a graph; none if it makes none.
 fn network_of(alloc: Global, text: &[u8]) -> Option<Network> {
     match read_gr(alloc, text) {
         Ok(graph) => network_with(alloc, &graph),
@@ -39,7 +39,7 @@ fn network_of(alloc: Global, text: &[u8]) -> Option<Network> {
     }
 }
 
-/// What it comes to that the report of a network with plain arcs goes out; none where there is no answer.
+/// What it results in that the report of a network with plain arcs goes out; none if there is no answer.
 fn report_of<W: ByteOut>(
     alloc: Global,
     network: &Network,
@@ -58,7 +58,7 @@ fn report_of<W: ByteOut>(
     }
 }
 
-/// What it comes to that the report of a graph goes out; none where there is no answer.
+/// What it results in that the report of a graph goes out; none if there is no answer.
 fn report<W: ByteOut>(
     alloc: Global,
     text: &[u8],
@@ -230,7 +230,7 @@ type Lines = (
 );
 
 const LINES: [Lines; 2] = [
-    // Walks that go on along those of nodes before.
+    // Walks that continue along those of nodes before.
     (
         GRAPH,
         &[(1, 0)],
@@ -280,7 +280,7 @@ fn pair_queries(rt: HostRuntime) {
     assert_that(&rt, "from node 1 to itself", stay);
 }
 
-/// A fault of a device after so many bytes.
+/// A fault of a device after this many bytes.
 fn failed_after(written: u128) -> Result<u128, WriteFault> {
     Err(WriteFault {
         written,
@@ -288,7 +288,7 @@ fn failed_after(written: u128) -> Result<u128, WriteFault> {
     })
 }
 
-/// What it comes to that the report of the four nodes goes out; none where there is no answer.
+/// What it results in that the report of the four nodes goes out; none if there is no answer.
 fn written<W: ByteOut>(alloc: Global, out: &mut W) -> Option<Result<u128, WriteFault>> {
     match query_of(alloc, &[(1, 0)]) {
         Ok(Some(query)) => report(alloc, GRAPH, &query, false, out),
@@ -296,7 +296,8 @@ fn written<W: ByteOut>(alloc: Global, out: &mut W) -> Option<Result<u128, WriteF
     }
 }
 
-/// Whether a writer with room for seven bytes fails behind them, once, and whether it has the front of the report.
+/// Whether a writer with room for seven bytes fails behind them, once, and whether it has the front of the
+/// report.
 fn takes_seven(alloc: Global) -> (bool, bool) {
     let mut room = [0u8; 7];
     let mut out = StdOut::new(room.as_mut_slice());
@@ -312,7 +313,7 @@ fn writer_of_seven_bytes(rt: HostRuntime) {
     assert_that(&rt, "has the front of the report", front);
 }
 
-/// Whether a device with room for so many bytes takes the front of the report, and then fails.
+/// Whether a device with room for this many bytes takes the front of the report, and then fails.
 fn takes_front(alloc: Global, count: usize) -> bool
     requires { count ≤ 30 }
 {
@@ -337,7 +338,7 @@ fn failing_devices(rt: HostRuntime) {
     assert_none_wrong(&rt, wrong_front(rt.alloc()));
 }
 
-/// A writer of std that takes one byte at a time, after so many interruptions.
+/// A writer of std that takes one byte at a time, after this many interruptions.
 #[derive(Drop)]
 struct Slow {
     interruptions: u64,
@@ -359,7 +360,8 @@ impl Write for Slow {
     }
 }
 
-/// Whether it comes to this that the report goes out to a writer with so many interruptions, and they are counted.
+/// Whether it results in this that the report goes out to a writer with this many interruptions, and they are
+/// counted.
 fn is_interrupted(alloc: Global, interruptions: u64, wanted: Result<u128, WriteFault>) -> bool {
     let mut out = StdOut::new(Slow {
         interruptions,
@@ -380,7 +382,7 @@ fn interruptions(rt: HostRuntime) {
     assert_that(&rt, "one more isn't", one_more);
 }
 
-/// What it comes to that these totals go out into room for them.
+/// What it results in that these totals go out into room for them.
 fn written_totals(room: &mut [u8]) -> Result<u128, WriteFault> {
     let totals = Totals {
         seeded: 1,

@@ -26,7 +26,7 @@ pub(crate) fn timetables(alloc: Global) -> Result<Timetables, AllocError> {
     Timetables::of(alloc, &kinds)
 }
 
-/// The answer of one thread, with walks or without; none where network and query make no problem.
+/// The answer of one thread, with walks or without; none if network and query make no problem.
 pub(crate) fn found(
     alloc: Global,
     network: &Network,
@@ -59,7 +59,7 @@ fn found_by_classes(
     found(alloc, network, &times, query, walks)
 }
 
-/// The answer for a query; none where the rows or the query do not fit.
+/// The answer for a query; none if the rows or the query do not fit.
 fn answered(
     alloc: Global,
     nodes: u32,
@@ -104,7 +104,7 @@ fn from_to(
     answered(alloc, nodes, rows, &Query::pair(source, to), true)
 }
 
-/// A node, when it is reached, and by which walk if it is.
+/// A node, its arrival, and its walk.
 type Line = (u32, Option<u64>, &'static [u32]);
 
 /// Whether an answer gives an arrival for a node.
@@ -128,7 +128,7 @@ pub(crate) fn walks(
     }
 }
 
-/// Whether an answer gives what a line says, with the walk where the node is reached.
+/// Whether an answer gives a line's arrival and, if the node is reached, its walk.
 fn gives(alloc: Global, answer: &Answer, line: &Line) -> Result<bool, AllocError> {
     let (node, arrival, walk) = *line;
     if !arrives(answer, node, arrival) || arrival.is_none() {
@@ -137,7 +137,7 @@ fn gives(alloc: Global, answer: &Answer, line: &Line) -> Result<bool, AllocError
     walks(alloc, answer, node, walk)
 }
 
-/// The first node for which an answer gives otherwise than its line.
+/// The first node for which an answer differs from its line.
 fn wrong_node(alloc: Global, answer: &Answer, lines: &[Line]) -> Result<Option<u32>, AllocError> {
     for line in lines {
         if !gives(alloc, answer, line)? {
@@ -192,7 +192,7 @@ const RUNS: &[Run] = &[
             (4, Some(15), &[2, 3, 4]),
         ],
     ),
-    // The second of two parallel arcs arrives first early on, and the first one late.
+    // The second of two parallel arcs arrives first early on, the first one later.
     (2, &PARALLEL, &[(1, 1)], &[(2, Some(51), &[2])]),
     (2, &PARALLEL, &[(1, 100)], &[(2, Some(101), &[1])]),
     // A cycle of zero, and a loop.
@@ -227,7 +227,7 @@ const RUNS: &[Run] = &[
         &[(1, 0), (2, 5)],
         &[(1, Some(0), &[]), (2, Some(3), &[1])],
     ),
-    // Of walks that arrive alike the one by the lowest numbers, and the one of the fewest arcs.
+    // Of walks with equal arrivals, the one with the fewest arcs, then the lowest numbers.
     (
         4,
         &[(1, 2, 1, 0), (1, 3, 1, 0), (3, 4, 1, 0), (2, 4, 1, 0)],
@@ -242,7 +242,7 @@ const RUNS: &[Run] = &[
     ),
 ];
 
-/// Whether there is an answer for all nodes that gives what the lines say.
+/// Whether an answer for all nodes has the lines.
 fn is_run(alloc: Global, run: &Run) -> Result<bool, AllocError> {
     let (nodes, rows, sources, lines) = *run;
     match from_sources(alloc, nodes, rows, sources)? {
@@ -251,7 +251,7 @@ fn is_run(alloc: Global, run: &Run) -> Result<bool, AllocError> {
     }
 }
 
-/// The first run that goes otherwise than its lines.
+/// The first run that differs from its lines.
 fn wrong_run(alloc: Global, runs: &[Run]) -> Result<Option<usize>, AllocError> {
     for (place, run) in runs.iter().enumerate() {
         if !is_run(alloc, run)? {
@@ -267,12 +267,12 @@ fn answers_for_all_nodes(rt: HostRuntime) -> Result<(), Fail> {
     Ok(())
 }
 
-/// Nodes and rows, from where to where, a line, and whether the answer for the pair gives it.
+/// Nodes and rows, source and target, a line, and whether the answer for the pair gives it.
 type Pair = (u32, &'static [Row], u32, u32, Line, bool);
 
 const PAIRS: &[Pair] = &[
     (4, &FOUR_NODES, 1, 4, (4, Some(6), &[2, 3, 4]), true),
-    // On the way, but not asked for.
+    // On the way, but not asked.
     (4, &FOUR_NODES, 1, 4, (3, Some(2), &[2]), false),
     (4, &FOUR_NODES, 4, 1, (1, None, &[]), true),
     (
@@ -301,7 +301,7 @@ const PAIRS: &[Pair] = &[
     ),
 ];
 
-/// Whether there is an answer for the pair that gives the line, or does not, as is said.
+/// Whether an answer for the pair gives the line, or doesn't, as expected.
 fn is_pair(alloc: Global, pair: &Pair) -> Result<bool, AllocError> {
     let (nodes, rows, from, to, line, given) = *pair;
     match from_to(alloc, nodes, rows, from, to)? {
@@ -310,7 +310,7 @@ fn is_pair(alloc: Global, pair: &Pair) -> Result<bool, AllocError> {
     }
 }
 
-/// The first pair whose answer is otherwise.
+/// The first pair whose answer is not the expected one.
 fn wrong_pair(alloc: Global, pairs: &[Pair]) -> Result<Option<usize>, AllocError> {
     for (place, pair) in pairs.iter().enumerate() {
         if !is_pair(alloc, pair)? {
@@ -326,7 +326,7 @@ fn answers_for_pairs(rt: HostRuntime) -> Result<(), Fail> {
     Ok(())
 }
 
-/// The first of the four nodes for which an answer gives another arrival.
+/// The first of the four nodes with another arrival.
 fn wrong_arrival(answer: &Answer) -> Option<usize> {
     for (place, arrival) in [0, 5, 2, 6].iter().enumerate() {
         if !arrives(answer, place as u32 + 1, Some(*arrival)) {
@@ -336,7 +336,8 @@ fn wrong_arrival(answer: &Answer) -> Option<usize> {
     None
 }
 
-/// Whether the answer for the four nodes from node 1 at 0, asked without walks, has the arrivals and no walks.
+/// Whether the answer for the four nodes from node 1 at 0, asked without walks, has the arrivals and no
+/// walks.
 fn has_arrivals_alone(alloc: Global) -> Result<bool, AllocError> {
     match answered(alloc, 4, &FOUR_NODES, &from_first(), false)? {
         Some(answer) => Ok(wrong_arrival(&answer).is_none() && !answer.has_walks()),
@@ -359,7 +360,7 @@ pub(crate) enum Alone {
     ArrivalsBy,
 }
 
-/// The answer of one of the calls, without classes; none where network and query make no problem.
+/// The answer of one of the calls, without classes; none if network and query make no problem.
 pub(crate) fn answer_alone(
     alloc: Global,
     call: Alone,

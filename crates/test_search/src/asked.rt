@@ -1,4 +1,4 @@
-//! How often a caller's closure is asked.
+//! How often a caller's closure is called.
 ghost use Rattle.std.specs.Prelude.{◌≡◌, ◌<◌, ◌+◌, ◌^◌};
 ghost use Rattle.ea_road.specs.Queries.{IsSource};
 
@@ -10,7 +10,8 @@ use std::sync::atomic::{AtomicU64, Ordering};
 use std::test::Fail;
 use test_support::networks::{FOUR_NODES, Row, network_of};
 
-/// The answer of one thread by a closure that counts its calls, with walks or without; none where there is no problem.
+/// The answer of one thread by a closure that counts its calls, with walks or without; none if there is no
+/// problem.
 fn answer_counting(
     alloc: Global,
     network: &Network,
@@ -48,22 +49,22 @@ fn path(alloc: Global, nodes: u32) -> Result<Vec<Row>, AllocError> {
     Ok(rows)
 }
 
-/// How many nodes there are, which target is asked for if not all are, whether walks are, and how often the closure is asked at
-/// least and at most.
+/// The number of nodes, the target if not all are asked, whether walks are asked, and how often the closure
+/// is called at least and at most.
 type Case = (u32, Option<u32>, bool, u64, u64);
 
 const CASES: [Case; 6] = [
-    // Each arc is followed once by the search, and once more where walks are asked for.
+    // Each arc is relaxed once by the search, and once more if walks are asked for.
     (4, None, false, 5, 5),
     (1000, None, false, 999, 999),
     (4, None, true, 5, 10),
     (1000, None, true, 999, 1998),
-    // A pair query asks nothing far beyond its target.
+    // A pair query relaxes nothing far beyond its target.
     (1000, Some(2), false, 1, 8),
     (1000, Some(2), true, 1, 8),
 ];
 
-/// Where the searches start.
+/// The source of the searches.
 fn first() -> Source
     ensures { IsSource result }
 {
@@ -81,7 +82,8 @@ fn query_for(target: Option<u32>) -> Query {
     }
 }
 
-/// Whether there is an answer in a network of so many nodes, with walks if they are asked for, that asks the closure so often.
+/// Whether a network of this many nodes, with walks if they are asked for, has an answer that calls the
+/// closure this often.
 fn asks_so_often(
     alloc: Global,
     network: &Network,
@@ -100,7 +102,7 @@ fn asks_so_often(
     }
 }
 
-/// Whether the closure is asked so often in the network of these rows.
+/// Whether the closure is called this often in the network of these rows.
 fn is_asked(alloc: Global, rows: &[Row], case: &Case) -> Result<bool, AllocError> {
     match network_of(alloc, case.0, rows)? {
         Some(network) => asks_so_often(alloc, &network, &query_for(case.1), case),
@@ -108,7 +110,8 @@ fn is_asked(alloc: Global, rows: &[Row], case: &Case) -> Result<bool, AllocError
     }
 }
 
-/// The first case in which the closure is asked otherwise, where the four nodes are those of the example, and more nodes are a path.
+/// The first case in which the closure is not called as expected. Four nodes mean the example, more nodes a
+/// path.
 fn wrong_case(alloc: Global, path: &[Row]) -> Result<Option<usize>, AllocError> {
     for (place, case) in CASES.iter().enumerate() {
         let rows = if case.0 == 4 { &FOUR_NODES } else { path };

@@ -1,4 +1,5 @@
-//! Networks of many arcs: made by one thread and by two, the same arcs leave each node, whether tails ascend or not.
+//! Networks of many arcs: one thread and two build the same leaving arcs of each node, whether tails ascend
+//! or not.
 use crate::asserts::assert_that;
 use ea_road::{Arc, ArcList, LeavingArc, Network};
 use std::alloc::{AllocError, Global};
@@ -7,10 +8,11 @@ use std::thread::Threads;
 
 const NODES: u32 = 30_000;
 
-/// More than as many as two threads are started for.
+/// Enough arcs for two threads to be started.
 const ARCS: u32 = 70_000;
 
-/// As many arcs. Their tails are taken by steps from node to node, three arcs from each at most: by steps of 1 they ascend.
+/// This many arcs. Their tails advance from node to node by a step, at most three arcs from each; with step 1
+/// they ascend.
 fn arcs_by(alloc: Global, step: u64) -> Result<Vec<Arc>, AllocError> {
     let mut arcs = Vec::new(alloc);
     let mut place = 0u64;
@@ -26,7 +28,7 @@ fn arcs_by(alloc: Global, step: u64) -> Result<Vec<Arc>, AllocError> {
     Ok(arcs)
 }
 
-/// The network of these arcs, made by one thread; none where they make none.
+/// The network of these arcs, made by one thread; none if they make none.
 fn by_one(alloc: Global, step: u64) -> Result<Option<Network>, AllocError> {
     let arcs = arcs_by(alloc, step)?;
     if !Network::fits(NODES, &arcs) {
@@ -35,7 +37,7 @@ fn by_one(alloc: Global, step: u64) -> Result<Option<Network>, AllocError> {
     Ok(Some(Network::new(alloc, NODES, arcs)?))
 }
 
-/// The network of arcs, made by two threads; none where they make none.
+/// The network of arcs, made by two threads; none if they make none.
 fn by_two<H: Threads + Sync>(
     alloc: Global,
     rt: &H,
@@ -58,7 +60,7 @@ fn by_two_of<H: Threads + Sync>(
     by_two(alloc, rt, &arcs)
 }
 
-/// Whether arcs that leave a node are those of these numbers.
+/// Whether the arcs that leave a node have these numbers.
 fn are_numbered(network: &Network, node: u32, numbers: &[u32], leaving: &[LeavingArc]) -> bool {
     for (number, arc) in numbers.iter().zip(leaving) {
         let place = (*number as usize).wrapping_sub(1);
@@ -70,7 +72,8 @@ fn are_numbered(network: &Network, node: u32, numbers: &[u32], leaving: &[Leavin
     true
 }
 
-/// How many arcs leave a node of both, as the same numbers and beside them the arcs of these numbers; none where they differ.
+/// The number of arcs that leave a node in both networks, with the same numbers and arcs; none if they
+/// differ.
 fn same_leaving(one: &Network, two: &Network, node: u32) -> Option<usize> {
     if node == 0 || node > one.nodes() || node > two.nodes() {
         return None;
@@ -84,7 +87,7 @@ fn same_leaving(one: &Network, two: &Network, node: u32) -> Option<usize> {
     }
 }
 
-/// How many arcs leave the nodes of both, as the same numbers and arcs; none where they differ.
+/// The number of arcs that leave the nodes of both, with the same numbers and arcs; none if they differ.
 fn arcs_alike(one: &Network, two: &Network) -> Option<usize> {
     let mut arcs = 0usize;
     for node in 1..NODES + 1 {
@@ -101,12 +104,12 @@ fn told(network: &Network) -> (u32, u64) {
     (network.top_class(), network.mean_weight())
 }
 
-/// Whether both have the class, the mean weight and as many arcs as were made, alike in both.
+/// Whether both have the class, the mean weight and all arcs, equal in both.
 fn are_alike(one: &Network, two: &Network) -> bool {
     told(one) == (4, 499) && told(two) == (4, 499) && arcs_alike(one, two) == Some(70_000)
 }
 
-/// Whether two threads make the network that one has made of these arcs.
+/// Whether two threads build the same network from these arcs as one did.
 fn is_made_by_two<H: Threads + Sync>(
     alloc: Global,
     rt: &H,
@@ -119,7 +122,7 @@ fn is_made_by_two<H: Threads + Sync>(
     }
 }
 
-/// Whether one thread and two make the same network of these arcs.
+/// Whether one thread and two build the same network from these arcs.
 fn is_same<H: Threads + Sync>(alloc: Global, rt: &H, step: u64) -> Result<bool, AllocError> {
     match by_one(alloc, step)? {
         Some(one) => is_made_by_two(alloc, rt, &one, step),

@@ -1,4 +1,4 @@
-//! Tests where memory is refused: they take all of the process's memory first but for a few bytes.
+//! Tests with refused memory: they first take all of the process's memory except a few bytes.
 
 mod finishing;
 pub(crate) mod given;

@@ -23,7 +23,7 @@ fn arc(tail: u32, head: u32, weight: u32, class: u32) -> Arc
     }
 }
 
-/// Where and when a walk ends, if its start is a node and the times have each arc's class.
+/// The node and time at which a walk ends, if its start is a node and the times have each arc's class.
 fn walked(
     network: &Network,
     times: &Timetables,
@@ -41,10 +41,11 @@ fn walked(
     run_walk(network, times, start, walk, departure)
 }
 
-/// A walk from node 1, when it departs, and where and when it ends.
+/// A walk from node 1, its departure, and the node and time at which it ends.
 type Case = (&'static [u32], u64, Option<(u32, u64)>);
 
-/// Nodes and rows, the period of class 1 if it has one, at each multiple of which it leaves, and walks.
+/// Nodes and rows, the period of class 1, which leaves at each multiple of it (0 means no class 1), and
+/// walks.
 type Walks = (u32, &'static [Row], u32, &'static [Case]);
 
 const LATE: u64 = 281_474_976_710_650;
@@ -99,7 +100,7 @@ const WALKS: &[Walks] = &[
     ),
 ];
 
-/// Whether each walk ends as is said.
+/// Whether each walk ends as expected.
 fn are_walked(network: &Network, times: &Timetables, cases: &[Case]) -> bool {
     for (walk, departure, end) in cases {
         if walked(network, times, 1, walk, *departure) != *end {
@@ -109,13 +110,13 @@ fn are_walked(network: &Network, times: &Timetables, cases: &[Case]) -> bool {
     true
 }
 
-/// Whether each walk of a network ends as is said.
+/// Whether each walk of a network ends as expected.
 fn are_walked_in(alloc: Global, network: &Network, walks: &Walks) -> Result<bool, AllocError> {
     let times = times_of(alloc, walks.2)?;
     Ok(are_walked(network, &times, walks.3))
 }
 
-/// Whether there is a network of which each walk ends as is said.
+/// Whether some network has only walks that end as expected.
 fn has_walks(alloc: Global, walks: &Walks) -> Result<bool, AllocError> {
     match network_of(alloc, walks.0, walks.1)? {
         Some(network) => are_walked_in(alloc, &network, walks),
@@ -123,7 +124,7 @@ fn has_walks(alloc: Global, walks: &Walks) -> Result<bool, AllocError> {
     }
 }
 
-/// The first network of which a walk ends otherwise than is said.
+/// The first network with a walk that ends other than expected.
 fn wrong_walks(alloc: Global, table: &[Walks]) -> Result<Option<usize>, AllocError> {
     for (place, walks) in table.iter().enumerate() {
         if !has_walks(alloc, walks)? {
@@ -139,7 +140,7 @@ fn walks_end_as_is_said(rt: HostRuntime) -> Result<(), Fail> {
     Ok(())
 }
 
-/// The first departure at which an arc of weight 3 arrives otherwise than is said.
+/// The first departure at which an arc of weight 3 arrives other than expected.
 fn wrong_arrival(timetable: &Timetable, cases: &[(u64, u64)]) -> Option<usize> {
     for (place, (departure, arrival)) in cases.iter().enumerate() {
         if timetable.arrive(3, (*departure).min(HORIZON)) != *arrival {
@@ -167,10 +168,10 @@ fn timetable_values(rt: HostRuntime) {
     assert_none_wrong(&rt, wrong_arrival(&plain, &[(9, 12)]));
 }
 
-/// What a network tells of itself: how many nodes and arcs it has, its greatest class and its mean weight.
+/// What a network says of itself: its numbers of nodes and arcs, its greatest class and its mean weight.
 type Told = (u32, usize, u32, u64);
 
-/// Nodes and rows, what their network tells of itself, and the numbers of the arcs that leave each node.
+/// Nodes and rows, what their network says of itself, and the numbers of the arcs that leave each node.
 type LaidOut = (u32, &'static [Row], Told, &'static [&'static [u32]]);
 
 const LAID_OUT: &[LaidOut] = &[
@@ -196,7 +197,7 @@ const LAID_OUT: &[LaidOut] = &[
     ),
 ];
 
-/// What a network tells of itself.
+/// What a network says of itself.
 fn told(network: &Network) -> Told {
     (
         network.nodes(),
@@ -206,13 +207,13 @@ fn told(network: &Network) -> Told {
     )
 }
 
-/// The arc of a row's number; none where there is no such row.
+/// The arc with a row's number; none if there is no such row.
 fn numbered(rows: &[Row], number: u32) -> Option<Arc> {
     let (tail, head, weight, class) = *rows.get((number as usize).wrapping_sub(1))?;
     Some(arc(tail, head, weight, class))
 }
 
-/// Whether a network has for each of its arcs' numbers the arc of the row of this number.
+/// Whether each arc of a network is that of the row with its number.
 fn has_rows(network: &Network, rows: &[Row]) -> bool {
     let mut right = network.arcs().len() == rows.len();
     for place in 0..network.arcs().len() {
@@ -226,7 +227,7 @@ fn has_rows(network: &Network, rows: &[Row]) -> bool {
     right
 }
 
-/// Whether arcs are those of these numbers that leave a node, with their tails and without.
+/// Whether these arcs have these numbers and leave a node, with their tails and without.
 fn lie_beside(arcs: &[LeavingArc], rows: &[Row], node: u32, numbers: &[u32]) -> bool {
     let mut beside = arcs.len() == numbers.len();
     for (leaving, number) in arcs.iter().zip(numbers) {
@@ -238,7 +239,7 @@ fn lie_beside(arcs: &[LeavingArc], rows: &[Row], node: u32, numbers: &[u32]) -> 
     beside
 }
 
-/// Whether the arcs of these numbers leave each node, and lie beside the numbers as in the rows.
+/// Whether the arcs with these numbers leave each node, in the order of the numbers.
 fn leave(network: &Network, rows: &[Row], outs: &[&[u32]]) -> bool {
     for node in 1..network.nodes() + 1 {
         let out = network.out(node);
@@ -253,13 +254,13 @@ fn leave(network: &Network, rows: &[Row], outs: &[&[u32]]) -> bool {
     true
 }
 
-/// Whether a network is laid out as is said.
+/// Whether a network is laid out as expected.
 fn is_laid_out(network: &Network, laid_out: &LaidOut) -> bool {
     let (_, rows, says, outs) = *laid_out;
     told(network) == says && has_rows(network, rows) && leave(network, rows, outs)
 }
 
-/// Whether there is a network that is laid out as is said.
+/// Whether some network is laid out as expected.
 fn has_layout(alloc: Global, laid_out: &LaidOut) -> Result<bool, AllocError> {
     match network_of(alloc, laid_out.0, laid_out.1)? {
         Some(network) => Ok(is_laid_out(&network, laid_out)),
@@ -267,7 +268,7 @@ fn has_layout(alloc: Global, laid_out: &LaidOut) -> Result<bool, AllocError> {
     }
 }
 
-/// The first network that is laid out otherwise than is said.
+/// The first network that is laid out other than expected.
 fn wrong_layout(alloc: Global, table: &[LaidOut]) -> Result<Option<usize>, AllocError> {
     for (place, laid_out) in table.iter().enumerate() {
         if !has_layout(alloc, laid_out)? {
@@ -284,7 +285,7 @@ fn arcs_lie_by_tail(rt: HostRuntime) -> Result<(), Fail> {
     Ok(())
 }
 
-/// The first of the arcs beside which a network of two nodes fits.
+/// The index of the first of the arcs that fits into a network of two nodes.
 fn first_inside(arcs: &[Arc]) -> Option<usize> {
     for (place, outside) in arcs.iter().enumerate() {
         if Network::fits(2, &[arc(1, 1, 0, 0), *outside]) {
@@ -326,7 +327,7 @@ fn three_alike(alloc: Global) -> Result<RawGraph, AllocError>
     })
 }
 
-/// The classes of the three, without a table of classes or with one that gives some of them several times.
+/// The classes of the three, without a table of classes or with one that assigns some several times.
 fn classes_of(alloc: Global, with_table: bool) -> Result<Vec<Arc>, AllocError> {
     let graph = three_alike(alloc)?;
     if !with_table {
@@ -364,7 +365,7 @@ fn classes_are_assigned(rt: HostRuntime) -> Result<(), Fail> {
     Ok(())
 }
 
-/// Whether a list has just these arcs.
+/// Whether a list has exactly these arcs.
 fn has(list: &ArcList, arcs: &[Arc]) -> bool {
     if list.len() != arcs.len() {
         return false;
@@ -377,7 +378,7 @@ fn has(list: &ArcList, arcs: &[Arc]) -> bool {
     true
 }
 
-/// An arc of a text from a node to the next one.
+/// An arc as it is read, from a node to the next.
 fn raw_arc(tail: u32, weight: u32) -> RawArc {
     RawArc {
         tail,
@@ -386,7 +387,7 @@ fn raw_arc(tail: u32, weight: u32) -> RawArc {
     }
 }
 
-/// Three arcs of a text, of which some have classes.
+/// Three arcs as they are read, some with classes.
 fn classed(alloc: Global) -> Result<ArcList, AllocError> {
     let raw = vec![in alloc; raw_arc(1, 5), raw_arc(2, 7), raw_arc(3, 0)]?;
     let table = RawTable {
@@ -406,7 +407,7 @@ fn classes_lie_beside_the_arcs(rt: HostRuntime) -> Result<(), Fail> {
     Ok(())
 }
 
-/// Two arcs of a text, of which none has a class.
+/// Two arcs as they are read, without classes.
 fn unclassed(alloc: Global) -> Result<ArcList, AllocError> {
     let raw = vec![in alloc; raw_arc(1, 5), raw_arc(2, 7)]?;
     let table = RawTable {
@@ -431,7 +432,8 @@ fn is_query(query: &Query, sources: &[Source], target: Option<u32>, asked: (bool
         && (query.asks(1), query.asks(2)) == asked
 }
 
-/// Whether a query makes a problem with an arc of class 1 from node 1 to node 2 where there are classes, and none without.
+/// Whether a query makes a problem with an arc of class 1 from node 1 to node 2 if there are classes, and
+/// none without.
 fn is_posed(alloc: Global, query: &Query, with_classes: bool) -> Result<bool, AllocError> {
     match network_of(alloc, 2, &[(1, 2, 3, 1)])? {
         Some(network) => Ok(
@@ -441,10 +443,10 @@ fn is_posed(alloc: Global, query: &Query, with_classes: bool) -> Result<bool, Al
     }
 }
 
-/// From where to where, and whether the pair makes a problem where there are classes.
+/// Source and target, and whether the pair makes a problem if there are classes.
 const PAIRS: [(u32, u32, bool); 3] = [(2, 1, true), (2, 3, false), (3, 1, false)];
 
-/// Where the searches for pairs start.
+/// The source of the searches for pairs.
 fn source_at(node: u32) -> Source
     requires { 0 < node }
     ensures { IsSource result }
@@ -460,7 +462,7 @@ fn pair_is_posed(alloc: Global, from: u32, to: u32, posed: bool) -> Result<bool,
     is_posed(alloc, &Query::pair(source_at(from), to), posed)
 }
 
-/// The first pair that makes a problem where it should not, or none where it should.
+/// The first pair that makes a problem where it should not, or none if it should.
 fn wrong_pair(alloc: Global) -> Result<Option<usize>, AllocError> {
     for (place, (from, to, posed)) in PAIRS.iter().enumerate() {
         if !pair_is_posed(alloc, *from, *to, *posed)? {
@@ -470,7 +472,7 @@ fn wrong_pair(alloc: Global) -> Result<Option<usize>, AllocError> {
     Ok(None)
 }
 
-/// Whether the query for all nodes from two sources that are the same is as it should be, and makes a problem where there are classes.
+/// Whether the query for all nodes from two equal sources is right, and makes a problem if there are classes.
 fn all_are_posed(alloc: Global) -> Result<bool, AllocError> {
     let source = source_at(2);
     match query_of(alloc, &[(2, 5), (2, 5)])? {
@@ -523,7 +525,7 @@ fn boxed_profile(
     }
 }
 
-/// Whether the list arrives as it should in a network of two nodes.
+/// Whether the list's arrivals are right in a network of two nodes.
 fn is_profile_right(alloc: Global) -> Result<bool, AllocError> {
     match network_of(alloc, 2, &[(1, 2, 3, 1), (2, 2, 3, 0)])? {
         Some(network) => Ok(boxed_profile(alloc, &network)? == (10, 7, Some((2, 13)))),
@@ -537,7 +539,7 @@ fn boxed_profile_arrives(rt: HostRuntime) -> Result<(), Fail> {
     Ok(())
 }
 
-/// A pair that is known, as a shared table would keep it.
+/// A known pair, as a shared table would keep it.
 #[derive(Drop)]
 struct Held<K: Known> {
     node: u32,
@@ -546,14 +548,14 @@ struct Held<K: Known> {
     ghost is_known: { ∥ K.is_known node time ∥₁ },
 }
 
-/// The time of a pair that is known.
+/// The time of a known pair.
 fn time_held<K: Known>(held: &Held<K>) -> u64
     ensures { ∥ K.is_known held.now.node result ∥₁ }
 {
     held.time
 }
 
-/// What runs under a `Known` of which a caller says that it names the pairs reached from the sources.
+/// A function whose `Known` names, as its caller says, the pairs reached from the sources.
 fn first_known<T: TravelTimes, K: Known>(network: &Network, times: &T, query: &Query) -> u64
     requires some { 0 < length query.now.sources }
     requires names { (node time : ℕ) → K.is_known node time
@@ -569,7 +571,7 @@ fn first_known<T: TravelTimes, K: Known>(network: &Network, times: &T, query: &Q
     time_held(&held)
 }
 
-/// A call that picks, as its own `Known`, the pairs reached from its own sources.
+/// A call that picks as its `Known` the pairs reached from its sources.
 fn first_reached<T: TravelTimes>(network: &Network, times: &T, query: &Query) -> u64
     requires { 0 < length query.now.sources }
     ensures { (node : ℕ)
@@ -609,7 +611,7 @@ fn first_by_closure(network: &Network) -> u64 {
     )
 }
 
-/// The same in a network of two nodes; none where there is none.
+/// The same in a network of two nodes; none if there is none.
 fn first_of_two(alloc: Global) -> Result<Option<u64>, AllocError> {
     match network_of(alloc, 2, &[(1, 2, 3, 0)])? {
         Some(network) => Ok(Some(first_by_closure(&network))),
@@ -637,7 +639,7 @@ fn held_by_any(node: u32, time: u64) -> Held<AnyPair>
 
 const ANY: [(u32, u64); 3] = [(0, 0), (1, HORIZON), (u32::MAX, HORIZON)];
 
-/// The first pair that is held otherwise.
+/// The first pair that is held wrongly.
 fn wrong_pair_of_any() -> Option<usize> {
     for (place, (node, time)) in ANY.iter().enumerate() {
         let held = held_by_any(*node, (*time).min(HORIZON));
@@ -653,7 +655,7 @@ fn any_pair_is_known_up_to_the_horizon(rt: HostRuntime) {
     assert_none_wrong(&rt, wrong_pair_of_any());
 }
 
-/// Where one timetable for all classes leads over an arc of the greatest class that there can be.
+/// The end of a walk over an arc of the greatest class, with one timetable for all classes.
 fn over_the_last_class(network: &Network) -> Option<(u32, u64)> {
     if network.nodes() == 0 || network.top_class() < u32::MAX {
         return None;
@@ -703,7 +705,7 @@ fn a_window_has_a_half_to_the_whole_of_a_width(rt: HostRuntime) {
     assert_none_wrong(&rt, wrong_width());
 }
 
-/// How many of the classes up to this one have a profile that arrives so.
+/// How many of the classes up to this one have a profile with this arrival.
 fn right_profiles(list: &ProfileList, most: u32) -> u32
     requires { most < 65536 }
 {
@@ -716,7 +718,8 @@ fn right_profiles(list: &ProfileList, most: u32) -> u32
     right
 }
 
-/// Of so many boxed profiles, each of which arrives a moment later than the one before, how many arrive so from a list of all.
+/// The number of boxed profiles, each of which arrives one later than the one before, with the right arrival
+/// in a list of this many.
 fn right_of_profiles(alloc: Global, count: u32) -> Result<u32, AllocError>
     requires { count < 65536 }
 {

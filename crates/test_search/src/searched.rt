@@ -1,4 +1,4 @@
-//! One search's arrays answer query after query, and each answer is that of fresh arrays.
+//! One search's arrays are used for query after query, and each answer is that of fresh arrays.
 ghost use Rattle.std.specs.Prelude.{◌≡◌, ◌<◌, true, IfOk};
 ghost use Rattle.ea_road.specs.Queries.{IsSource};
 
@@ -49,7 +49,7 @@ const KINDS: [RawKind; 6] = [
     },
 ];
 
-/// Travel times of all kinds; none where they don't fit.
+/// Travel times of all kinds; none if they don't fit.
 fn times_of_all_kinds(alloc: Global) -> Result<Option<Timetables>, AllocError> {
     let mut kinds = Vec::new(alloc);
     for kind in &KINDS {
@@ -72,7 +72,7 @@ fn number_to<R: Rng>(words: &mut R, greatest: u32) -> u32
     1 + (words.next_u64() % u64::from(greatest.max(1))) as u32 % 1_000_000
 }
 
-/// A network with as many arcs as are asked for, of all classes; none where its nodes are none.
+/// A network with as many arcs as are asked for, of all classes; none if its nodes are none.
 fn random_network<R: Rng>(
     alloc: Global,
     words: &mut R,
@@ -104,7 +104,7 @@ fn random_source<R: Rng>(words: &mut R, nodes: u32) -> Source
     }
 }
 
-/// A query for all nodes from none to three sources, or for a pair; none where the sources don't fit.
+/// A query for all nodes from up to three sources, or for a pair; none if the sources don't fit.
 fn random_query<R: Rng>(
     alloc: Global,
     words: &mut R,
@@ -125,7 +125,7 @@ fn random_query<R: Rng>(
     Ok(Some(Query::new(sources)))
 }
 
-/// Whether two answers give each node the same arrival, and the same walk where they have walks.
+/// Whether two answers give each node the same arrival and, if they have walks, the same walk.
 fn are_same(alloc: Global, one: &Answer, other: &Answer) -> Result<bool, AllocError> {
     let mut same = one.nodes() == other.nodes() && one.has_walks() == other.has_walks();
     for node in 0..one.nodes().saturating_add(1) {
@@ -156,7 +156,8 @@ fn is_fresh(
     }
 }
 
-/// Answers a query with walks or without, if it makes a problem, and counts it where the answer is that of fresh arrays.
+/// Answers a query with walks or without, if it makes a problem. Counts it if the answer is that of fresh
+/// arrays.
 fn search_again(
     alloc: Global,
     search: Search,
@@ -183,7 +184,7 @@ fn search_again(
     Ok(search)
 }
 
-/// Asks a search so many random queries, and counts those that it answers as fresh arrays do.
+/// Answers this many random queries with one search, and counts the answers that are those of fresh arrays.
 fn ask_again<R: Rng>(
     alloc: Global,
     mut search: Search,
@@ -205,8 +206,8 @@ fn ask_again<R: Rng>(
     Ok(search)
 }
 
-/// Asks a search so many random queries in a network of as many nodes, with timetables of all kinds, and counts those that it answers
-/// as fresh arrays do.
+/// Answers this many random queries with one search in a network of as many nodes, with timetables of all
+/// kinds, and counts the answers that are those of fresh arrays.
 fn ask_of_all_kinds<R: Rng>(
     alloc: Global,
     search: Search,
@@ -228,7 +229,8 @@ fn ask_of_all_kinds<R: Rng>(
     }
 }
 
-/// Asks a search so many random queries in a random network of so many arcs, and counts those that it answers as fresh arrays do.
+/// Answers this many random queries with one search in a random network of this many arcs, and counts the
+/// answers that are those of fresh arrays.
 fn ask_at_random<R: Rng>(
     alloc: Global,
     search: Search,
@@ -247,7 +249,8 @@ fn ask_at_random<R: Rng>(
     }
 }
 
-/// Asks one search so many random queries in each of so many random networks, and counts those that it answers as fresh arrays do.
+/// Answers this many random queries with one search in each of this many random networks, and counts the
+/// answers that are those of fresh arrays.
 fn count_alike(alloc: Global, nodes: u32, networks: u32, queries: u32) -> Result<u32, AllocError> {
     let mut words = Xoshiro256PlusPlus::seed_from_u64(u64::from(nodes));
     let mut search = Search::reserve(alloc, nodes)?;
@@ -259,7 +262,7 @@ fn count_alike(alloc: Global, nodes: u32, networks: u32, queries: u32) -> Result
     Ok(alike)
 }
 
-/// How many nodes there are, how many networks, how many queries in each, and how many of all make a problem.
+/// The numbers of nodes, of networks, of queries in each, and of those that make a problem.
 const CASES: [(u32, u32, u32, u32); 4] = [
     (1, 4, 25, 100),
     (12, 60, 50, 3_000),
@@ -267,7 +270,7 @@ const CASES: [(u32, u32, u32, u32); 4] = [
     (2_000, 4, 25, 100),
 ];
 
-/// The first case in which other answers are those of fresh arrays than all.
+/// The first case in which some answer is not that of fresh arrays.
 fn wrong_case(alloc: Global) -> Result<Option<usize>, AllocError> {
     for (place, (nodes, networks, queries, all)) in CASES.iter().enumerate() {
         if count_alike(alloc, *nodes, *networks, *queries)? != *all {
@@ -277,8 +280,8 @@ fn wrong_case(alloc: Global) -> Result<Option<usize>, AllocError> {
     Ok(None)
 }
 
-/// Thousands of queries on the same arrays: for all nodes and for pairs, with walks and without, in networks with timetables of
-/// all kinds.
+/// Thousands of queries on the same arrays: for all nodes and for pairs, with walks and without, in networks
+/// with timetables of all kinds.
 #[test]
 fn used_arrays_answer_as_fresh_ones(rt: HostRuntime) -> Result<(), Fail> {
     assert_none_wrong(&rt, wrong_case(rt.alloc())?);

@@ -1,4 +1,4 @@
-//! Tests: walks on many small networks beside a slow search that follows the definition.
+//! Walks on many small networks, compared with a slow search that follows the definition.
 ghost use Rattle.std.specs.Prelude.{◌<◌};
 
 use crate::alone::from_sources;
@@ -10,7 +10,7 @@ use std::alloc::{AllocError, Global};
 use std::test::Fail;
 use test_support::networks::Row;
 
-/// The next of a row of random words.
+/// The next of a sequence of random words.
 fn word(state: &mut u64) -> u64 {
     *state = state.wrapping_add(0x9E37_79B9_7F4A_7C15);
     let mut z = *state;
@@ -19,7 +19,7 @@ fn word(state: &mut u64) -> u64 {
     z ^ (z >> 31)
 }
 
-/// When an arc arrives: class 0 is plain, class 1 leaves every 10, class 2 every 100.
+/// The arrival by an arc: class 0 is plain, class 1 leaves every 10, class 2 every 100.
 fn arrives_at(row: Row, departure: u64) -> u64 {
     let (_, _, weight, class) = row;
     let period = match class {
@@ -48,7 +48,7 @@ fn put(list: &mut [u64], place: u32, item: u64) {
     }
 }
 
-/// The labels of the nodes from 0, of which 0 is none: each arc is tried as often as there are nodes.
+/// The labels of the nodes, with an unused place 0: each arc is tried as often as there are nodes.
 fn labels_of(
     alloc: Global,
     nodes: u32,
@@ -80,7 +80,7 @@ fn is_tight(labels: &[u64], row: Row) -> bool {
     departure < NONE && at(labels, head) == arrives_at(row, departure)
 }
 
-/// The levels of the nodes from 0.
+/// The levels of the nodes, with an unused place 0.
 fn levels_of(
     alloc: Global,
     rows: &[Row],
@@ -105,7 +105,7 @@ fn levels_of(
     Ok(levels)
 }
 
-/// The arcs of a node's canonical walk, last arc first: each is the first in the list that is tight and comes from one
+/// The arcs of a node's canonical walk, last arc first: each is the first tight arc in the list from one
 /// level below.
 fn walk_back(
     alloc: Global,
@@ -148,7 +148,7 @@ fn slow_walk(
     Ok(walk)
 }
 
-/// Whether an answer has this walk to a node, or none where the node is not reached.
+/// Whether an answer has this walk to a node, or none if the node is not reached.
 fn has_walk(
     alloc: Global,
     answer: &Answer,
@@ -220,7 +220,8 @@ fn is_right(
     is_right_by(alloc, answer, rows, sources, &labels)
 }
 
-/// Rows between so many nodes, with weights below a bound and classes from 0 to 2; there are loops and parallel arcs.
+/// Rows between this many nodes, with weights below a bound and classes from 0 to 2; there are loops and
+/// parallel arcs.
 fn rows_of(
     alloc: Global,
     state: &mut u64,
@@ -242,7 +243,7 @@ fn rows_of(
     Ok(rows)
 }
 
-/// Whether there is an answer for these rows and sources that is right.
+/// Whether there is a right answer for these rows and sources.
 fn is_answered(
     alloc: Global,
     nodes: u32,
@@ -255,7 +256,7 @@ fn is_answered(
     }
 }
 
-/// Whether so many random networks have right walks.
+/// Whether this many random networks have right walks.
 fn are_right(
     alloc: Global,
     seeds: u32,

@@ -6,14 +6,14 @@ use std::test::Fail;
 /// A time past every arrival within the horizon.
 const PAST: u64 = 281_474_976_710_656;
 
-/// What a class's steps are.
+/// The steps of a class.
 #[derive(Clone, Copy)]
 enum Steps {
     Speeds,
     Trips,
 }
 
-/// The kind of class that has the first steps of all.
+/// The kind of class whose steps are the first of all.
 fn kind_of(steps: Steps, period: u64, count: usize) -> RawKind {
     match steps {
         Steps::Speeds => speeds(period, count),
@@ -37,7 +37,7 @@ fn trips(period: u64, count: usize) -> RawKind {
     }
 }
 
-/// Travel times where class 1 is this kind with these steps; none where they don't fit.
+/// Travel times in which class 1 is this kind with these steps; none if they don't fit.
 fn times_by(
     alloc: Global,
     kind: RawKind,
@@ -50,7 +50,7 @@ fn times_by(
     Ok(Some(Timetables::with_steps(alloc, kinds, steps)?))
 }
 
-/// What a class's steps are, its period and steps, a weight, and when an arc of it arrives for each departure.
+/// A class's steps, their period, a weight, and the arrival for each departure.
 type Timed = (
     Steps,
     u64,
@@ -206,7 +206,7 @@ const TIMED: &[Timed] = &[
     ),
 ];
 
-/// Whether an arc of class 1 and a weight arrives so for each departure.
+/// Whether an arc of class 1 and a weight has these arrivals.
 fn arrives(times: &Timetables, weight: u64, cases: &[(u64, u64)]) -> bool {
     for (departure, arrival) in cases {
         if *departure > HORIZON || weight > 4_294_967_295 || times.classes() < 1 {
@@ -219,7 +219,7 @@ fn arrives(times: &Timetables, weight: u64, cases: &[(u64, u64)]) -> bool {
     true
 }
 
-/// Whether there are travel times of a class that arrives so.
+/// Whether travel times with such a class have these arrivals.
 fn is_timed(alloc: Global, timed: &Timed) -> Result<bool, AllocError> {
     let (steps, period, list, weight, cases) = *timed;
     let kind = kind_of(steps, period, list.len());
@@ -229,7 +229,7 @@ fn is_timed(alloc: Global, timed: &Timed) -> Result<bool, AllocError> {
     }
 }
 
-/// The first class that arrives otherwise.
+/// The first class with other arrivals.
 fn wrong_timed(alloc: Global, table: &[Timed]) -> Result<Option<usize>, AllocError> {
     for (place, timed) in table.iter().enumerate() {
         if !is_timed(alloc, timed)? {
@@ -245,7 +245,7 @@ fn steps_arrive_as_is_said(rt: HostRuntime) -> Result<(), Fail> {
     Ok(())
 }
 
-/// What a class's steps are, its period, how many steps are counted, the steps, and whether they fit.
+/// A class's steps, their period, how many are counted, and whether they fit.
 type Fit = (Steps, u64, usize, &'static [(u64, u64)], bool);
 
 const FITS: &[Fit] = &[
@@ -276,7 +276,7 @@ const FITS: &[Fit] = &[
     (Steps::Trips, 4_294_967_297, 1, &[(0, 1)], false),
 ];
 
-/// The first steps that fit and should not, or do not and should.
+/// The first steps for which fitting is not as expected.
 fn wrong_fit(table: &[Fit]) -> Option<usize> {
     for (place, (of, period, count, steps, fits)) in table.iter().enumerate() {
         if Timetables::fits(&[kind_of(*of, *period, *count)], steps) != *fits {
@@ -309,7 +309,7 @@ fn speed_of(steps: &[(u64, u64)], time: u64) -> u64 {
     speed
 }
 
-/// The arrival by the definition, a time after the other, within so many times.
+/// The arrival by the definition, one time after another, within this many times.
 fn slowly(steps: &[(u64, u64)], period: u64, weight: u64, departure: u64) -> u64 {
     let mut sum: u64 = 0;
     let need = weight.wrapping_mul(1000);
@@ -322,7 +322,7 @@ fn slowly(steps: &[(u64, u64)], period: u64, weight: u64, departure: u64) -> u64
     PAST
 }
 
-/// Steps of a period, each drawn: about one time of three begins one.
+/// Random steps in a period: about one time in three begins one.
 fn drawn_steps(alloc: Global, period: u64, seed: u64) -> Result<Vec<(u64, u64)>, AllocError> {
     let mut steps = Vec::new(alloc);
     let mut state = next(seed);
@@ -336,7 +336,7 @@ fn drawn_steps(alloc: Global, period: u64, seed: u64) -> Result<Vec<(u64, u64)>,
     Ok(steps)
 }
 
-/// Whether each departure of three periods arrives by such steps as by the definition.
+/// Whether each departure of three periods arrives by these steps as by the definition.
 fn agrees(times: &Timetables, steps: &[(u64, u64)], period: u64) -> bool {
     for departure in 0..120u64 {
         for weight in 0..7u64 {
@@ -353,7 +353,7 @@ fn agrees(times: &Timetables, steps: &[(u64, u64)], period: u64) -> bool {
     true
 }
 
-/// Whether travel times by drawn steps agree with the definition by these, which are the same.
+/// Whether travel times by random steps agree with the definition by the same steps.
 fn agrees_drawn(
     alloc: Global,
     period: u64,
@@ -367,7 +367,7 @@ fn agrees_drawn(
     }
 }
 
-/// Whether travel times by drawn steps agree with the definition.
+/// Whether travel times by random steps agree with the definition.
 fn is_drawn(alloc: Global, period: u64, seed: u64) -> Result<bool, AllocError> {
     let again = drawn_steps(alloc, period, seed)?;
     agrees_drawn(alloc, period, seed, &again)
@@ -391,7 +391,7 @@ fn speeds_are_those_of_the_definition(rt: HostRuntime) -> Result<(), Fail> {
     Ok(())
 }
 
-/// The steps of so many patterns of 96 quarters of an hour of a day, each with two rushes of its own.
+/// The steps of this many daily patterns of 96 quarters of an hour, each with two rushes.
 fn patterns(alloc: Global, count: u64) -> Result<Vec<(u64, u64)>, AllocError> {
     let mut steps = Vec::new(alloc);
     for pattern in 0..count.min(1000) {
@@ -404,7 +404,7 @@ fn patterns(alloc: Global, count: u64) -> Result<Vec<(u64, u64)>, AllocError> {
     Ok(steps)
 }
 
-/// Travel times of 200 classes, each of which has one of the patterns; none where they don't fit.
+/// Travel times of 200 classes, each of which has one of the patterns; none if they don't fit.
 fn times_of_patterns(alloc: Global) -> Result<Option<Timetables>, AllocError> {
     let steps = patterns(alloc, 200)?;
     let mut kinds = Vec::new(alloc);
@@ -421,7 +421,7 @@ fn times_of_patterns(alloc: Global) -> Result<Option<Timetables>, AllocError> {
     Ok(Some(Timetables::with_steps(alloc, kinds, steps)?))
 }
 
-/// The first of the patterns by which an arc of weight 1,234 arrives otherwise than by the definition.
+/// The first pattern by which an arc of weight 1,234 doesn't arrive as by the definition.
 fn wrong_pattern(times: &Timetables, steps: &[(u64, u64)]) -> Option<usize> {
     for pattern in 0..200usize {
         let departure = pattern as u64 * 431;
@@ -437,7 +437,7 @@ fn wrong_pattern(times: &Timetables, steps: &[(u64, u64)]) -> Option<usize> {
     None
 }
 
-/// The same by the definition's own steps, or the first pattern where they don't fit.
+/// The same by the definition's steps; the first pattern if they don't fit.
 fn wrong_pattern_by(alloc: Global, steps: &[(u64, u64)]) -> Result<Option<usize>, AllocError> {
     match times_of_patterns(alloc)? {
         Some(times) => Ok(wrong_pattern(&times, steps)),
@@ -452,7 +452,7 @@ fn patterns_of_a_day(rt: HostRuntime) -> Result<(), Fail> {
     Ok(())
 }
 
-/// As many steps as a class may have.
+/// The most steps that a class may have.
 fn most_steps(alloc: Global) -> Result<Vec<(u64, u64)>, AllocError> {
     let mut steps = Vec::new(alloc);
     for place in 0..65_536u64 {
@@ -461,7 +461,7 @@ fn most_steps(alloc: Global) -> Result<Vec<(u64, u64)>, AllocError> {
     Ok(steps)
 }
 
-/// The first of the departures at which an arc of weight 20 arrives otherwise than by the definition.
+/// The first of the departures at which an arc of weight 20 doesn't arrive as by the definition.
 fn wrong_departure(times: &Timetables, steps: &[(u64, u64)], departures: &[u64]) -> Option<usize> {
     for (place, departure) in departures.iter().enumerate() {
         if times.classes() != 1 || *departure > HORIZON {
@@ -474,7 +474,7 @@ fn wrong_departure(times: &Timetables, steps: &[(u64, u64)], departures: &[u64])
     None
 }
 
-/// The same by a class of as many steps as there may be, or the first departure where they don't fit.
+/// The same by a class with the most steps; the first departure if they don't fit.
 fn wrong_of_most(alloc: Global, steps: &[(u64, u64)]) -> Result<Option<usize>, AllocError> {
     match times_by(alloc, speeds(131_072, 65_536), most_steps(alloc)?)? {
         Some(times) => Ok(wrong_departure(&times, steps, DEPARTURES)),

@@ -1,5 +1,5 @@
-//! Tests: how often a search offers where one window holds the whole network, and so at most how many nodes it scans, beside the search
-//! by single times, which is Dijkstra's method.
+//! How often a search offers with one window for the whole network, which bounds its scans, compared with
+//! windows of single times, which are Dijkstra's algorithm.
 ghost use Rattle.std.specs.Prelude.{◌<◌};
 
 use crate::alone::timetables;
@@ -14,7 +14,7 @@ use test_support::networks::{Row, network_of};
 
 const HEAVY: u32 = u32::MAX;
 
-/// The next of a row of random words, below a bound.
+/// The next of a sequence of random words, below a bound.
 fn below(state: &mut u64, bound: u32) -> u32 {
     *state = state.wrapping_add(0x9E37_79B9_7F4A_7C15);
     let mut z = *state;
@@ -23,7 +23,7 @@ fn below(state: &mut u64, bound: u32) -> u32 {
     ((z ^ (z >> 31)) % u64::from(bound.max(1))) as u32
 }
 
-/// How often a search offers by windows of a width; none where network and query make no problem.
+/// How often a search offers with windows of a width; none if network and query make no problem.
 fn offers_by(
     alloc: Global,
     network: &Network,
@@ -37,7 +37,8 @@ fn offers_by(
     Ok(Some(count_offers(alloc, network, &times, query, width)?))
 }
 
-/// Whether each arc offers once at most by single times, and all together at most twice as often by windows of the mean weight.
+/// Whether each arc offers at most once with single times, and all together at most twice as often with
+/// windows of the mean weight.
 fn are_few(
     alloc: Global,
     network: &Network,
@@ -54,7 +55,7 @@ fn are_few(
     }
 }
 
-/// Whether searches from node 1 in the network of these rows offer so seldom.
+/// Whether searches from node 1 in the network of these rows offer no more than that.
 fn offers_few(alloc: Global, nodes: u32, rows: &[Row]) -> Result<bool, AllocError> {
     match network_of(alloc, nodes, rows)? {
         Some(network) => are_few(alloc, &network, &from_first(), rows.len()),
@@ -62,7 +63,7 @@ fn offers_few(alloc: Global, nodes: u32, rows: &[Row]) -> Result<bool, AllocErro
     }
 }
 
-/// How often a search from node 1 offers for a pair, by windows of the mean weight; none where the rows do not make a
+/// How often a pair search from node 1 offers with windows of the mean weight; none if the rows don't make a
 /// network.
 fn pair_offers(
     alloc: Global,
@@ -100,7 +101,7 @@ fn ring(alloc: Global, nodes: u32, bound: u32, class: u32) -> Result<Vec<Row>, A
     Ok(rows)
 }
 
-/// Random arcs, of which every so many is heavy.
+/// Random arcs, one in this many heavy.
 fn random(
     alloc: Global,
     nodes: u32,
@@ -121,7 +122,7 @@ fn random(
     Ok(rows)
 }
 
-/// A square of nodes, each with arcs to its neighbours right and below and back, and one heavy arc.
+/// A grid of nodes, each with arcs to its neighbours right and below and back, and one heavy arc.
 fn grid(alloc: Global, side: u16, bound: u32) -> Result<Vec<Row>, AllocError> {
     let mut state = 3;
     let mut rows = Vec::new(alloc);
@@ -145,8 +146,8 @@ fn grid(alloc: Global, side: u16, bound: u32) -> Result<Vec<Row>, AllocError> {
     Ok(rows)
 }
 
-/// Twenty-four forks in a row, where the long way round each costs as much as all that follows, and a tail of many nodes: a
-/// stack would scan the tail 2^24 times.
+/// Twenty-four forks in a row, each with a long way that costs as much as all that follows, and a tail of
+/// many nodes: a stack would scan the tail 2^24 times.
 fn forks(alloc: Global, tail: u16) -> Result<Vec<Row>, AllocError> {
     let mut rows = Vec::new(alloc);
     let mut weight = 1u32 << 24;
@@ -182,13 +183,13 @@ const RINGS: &[(u32, u32)] = &[
     (1_000_000, 2),
 ];
 
-/// Whether few are offered in a ring.
+/// Whether a ring has few offers.
 fn offers_few_in_ring(alloc: Global, bound: u32, class: u32) -> Result<bool, AllocError> {
     let rows = ring(alloc, 2000, bound, class)?;
     offers_few(alloc, 2000, &rows)
 }
 
-/// The first ring in which more are offered.
+/// The first ring with too many offers.
 fn wrong_ring(alloc: Global, rings: &[(u32, u32)]) -> Result<Option<usize>, AllocError> {
     for (place, (bound, class)) in rings.iter().enumerate() {
         if !offers_few_in_ring(alloc, *bound, *class)? {
@@ -204,7 +205,7 @@ fn one_heavy_arc_in_a_ring(rt: HostRuntime) -> Result<(), Fail> {
     Ok(())
 }
 
-/// The bound of a random network's weights, every so many arcs of which one is heavy, and the class of its arcs.
+/// The bound of a random network's weights, one in how many arcs is heavy, and the class of its arcs.
 const RANDOM: &[(u32, u32, u32)] = &[
     (1, 10, 0),
     (1, 10, 2),
@@ -220,7 +221,7 @@ const RANDOM: &[(u32, u32, u32)] = &[
     (1_000_000, u32::MAX, 2),
 ];
 
-/// Whether few are offered in a random network.
+/// Whether a random network has few offers.
 fn offers_few_at_random(
     alloc: Global,
     bound: u32,
@@ -231,7 +232,7 @@ fn offers_few_at_random(
     offers_few(alloc, 2000, &rows)
 }
 
-/// The first random network in which more are offered.
+/// The first random network with too many offers.
 fn wrong_random(alloc: Global, networks: &[(u32, u32, u32)]) -> Result<Option<usize>, AllocError> {
     for (place, (bound, every, class)) in networks.iter().enumerate() {
         if !offers_few_at_random(alloc, *bound, *every, *class)? {
@@ -247,7 +248,7 @@ fn heavy_arcs_in_random_networks(rt: HostRuntime) -> Result<(), Fail> {
     Ok(())
 }
 
-/// Whether few are offered in a grid.
+/// Whether a grid has few offers.
 fn offers_few_in_grid(alloc: Global, bound: u32) -> Result<bool, AllocError> {
     let rows = grid(alloc, 45, bound)?;
     offers_few(alloc, 2025, &rows)
@@ -262,7 +263,7 @@ fn one_heavy_arc_in_a_grid(rt: HostRuntime) -> Result<(), Fail> {
     Ok(())
 }
 
-/// Whether few are offered where weights double.
+/// Whether there are few offers if weights double.
 fn offers_few_in_forks(alloc: Global) -> Result<bool, AllocError> {
     let rows = forks(alloc, 2000)?;
     offers_few(alloc, 2049, &rows)
@@ -274,7 +275,7 @@ fn weights_that_double(rt: HostRuntime) -> Result<(), Fail> {
     Ok(())
 }
 
-/// How often a search for a pair of nodes 1 and another one offers on a path of 2,000 nodes.
+/// How often a search for the pair of node 1 and another offers on a path of 2,000 nodes.
 fn offers_on_path(alloc: Global, target: u32) -> Result<Option<u64>, AllocError> {
     let mut rows = Vec::new(alloc);
     for node in 1..2000u32 {
@@ -291,7 +292,7 @@ fn a_pair_ends_at_its_target(rt: HostRuntime) -> Result<(), Fail> {
     Ok(())
 }
 
-/// How often a search for a pair offers where two ways to its target take as long.
+/// How often a pair search offers if two ways to its target take equally long.
 fn offers_of_two_ways(alloc: Global) -> Result<Option<u64>, AllocError> {
     let rows = [(1, 2, 10, 0), (1, 3, 10, 0), (2, 4, 10, 0), (3, 4, 10, 0)];
     pair_offers(alloc, 4, &rows, 4)

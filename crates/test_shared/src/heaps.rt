@@ -45,7 +45,8 @@ pub fn shown(out: Option<Entry>) -> Option<(u64, u32)> {
     }
 }
 
-/// The first of the steps that goes otherwise. Where another number of entries than this is left behind them, the place behind them.
+/// The first of the steps that goes otherwise. Where another number of entries than this is left behind them,
+/// the place behind them.
 pub fn wrong_in_solo<A: Allocator>(
     solo: &mut Solo<A>,
     steps: &[Step],
@@ -67,7 +68,7 @@ pub fn wrong_in_solo<A: Allocator>(
     }
 }
 
-/// Pushes so many entries into two heaps, and says how many went in.
+/// Pushes this many entries into two heaps, and says how many went in.
 fn push_many_to_solo(solo: &mut Solo) -> u64 {
     let mut pushed = 0u64;
     for step in 0..MANY {
@@ -152,8 +153,8 @@ fn push_each(solo: &mut Solo) -> u64 {
     pushed
 }
 
-/// Pops each key of its heap, and says how many came out. The second heap is the one before the first, or the last: it is empty, or
-/// has a greater key.
+/// Pops each key of its heap, and says how many came out. The second heap is the one before the first, or the
+/// last: it is empty, or has a greater key.
 fn pop_each(solo: &mut Solo) -> u64 {
     let mut popped = 0u64;
     for word in 0..128 {
@@ -266,7 +267,8 @@ pub fn come_out<A: Allocator>(mut left: ClosedPool<A>, outs: &[Option<(u64, u32)
     right
 }
 
-/// Whether a closing pool gives the four entries of two seats in their order, by a pop and then as it is left.
+/// Whether a closing pool gives the four entries of two seats in their order, by a pop and then as it is
+/// left.
 pub fn gives_four<A: Allocator>(pool: Pool<AnyPair, A>, mut seat: PoolSeat<AnyPair, A>) -> bool
     requires { IsSeatOf pool seat × ((account_of seat).shares ≡ SHARES) }
 {
@@ -283,7 +285,7 @@ const REST_OF_FOUR: [Option<(u64, u32)>; 5] = [
     None,
 ];
 
-// Pushes so many entries, and says how many went in.
+// Pushes this many entries, and says how many went in.
 fn push_many(pool: &Pool<AnyPair>, seat: &mut PoolSeat<AnyPair>) -> u64
     requires { IsSeatOf pool.now seat.old }
     ensures { IsSeatOf pool.now seat.new × ((account_of seat.new).shares ≡ (account_of seat.old).shares) }
@@ -322,7 +324,8 @@ fn go_through(pool: &Pool<AnyPair>, seat: &mut PoolSeat<AnyPair>) -> bool
     pool.pop_as(seat, 0, 0) == Popped::Empty && pushed == MANY && popped == MANY
 }
 
-// Whether all go through by a seat alone and beside another one that holds nothing, and whether nothing is left.
+// Whether all go through by a seat alone and beside another one that holds nothing, and whether nothing is
+// left.
 fn go_through_by_one(alloc: Global) -> Result<(bool, bool, bool), OutOfMemory> {
     let (pool, mut seat) = Pool::<AnyPair>::open(alloc, 2)?;
     let alone = go_through(&pool, &mut seat);
@@ -332,7 +335,8 @@ fn go_through_by_one(alloc: Global) -> Result<(bool, bool, bool), OutOfMemory> {
     Ok((alone, beside, come_out(pool.close(seat), &[None])))
 }
 
-/// With one seat alone no push is refused: not one is told as want of memory. Another seat that holds nothing changes none of it.
+/// With one seat alone no push is refused: not one is told as want of memory. Another seat that holds nothing
+/// changes none of it.
 #[test]
 fn nothing_is_refused_where_nothing_stands_in_the_way(rt: HostRuntime) -> Result<(), Fail> {
     let (alone, beside, empty) = go_through_by_one(rt.alloc())?;

@@ -66,7 +66,8 @@ fn is_eight_told(told: Told) -> bool {
     offered == Offered::Lowered && read == 8
 }
 
-// Whether two threads are told so that offer at once, and whether their table closes with the least offer.
+// Whether two threads are reported so that offer at once, and whether their table closes with the least
+// offer.
 fn are_two_told<R: Threads + Sync>(
     rt: &R,
     alloc: Global,
@@ -89,8 +90,8 @@ fn two_offers(rt: HostRuntime) -> Result<(), Fail> {
     Ok(())
 }
 
-// Whether a table of three nodes tells what it should of node 2 while 7, 5, 9 and 5 are offered by one seat: the label before, what is
-// answered, and the label after, by either seat.
+// Whether a table of three nodes tells what it should of node 2 while 7, 5, 9 and 5 are offered by one seat:
+// the label before, what is answered, and the label after, by either seat.
 fn are_offers_told<A: Allocator>(
     labels: &Labels<AnyPair, A>,
     seat: &mut LabelSeat<AnyPair>,
@@ -110,7 +111,7 @@ fn are_offers_told<A: Allocator>(
     right & (labels.read(other, 2) == 5)
 }
 
-// Whether two seats of a table of three nodes are told so, have 63 shares and one, and 64 together.
+// Whether two seats of a table of three nodes are reported so, have 63 shares and one, and 64 together.
 fn are_two_seats_told<A: Allocator>(
     labels: &Labels<AnyPair, A>,
     seat: &mut LabelSeat<AnyPair>,
@@ -126,8 +127,8 @@ fn are_two_seats_told<A: Allocator>(
     (told, shares && seat.shares() == 64)
 }
 
-/// Whether two seats of a new table are told what they should be, have the shares that they should have, and whether their table
-/// closes with the label.
+/// Whether two seats of a new table are reported what they should be, have the shares that they should have,
+/// and whether their table closes with the label.
 pub fn told_by_two_seats<A: Allocator + Copy>(alloc: A) -> Result<(bool, bool, bool), OutOfMemory> {
     let (labels, mut seat) = Labels::<AnyPair, A>::open(alloc, 3)?;
     let (told, shares) = are_two_seats_told(&labels, &mut seat);

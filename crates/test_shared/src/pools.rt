@@ -48,7 +48,8 @@ fn push_two<K: Known>(
     (seat, one && two)
 }
 
-// The same by two threads at once, each with two entries: whether each one's went in, and the shares of both seats then.
+// The same by two threads at once, each with two entries: whether each one's went in, and the shares of both
+// seats then.
 fn push_by_two<R: Threads + Sync>(
     rt: &R,
     pool: &Pool<AnyPair>,
@@ -76,7 +77,8 @@ fn push_by_two<R: Threads + Sync>(
     (seat, (one, two), shares)
 }
 
-/// Whether the entries of two threads went in, the shares of their seats, and whether they come out in their order.
+/// Whether the entries of two threads went in, the shares of their seats, and whether they come out in their
+/// order.
 type ByTwo = ((bool, bool), (u32, u32), bool);
 
 // What two threads on one pool come to.
@@ -118,7 +120,8 @@ fn one_seat_is_never_busy(rt: HostRuntime) -> Result<(), Fail> {
     Ok(())
 }
 
-// The entries that a thread popped or got handed back. `whole` is false where there was no memory to keep them.
+// The entries that a thread popped or got handed back. `whole` is false where there was no memory to keep
+// them.
 #[derive(Drop)]
 struct Kept {
     entries: Vec<Entry>,
@@ -140,7 +143,7 @@ impl Kept {
     }
 }
 
-// Pushes an entry of a key, with a pop behind it. The word is the key.
+// Pushes an entry of a key, with a pop after it. The word is the key.
 fn push_and_pop_key(pool: &Pool<AnyPair>, seat: &mut PoolSeat<AnyPair>, kept: &mut Kept, key: u64)
     requires { IsSeatOf pool.now seat.old × (key < 20000000) }
     ensures { IsSeatOf pool.now seat.new × ((account_of seat.new).shares ≡ (account_of seat.old).shares) }
@@ -154,7 +157,7 @@ fn push_and_pop_key(pool: &Pool<AnyPair>, seat: &mut PoolSeat<AnyPair>, kept: &m
     }
 }
 
-// Pushes entries with the keys `from` to `from + count - 1`, each with a pop behind it.
+// Pushes entries with the keys `from` to `from + count - 1`, each with a pop after it.
 fn push_and_pop(
     pool: &Pool<AnyPair>,
     mut seat: PoolSeat<AnyPair>,
@@ -171,7 +174,7 @@ fn push_and_pop(
     (seat, kept)
 }
 
-// The same by two threads, of which the second goes on behind the first's keys.
+// The same by two threads, of which the second continues behind the first's keys.
 fn push_and_pop_by_two<R: Threads + Sync>(
     rt: &R,
     alloc: Global,
@@ -307,7 +310,7 @@ fn four_threads_lose_nothing(rt: HostRuntime) -> Result<(), Fail> {
     Ok(())
 }
 
-// Pops at most so many entries of one heap.
+// Pops at most this many entries of one heap.
 fn pop_few<H: EntryHeap>(
     pool: &Pool<AnyPair, Global, H>,
     seat: &mut PoolSeat<AnyPair, Global, H>,
@@ -354,7 +357,7 @@ fn push_and_pop_few<H: EntryHeap>(
     refused
 }
 
-// Pops what is left, at most so many at once.
+// Pops what is left, at most this many at once.
 fn pop_the_rest<H: EntryHeap>(
     pool: &Pool<AnyPair, Global, H>,
     seat: &mut PoolSeat<AnyPair, Global, H>,
@@ -399,7 +402,7 @@ fn both_kinds_give_each_entry_once(rt: HostRuntime) -> Result<(), Fail> {
     Ok(())
 }
 
-// Counts what is left in a closed pool at its nodes, and says what comes out behind it.
+// Counts what is left in a closed pool at its nodes, and says what comes out after it.
 fn count_nodes_left<H: EntryHeap>(
     counts: &mut [u32],
     mut left: ClosedPool<Global, H>,
@@ -415,7 +418,8 @@ fn count_nodes_left<H: EntryHeap>(
     left.next_of_any()
 }
 
-// Whether each entry comes out once, some of them of the closed pool, and none is refused or comes behind all.
+// Whether each entry comes out once, some of them of the closed pool, and none is refused or comes behind
+// all.
 fn leaves_each_once(alloc: Global) -> Result<bool, OutOfMemory> {
     let mut counts = [0u32; 10007];
     let (pool, mut seat) = Pool::<AnyPair, Global, Buckets<Global>>::open_with(alloc, 2, 64)?;
@@ -439,7 +443,8 @@ fn distance(batch: &Batch, place: u64) -> u64 {
     far
 }
 
-// Pushes each key once into two heaps, and pops all in turn. The greatest distance of a key from its place in the order.
+// Pushes each key once into two heaps, and pops all in turn. The greatest distance of a key from its place in
+// the order.
 fn farthest<H: EntryHeap>(
     pool: &Pool<AnyPair, Global, H>,
     seat: &mut PoolSeat<AnyPair, Global, H>,
@@ -475,7 +480,8 @@ fn first_too_far(alloc: Global) -> Result<Option<usize>, OutOfMemory> {
     Ok(None)
 }
 
-// The order of what comes out is that of the keys, or nearly: with buckets it is wrong by no more than two windows.
+// The order of what comes out is that of the keys, or nearly: with buckets it is wrong by no more than two
+// windows.
 #[test]
 fn early_times_come_first(rt: HostRuntime) -> Result<(), Fail> {
     let far = farthest_by::<LeastHeap<Global>>(rt.alloc(), 0)?;

@@ -1,4 +1,4 @@
-//! A generator that always gives one word.
+//! A generator that always returns one word.
 ghost use Rattle.std.specs.Prelude.{◌≡◌, ℕ, ◌%◌, ◌^◌};
 ghost use Rattle.rand_core.specs.Steps.{stream_of, steps_u64_low};
 

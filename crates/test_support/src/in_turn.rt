@@ -1,4 +1,4 @@
-//! A generator of two words in turn.
+//! A generator that alternates between two words.
 ghost use Rattle.std.specs.Prelude.{◌≡◌, ℕ, ◌%◌, ◌^◌};
 ghost use Rattle.rand_core.specs.Steps.{stream_of, steps_u64_low};
 
@@ -7,7 +7,7 @@ use rand_core::{Rng, utils};
 use std::marker::Model;
 use std::mem;
 
-/// Gives `word`, `next`, `word`, `next` and so on.
+/// Returns `word`, `next`, `word`, `next` and so on.
 #[derive(Drop)]
 pub struct InTurn {
     pub word: u64,

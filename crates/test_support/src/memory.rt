@@ -1,19 +1,21 @@
-//! A process without memory: the tests take all that the global allocator gives, but for as many bytes as they wish.
+//! A process without memory: the tests take all that the global allocator gives, except for as many bytes as
+//! they choose.
 use std::alloc::{AllocError, Global};
 
 /// More than any machine gives in one block.
 const MOST: usize = 1 << 46;
 
-/// Blocks of less than this are what the C library keeps for a thread.
+/// The C library keeps blocks of less than this for a thread.
 const SMALL: usize = 1088;
 
 /// The least block: what the C library gives for a request of one byte.
 const LEAST: usize = 16;
 
-/// What is taken from the front of a piece. Without it the C library would give the piece for requests of its own size alone.
+/// Taken from the start of a piece. Otherwise the C library would give the piece only for requests of its
+/// size.
 const FRONT: usize = 4 * SMALL;
 
-/// Memory that is held so that nobody else gets it.
+/// Memory that is held so that no one else gets it.
 #[derive(Drop)]
 pub struct Held {
     alloc: Global,
@@ -21,7 +23,7 @@ pub struct Held {
 }
 
 impl Held {
-    /// Holds nothing yet, with room for so many blocks.
+    /// Holds nothing yet, with room for this many blocks.
     pub fn new(alloc: Global, room: usize) -> Result<Held, AllocError> {
         Ok(Held {
             alloc,
@@ -29,7 +31,7 @@ impl Held {
         })
     }
 
-    /// Holds all large blocks: what is left is so many pieces of 120,000 bytes and some below 65,536.
+    /// Holds all large blocks. Left are `left` pieces of 120,000 bytes and some below 65,536.
     pub fn of_large(alloc: Global, left: u32) -> Result<Held, AllocError> {
         let mut held = Held::new(alloc, 200_000)?;
         let mut pieces = Vec::new(alloc);
@@ -65,7 +67,7 @@ impl Held {
         }
     }
 
-    /// Takes all that is there.
+    /// Takes all memory.
     pub fn take_all(&mut self) {
         self.take_above(SMALL);
         let mut size = SMALL;
@@ -79,28 +81,28 @@ impl Held {
         }
     }
 
-    /// Takes all, and then gives one piece back but for its front: what is left of it is left to be had.
+    /// Takes all memory, then frees one piece except for its start; the rest of the piece is left.
     pub fn leave(&mut self, piece: Vec<u8>) {
         self.take_all();
         drop(piece);
         self.take(FRONT);
     }
 
-    /// Takes all, and then gives pieces back that were made one after the other: what is left is one piece as large as they
-    /// were together, but for its front.
+    /// Takes all memory, then frees pieces that were allocated one after another; what is left is one piece
+    /// as large as all of them, except for its start.
     pub fn leave_together(&mut self, pieces: Vec<Vec<u8>>) {
         self.take_all();
         drop(pieces);
         self.take(FRONT);
     }
 
-    /// Gives back what is held.
+    /// Frees what is held.
     pub fn release(&mut self) {
         self.blocks.clear();
     }
 }
 
-/// So many pieces for `leave`: the first one leaves so many bytes, and each other so many bytes more than the one before.
+/// Pieces for `leave`: the first leaves this many bytes, and each other this many more than the one before.
 pub fn pieces(
     alloc: Global,
     first: u32,

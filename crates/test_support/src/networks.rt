@@ -1,4 +1,4 @@
-//! What the runs are given.
+//! Networks, travel times and queries for tests.
 use ea_base::RawKind;
 use ea_road::{Arc, Network, Query, Source};
 use ea_travel_times::Timetables;
@@ -23,7 +23,7 @@ pub struct Given {
     pub query: Query,
 }
 
-/// The network of these rows; none where they make none.
+/// The network of these rows; none if they make none.
 pub fn network_of(alloc: Global, nodes: u32, rows: &[Row]) -> Result<Option<Network>, AllocError> {
     let mut arcs = Vec::new(alloc);
     for (tail, head, weight, class) in rows {
@@ -40,7 +40,7 @@ pub fn network_of(alloc: Global, nodes: u32, rows: &[Row]) -> Result<Option<Netw
     Ok(Some(Network::new(alloc, nodes, arcs)?))
 }
 
-/// The query for all nodes from these sources; none where they don't fit.
+/// The query for all nodes from these sources; none if they don't fit.
 pub fn query_of(alloc: Global, sources: &[(u32, u64)]) -> Result<Option<Query>, AllocError> {
     let mut list = Vec::new(alloc);
     for (node, departure) in sources {
@@ -55,7 +55,7 @@ pub fn query_of(alloc: Global, sources: &[(u32, u64)]) -> Result<Option<Query>, 
     Ok(Some(Query::new(list)))
 }
 
-/// Makes them of rows and sources; none where they don't fit.
+/// A problem from rows and sources; none if they don't fit.
 pub fn pose(
     alloc: Global,
     nodes: u32,
@@ -68,7 +68,7 @@ pub fn pose(
     }
 }
 
-/// Makes them of rows and a query.
+/// A problem from rows and a query.
 pub fn with_query(
     alloc: Global,
     nodes: u32,
@@ -78,7 +78,8 @@ pub fn with_query(
     with_period(alloc, nodes, rows, 0, query)
 }
 
-/// Makes them of rows, a query, and the period of class 1: it leaves at each multiple. None is 0.
+/// A problem from rows, a query, and the period of class 1, which leaves at each multiple; 0 means no class
+/// 1.
 pub fn with_period(
     alloc: Global,
     nodes: u32,
@@ -97,7 +98,8 @@ pub fn with_period(
     }))
 }
 
-/// Travel times without classes, or with class 1 that leaves at each multiple of the period. None is 0.
+/// Travel times without classes, or with class 1, which leaves at each multiple of the period; 0 means no
+/// class 1.
 pub fn times_of(alloc: Global, period: u32) -> Result<Timetables, AllocError> {
     if period == 0 {
         return Ok(Timetables::new(Vec::new(alloc)));

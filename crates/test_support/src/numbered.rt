@@ -6,7 +6,7 @@ use rand_core::utils::NextWord;
 use rand_core::{Rng, utils};
 use std::marker::Model;
 
-/// Gives 0, 1, 2 and so on, up to 999, and then begins again.
+/// Returns 0, 1, 2 and so on, up to 999, and then begins again.
 #[derive(Drop)]
 pub struct Numbered(pub u64);
 

@@ -1,6 +1,6 @@
-//! How calls fare that are refused memory.
+//! Counting the outcomes of calls with refused memory.
 
-/// How often a call was refused, how often it came to what it should, and how often it went otherwise.
+/// How often a call was refused, was right, and was wrong.
 #[derive(Clone, Copy, PartialEq, Eq, Debug)]
 pub struct Tally {
     pub refused: u32,
@@ -17,7 +17,7 @@ impl Tally {
         }
     }
 
-    /// Notes a call: whether it came to what it should, if it wasn't refused, and whether all was as it should be behind it.
+    /// Counts a call: whether it was right, if it wasn't refused, and whether the state after it was right.
     pub fn note(&mut self, came: Option<bool>, behind: bool) {
         match came {
             None => self.refused = self.refused.wrapping_add(1),

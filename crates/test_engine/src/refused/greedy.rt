@@ -10,7 +10,7 @@ use test_support::memory::Held;
 #[derive(Drop)]
 pub struct Greedy {
     pub word: u64,
-    /// After so many calls the next one takes all memory.
+    /// After this many calls the next one takes all memory.
     pub calls_left: u32,
     pub held: Held,
 }

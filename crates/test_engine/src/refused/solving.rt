@@ -29,7 +29,7 @@ impl Gate for Counted {
     }
 }
 
-/// Generators that give 1 and after so many calls take all memory, with room for so many blocks.
+/// Generators that give 1 and after this many calls take all memory, with room for this many blocks.
 fn greedy(alloc: Global, workers: u32, calls: u32, room: usize) -> Result<Vec<Greedy>, AllocError> {
     let mut rngs = Vec::new(alloc);
     for _ in 0..workers {
@@ -42,8 +42,8 @@ fn greedy(alloc: Global, workers: u32, calls: u32, room: usize) -> Result<Vec<Gr
     Ok(rngs)
 }
 
-/// A generator that gives 1 and takes all memory at its third word: a turn draws two words before it pops, and the third one is that of
-/// the worker's first push.
+/// A generator that gives 1 and takes all memory at its third word: a turn draws two words before it pops,
+/// and the third one is that of the worker's first push.
 fn words(alloc: Global) -> Result<Greedy, AllocError> {
     Ok(Greedy {
         word: 1,
@@ -82,8 +82,8 @@ fn is_refused(turn: &Turn, batch: u32) -> bool {
         && (turn.node, turn.key, turn.lowered) == (1, 0, u64::from(batch))
 }
 
-/// The place of the first of the counts that is otherwise in such a run; behind them all where its arrivals are, or its tracer was shown
-/// anything but the refused turn.
+/// The index of the first of the counts that is not the expected one in such a run; behind them all where its
+/// arrivals are, or its tracer was shown anything but the refused turn.
 fn wrong_refused<H: Threads + Sync>(
     alloc: Global,
     rt: &H,
@@ -153,7 +153,7 @@ enum Fared {
     Wrong,
 }
 
-/// Runs a crew without walks; none where it doesn't fit.
+/// Runs a crew without walks; none if it doesn't fit.
 fn attempt_arrivals<
     H: Threads + Sync,
     R: Rng + Send + Drop,
@@ -171,7 +171,7 @@ fn attempt_arrivals<
     Ok(Some(came_of(solved)))
 }
 
-/// Runs a crew by a closure that is made here; none where it doesn't fit.
+/// Runs a crew by a closure that is made here; none if it doesn't fit.
 fn attempt_by_closure<
     H: Threads + Sync,
     R: Rng + Send + Drop,
@@ -215,7 +215,7 @@ fn attempt_by<
     }
 }
 
-/// Runs the four nodes with little memory left, where there is a piece, by generators of the test.
+/// Runs the four nodes with little memory left, with it a piece, by generators of the test.
 fn run_small<H: Threads + Sync>(
     alloc: Global,
     rt: &H,
@@ -229,7 +229,7 @@ fn run_small<H: Threads + Sync>(
     for _ in 0..workers {
         tracers.push(|_turn: Turn| -> Flow { Flow::Go })?;
     }
-    // These generators take no memory: no run draws so many words.
+    // These generators take no memory: no run draws this many words.
     let rngs = greedy(alloc, workers, 1_000_000, 0)?;
     let gate = Counted {
         calls: AtomicU64::new(0),
@@ -248,7 +248,8 @@ fn run_small<H: Threads + Sync>(
     Ok(verdict(answer, gate.calls.load(Ordering::SeqCst)))
 }
 
-/// Whether a run is refused before its first turn, or its arrivals are right and the gate was called as often as the workers made turns.
+/// Whether a run is refused before its first turn, or its arrivals are right and the gate was called as often
+/// as the workers made turns.
 fn verdict(answer: Result<Option<Came>, AllocError>, calls: u64) -> Fared {
     let right = match answer {
         Err(_) if calls == 0 => return Fared::Refused,
@@ -262,8 +263,8 @@ fn verdict(answer: Result<Option<Came>, AllocError>, calls: u64) -> Fared {
     }
 }
 
-/// Runs with little memory left, and after a refusal with all that there is: how it went at first if it wasn't refused, and whether
-/// it went right in the end.
+/// Runs with little memory left, and after a refusal with all that there is: how it went at first if it
+/// wasn't refused, and whether it went right in the end.
 fn run_again<H: Threads + Sync>(
     alloc: Global,
     rt: &H,
@@ -311,7 +312,8 @@ const CALLS: [(Call, u32); 6] = [
     (Call::Closure, 2),
 ];
 
-/// The place of the first of the calls that fares otherwise: it is refused at least ten times and right twice, and never wrong.
+/// The index of the first of the calls that fares other than expected: it is refused at least ten times and
+/// right twice, and never wrong.
 fn wrong_call<H: Threads + Sync>(
     alloc: Global,
     rt: &H,

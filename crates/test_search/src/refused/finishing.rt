@@ -31,8 +31,8 @@ fn added(mut todo: Open) -> usize
     todo.len()
 }
 
-/// Whether a worklist of eight nodes that is made where such a piece is left has room for all without more memory; none where it
-/// was refused.
+/// Whether a worklist of eight nodes that is made with such a piece left has room for all without more
+/// memory; none if it was refused.
 fn has_room(alloc: Global, walks: bool, small: &mut Held, piece: Vec<u8>) -> Option<bool> {
     small.leave(piece);
     let answer = if walks {
@@ -65,7 +65,7 @@ fn fare_with_worklists(alloc: Global, walks: bool) -> Result<Tally, AllocError> 
 /// Whether a worklist is for walks, and how often it is refused at least.
 const WORKLISTS: [(bool, u32); 2] = [(true, 3), (false, 2)];
 
-/// The first worklist that fares otherwise.
+/// The first worklist that fares other than expected.
 fn wrong_worklist(alloc: Global) -> Result<Option<usize>, AllocError> {
     for (place, (walks, least)) in WORKLISTS.iter().enumerate() {
         if !fared(fare_with_worklists(alloc, *walks)?, *least, 2) {
@@ -81,7 +81,7 @@ fn worklist_is_refused_or_whole(rt: HostRuntime) -> Result<(), Fail> {
     Ok(())
 }
 
-/// Whether a call answers rightly where such a piece is left; none where it was refused.
+/// Whether a call's answer is right with such a piece left; none if it was refused.
 fn answers(
     alloc: Global,
     call: Alone,
@@ -129,7 +129,7 @@ const CALLS: [Alone; 4] = [
     Alone::ArrivalsBy,
 ];
 
-/// The first call that fares otherwise in a network.
+/// The first call that fares other than expected in a network.
 fn wrong_call_in(
     alloc: Global,
     network: &Network,
@@ -143,7 +143,8 @@ fn wrong_call_in(
     Ok(None)
 }
 
-/// The first call that fares otherwise in the network of the four nodes, or the first one where there is none.
+/// The first call that fares other than expected in the network of the four nodes; the first one if there is
+/// no network.
 fn wrong_call(alloc: Global) -> Result<Option<usize>, AllocError> {
     match four_nodes(alloc)? {
         Some(network) => wrong_call_in(alloc, &network, &from_first()),
@@ -157,7 +158,7 @@ fn answer_is_refused_or_right(rt: HostRuntime) -> Result<(), Fail> {
     Ok(())
 }
 
-/// Whether there is a walk to node 4, which is refused where there is no memory.
+/// Whether there is a walk to node 4, which is refused without memory.
 fn is_refused(alloc: Global, answer: &Answer) -> Result<bool, AllocError> {
     if !answer.asks(4) || !answer.has_walks() {
         return Ok(false);
@@ -169,7 +170,7 @@ fn is_refused(alloc: Global, answer: &Answer) -> Result<bool, AllocError> {
     Ok(refused)
 }
 
-/// Whether the walk to node 4 is refused where there is no memory, and right where there is.
+/// Whether the walk to node 4 is refused without memory, and right with it.
 fn is_refused_or_right(alloc: Global, answer: &Answer) -> Result<bool, AllocError> {
     if !is_refused(alloc, answer)? {
         return Ok(false);

@@ -1,4 +1,4 @@
-//! What the tests of networks and runs are given.
+//! Networks and queries for the tests.
 use ea_road::{Arc, Network, Query, Source};
 use std::alloc::{AllocError, Global};
 use test_support::tally::Tally;
@@ -58,7 +58,7 @@ pub fn four_arcs(alloc: Global) -> Result<Vec<Arc>, AllocError> {
     Ok(arcs)
 }
 
-/// The network; none where the arcs don't fit.
+/// The network; none if the arcs don't fit.
 pub fn four_nodes(alloc: Global) -> Result<Option<Network>, AllocError> {
     let arcs = four_arcs(alloc)?;
     if !Network::fits(4, &arcs) {
@@ -75,7 +75,7 @@ pub fn from_first() -> Query {
     })
 }
 
-/// Whether no call went wrong, and at least so many were refused and so many came to what they should.
+/// Whether no call was wrong, and at least this many were refused and this many right.
 pub fn fared(tally: Tally, refused: u32, right: u32) -> bool {
     tally.wrong == 0 && refused <= tally.refused && right <= tally.right
 }

@@ -21,7 +21,7 @@ fn is_whole(network: &Network) -> bool {
     right
 }
 
-/// Whether a network that is made where such a piece is left is whole; none where it was refused.
+/// Whether a network that is made with such a piece left is whole; none if it was refused.
 fn is_made(alloc: Global, arcs: Vec<Arc>, small: &mut Held, piece: Vec<u8>) -> Option<bool> {
     if !Network::fits(4, &arcs) {
         return Some(false);
@@ -56,7 +56,8 @@ fn network_is_refused_or_whole(rt: HostRuntime) -> Result<(), Fail> {
     Ok(())
 }
 
-/// Asks for the arcs of a graph where such a piece is left, and says whether they are as expected; none where they were refused.
+/// Builds the arcs of a graph with such a piece left. Returns whether they are as expected; none if they were
+/// refused.
 fn are_assigned(
     alloc: Global,
     graph: &RawGraph,
@@ -126,7 +127,7 @@ fn fare_without_classes(alloc: Global) -> Result<Tally, AllocError> {
     fare_with_arcs(alloc, &graph, None, &plain)
 }
 
-/// How they fare with classes, of which some are given several times.
+/// How they fare with classes, some of them assigned several times.
 fn fare_with_classes(alloc: Global) -> Result<Tally, AllocError> {
     let graph = three_alike(alloc)?;
     let table = RawTable {

@@ -10,12 +10,12 @@ use std::test::Fail;
 use test_support::memory::{Held, pieces};
 use test_support::tally::Tally;
 
-/// Whether three classes that leave every 10 arrive so.
+/// Whether three classes that leave every 10 have these arrivals.
 fn are_whole(times: &Timetables) -> bool {
     times.classes() == 3 && times.arrive(0, 3, 1) == 4 && times.arrive(3, 3, 1) == 13
 }
 
-/// Whether travel times that are made where such a piece is left are whole; none where they were refused.
+/// Whether travel times that are made with such a piece left are whole; none if they were refused.
 fn are_made(alloc: Global, small: &mut Held, piece: Vec<u8>) -> Option<bool> {
     let every = RawKind::Every {
         period: 10,
@@ -50,7 +50,8 @@ fn timetables_are_refused_or_whole(rt: HostRuntime) -> Result<(), Fail> {
     Ok(())
 }
 
-/// Whether the list has this many profiles, of which each answers weight 3 and departure 4 by one more than the one before.
+/// Whether the list has this many profiles, each of which arrives one later than the one before for weight 3
+/// and departure 4.
 fn has_profiles(list: &ProfileList, count: u32) -> bool {
     let mut right = list.len() == count as usize;
     for class in 1..33u32 {
@@ -61,8 +62,8 @@ fn has_profiles(list: &ProfileList, count: u32) -> bool {
     right
 }
 
-/// Pushes a class's profile without memory, and again where it comes back: whether it comes back as it was, and the list is as it
-/// was; none where it is pushed at once.
+/// Pushes a class's profile without memory, and again if it is returned. Whether it and the list were
+/// unchanged then; none if the first push succeeds.
 fn comes_back(
     list: &mut ProfileList,
     class: u32,
@@ -82,7 +83,8 @@ fn comes_back(
     Some(list.push(profile).is_ok() && arrives && stays)
 }
 
-/// How many of twelve profiles come back first, each of which arrives a moment later than the one before, and whether the list has all up to each one then.
+/// How many of twelve profiles are returned first, each of which arrives one later than the one before, and
+/// whether the list has all up to each one afterwards.
 fn fare_with_profiles(alloc: Global) -> Result<(u32, bool), AllocError> {
     let (mut back, mut right) = (0u32, true);
     let mut list = ProfileList::new(alloc);

@@ -17,10 +17,11 @@ use linked_list_allocator::LocalHeap;
 use std::alloc::{AllocError, Allocator, Global};
 use std::test::Fail;
 
-/// How many keys there are, each pushed once.
+/// The number of keys, each pushed once.
 const KEYS: u64 = 600;
 
-/// The numbers below 600 in another order, which lie in lists of many bits: 131 has no divisor in common with 600.
+/// The numbers below 600 in another order, which lie in lists of many bits: 131 has no divisor in common with
+/// 600.
 fn key_at(number: u64) -> u64
     ensures { result < 600 }
 {
@@ -130,7 +131,7 @@ fn push_and_pop<A: Allocator, H: EntryHeap>(
     refused
 }
 
-/// How often pushes were refused in so little memory; none where the pool was.
+/// How often pushes were refused in so little memory; none if the pool was.
 fn refused_within<'a, H: OpenHeap<&'a LocalHeap>>(
     memory: &'a LocalHeap,
     counts: &mut [u32],
@@ -144,8 +145,8 @@ fn refused_within<'a, H: OpenHeap<&'a LocalHeap>>(
     Some(refused)
 }
 
-/// What heaps of a kind come to in more and more memory: how often the pool was refused, and how often it was opened and pushes
-/// were refused then, all of them or some. Each entry is there once, whatever was refused.
+/// What heaps of a kind come to in more and more memory: how often the pool was refused, and how often it was
+/// opened and pushes were refused then, all of them or some. Each entry is there once, whatever was refused.
 fn tries<'a, H: OpenHeap<&'a LocalHeap>>(
     memory: &'a LocalHeap,
     counts: &mut [u32],

@@ -25,8 +25,8 @@ fn take_all<'a>(alloc: Global, memory: &'a LocalHeap) -> Vec<Vec<u8, &'a LocalHe
     blocks
 }
 
-// Pushes an entry. Where its growth is refused, that is counted, what is held is given back, and the push is made again.
-// Says whether the entry went in.
+// Pushes an entry. Where its growth is refused, that is counted, what is held is given back, and the push is
+// made again. Says whether the entry went in.
 fn push_again<'a>(
     pool: &Pool<AnyPair, &'a LocalHeap>,
     seat: &mut PoolSeat<AnyPair, &'a LocalHeap>,
@@ -100,8 +100,8 @@ fn push_four_in<'a>(
     push_four_again(pool, seat, &mut held, again)
 }
 
-// Whether a pool in this memory gives four entries that two seats push; none where it can't be opened. A piece of memory is left
-// for its growths at first. The memory is one thread's alone.
+// Whether a pool in this memory gives four entries that two seats push; none if it can't be opened. A piece
+// of memory is left for its growths at first. The memory is one thread's alone.
 fn gives_pushed<'a>(
     alloc: Global,
     memory: &'a LocalHeap,
@@ -118,7 +118,8 @@ fn gives_pushed<'a>(
     }
 }
 
-// How a pool of four entries fares in ever more memory, and how often a push was made again. Memory that isn't given back is wrong.
+// How a pool of four entries fares in ever more memory, and how often a push was made again. Memory that
+// isn't given back is wrong.
 fn fare_with_four(alloc: Global) -> Result<(Tally, u32), AllocError> {
     let mut tally = Tally::new();
     let mut again: u32 = 0;
@@ -289,7 +290,8 @@ fn growth_refused_in_the_middle_of_many(rt: HostRuntime) -> Result<(), Fail> {
     Ok(())
 }
 
-// Pushes a second entry without memory and with it: whether it is handed back and one entry is left, and whether it goes in then.
+// Pushes a second entry without memory and with it: whether it is handed back and one entry is left, and
+// whether it goes in then.
 fn fares_with_second(
     alloc: Global,
     memory: &LocalHeap,
@@ -327,7 +329,7 @@ fn gives_one(solo: &mut Solo<&LocalHeap>) -> bool {
     empty && one && solo.pop_at(3, 0).is_none()
 }
 
-// Whether a new Solo in this memory does so; none where it was refused.
+// Whether a new Solo in this memory does so; none if it was refused.
 fn gives_one_in(memory: &LocalHeap) -> Option<bool> {
     match Solo::<&LocalHeap>::new(memory, 4) {
         Ok(mut solo) => Some(gives_one(&mut solo)),
