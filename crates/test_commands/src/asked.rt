@@ -1,4 +1,4 @@
-//! Answers over texts in memory.
+//! Answers for texts in memory.
 ghost use Rattle.ea_options.specs.Limits.{AreOptions};
 
 use ea_bytes::{StdIn, StdOut};
@@ -47,7 +47,7 @@ pub fn from_one(gr: &[u8]) -> Texts<'_> {
     }
 }
 
-/// What a run writes into room for it.
+/// What a run writes, into room for it.
 pub fn run<H: Threads + Sync>(
     rt: &HostRuntime,
     threads: &H,
@@ -72,7 +72,7 @@ pub fn run<H: Threads + Sync>(
     )
 }
 
-/// What pairs write into room for it.
+/// What pairs write, into room for it.
 pub fn run_pairs<H: Threads + Sync>(
     rt: &HostRuntime,
     threads: &H,
@@ -97,7 +97,7 @@ pub fn run_pairs<H: Threads + Sync>(
     )
 }
 
-/// Whether room has this text and nothing after it.
+/// Whether the room has exactly this text.
 pub fn holds(room: &[u8], text: &[u8]) -> bool {
     room.starts_with(text) && room[text.len()..].iter().all(|byte| *byte == 0)
 }

@@ -50,7 +50,7 @@ impl Read for Failing {
     }
 }
 
-/// What is said of a report of four-nodes.
+/// The verdict on a report of four-nodes.
 fn said_of(alloc: Global, report: &[u8]) -> Result<Result<(), CheckFault>, AnswerFault> {
     let mut gr = StdIn::new(FOUR_NODES);
     let mut ss = StdIn::new(SOURCE);
@@ -88,7 +88,7 @@ fn check_form(rt: HostRuntime) {
     assert_eq!(rt; said_of(alloc, walk), Ok(Err(CheckFault::NotAttained(5))));
 }
 
-/// What is said of a report of two-ways-to-fifteen, departing at 1.
+/// The verdict on a report of two-ways-to-fifteen, departing at 1.
 fn said_of_fifteen(alloc: Global, report: &[u8]) -> Result<Result<(), CheckFault>, AnswerFault> {
     let mut gr = StdIn::new(b"p sp 4 4\na 1 2 4\na 1 3 1\na 3 2 1\na 2 4 5\n".as_slice());
     let mut ss = StdIn::new(SOURCE);
@@ -117,7 +117,7 @@ fn check_faults_come_in_order(rt: HostRuntime) {
         file: FileWord::Report,
         fault: ReadFault::ReadFailed,
     };
-    // The second source departs too late, which is looked at after the report is read.
+    // The second source departs too late, which is found after the report is read.
     let late = options_from(HORIZON, 1);
     let mut gr = StdIn::new(FOUR_NODES);
     let mut ss = StdIn::new(TWO_SOURCES);
@@ -150,7 +150,7 @@ fn check_faults_come_in_order(rt: HostRuntime) {
     );
 }
 
-/// The rank errors of four-nodes into a writer.
+/// The rank errors of four-nodes, into a writer.
 fn rank<W: Write>(alloc: Global, sources: &[u8], out: &mut StdOut<W>) -> Result<(), AnswerFault> {
     let mut gr = StdIn::new(FOUR_NODES);
     let mut ss = StdIn::new(sources);
@@ -182,7 +182,7 @@ fn rank_into_failing_devices(rt: HostRuntime) {
     }
 }
 
-/// A writer of std that is interrupted so often at its first byte, and at the first of the second source's
+/// A writer of std that is interrupted this often at its first byte, and at the first of the second source's
 /// lines.
 #[derive(Drop)]
 struct Interrupted {

@@ -1,4 +1,4 @@
-//! Who watches a command learns of each problem, and nothing else is different.
+//! A watch is called for each problem, and changes nothing else.
 ghost use Rattle.std.specs.Prelude.{◌≤◌, IfSome};
 ghost use Rattle.ea_options.specs.Limits.{AreOptions, HasLimits};
 ghost use Rattle.ea_messages.specs.Named.{HasFiles};
@@ -15,13 +15,13 @@ const PAIRS: &[u8] = b"p aux sp p2p 2\nq 1 4\nq 2 4\n";
 const WALKED: &[u8] =
     b"s 1 0\nd 1 0\nw 1 0\nd 2 5\nd 3 2\nd 4 6\nw 4 3 2 3 4\ns 2 0\nd 1 inf\nd 2 0\nd 3 inf\nd 4 1\ns 3 0\nd 1 inf\nd 2 3\nd 3 0\nd 4 4\n";
 
-/// What was told.
+/// The calls of the watch.
 #[derive(Clone, Copy, Debug, PartialEq, Eq, Drop)]
 struct Told {
     calls: usize,
     done: usize,
     of: usize,
-    /// Whether what is done grew with each call.
+    /// Whether the number of problems done grew with each call.
     grows: bool,
     nodes: usize,
     walks: usize,
@@ -50,8 +50,7 @@ impl Watch for Told {
     }
 }
 
-/// What learns of a command that results in its end, and whether what goes out is this text, which it is
-/// without a watch too.
+/// The watch's calls during a command that succeeds, and whether the output is this text, as without a watch.
 fn told_of<'a, H: Threads + Sync>(
     rt: &HostRuntime,
     threads: &H,
@@ -78,7 +77,7 @@ fn told_of<'a, H: Threads + Sync>(
     (told, is_done && is_quiet && is_same)
 }
 
-/// Carries out a command on files from memory: whether it results in its end.
+/// Carries out a command on files in memory. Returns whether it succeeds.
 fn writes<'a, H: Threads + Sync, V: Watch>(
     rt: &HostRuntime,
     threads: &H,

@@ -6,7 +6,7 @@ use earliest::{AnswerFault, CheckFault, CommandFault, FileFault, FileWord, Outco
 use std::alloc::Global;
 use std::test::Fail;
 
-/// Whether an outcome is told by this line and this status.
+/// Whether an outcome has this line and this status.
 fn says(outcome: Outcome, line: &[u8], status: u8) -> bool {
     let mut room = [0u8; 128];
     let mut out = StdOut::new(room.as_mut_slice());
@@ -95,7 +95,7 @@ fn a_device_that_is_full(rt: HostRuntime) {
     assert!(rt; room.as_slice() == b"earl".as_slice());
 }
 
-/// Whether a fault of a file is shown by this text.
+/// Whether a fault of a file has this text.
 fn shows(alloc: Global, fault: FileFault, text: &str) -> Result<bool, Fail> {
     let shown = format!(in alloc; "{fault}")?;
     Ok(shown.as_str() == text)
@@ -199,7 +199,7 @@ fn faults_of_files_understood(rt: HostRuntime) -> Result<(), Fail> {
     Ok(())
 }
 
-/// Whether a fault of a run is shown by this text.
+/// Whether a fault of a run has this text.
 fn shows_answer(alloc: Global, fault: AnswerFault, text: &str) -> Result<bool, Fail> {
     let shown = format!(in alloc; "{fault}")?;
     Ok(shown.as_str() == text)

@@ -3,7 +3,7 @@ use crate::asked::{FROM_ONE, GRAPH, Texts, WALKS, from_one, reports, reports_pai
 use earliest::RunOptions;
 use std::thread::Threads;
 
-/// The files of a run or of pairs, when the first source departs, and the report with walks.
+/// The files of a run or of pairs, the departure of the first source, and the report with walks.
 #[derive(Clone, Copy)]
 struct Case<'a> {
     texts: Texts<'a>,

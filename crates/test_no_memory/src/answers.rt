@@ -16,7 +16,7 @@ const PLAIN: &[u8] = b"p tp 1 2\nk 1 plain\nt 1 1\nt 4 1\n";
 
 const WALKS: &[u8] = b"s 1 0\nd 1 0\nw 1 0\nd 2 5\nw 2 2 2 3\nd 3 2\nw 3 1 2\nd 4 6\nw 4 3 2 3 4\n";
 
-/// What it came to: whole with the whole text, or refused with the front and its length.
+/// The outcome: whole with the whole text, or refused with its first bytes and their number.
 fn came_of(answered: Result<Totals, AnswerFault>, room: &[u8], front: &[u8], whole: &[u8]) -> Came {
     let refused = AnswerFault::OutOfMemory {
         written: front.len() as u128,
@@ -28,7 +28,7 @@ fn came_of(answered: Result<Totals, AnswerFault>, room: &[u8], front: &[u8], who
     }
 }
 
-/// What is asked where memory is refused.
+/// The command for which memory is refused.
 #[derive(Clone, Copy)]
 enum Asked<'a> {
     /// A run on the four nodes, perhaps with timetables.
@@ -39,7 +39,7 @@ enum Asked<'a> {
     TwoPairs,
 }
 
-/// A run on the four nodes, whose memory is taken at its beginning.
+/// A run on the four nodes, with memory taken at its beginning.
 fn four_nodes_with<H: Threads + Sync>(
     alloc: Global,
     rt: &H,
@@ -60,7 +60,7 @@ fn four_nodes_with<H: Threads + Sync>(
     came_of(answered, room, b"", WALKS)
 }
 
-/// A run on the network without arcs whose second file takes memory at its end.
+/// A run on the network without arcs; its second file takes memory at its end.
 fn no_arcs_with<H: Threads + Sync>(
     alloc: Global,
     rt: &H,
@@ -88,7 +88,7 @@ fn no_arcs_with<H: Threads + Sync>(
 const FROM_TWO: &[u8] =
     b"s 1 0\nd 1 0\nw 1 0\nd 2 5\nw 2 2 2 3\nd 3 2\nw 3 1 2\nd 4 6\nw 4 3 2 3 4\ns 3 0\nd 1 inf\nd 2 3\nw 2 1 3\nd 3 0\nw 3 0\nd 4 4\nw 4 2 3 4\n";
 
-/// A run on the four nodes from two sources, whose writer takes memory at its first call.
+/// A run on the four nodes from two sources; its writer takes memory at its first call.
 fn two_sources_with<H: Threads + Sync>(
     alloc: Global,
     rt: &H,
@@ -112,7 +112,7 @@ fn two_sources_with<H: Threads + Sync>(
     came_of(answered, room, WALKS, FROM_TWO)
 }
 
-/// Two pairs on the four nodes, whose writer takes memory at its first call.
+/// Two pairs on the four nodes; their writer takes memory at its first call.
 fn two_pairs_with<H: Threads + Sync>(
     alloc: Global,
     rt: &H,
@@ -138,7 +138,7 @@ fn two_pairs_with<H: Threads + Sync>(
     came_of(answered, room, front, whole)
 }
 
-/// What it results in where a piece of memory is left.
+/// The outcome with a piece of memory left.
 fn came<H: Threads + Sync>(
     alloc: Global,
     rt: &H,
@@ -161,7 +161,7 @@ fn came<H: Threads + Sync>(
     }
 }
 
-/// What it results in with each of this many pieces of memory, which grow by a step.
+/// The outcomes with each of this many pieces of memory, which grow by a step.
 fn count_of<H: Threads + Sync>(
     alloc: Global,
     rt: &H,
@@ -187,14 +187,14 @@ fn count_of<H: Threads + Sync>(
 #[test]
 fn files_and_first_problem(rt: HostRuntime) -> Result<(), Fail> {
     for (many, tp) in [(false, None), (true, None), (false, Some(PLAIN))] {
-        // A file is read by pieces of 65,536 bytes.
+        // A file is read in pieces of 65,536 bytes.
         let count = count_of(rt.alloc(), &rt, Asked::FourNodes(tp), many, 65_500, 300, 16)?;
         assert!(rt; count.is_refused_at_least(5), "{count}");
     }
     Ok(())
 }
 
-/// What runs on the network without arcs come to.
+/// The outcomes of runs on the network without arcs.
 fn count_without_arcs<H: Threads + Sync>(
     alloc: Global,
     rt: &H,
@@ -216,7 +216,7 @@ fn arrays_of_the_first_problem(rt: HostRuntime) -> Result<(), Fail> {
 #[test]
 fn second_problem(rt: HostRuntime) -> Result<(), Fail> {
     for many in [false, true] {
-        // So few nodes are searched by one thread, also where two workers are asked for.
+        // This few nodes are searched by one thread, even if two workers are asked for.
         let count = count_of(rt.alloc(), &rt, Asked::TwoSources, many, 0, 300, 16)?;
         assert!(rt; count.is_refused_at_least(10), "{count}");
     }
@@ -226,7 +226,7 @@ fn second_problem(rt: HostRuntime) -> Result<(), Fail> {
 #[test]
 fn second_pair(rt: HostRuntime) -> Result<(), Fail> {
     for many in [false, true] {
-        // So few nodes are searched by one thread, also where two workers are asked for.
+        // This few nodes are searched by one thread, even if two workers are asked for.
         let count = count_of(rt.alloc(), &rt, Asked::TwoPairs, many, 0, 600, 8)?;
         assert!(rt; count.is_refused_at_least(10), "{count}");
     }

@@ -8,7 +8,7 @@ use std::alloc::{AllocError, Global};
 use std::test::Fail;
 use test_support::memory::Held;
 
-/// Memory that is wanted for the check itself is its verdict, whatever the report has.
+/// If memory for the check itself is refused, that is its verdict, whatever the report has.
 fn came_of(
     verdict: Result<Result<(), CheckFault>, AnswerFault>,
     wanted: Result<(), CheckFault>,
@@ -20,7 +20,7 @@ fn came_of(
     }
 }
 
-/// A check of the network without arcs, whose report takes memory at its end.
+/// A check of the network without arcs; its report takes memory at its end.
 #[derive(Clone, Copy)]
 struct Unreached<'a> {
     report: &'a [u8],
@@ -43,7 +43,7 @@ impl Trial for Unreached<'_> {
     }
 }
 
-/// What checks of the report of the network without arcs come to, with more lines at its end.
+/// The outcomes of checks of the report of the network without arcs, with more lines at its end.
 fn count_unreached(
     alloc: Global,
     more: &[u8],
@@ -71,7 +71,7 @@ fn check_of_a_report(rt: HostRuntime) -> Result<(), Fail> {
     Ok(())
 }
 
-/// A check of four-nodes whose memory is taken at its beginning.
+/// A check of four-nodes, with memory taken at its beginning.
 #[derive(Clone, Copy)]
 struct Four;
 

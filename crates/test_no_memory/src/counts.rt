@@ -1,19 +1,19 @@
-//! What calls with little memory come to.
+//! The outcomes of calls with little memory.
 use std::alloc::{AllocError, Global};
 use std::fmt;
 use test_support::memory::{Held, pieces};
 
-/// What a call came to.
+/// The outcome of a call.
 #[derive(Clone, Copy, PartialEq, Eq)]
 pub enum Came {
-    /// It did the whole.
+    /// It did everything.
     Whole,
-    /// It told that memory was refused, and did only what it says.
+    /// It reported refused memory, and did only what it says.
     Refused,
     Wrong,
 }
 
-/// How many calls came to what.
+/// The number of calls with each outcome.
 #[derive(Clone, Copy)]
 pub struct Count {
     whole: u32,
@@ -54,13 +54,13 @@ impl fmt::Display for Count {
     }
 }
 
-/// A call that is tried where little memory is left.
+/// A call that is tried with little memory left.
 pub trait Trial {
-    /// What it results in where all memory but a piece is taken, at its beginning or in the middle of it.
+    /// Its outcome if all memory except a piece is taken, at its beginning or during it.
     fn came(&mut self, alloc: Global, held: &mut Held, piece: Vec<u8>) -> Came;
 }
 
-/// This many pieces of memory that grow by a step, what is to hold small blocks, and what holds all large
+/// This many pieces of memory that grow by a step, the holder of small blocks, and the holder of all large
 /// ones.
 pub fn taken(
     alloc: Global,
@@ -73,7 +73,7 @@ pub fn taken(
     Ok((small, sizes, Held::of_large(alloc, 4)?))
 }
 
-/// What a call results in with each of this many pieces of memory, which grow by a step.
+/// A call's outcomes with each of this many pieces of memory, which grow by a step.
 pub fn count_of<T: Trial>(
     alloc: Global,
     trial: &mut T,

@@ -1,8 +1,8 @@
-//! Devices of std that take all memory but for a piece.
+//! Devices of std that take all memory except a piece.
 use std::io::{self, Read, Write};
 use test_support::memory::Held;
 
-/// A reader that takes memory where it tells that its bytes are at an end.
+/// A reader that takes memory when it returns its end.
 #[derive(Drop)]
 pub struct Taking<'a> {
     pub bytes: &'a [u8],

@@ -1,4 +1,4 @@
-//! What the tests are given.
+//! Networks and options for the tests.
 ghost use Rattle.ea_options.specs.Limits.{AreOptions};
 
 use earliest::RunOptions;
@@ -30,7 +30,7 @@ pub fn walks_by(many: bool) -> RunOptions
     }
 }
 
-/// How many nodes the network without arcs has.
+/// The number of nodes of the network without arcs.
 pub const MANY: u32 = 2_000;
 
 pub const NO_ARCS: &[u8] = b"p sp 2000 0\n";
@@ -48,7 +48,7 @@ pub fn unreached(alloc: Global) -> Result<Vec<u8>, AllocError> {
     Ok(text)
 }
 
-/// Whether room has this text and nothing after it.
+/// Whether the room has exactly this text.
 pub fn holds(room: &[u8], text: &[u8]) -> bool {
     room.starts_with(text) && room[text.len()..].iter().all(|byte| *byte == 0)
 }

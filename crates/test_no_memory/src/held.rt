@@ -1,4 +1,4 @@
-//! Calls that need little memory, whatever the size of the network, where little is left.
+//! Calls that need little memory, for networks of any size, with little left.
 ghost use Rattle.ea_report.specs.Asked.{IsOf};
 
 use crate::counts::taken;
@@ -14,10 +14,10 @@ use std::alloc::{AllocError, Global};
 use std::io::{self, Write};
 use std::test::Fail;
 
-/// How many nodes the networks have.
+/// The number of nodes of the networks.
 const NODES: u32 = 60_000;
 
-/// A network of nodes without arcs, or along a path of arcs of weight 3; none if it doesn't fit.
+/// A network of nodes without arcs, or with a path of arcs of weight 3; none if it doesn't fit.
 fn network_of(alloc: Global, is_path: bool) -> Result<Option<Network>, AllocError> {
     let mut arcs = Vec::new(alloc);
     if is_path {
@@ -67,7 +67,7 @@ impl Write for Counting {
 /// and 50,001.
 const REPORT_BYTES: u128 = 12 + 8 * 8 + 90 * 9 + 900 * 10 + 9_000 * 11 + 50_001 * 12;
 
-/// How many bytes of a report went out, where some 400,000 bytes are left.
+/// The number of bytes of a report that were sent with about 400,000 bytes left.
 fn written_with_little(
     alloc: Global,
     network: &Network,
@@ -86,7 +86,7 @@ fn written_with_little(
     Ok(written)
 }
 
-/// The same of the arrivals at all nodes of a network; none if they can't be asked.
+/// The same for the arrivals at all nodes of a network; none if they can't be asked.
 fn written_of(alloc: Global, network: &Network, query: &Query) -> Result<Option<u128>, AllocError> {
     let times = Timetables::new(Vec::new(alloc));
     if !is_problem(network, times.classes(), query) {
@@ -96,7 +96,7 @@ fn written_of(alloc: Global, network: &Network, query: &Query) -> Result<Option<
     written_with_little(alloc, network, query, &answer)
 }
 
-/// The same of the network without arcs.
+/// The same for the network without arcs.
 fn large_report(alloc: Global) -> Result<Option<u128>, AllocError> {
     let query = from_first(alloc)?;
     match network_of(alloc, false)? {
@@ -111,7 +111,7 @@ fn report_is_larger_than_the_memory(rt: HostRuntime) -> Result<(), Fail> {
     Ok(())
 }
 
-/// The walk of the third node, where 2,000 bytes are left.
+/// The walk of the third node with 2,000 bytes left.
 fn short_walk(alloc: Global, answer: &Answer) -> Result<Option<Vec<u32>>, AllocError> {
     if !answer.asks(3) || !answer.has_walks() {
         return Ok(None);
@@ -162,12 +162,12 @@ fn walk_takes_room_for_its_own_arcs(rt: HostRuntime) -> Result<(), Fail> {
     Ok(())
 }
 
-/// Bytes between the pieces of memory that are left to a worklist, and how many nodes it is for.
+/// Bytes by which the pieces of memory for a worklist grow, and its number of nodes.
 const STEP: u32 = 250;
 
 const FEW: u32 = 2_000;
 
-/// The first of the growing pieces in which a worklist finds its room.
+/// The first of the growing pieces into which a worklist fits.
 fn first_piece(alloc: Global, walks: bool) -> Result<Option<u32>, AllocError> {
     let (mut small, sizes, mut large) = taken(alloc, 0, 400, STEP)?;
     let mut first = None;
@@ -189,9 +189,10 @@ fn first_piece(alloc: Global, walks: bool) -> Result<Option<u32>, AllocError> {
     Ok(first)
 }
 
-/// Whether the first piece for a worklist without walks is smaller by the links than that for one with walks.
+/// Whether the first piece for a worklist without walks is smaller than that for one with walks, which has
+/// links.
 fn is_without_links(without: Option<u32>, with: Option<u32>) -> bool {
-    // A link is a number of four bytes for each node.
+    // Links take at least four bytes for each node.
     let links = (4 * FEW / STEP) - 1;
     match (without, with) {
         (Some(without), Some(with)) => 0 < without && without.saturating_add(links) <= with,
@@ -215,8 +216,7 @@ fn kind_of<T: Drop>(read: Result<T, InputFault>) -> Option<FaultKind> {
     }
 }
 
-/// The faults of texts that announce the most that there may be and have a line of it, where some 20,000
-/// bytes are left.
+/// The faults of texts that announce the greatest numbers and have one line, with about 20,000 bytes left.
 fn announced(alloc: Global) -> Result<[Option<FaultKind>; 4], AllocError> {
     let (mut small, sizes, mut large) = taken(alloc, 20_000, 1, 0)?;
     let mut found = [None; 4];

@@ -8,7 +8,7 @@ use std::alloc::Global;
 use std::test::Fail;
 use test_support::memory::Held;
 
-/// What it came to: whole with the whole text, or refused with the front and its length.
+/// The outcome: whole with the whole text, or refused with its first bytes and their number.
 fn came_of(ranked: Result<(), AnswerFault>, room: &[u8], front: &[u8], whole: &[u8]) -> Came {
     let refused = AnswerFault::OutOfMemory {
         written: front.len() as u128,
@@ -20,7 +20,7 @@ fn came_of(ranked: Result<(), AnswerFault>, room: &[u8], front: &[u8], whole: &[
     }
 }
 
-/// The rank errors of one source, whose memory is taken at their beginning.
+/// The rank errors of one source, with memory taken at their beginning.
 #[derive(Clone, Copy)]
 struct OneSource;
 
@@ -45,7 +45,7 @@ fn files_and_first_source(rt: HostRuntime) -> Result<(), Fail> {
     Ok(())
 }
 
-/// The rank errors of two sources, where the writer takes memory at its first call.
+/// The rank errors of two sources; the writer takes memory at its first call.
 #[derive(Clone, Copy)]
 struct TwoSources;
 

@@ -5,7 +5,7 @@ use std::alloc::Global;
 use std::test::Fail;
 use test_support::memory::Held;
 
-/// The words of a run, where a piece of memory is left.
+/// The words of a run, with a piece of memory left.
 fn run_with(alloc: Global, held: &mut Held, piece: Vec<u8>) -> Came {
     let words = ["run", "g", "s", "--joint", "--gap", "5", "--workers", "03"];
     held.leave(piece);
@@ -28,7 +28,7 @@ fn run_with(alloc: Global, held: &mut Held, piece: Vec<u8>) -> Came {
     }
 }
 
-/// Words that lack a name, where a piece of memory is left.
+/// Words that lack a name, with a piece of memory left.
 fn short_with(alloc: Global, held: &mut Held, piece: Vec<u8>) -> Came {
     let words = ["check", "g", "s"];
     held.leave(piece);

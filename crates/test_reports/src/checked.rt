@@ -10,10 +10,10 @@ use test_support::networks::{FOUR_NODES, Row, network_of, query_of, times_of};
 /// The sources of a problem, by node and departure.
 type Sources<'a> = &'a [(u32, u64)];
 
-/// A report, and what the checker says of it.
+/// A report, and the checker's verdict.
 type Case = (&'static [u8], Result<(), CheckFault>);
 
-/// What the checker says of a report; none if what it is of can't be checked.
+/// The checker's verdict on a report; none if its problems can't be checked.
 type Said = Option<Result<(), CheckFault>>;
 
 /// The example two-ways-to-fifteen.
@@ -49,7 +49,7 @@ fn queries_of(alloc: Global, problems: &[Sources]) -> Result<Option<Vec<Query>>,
     Ok(Some(queries))
 }
 
-/// What the checker says of a report of these queries.
+/// The checker's verdict on a report of these queries.
 fn said_of(
     alloc: Global,
     network: &Network,
@@ -63,7 +63,7 @@ fn said_of(
     Some(check(alloc, network, times, queries, report))
 }
 
-/// The same where class 1 leaves every 10.
+/// The same with class 1 leaving every 10.
 fn said_by_tens(
     alloc: Global,
     network: &Network,
@@ -74,7 +74,7 @@ fn said_by_tens(
     Ok(said_of(alloc, network, &times, queries, report))
 }
 
-/// What it says so of a report of problems from these sources.
+/// Its verdict then on a report of problems from these sources.
 fn said_on(
     alloc: Global,
     network: &Network,
@@ -87,7 +87,7 @@ fn said_on(
     }
 }
 
-/// What it says so of a report on the network of these rows.
+/// Its verdict on a report on the network of these rows.
 fn verdict(
     alloc: Global,
     nodes: u32,
@@ -101,7 +101,7 @@ fn verdict(
     }
 }
 
-/// The first of the reports of problems from these sources of which the checker says otherwise.
+/// The first of the reports of problems from these sources with another verdict.
 fn wrong_verdict(
     alloc: Global,
     nodes: u32,
@@ -117,12 +117,12 @@ fn wrong_verdict(
     Ok(None)
 }
 
-/// What the checker says of a report on four nodes, from node 1 at 0.
+/// The checker's verdict on a report on four nodes, from node 1 at 0.
 fn of_four(alloc: Global, report: &[u8]) -> Result<Said, AllocError> {
     verdict(alloc, 4, &FOUR_NODES, &FROM_FIRST, report)
 }
 
-/// The first of such reports of which the checker says otherwise.
+/// The first of such reports with another verdict.
 fn wrong_of_four(alloc: Global, cases: &[Case]) -> Result<Option<usize>, AllocError> {
     wrong_verdict(alloc, 4, &FOUR_NODES, &FROM_FIRST, cases)
 }
@@ -208,7 +208,7 @@ fn check_canonical(rt: HostRuntime) -> Result<(), Fail> {
 }
 
 const ODD_REPORTS: [Case; 4] = [
-    // White space, comments, carriage returns, leading zeros of great length, and no last line feed.
+    // White space, comments, carriage returns, very many leading zeros, and no last line feed.
     (
         b"c\r\n\r\n\ts  00000000000000000000000000000000000000000000000000000000000001 0 \r\n c w\nd 1 0\nw\t1 00000000000000000000000000000000\nd 02 5\n\n\nw 2 2 0002 3\r\nd 3\t2\ncw 3 1 2\n  d 4 6\r",
         Ok(()),
@@ -234,7 +234,7 @@ fn odd_reports(rt: HostRuntime) -> Result<(), Fail> {
     Ok(())
 }
 
-/// What the checker says of a report with this `w` line of node 4, its line 6: `2 3 4` is right, `1 4`
+/// The checker's verdict on a report with this `w` line of node 4, its line 6: `2 3 4` is right, `1 4`
 /// attains the time.
 fn of_walk(alloc: Global, line: &[u8]) -> Result<Said, AllocError> {
     let mut report = b"s 1 1\nd 1 1\nd 2 3\nd 3 2\nd 4 15\n".to_vec(alloc)?;
@@ -243,7 +243,7 @@ fn of_walk(alloc: Global, line: &[u8]) -> Result<Said, AllocError> {
     verdict(alloc, 4, &TWO_WAYS, &FROM_FIRST_AT_ONE, &report)
 }
 
-/// The first of the lines of which the checker says otherwise.
+/// The first of the lines with another verdict.
 fn wrong_line(alloc: Global, cases: &[Case]) -> Result<Option<usize>, AllocError> {
     for (place, (line, wanted)) in cases.iter().enumerate() {
         if of_walk(alloc, line)? != Some(*wanted) {
@@ -253,7 +253,7 @@ fn wrong_line(alloc: Global, cases: &[Case]) -> Result<Option<usize>, AllocError
     Ok(None)
 }
 
-/// Walks that are oddly written, and what the checker says of them.
+/// Walks that are oddly written, and the verdicts.
 const ODD_WALKS: [Case; 36] = [
     // The canonical walk, oddly written.
     (b"w 4 3 2 3 4", Ok(())),
@@ -289,7 +289,7 @@ const ODD_WALKS: [Case; 36] = [
     (b"w 4 4 2 3 4 4", Err(NotAttained(6))),
     (b"w 4 0", Err(NotAttained(6))),
     (b"w 4 0 \t ", Err(NotAttained(6))),
-    // A letter, a sign, a carriage return in the midst or twice, and another count.
+    // A letter, a sign, a carriage return in the middle or twice, and another count.
     (b"w 4 3 2 3 4a", Err(BadLine(6))),
     (b"w 4 2 1 4a", Err(BadLine(6))),
     (b"w 4 3 2 x 4", Err(BadLine(6))),
@@ -342,7 +342,7 @@ fn padded(
     Ok(line)
 }
 
-/// The front of a line, a byte of which many copies follow, the end, and what the checker says of the line.
+/// The start of a line, a byte that is repeated, the end, and the verdict on the line.
 type Long = (&'static [u8], u8, &'static [u8], Result<(), CheckFault>);
 
 const LONG: [Long; 6] = [
@@ -354,14 +354,14 @@ const LONG: [Long; 6] = [
     (b"w 4 4 2 ", b' ', b"3 4", Err(BadLine(6))),
 ];
 
-/// What the checker says of a long line.
+/// The checker's verdict on a long line.
 fn of_long(alloc: Global, long: &Long, count: usize) -> Result<Said, AllocError> {
     let (front, byte, end, _) = long;
     let line = padded(alloc, front, *byte, count, end)?;
     of_walk(alloc, &line)
 }
 
-/// The first of the long lines, with this many copies of their bytes, of which the checker says otherwise.
+/// The first of the long lines, with this many copies of their bytes, that has another verdict.
 fn wrong_long(alloc: Global, count: usize) -> Result<Option<usize>, AllocError> {
     for (place, long) in LONG.iter().enumerate() {
         if of_long(alloc, long, count)? != Some(long.3) {
@@ -373,14 +373,14 @@ fn wrong_long(alloc: Global, count: usize) -> Result<Option<usize>, AllocError> 
 
 #[test]
 fn long_walk_lines(rt: HostRuntime) -> Result<(), Fail> {
-    // Numbers and blanks that go over the ends of the pieces that are counted together.
+    // Numbers and blanks across the ends of the pieces that are counted together.
     for count in 225..250 {
         assert_none_wrong(&rt, wrong_long(rt.alloc(), count)?);
     }
     Ok(())
 }
 
-/// Joint: node 2 at 4 by its own second departure is improved by the arc, which arrives at 3.
+/// Joint: node 2 at 4 by its second departure is improved by the arc, which arrives at 3.
 const JOINT: [Case; 5] = [
     (b"s 1 0\ns 2 5\ns 2 4\nd 1 0\nd 2 3\nw 2 1 1\n", Ok(())),
     (
@@ -444,7 +444,7 @@ fn several_sources(rt: HostRuntime) -> Result<(), Fail> {
 /// A cycle of time 0.
 const WITH_CYCLE: [Row; 4] = [(1, 2, 4, 0), (2, 3, 0, 0), (3, 2, 0, 0), (1, 3, 4, 0)];
 
-// A cycle of time 0 is no level; a walk that is another canonical one; a time that is improved.
+// A cycle of time 0 gives no level; a walk that is another canonical one; a time that is improved.
 const FAULTS_IN_THEIR_ORDER: [Case; 7] = [
     (b"s 1 0\nd 1 0\nd 2 4\nw 2 1 1\nd 3 4\nw 3 1 4\n", Ok(())),
     // A later line that is not attained comes before a walk that is not canonical.
@@ -483,8 +483,8 @@ const CHANGED: &[u8] = b"s 1 0\nd 1 0\nd 2 5\nw 2 2 2 3\nd 3 2\nd 4 6\n";
 
 const BYTES: &[u8] = b"0123456789 sdwcinf\t\r\n-";
 
-/// The verdicts of a plain slow checker that was written apart (bench/check/slow_check.py): for each place
-/// and each byte a letter and a line.
+/// The verdicts of a slow checker that was written separately (bench/check/slow_check.py): for each place and
+/// each byte a letter and a line.
 const VERDICTS: [&[u8]; 40] = [
     b"b1b1b1b1b1b1b1b1b1b1b1k0b1b1b2b1b1b1b1b1b2b1",
     b"b1b1b1b1b1b1b1b1b1b1k0b1b1b1b1b1b1b1k0b1b1b1",
@@ -541,7 +541,7 @@ fn coded(said: Said) -> (u8, u64) {
     }
 }
 
-/// What the checker says of the report with one byte changed.
+/// The checker's verdict on the report with one byte changed.
 fn of_changed(alloc: Global, place: usize, byte: u8) -> Result<Said, AllocError> {
     let mut report = CHANGED.to_vec(alloc)?;
     if place < report.len() {
@@ -550,7 +550,7 @@ fn of_changed(alloc: Global, place: usize, byte: u8) -> Result<Said, AllocError>
     of_four(alloc, &report)
 }
 
-/// Whether the checker says what the row tells of each byte at this place.
+/// Whether the checker's verdicts for each byte at this place are the row's.
 fn is_row_said(alloc: Global, place: usize, row: &[u8]) -> Result<bool, AllocError> {
     let mut wanted = row.iter();
     for byte in BYTES {
@@ -564,7 +564,7 @@ fn is_row_said(alloc: Global, place: usize, row: &[u8]) -> Result<bool, AllocErr
     Ok(true)
 }
 
-/// The first place where the checker says otherwise than the row of the place.
+/// The first place where the checker's verdicts are not the row's.
 fn wrong_row(alloc: Global) -> Result<Option<usize>, AllocError> {
     for (place, row) in VERDICTS.iter().enumerate() {
         if !is_row_said(alloc, place, row)? {
@@ -632,7 +632,7 @@ fn only_queries_of_all_nodes(rt: HostRuntime) -> Result<(), Fail> {
     Ok(())
 }
 
-/// Whether the checker finds the odd walk right, or is refused memory and then finds it right.
+/// Whether the checker accepts the odd walk, or is refused memory and then accepts it.
 fn is_odd_right(alloc: Global, network: &Network, queries: &[Query]) -> bool {
     let times = Timetables::new(Vec::new(alloc));
     match said_of(alloc, network, &times, queries, ODD_WALK) {
@@ -644,7 +644,7 @@ fn is_odd_right(alloc: Global, network: &Network, queries: &[Query]) -> bool {
     }
 }
 
-/// The same for a problem; true where memory was refused before.
+/// The same for a problem; true if memory was refused before.
 fn is_odd_right_on(alloc: Global, network: &Network) -> bool {
     match queries_of(alloc, &FROM_FIRST) {
         Ok(Some(queries)) => is_odd_right(alloc, network, &queries),
@@ -671,19 +671,19 @@ fn memory_refused(rt: HostRuntime) {
     );
 }
 
-/// Whether a fault is told by this text.
+/// Whether a fault has this text.
 fn is_told(alloc: Global, fault: CheckFault, text: &str) -> Result<bool, AllocError> {
     Ok(format!(in alloc; "{fault}")?.as_str() == text)
 }
 
-/// Whether the number and the name of a fault are at the end of a text.
+/// Whether a text ends with the number and the name of a fault.
 fn is_named(alloc: Global, fault: CheckFault, text: &str) -> Result<bool, AllocError> {
     let (number, name) = (fault.number(), fault.name());
     let end = format!(in alloc; "({number} {name})")?;
     Ok(text.ends_with(end.as_str()))
 }
 
-/// Faults, and the texts that tell them.
+/// Faults and their texts.
 const TOLD: [(CheckFault, &str); 5] = [
     (BadLine(3), "line 3 is not what its place asks (1 BadLine)"),
     (NotAttained(4), "line 4 is not attained (2 NotAttained)"),
@@ -695,7 +695,7 @@ const TOLD: [(CheckFault, &str); 5] = [
     ),
 ];
 
-/// The first of the faults that is told otherwise.
+/// The first of the faults with another text.
 fn wrong_told(alloc: Global) -> Result<Option<usize>, AllocError> {
     for (place, (fault, text)) in TOLD.iter().enumerate() {
         if !is_told(alloc, *fault, text)? || !is_named(alloc, *fault, text)? {

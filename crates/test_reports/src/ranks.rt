@@ -13,7 +13,7 @@ use std::alloc::{AllocError, Global};
 use std::test::Fail;
 use test_support::networks::{FOUR_NODES, Given, Row, network_of, pose};
 
-/// Where the words of a run come from.
+/// The source of a run's words.
 #[derive(Clone, Copy)]
 enum Words {
     /// 0, 1 and 2 in turn.
@@ -22,7 +22,7 @@ enum Words {
     Seeded(u64),
 }
 
-/// The record of a run on what is given; none if it makes no problem that asks all nodes.
+/// The record of a run; none if there is no problem that asks all nodes.
 fn recorded_of(
     alloc: Global,
     given: &Given,
@@ -87,8 +87,8 @@ fn recorded_by(alloc: Global, network: &Network) -> Result<Option<Record>, Alloc
     Ok(Some(record))
 }
 
-/// What the first of three heaps gives after entries of node 1 by a word and a key; none if one of them was
-/// refused.
+/// The entry that the first of three heaps gives after entries of node 1 by a word and a key; none if one of
+/// them was refused.
 fn popped_of(alloc: Global, entries: &[(u64, u64)]) -> Result<Option<Entry>, Fail> {
     let mut solo = Solo::new(alloc, 3)?;
     for (word, key) in entries {
@@ -208,7 +208,7 @@ const RECORDED: [Event; 12] = [
     Event::Pop(8),
 ];
 
-/// Whether a run was recorded, its events are those, and it has their rank errors.
+/// Whether a run was recorded, with these events and the rank errors of these.
 fn is_recorded(alloc: Global, record: &Option<Record>) -> bool {
     match record {
         Some(record) => {
@@ -250,7 +250,7 @@ fn a_closure_brings_travel_times(rt: HostRuntime) -> Result<(), Fail> {
     Ok(())
 }
 
-/// How many events a record has, and the summary of its rank errors; none of them with it a fault.
+/// The number of events of a record, and the summary of its rank errors; none if there is a fault.
 fn summed(alloc: Global, record: &Record) -> (usize, Option<Summary>) {
     match ranks(alloc, record) {
         Ok(found) => (record.events.len(), Some(Summary::of(&found))),
@@ -319,7 +319,7 @@ const KEYS: usize = 200;
 
 const NEVER_PUSHED: u64 = 5;
 
-/// The number of of the keys below the key.
+/// How many of the keys are below the key.
 fn below(counts: &[u64], key: usize) -> u64 {
     let mut sum = 0u64;
     for count in counts.iter().take(key) {
@@ -328,7 +328,7 @@ fn below(counts: &[u64], key: usize) -> u64 {
     sum
 }
 
-/// Adds a random event to a record, and its rank error by a plain count.
+/// Adds a random event to a record, and its rank error by counting.
 fn add_event(
     record: &mut Record,
     expected: &mut Vec<u64>,
@@ -336,7 +336,7 @@ fn add_event(
     rng: &mut Xoshiro256PlusPlus,
 ) -> Result<(), AllocError> {
     let place = (rng.next_u64() % KEYS as u64) as usize;
-    // Keys far apart, the last of them the greatest of all.
+    // Keys far apart, the last of them the greatest possible.
     let key = u64::MAX - (KEYS - 1 - place) as u64 * 1_000_003;
     let pops = counts[place] > 0 && rng.next_u64() % 2 == 0;
     if pops {
@@ -376,8 +376,8 @@ fn fault_behind(alloc: Global, record: &mut Record) -> Result<Option<RankFault>,
     Ok(ranks(alloc, record).err())
 }
 
-/// A random record: how many pops there are, whether their rank errors are those of the plain count, and the
-/// fault of two more pops of a key that was never pushed.
+/// A random record: the number of pops, whether their rank errors are those by counting, and the fault of two
+/// more pops of a key that was never pushed.
 fn random_record(alloc: Global) -> Result<(usize, bool, Option<RankFault>), AllocError> {
     let mut record = Record {
         events: Vec::new(alloc),
@@ -464,7 +464,7 @@ fn are_twelve(alloc: Global, record: &Record) -> bool {
     told && record.events.len() == 12
 }
 
-/// The same of the run by turns; true where the run was refused memory.
+/// The same for the run by turns; true if the run was refused memory.
 fn fares(alloc: Global) -> bool {
     match recorded_by_turns(alloc) {
         Ok(Some(record)) => are_twelve(alloc, &record),
@@ -478,12 +478,12 @@ fn memory_refused(rt: HostRuntime) {
     assert_that(&rt, "right, or refused memory", fares(rt.alloc()));
 }
 
-/// Whether a fault is told by this text.
+/// Whether a fault has this text.
 fn is_told(alloc: Global, fault: RankFault, text: &str) -> Result<bool, AllocError> {
     Ok(format!(in alloc; "{fault}")?.as_str() == text)
 }
 
-/// Faults, and the texts that tell them.
+/// Faults and their texts.
 const TOLD: [(RankFault, &str); 2] = [
     (
         RankFault::NotThere(3),
@@ -495,7 +495,7 @@ const TOLD: [(RankFault, &str); 2] = [
     ),
 ];
 
-/// The first of the faults that is told otherwise.
+/// The first of the faults with another text.
 fn wrong_told(alloc: Global) -> Result<Option<usize>, AllocError> {
     for (place, (fault, text)) in TOLD.iter().enumerate() {
         if !is_told(alloc, *fault, text)? {

@@ -20,7 +20,7 @@ const REPORT: &[u8] = b"s 1 0\nd 1 0\nd 2 5\nd 3 2\nd 4 6\n";
 const WITH_WALKS: &[u8] =
     b"s 1 0\nd 1 0\nw 1 0\nd 2 5\nw 2 2 2 3\nd 3 2\nw 3 1 2\nd 4 6\nw 4 3 2 3 4\n";
 
-/// The network of what was read of a graph; none if it makes none.
+/// The network of a graph that was read; none if it makes none.
 fn network_with(alloc: Global, graph: &RawGraph) -> Option<Network> {
     let Ok(arcs) = arcs_of(alloc, graph, None) else {
         return None;
@@ -39,7 +39,7 @@ fn network_of(alloc: Global, text: &[u8]) -> Option<Network> {
     }
 }
 
-/// What it results in that the report of a network with plain arcs goes out; none if there is no answer.
+/// The result of sending the report of a network with plain arcs; none if there is no answer.
 fn report_of<W: ByteOut>(
     alloc: Global,
     network: &Network,
@@ -58,7 +58,7 @@ fn report_of<W: ByteOut>(
     }
 }
 
-/// What it results in that the report of a graph goes out; none if there is no answer.
+/// The result of sending the report of a graph; none if there is no answer.
 fn report<W: ByteOut>(
     alloc: Global,
     text: &[u8],
@@ -147,7 +147,7 @@ fn reports_of_graphs(rt: HostRuntime) {
     assert_none_wrong(&rt, wrong_report(rt.alloc()));
 }
 
-/// Adds the lines of a node with its walk, and says whether it could.
+/// Adds the lines of a node with its walk, and returns whether it could.
 fn add_node(text: &mut Vec<u8>, arcs: &mut ArcTexts<'_>, answer: &Answer, node: u32) -> bool
     requires { arcs.old.links ≡ answer.now.links }
     ensures { arcs.new.links ≡ arcs.old.links }
@@ -161,7 +161,7 @@ fn add_node(text: &mut Vec<u8>, arcs: &mut ArcTexts<'_>, answer: &Answer, node: 
     push_node(text, arcs, answer, node, true).is_ok()
 }
 
-/// Adds the lines of nodes with their walks, in this order, and says whether it could.
+/// Adds the lines of nodes with their walks, in this order, and returns whether it could.
 fn add_nodes(text: &mut Vec<u8>, arcs: &mut ArcTexts<'_>, answer: &Answer, nodes: &[u32]) -> bool
     requires { arcs.old.links ≡ answer.now.links }
 {
@@ -230,7 +230,7 @@ type Lines = (
 );
 
 const LINES: [Lines; 2] = [
-    // Walks that continue along those of nodes before.
+    // Walks that extend those of nodes before.
     (
         GRAPH,
         &[(1, 0)],
@@ -288,7 +288,7 @@ fn failed_after(written: u128) -> Result<u128, WriteFault> {
     })
 }
 
-/// What it results in that the report of the four nodes goes out; none if there is no answer.
+/// The result of sending the report of the four nodes; none if there is no answer.
 fn written<W: ByteOut>(alloc: Global, out: &mut W) -> Option<Result<u128, WriteFault>> {
     match query_of(alloc, &[(1, 0)]) {
         Ok(Some(query)) => report(alloc, GRAPH, &query, false, out),
@@ -296,8 +296,7 @@ fn written<W: ByteOut>(alloc: Global, out: &mut W) -> Option<Result<u128, WriteF
     }
 }
 
-/// Whether a writer with room for seven bytes fails behind them, once, and whether it has the front of the
-/// report.
+/// Whether a writer with room for seven bytes fails after them, once, and has the first bytes of the report.
 fn takes_seven(alloc: Global) -> (bool, bool) {
     let mut room = [0u8; 7];
     let mut out = StdOut::new(room.as_mut_slice());
@@ -313,7 +312,7 @@ fn writer_of_seven_bytes(rt: HostRuntime) {
     assert_that(&rt, "has the front of the report", front);
 }
 
-/// Whether a device with room for this many bytes takes the front of the report, and then fails.
+/// Whether a device with room for this many bytes takes the first bytes of the report, and then fails.
 fn takes_front(alloc: Global, count: usize) -> bool
     requires { count ≤ 30 }
 {
@@ -323,7 +322,7 @@ fn takes_front(alloc: Global, count: usize) -> bool
     written == Some(failed_after(count as u128)) && REPORT.starts_with(&room[..count])
 }
 
-/// The first room that doesn't take the front of the report.
+/// The first room that doesn't take the first bytes of the report.
 fn wrong_front(alloc: Global) -> Option<usize> {
     for count in 0..30usize {
         if !takes_front(alloc, count) {
@@ -360,8 +359,7 @@ impl Write for Slow {
     }
 }
 
-/// Whether it results in this that the report goes out to a writer with this many interruptions, and they are
-/// counted.
+/// Whether sending the report to a writer with this many interruptions has this result, and they are counted.
 fn is_interrupted(alloc: Global, interruptions: u64, wanted: Result<u128, WriteFault>) -> bool {
     let mut out = StdOut::new(Slow {
         interruptions,
@@ -382,7 +380,7 @@ fn interruptions(rt: HostRuntime) {
     assert_that(&rt, "one more isn't", one_more);
 }
 
-/// What it results in that these totals go out into room for them.
+/// The result of sending these totals into room for them.
 fn written_totals(room: &mut [u8]) -> Result<u128, WriteFault> {
     let totals = Totals {
         seeded: 1,
@@ -400,14 +398,14 @@ fn written_totals(room: &mut [u8]) -> Result<u128, WriteFault> {
 const TOTALS: &[u8] =
     b"c seeded 1\nc pushed 5\nc popped 6\nc stale 2\nc scanned 4\nc returned 0\nc drained 0\nc finish 340282366920938463463374607431768211455\n";
 
-/// Whether they go out whole into room for them.
+/// Whether they are sent whole into room for them.
 fn are_written() -> bool {
     let mut room = [0u8; 256];
     let written = written_totals(room.as_mut_slice());
     written == Ok(TOTALS.len() as u128) && room.starts_with(TOTALS)
 }
 
-/// Whether their front goes out into room for nine bytes.
+/// Whether their first bytes are sent into room for nine bytes.
 fn are_cut() -> bool {
     let mut room = [0u8; 9];
     let written = written_totals(room.as_mut_slice());
@@ -420,7 +418,7 @@ fn stats(rt: HostRuntime) {
     assert_that(&rt, "cut", are_cut());
 }
 
-/// Whether a fault is told by this text.
+/// Whether a fault has this text.
 fn is_told(
     alloc: Global,
     written: u128,
@@ -431,7 +429,7 @@ fn is_told(
     Ok(format!(in alloc; "{fault}")?.as_str() == text)
 }
 
-/// Faults by what was written before and their sort, and the texts that tell them.
+/// Faults, by the bytes written before and their kind, and their texts.
 const TOLD: [(u128, WriteFaultKind, &str); 2] = [
     (
         7,
@@ -445,7 +443,7 @@ const TOLD: [(u128, WriteFaultKind, &str); 2] = [
     ),
 ];
 
-/// The first of the faults that is told otherwise.
+/// The first of the faults with another text.
 fn wrong_told(alloc: Global) -> Result<Option<usize>, AllocError> {
     for (place, (written, kind, text)) in TOLD.iter().enumerate() {
         if !is_told(alloc, *written, *kind, text)? {
@@ -461,12 +459,12 @@ fn messages(rt: HostRuntime) -> Result<(), Fail> {
     Ok(())
 }
 
-/// Whether a sort of fault is told by this text.
+/// Whether a kind of fault has this text.
 fn is_kind_told(alloc: Global, kind: WriteFaultKind, text: &str) -> Result<bool, AllocError> {
     Ok(format!(in alloc; "{kind}")?.as_str() == text)
 }
 
-/// Sorts of faults, and the texts that tell them.
+/// Kinds of faults and their texts.
 const KINDS: [(WriteFaultKind, &str); 2] = [
     (
         WriteFaultKind::WriteFailed,
@@ -478,7 +476,7 @@ const KINDS: [(WriteFaultKind, &str); 2] = [
     ),
 ];
 
-/// The first of the sorts that is told otherwise.
+/// The first of the kinds with another text.
 fn wrong_kind(alloc: Global) -> Result<Option<usize>, AllocError> {
     for (place, (kind, text)) in KINDS.iter().enumerate() {
         if !is_kind_told(alloc, *kind, text)? {

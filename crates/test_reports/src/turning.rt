@@ -6,7 +6,7 @@ use rand_core::utils::NextWord;
 use rand_core::{Rng, utils};
 use std::marker::Model;
 
-/// Gives 0, 1, 2, 0, 1, 2 and so on.
+/// Returns 0, 1, 2, 0, 1, 2 and so on.
 #[derive(Drop)]
 pub struct Turning(pub u64);
 

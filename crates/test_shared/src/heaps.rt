@@ -1,4 +1,4 @@
-// Heaps of many entries, 128 heaps, and calls of one seat where nothing stands in the way.
+// Heaps of many entries, 128 heaps, and calls of one seat without any other.
 ghost use Rattle.std.specs.Prelude.{◌≡◌, ◌<◌, ◌≤◌, ◌+◌};
 ghost use Rattle.arrayvec.specs.ArrayVec.{array_vec_len};
 ghost use Rattle.ea_pool.specs.Entries.{AreKnown};
@@ -30,14 +30,14 @@ pub fn key_at(step: u64) -> u64
 
 const MANY: u64 = 10_007;
 
-/// A step on heaps by known words: an entry of a key and a node goes in, or is what comes out.
+/// A step on heaps by known words: pushes an entry of this key and node, or pops it.
 #[derive(Clone, Copy)]
 pub enum Step {
     In(u64, u64, u32),
     Out(u64, u64, Option<(u64, u32)>),
 }
 
-/// The key and the node of what came out.
+/// The key and the node of a popped entry.
 pub fn shown(out: Option<Entry>) -> Option<(u64, u32)> {
     match out {
         Some(entry) => Some((entry.key, entry.node)),
@@ -45,8 +45,7 @@ pub fn shown(out: Option<Entry>) -> Option<(u64, u32)> {
     }
 }
 
-/// The first of the steps that goes otherwise. Where another number of entries than this is left behind them,
-/// the place behind them.
+/// The first of the steps that goes wrong; the number of steps if another number of entries is left.
 pub fn wrong_in_solo<A: Allocator>(
     solo: &mut Solo<A>,
     steps: &[Step],
@@ -68,7 +67,7 @@ pub fn wrong_in_solo<A: Allocator>(
     }
 }
 
-/// Pushes this many entries into two heaps, and says how many went in.
+/// Pushes this many entries into two heaps, and returns how many went in.
 fn push_many_to_solo(solo: &mut Solo) -> u64 {
     let mut pushed = 0u64;
     for step in 0..MANY {
@@ -79,7 +78,7 @@ fn push_many_to_solo(solo: &mut Solo) -> u64 {
     pushed
 }
 
-/// Pops as often, and says how many pops gave the keys in their order.
+/// Pops as often, and returns how many pops gave the keys in their order.
 fn pop_many_of_solo(solo: &mut Solo) -> u64 {
     let mut popped = 0u64;
     for key in 0..MANY {
@@ -126,7 +125,7 @@ fn solo_takes_a_key_of_the_horizon(rt: HostRuntime) -> Result<(), Fail> {
     Ok(())
 }
 
-/// A push goes to the heap of its whole word: the heap of the word's lowest six bits stays empty.
+/// A push uses the whole word: the heap drawn by its lowest six bits stays empty.
 const FAR_IN_SOLO: [Step; 12] = [
     Step::In(127, 5, 1),
     Step::Out(63, 0, None),
@@ -142,7 +141,7 @@ const FAR_IN_SOLO: [Step; 12] = [
     Step::Out(64, 0, Some((5, 4))),
 ];
 
-/// Pushes a key into each of 128 heaps, and says how many went in.
+/// Pushes a key into each of 128 heaps, and returns how many went in.
 fn push_each(solo: &mut Solo) -> u64 {
     let mut pushed = 0u64;
     for word in 0..128 {
@@ -153,8 +152,8 @@ fn push_each(solo: &mut Solo) -> u64 {
     pushed
 }
 
-/// Pops each key of its heap, and says how many came out. The second heap is the one before the first, or the
-/// last: it is empty, or has a greater key.
+/// Pops each key from its heap, and returns how many were popped. The second heap is the one before the
+/// first, or the last: it is empty, or has a greater key.
 fn pop_each(solo: &mut Solo) -> u64 {
     let mut popped = 0u64;
     for word in 0..128 {
@@ -182,7 +181,7 @@ fn solo_of_128_heaps(rt: HostRuntime) -> Result<(), Fail> {
     Ok(())
 }
 
-/// What a pop answers where this comes out.
+/// The result of a pop that gives this entry.
 fn popped(out: Option<(u64, u32)>) -> Popped {
     match out {
         Some((key, node)) => Popped::Entry(entry(key, node)),
@@ -190,7 +189,7 @@ fn popped(out: Option<(u64, u32)>) -> Popped {
     }
 }
 
-/// Whether a step by a seat goes as it is said. Its key is at most the horizon.
+/// Whether a step by a seat goes as expected. Its key is at most the horizon.
 fn goes_so<A: Allocator>(
     pool: &Pool<AnyPair, A>,
     seat: &mut PoolSeat<AnyPair, A>,
@@ -208,7 +207,7 @@ fn goes_so<A: Allocator>(
     }
 }
 
-/// The first of the steps by a seat that goes otherwise.
+/// The first of the steps by a seat that goes wrong.
 pub fn wrong_step<A: Allocator>(
     pool: &Pool<AnyPair, A>,
     seat: &mut PoolSeat<AnyPair, A>,
@@ -227,7 +226,7 @@ pub fn wrong_step<A: Allocator>(
     None
 }
 
-/// The first of the steps by the one seat of a new pool that goes otherwise.
+/// The first of the steps by the one seat of a new pool that goes wrong.
 pub fn wrong_step_alone(
     alloc: Global,
     heaps: usize,
@@ -258,7 +257,7 @@ fn pool_of_128_heaps(rt: HostRuntime) -> Result<(), Fail> {
     Ok(())
 }
 
-/// Whether the entries that are left come out so, by the order of their keys.
+/// Whether the entries left are popped in the order of their keys.
 pub fn come_out<A: Allocator>(mut left: ClosedPool<A>, outs: &[Option<(u64, u32)>]) -> bool {
     let mut right = true;
     for out in outs {
@@ -267,8 +266,8 @@ pub fn come_out<A: Allocator>(mut left: ClosedPool<A>, outs: &[Option<(u64, u32)
     right
 }
 
-/// Whether a closing pool gives the four entries of two seats in their order, by a pop and then as it is
-/// left.
+/// Whether the four entries of two seats are popped in their order, one by a pop and the rest from the closed
+/// pool.
 pub fn gives_four<A: Allocator>(pool: Pool<AnyPair, A>, mut seat: PoolSeat<AnyPair, A>) -> bool
     requires { IsSeatOf pool seat × ((account_of seat).shares ≡ SHARES) }
 {
@@ -285,7 +284,7 @@ const REST_OF_FOUR: [Option<(u64, u32)>; 5] = [
     None,
 ];
 
-// Pushes this many entries, and says how many went in.
+// Pushes this many entries, and returns how many went in.
 fn push_many(pool: &Pool<AnyPair>, seat: &mut PoolSeat<AnyPair>) -> u64
     requires { IsSeatOf pool.now seat.old }
     ensures { IsSeatOf pool.now seat.new × ((account_of seat.new).shares ≡ (account_of seat.old).shares) }
@@ -300,7 +299,7 @@ fn push_many(pool: &Pool<AnyPair>, seat: &mut PoolSeat<AnyPair>) -> u64
     pushed
 }
 
-// Pops as often, and says how many pops gave the keys in their order.
+// Pops as often, and returns how many pops gave the keys in their order.
 fn pop_many(pool: &Pool<AnyPair>, seat: &mut PoolSeat<AnyPair>) -> u64
     requires { IsSeatOf pool.now seat.old }
     ensures { IsSeatOf pool.now seat.new × ((account_of seat.new).shares ≡ (account_of seat.old).shares) }
@@ -314,7 +313,7 @@ fn pop_many(pool: &Pool<AnyPair>, seat: &mut PoolSeat<AnyPair>) -> u64
     popped
 }
 
-// Whether all of them go in and come out, and a pop finds nothing then.
+// Whether all of them are pushed and popped, and a pop finds nothing then.
 fn go_through(pool: &Pool<AnyPair>, seat: &mut PoolSeat<AnyPair>) -> bool
     requires { IsSeatOf pool.now seat.old }
     ensures { IsSeatOf pool.now seat.new × ((account_of seat.new).shares ≡ (account_of seat.old).shares) }
@@ -324,7 +323,7 @@ fn go_through(pool: &Pool<AnyPair>, seat: &mut PoolSeat<AnyPair>) -> bool
     pool.pop_as(seat, 0, 0) == Popped::Empty && pushed == MANY && popped == MANY
 }
 
-// Whether all go through by a seat alone and beside another one that holds nothing, and whether nothing is
+// Whether all are pushed and popped by a seat alone and with another one that holds nothing, and nothing is
 // left.
 fn go_through_by_one(alloc: Global) -> Result<(bool, bool, bool), OutOfMemory> {
     let (pool, mut seat) = Pool::<AnyPair>::open(alloc, 2)?;
@@ -335,8 +334,8 @@ fn go_through_by_one(alloc: Global) -> Result<(bool, bool, bool), OutOfMemory> {
     Ok((alone, beside, come_out(pool.close(seat), &[None])))
 }
 
-/// With one seat alone no push is refused: not one is told as want of memory. Another seat that holds nothing
-/// changes none of it.
+/// With one seat no push is refused or reports refused memory. Another seat that holds nothing doesn't change
+/// that.
 #[test]
 fn nothing_is_refused_where_nothing_stands_in_the_way(rt: HostRuntime) -> Result<(), Fail> {
     let (alone, beside, empty) = go_through_by_one(rt.alloc())?;
@@ -346,7 +345,7 @@ fn nothing_is_refused_where_nothing_stands_in_the_way(rt: HostRuntime) -> Result
     Ok(())
 }
 
-// Offers node 2 ever lower times, each twice, and says how many lowered its label.
+// Offers node 2 falling times, each twice, and returns how many lowered its label.
 fn lower(labels: &Labels<AnyPair>, seat: &mut LabelSeat<AnyPair>) -> u64
     requires { (seat.old.table ≡ labels.now.table) × (labels.now.nodes ≡ 2) }
     ensures { seat.new.table ≡ seat.old.table }
@@ -360,7 +359,7 @@ fn lower(labels: &Labels<AnyPair>, seat: &mut LabelSeat<AnyPair>) -> u64
     lowered
 }
 
-// How many lowered it, and the labels of nodes 2 and 1 then.
+// How many lowered it, and the labels of nodes 2 and 1 afterwards.
 fn lowered_alone(alloc: Global) -> Result<(u64, u64, u64), OutOfMemory> {
     let (labels, mut seat) = Labels::<AnyPair>::open(alloc, 2)?;
     let lowered = lower(&labels, &mut seat);
@@ -399,7 +398,7 @@ fn three() -> Batch
     batch
 }
 
-// Whether a pop of at most two entries into a batch answers so, and the batch has these entries then.
+// Whether a pop of at most two entries into a batch has this result and leaves this batch.
 fn pops_two(
     pool: &Pool<AnyPair>,
     seat: &mut PoolSeat<AnyPair>,
@@ -419,7 +418,7 @@ const FIRST_TWO: [Entry; 2] = [Entry { key: 3, node: 1 }, Entry { key: 4, node: 
 
 const LAST: [Entry; 1] = [Entry { key: 5, node: 1 }];
 
-// Whether three entries go in whole.
+// Whether three entries are pushed whole.
 fn push_three(pool: &Pool<AnyPair>, seat: &mut PoolSeat<AnyPair>) -> bool
     requires { IsSeatOf pool.now seat.old }
     ensures { IsSeatOf pool.now seat.new }
@@ -428,7 +427,7 @@ fn push_three(pool: &Pool<AnyPair>, seat: &mut PoolSeat<AnyPair>) -> bool
     pool.push_all_as(seat, 0, &mut batch).is_ok() && batch.is_empty()
 }
 
-// Whether they come out by twos, and a batch that has the last of them takes no more then.
+// Whether they are popped by twos, and a batch with the last of them takes no more.
 fn come_out_by_twos(pool: &Pool<AnyPair>, seat: &mut PoolSeat<AnyPair>) -> bool
     requires { IsSeatOf pool.now seat.old }
 {
@@ -442,14 +441,14 @@ fn come_out_by_twos(pool: &Pool<AnyPair>, seat: &mut PoolSeat<AnyPair>) -> bool
     right
 }
 
-// Whether three entries go in and come out by twos.
+// Whether three entries are pushed and popped by twos.
 fn three_come_out(alloc: Global) -> Result<(bool, bool), OutOfMemory> {
     let (pool, mut seat) = Pool::<AnyPair>::open(alloc, 2)?;
     let pushed = push_three(&pool, &mut seat);
     Ok((pushed, come_out_by_twos(&pool, &mut seat)))
 }
 
-/// A batch goes into one heap whole, and comes out by twos, the least first.
+/// A batch is pushed into one heap whole, and popped by twos, the least first.
 #[test]
 fn batch_of_two(rt: HostRuntime) -> Result<(), Fail> {
     let (pushed, popped) = three_come_out(rt.alloc())?;

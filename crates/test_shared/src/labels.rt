@@ -1,4 +1,4 @@
-// What no clause says: the worked examples, and threads that meet on one table.
+// What no clause says: the worked examples, and threads on one table.
 ghost use Rattle.std.specs.Prelude.{◌≡◌, ◌≤◌, ◌<◌};
 ghost use Rattle.std.specs.Thread.{IsSync};
 
@@ -9,7 +9,7 @@ use std::alloc::{Allocator, Global};
 use std::test::Fail;
 use std::thread::{Threads, join};
 
-// Offers a time at node 1, and then reads its label.
+// Offers a time at node 1, then reads its label.
 fn offer_and_read<K: Known>(
     labels: &Labels<K>,
     mut seat: LabelSeat<K>,
@@ -25,7 +25,7 @@ fn offer_and_read<K: Known>(
     (seat, offered, read)
 }
 
-// Two threads offer 10 and 8 and then read: what was answered and read.
+// Two threads offer 10 and 8 and then read: the outcomes and the labels read.
 fn offer_by_two<R: Threads + Sync>(
     rt: &R,
     labels: &Labels<AnyPair>,
@@ -51,23 +51,22 @@ fn offer_by_two<R: Threads + Sync>(
     (first, (offered, read), (by_second, read_second))
 }
 
-/// What a thread was answered, and what it read.
+/// A thread's outcome, and the label that it read.
 type Told = (Offered, u64);
 
-// Whether the thread that offers 10 is told so: it lowers the label or finds 8 there, and reads one of both.
+// Whether the thread that offers 10 may see this: it lowers the label or finds 8, and reads one of both.
 fn is_ten_told(told: Told) -> bool {
     let (offered, read) = told;
     (offered == Offered::Lowered || offered == Offered::Kept(8)) && (read == 10 || read == 8)
 }
 
-// Whether the thread that offers 8 is told so: it lowers the label, and reads 8.
+// Whether the thread that offers 8 may see this: it lowers the label, and reads 8.
 fn is_eight_told(told: Told) -> bool {
     let (offered, read) = told;
     offered == Offered::Lowered && read == 8
 }
 
-// Whether two threads are reported so that offer at once, and whether their table closes with the least
-// offer.
+// Whether two threads that offer at once see allowed results, and their table closes with the least offer.
 fn are_two_told<R: Threads + Sync>(
     rt: &R,
     alloc: Global,
@@ -90,8 +89,8 @@ fn two_offers(rt: HostRuntime) -> Result<(), Fail> {
     Ok(())
 }
 
-// Whether a table of three nodes tells what it should of node 2 while 7, 5, 9 and 5 are offered by one seat:
-// the label before, what is answered, and the label after, by either seat.
+// Whether node 2 of three has the right labels and outcomes while one seat offers 7, 5, 9 and 5: the label
+// before, the outcome, and the label after, by either seat.
 fn are_offers_told<A: Allocator>(
     labels: &Labels<AnyPair, A>,
     seat: &mut LabelSeat<AnyPair>,
@@ -111,7 +110,7 @@ fn are_offers_told<A: Allocator>(
     right & (labels.read(other, 2) == 5)
 }
 
-// Whether two seats of a table of three nodes are reported so, have 63 shares and one, and 64 together.
+// Whether two seats of a table of three nodes see that, have 63 shares and one, and 64 together.
 fn are_two_seats_told<A: Allocator>(
     labels: &Labels<AnyPair, A>,
     seat: &mut LabelSeat<AnyPair>,
@@ -127,8 +126,8 @@ fn are_two_seats_told<A: Allocator>(
     (told, shares && seat.shares() == 64)
 }
 
-/// Whether two seats of a new table are reported what they should be, have the shares that they should have,
-/// and whether their table closes with the label.
+/// Whether two seats of a new table see the right results and have the right shares, and their table closes
+/// with the label.
 pub fn told_by_two_seats<A: Allocator + Copy>(alloc: A) -> Result<(bool, bool, bool), OutOfMemory> {
     let (labels, mut seat) = Labels::<AnyPair, A>::open(alloc, 3)?;
     let (told, shares) = are_two_seats_told(&labels, &mut seat);
@@ -154,7 +153,7 @@ fn next(word: u64) -> u64 {
         .wrapping_add(1442695040888963407)
 }
 
-// The offer that a word stands for: a node of the seven, and a time that falls with the rounds.
+// The offer of a word: one of seven nodes, and a time that falls with the rounds.
 fn offer_of(word: u64, round: u32) -> (u32, u64)
     requires { round < ROUNDS }
     ensures node { (1 ≤ result.0) × (result.0 ≤ NODES) }
@@ -165,7 +164,7 @@ fn offer_of(word: u64, round: u32) -> (u32, u64)
     (node, time)
 }
 
-// Offers in each round, from a seed of its own.
+// Offers in each round, from a separate seed.
 fn hammer(labels: &Labels<AnyPair>, mut seat: LabelSeat<AnyPair>, seed: u64) -> LabelSeat<AnyPair>
     requires { (seat.table ≡ labels.now.table) × (labels.now.nodes ≡ NODES) }
     ensures { (result.table ≡ seat.table) × (result.history.shares ≡ seat.history.shares) }
@@ -179,7 +178,7 @@ fn hammer(labels: &Labels<AnyPair>, mut seat: LabelSeat<AnyPair>, seed: u64) -> 
     seat
 }
 
-// Two hammers at once, by one seat.
+// Two threads that offer at once, by one seat.
 fn hammer_twice<R: Threads + Sync>(
     rt: &R,
     labels: &Labels<AnyPair>,
@@ -207,7 +206,7 @@ fn hammer_twice<R: Threads + Sync>(
     seat
 }
 
-// Four hammers at once, of which two start two more.
+// Four threads that offer at once; two of them start two more.
 fn hammer_four_times<R: Threads + Sync>(
     rt: &R,
     labels: &Labels<AnyPair>,
@@ -253,7 +252,7 @@ fn least_offer(node: u32) -> u64 {
     least
 }
 
-// The first node whose word is not the least time that it was offered.
+// The first node whose word is not the least time offered.
 fn wrong_word(words: &[u64]) -> Option<usize> {
     for node in 1..NODES + 1 {
         if words.get(node as usize - 1) != Some(&least_offer(node)) {

@@ -1,4 +1,4 @@
-// What no clause says: the worked examples, and threads that meet on one pool.
+// What no clause says: the worked examples, and threads on one pool.
 ghost use Rattle.std.specs.Prelude.{◌≡◌, ◌<◌};
 ghost use Rattle.std.specs.Thread.{IsSync};
 ghost use Rattle.ea_pool.specs.Seats.{account_of, IsSeatOf};
@@ -31,7 +31,7 @@ fn solo_and_ranks(rt: HostRuntime) -> Result<(), Fail> {
     Ok(())
 }
 
-// Pushes two entries, and says whether both went in.
+// Pushes two entries, and returns whether both went in.
 fn push_two<K: Known>(
     pool: &Pool<K>,
     mut seat: PoolSeat<K>,
@@ -49,7 +49,7 @@ fn push_two<K: Known>(
 }
 
 // The same by two threads at once, each with two entries: whether each one's went in, and the shares of both
-// seats then.
+// seats afterwards.
 fn push_by_two<R: Threads + Sync>(
     rt: &R,
     pool: &Pool<AnyPair>,
@@ -77,11 +77,11 @@ fn push_by_two<R: Threads + Sync>(
     (seat, (one, two), shares)
 }
 
-/// Whether the entries of two threads went in, the shares of their seats, and whether they come out in their
-/// order.
+/// Whether the entries of two threads went in, the shares of their seats, and whether they are popped in
+/// their order.
 type ByTwo = ((bool, bool), (u32, u32), bool);
 
-// What two threads on one pool come to.
+// The results of two threads on one pool.
 fn pushed_by_two<R: Threads + Sync>(rt: &R, alloc: Global) -> Result<ByTwo, OutOfMemory> {
     let (pool, seat) = Pool::<AnyPair>::open(alloc, 4)?;
     let (seat, pushed, shares) = push_by_two(rt, &pool, seat);
@@ -120,8 +120,8 @@ fn one_seat_is_never_busy(rt: HostRuntime) -> Result<(), Fail> {
     Ok(())
 }
 
-// The entries that a thread popped or got handed back. `whole` is false where there was no memory to keep
-// them.
+// The entries that a thread popped or that were handed back to it. `whole` is false if memory to keep them
+// was refused.
 #[derive(Drop)]
 struct Kept {
     entries: Vec<Entry>,
@@ -143,7 +143,7 @@ impl Kept {
     }
 }
 
-// Pushes an entry of a key, with a pop after it. The word is the key.
+// Pushes an entry with a key, and pops after it. The word is the key.
 fn push_and_pop_key(pool: &Pool<AnyPair>, seat: &mut PoolSeat<AnyPair>, kept: &mut Kept, key: u64)
     requires { IsSeatOf pool.now seat.old × (key < 20000000) }
     ensures { IsSeatOf pool.now seat.new × ((account_of seat.new).shares ≡ (account_of seat.old).shares) }
@@ -157,7 +157,7 @@ fn push_and_pop_key(pool: &Pool<AnyPair>, seat: &mut PoolSeat<AnyPair>, kept: &m
     }
 }
 
-// Pushes entries with the keys `from` to `from + count - 1`, each with a pop after it.
+// Pushes entries with the keys `from` to `from + count - 1`, and pops after each.
 fn push_and_pop(
     pool: &Pool<AnyPair>,
     mut seat: PoolSeat<AnyPair>,
@@ -174,7 +174,7 @@ fn push_and_pop(
     (seat, kept)
 }
 
-// The same by two threads, of which the second continues behind the first's keys.
+// The same by two threads; the second continues after the first's keys.
 fn push_and_pop_by_two<R: Threads + Sync>(
     rt: &R,
     alloc: Global,
@@ -234,7 +234,7 @@ fn push_and_pop_by_four<R: Threads + Sync>(
     (seat, (a, b), (c, d))
 }
 
-// Counts the entries at their keys.
+// Counts entries by key.
 fn count_all(counts: &mut [u32], entries: &[Entry]) {
     for entry in entries {
         let key = entry.key;
@@ -259,7 +259,7 @@ fn is_each_once(counts: &[u32]) -> bool {
     counts.iter().all(|&count| count == 1)
 }
 
-// Counts what two threads kept, and says whether it is whole.
+// Counts what two threads kept, and returns whether it is whole.
 fn count_kept(counts: &mut [u32], kept: (Kept, Kept)) -> bool {
     let (first, second) = kept;
     count_all(counts, first.entries.as_slice());
@@ -267,7 +267,7 @@ fn count_kept(counts: &mut [u32], kept: (Kept, Kept)) -> bool {
     first.whole && second.whole
 }
 
-// Whether two threads keep all that they pop of a thousand entries each, and give each once.
+// Whether two threads keep all that they pop of a thousand entries each, and pop each once.
 fn each_once_by_two<R: Threads + Sync>(rt: &R, alloc: Global) -> Result<(bool, bool), OutOfMemory> {
     let mut counts = [0u32; 2000];
     let (pool, seat) = Pool::<AnyPair>::open(alloc, 8)?;
@@ -287,7 +287,7 @@ fn pool_two_thousand(rt: HostRuntime) -> Result<(), Fail> {
     Ok(())
 }
 
-// Whether four threads keep all that they pop of 100,000 entries each, and give each once.
+// Whether four threads keep all that they pop of 100,000 entries each, and pop each once.
 fn each_once_by_four<R: Threads + Sync>(
     rt: &R,
     alloc: Global,
@@ -325,7 +325,7 @@ fn pop_few<H: EntryHeap>(
     batch
 }
 
-// Counts popped entries at their nodes, where their keys are right.
+// Counts popped entries by node, if their keys are right.
 fn count_few(counts: &mut [u32], batch: &Batch) {
     for entry in batch.as_slice() {
         let node = entry.node as usize;
@@ -335,7 +335,7 @@ fn count_few(counts: &mut [u32], batch: &Batch) {
     }
 }
 
-// Pushes each number as a node at its key, with a pop of at most three behind every second push.
+// Pushes each number as a node with its key, and pops at most three after every second push.
 fn push_and_pop_few<H: EntryHeap>(
     pool: &Pool<AnyPair, Global, H>,
     seat: &mut PoolSeat<AnyPair, Global, H>,
@@ -371,7 +371,7 @@ fn pop_the_rest<H: EntryHeap>(
     }
 }
 
-// Whether each entry comes out once of heaps of a kind, and none is refused or left.
+// Whether each entry is popped once from heaps of a kind, and none is refused or left.
 fn gives_each_once<H: OpenHeap<Global>>(alloc: Global, width: u64) -> Result<bool, OutOfMemory> {
     let mut counts = [0u32; 10007];
     let (pool, mut seat) = Pool::<AnyPair, Global, H>::open_with(alloc, 3, width)?;
@@ -381,10 +381,10 @@ fn gives_each_once<H: OpenHeap<Global>>(alloc: Global, width: u64) -> Result<boo
     Ok(refused == 0 && left.is_none() && is_each_once(counts.as_slice()))
 }
 
-/// Windows of one time, of many, and of all.
+/// Windows of one time, of many, and of all times.
 const WIDTHS: [u64; 5] = [0, 1, 64, 1_000_000, u64::MAX];
 
-// The first of the widths by which buckets don't give each entry once.
+// The first width with which buckets don't give each entry once.
 fn wrong_width(alloc: Global) -> Result<Option<usize>, OutOfMemory> {
     for (place, width) in WIDTHS.iter().enumerate() {
         if !gives_each_once::<Buckets<Global>>(alloc, *width)? {
@@ -402,7 +402,7 @@ fn both_kinds_give_each_entry_once(rt: HostRuntime) -> Result<(), Fail> {
     Ok(())
 }
 
-// Counts what is left in a closed pool at its nodes, and says what comes out after it.
+// Counts by node what is left in a closed pool, and returns what one more call gives.
 fn count_nodes_left<H: EntryHeap>(
     counts: &mut [u32],
     mut left: ClosedPool<Global, H>,
@@ -418,8 +418,8 @@ fn count_nodes_left<H: EntryHeap>(
     left.next_of_any()
 }
 
-// Whether each entry comes out once, some of them of the closed pool, and none is refused or comes behind
-// all.
+// Whether each entry is popped once, some of them from the closed pool, and none is refused or comes after
+// the end.
 fn leaves_each_once(alloc: Global) -> Result<bool, OutOfMemory> {
     let mut counts = [0u32; 10007];
     let (pool, mut seat) = Pool::<AnyPair, Global, Buckets<Global>>::open_with(alloc, 2, 64)?;
@@ -443,8 +443,8 @@ fn distance(batch: &Batch, place: u64) -> u64 {
     far
 }
 
-// Pushes each key once into two heaps, and pops all in turn. The greatest distance of a key from its place in
-// the order.
+// Pushes each key once into two heaps, and pops all in turn. Returns the greatest distance of a key from its
+// place in the order.
 fn farthest<H: EntryHeap>(
     pool: &Pool<AnyPair, Global, H>,
     seat: &mut PoolSeat<AnyPair, Global, H>,
@@ -470,7 +470,7 @@ fn farthest_by<H: OpenHeap<Global>>(alloc: Global, width: u64) -> Result<u64, Ou
 
 const NARROW: [u64; 4] = [0, 16, 64, 256];
 
-// The first of the widths by which a key lies farther from its place than two windows.
+// The first width with which a key is farther from its place than two windows.
 fn first_too_far(alloc: Global) -> Result<Option<usize>, OutOfMemory> {
     for (place, width) in NARROW.iter().enumerate() {
         if farthest_by::<Buckets<Global>>(alloc, *width)? > 2 * *width {
@@ -480,8 +480,7 @@ fn first_too_far(alloc: Global) -> Result<Option<usize>, OutOfMemory> {
     Ok(None)
 }
 
-// The order of what comes out is that of the keys, or nearly: with buckets it is wrong by no more than two
-// windows.
+// Keys are popped in their order; with buckets, off by no more than two windows.
 #[test]
 fn early_times_come_first(rt: HostRuntime) -> Result<(), Fail> {
     let far = farthest_by::<LeastHeap<Global>>(rt.alloc(), 0)?;

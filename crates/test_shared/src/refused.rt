@@ -1,4 +1,4 @@
-//! Tests where memory is refused: an allocator of little memory stands in for the system's.
+//! Tests with refused memory: an allocator with little memory replaces the system's.
 
 mod batches;
 mod labels;

@@ -1,4 +1,4 @@
-// Batches into heaps of both kinds, where growth is refused in the middle of them.
+// Batches into heaps of both kinds, with growth refused in the middle of them.
 ghost use Rattle.std.specs.Prelude.{◌≡◌, ◌<◌, ◌≤◌};
 ghost use Rattle.arrayvec.specs.ArrayVec.{array_vec_len};
 ghost use Rattle.ea_base.specs.declared.limits.TheConstants.{HORIZON};
@@ -20,15 +20,15 @@ use std::test::Fail;
 /// The number of keys, each pushed once.
 const KEYS: u64 = 600;
 
-/// The numbers below 600 in another order, which lie in lists of many bits: 131 has no divisor in common with
-/// 600.
+/// The numbers below 600 in another order, which go into lists of many bits: 131 and 600 have no common
+/// divisor.
 fn key_at(number: u64) -> u64
     ensures { result < 600 }
 {
     (number % KEYS) * 131 % KEYS
 }
 
-/// Four entries with keys of their own.
+/// Four entries with different keys.
 fn four(step: u64) -> Batch
     requires { step < 150 }
     ensures len { array_vec_len result ≡ 4 }
@@ -42,7 +42,7 @@ fn four(step: u64) -> Batch
     batch
 }
 
-/// Counts each entry of a batch at its key.
+/// Counts the entries of a batch by key.
 fn count_batch(counts: &mut [u32], batch: &Batch) {
     for entry in batch.as_slice() {
         count(counts, *entry);
@@ -56,7 +56,7 @@ fn is_front_of_four(batch: &Batch, step: u64) -> bool
     four(step).as_slice().starts_with(batch.as_slice())
 }
 
-/// Pushes four entries. What is left of them is counted, and is right. Says whether memory was refused.
+/// Pushes four entries. Counts what is left of them, and checks it. Returns whether memory was refused.
 fn push_four<A: Allocator, H: EntryHeap>(
     pool: &Pool<AnyPair, A, H>,
     seat: &mut PoolSeat<AnyPair, A, H>,
@@ -108,7 +108,7 @@ fn count_rest<A: Allocator, H: EntryHeap>(counts: &mut [u32], mut left: ClosedPo
     }
 }
 
-/// Pushes all keys by fours, with a pop behind every other push. How many pushes were refused.
+/// Pushes all keys by fours, with a pop after every other push. Returns how many pushes were refused.
 fn push_and_pop<A: Allocator, H: EntryHeap>(
     pool: &Pool<AnyPair, A, H>,
     seat: &mut PoolSeat<AnyPair, A, H>,
@@ -131,7 +131,7 @@ fn push_and_pop<A: Allocator, H: EntryHeap>(
     refused
 }
 
-/// How often pushes were refused in so little memory; none if the pool was.
+/// How often pushes were refused with this little memory; none if the pool was.
 fn refused_within<'a, H: OpenHeap<&'a LocalHeap>>(
     memory: &'a LocalHeap,
     counts: &mut [u32],
@@ -145,8 +145,8 @@ fn refused_within<'a, H: OpenHeap<&'a LocalHeap>>(
     Some(refused)
 }
 
-/// What heaps of a kind come to in more and more memory: how often the pool was refused, and how often it was
-/// opened and pushes were refused then, all of them or some. Each entry is there once, whatever was refused.
+/// The outcomes with more and more memory: how often the pool was refused, and how often it was opened and
+/// all or some pushes were refused. Each entry is there once, whatever was refused.
 fn tries<'a, H: OpenHeap<&'a LocalHeap>>(
     memory: &'a LocalHeap,
     counts: &mut [u32],
@@ -168,7 +168,7 @@ fn tries<'a, H: OpenHeap<&'a LocalHeap>>(
     }
 }
 
-/// Whether buckets in so much memory fare rightly, and give it back.
+/// Whether buckets with this much memory behave as expected, and free it.
 fn try_buckets(alloc: Global, bytes: usize, tally: &mut [u32; 3]) -> Result<bool, AllocError> {
     let mut counts = [0u32; 600];
     let memory = LocalHeap::new(alloc, bytes)?;
@@ -176,7 +176,7 @@ fn try_buckets(alloc: Global, bytes: usize, tally: &mut [u32; 3]) -> Result<bool
     Ok(right && memory.used() == 0)
 }
 
-/// The first of sixty memories, each greater than the one before, in which buckets don't fare rightly.
+/// The first of sixty growing memories with which buckets don't behave as expected.
 fn wrong_buckets(alloc: Global, tally: &mut [u32; 3]) -> Result<Option<usize>, AllocError> {
     for step in 0..60 {
         if !try_buckets(alloc, 2048 + 512 * step, tally)? {
@@ -196,7 +196,7 @@ fn buckets_refused_in_the_middle_of_a_batch(rt: HostRuntime) -> Result<(), Fail>
     Ok(())
 }
 
-/// Whether least heaps in so much memory fare rightly, and give it back.
+/// Whether least heaps with this much memory behave as expected, and free it.
 fn try_least(alloc: Global, bytes: usize, tally: &mut [u32; 3]) -> Result<bool, AllocError> {
     let mut counts = [0u32; 600];
     let memory = LocalHeap::new(alloc, bytes)?;
@@ -204,7 +204,7 @@ fn try_least(alloc: Global, bytes: usize, tally: &mut [u32; 3]) -> Result<bool, 
     Ok(right && memory.used() == 0)
 }
 
-/// The first of forty memories, each greater than the one before, in which least heaps don't fare rightly.
+/// The first of forty growing memories with which least heaps don't behave as expected.
 fn wrong_least(alloc: Global, tally: &mut [u32; 3]) -> Result<Option<usize>, AllocError> {
     for step in 0..40 {
         if !try_least(alloc, 512 + 256 * step, tally)? {

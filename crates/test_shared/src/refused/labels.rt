@@ -5,7 +5,8 @@ use linked_list_allocator::LocalHeap;
 use std::test::Fail;
 use test_support::tally::Tally;
 
-/// Whether a table in this memory tells what it should, and closes with the labels; none if it was refused.
+/// Whether a table in this memory gives the right results, and closes with the labels; none if it was
+/// refused.
 fn tells(memory: &LocalHeap) -> Option<bool> {
     match told_by_two_seats(memory) {
         Ok((told, shares, closed)) => Some(told && shares && closed),

@@ -25,8 +25,8 @@ fn take_all<'a>(alloc: Global, memory: &'a LocalHeap) -> Vec<Vec<u8, &'a LocalHe
     blocks
 }
 
-// Pushes an entry. Where its growth is refused, that is counted, what is held is given back, and the push is
-// made again. Says whether the entry went in.
+// Pushes an entry. If its growth is refused, counts that, frees what is held, and pushes again. Returns
+// whether the entry went in.
 fn push_again<'a>(
     pool: &Pool<AnyPair, &'a LocalHeap>,
     seat: &mut PoolSeat<AnyPair, &'a LocalHeap>,
@@ -49,7 +49,7 @@ fn push_again<'a>(
     }
 }
 
-// Pushes so two entries, from a word on, and says whether both went in.
+// Pushes two entries like that, from a word on, and returns whether both went in.
 fn push_two_again<'a>(
     pool: &Pool<AnyPair, &'a LocalHeap>,
     seat: &mut PoolSeat<AnyPair, &'a LocalHeap>,
@@ -66,7 +66,7 @@ fn push_two_again<'a>(
     one && two
 }
 
-// Pushes so four entries by two seats, as two threads do, and says whether all went in.
+// Pushes four entries like that by two seats, as two threads do, and returns whether all went in.
 fn push_four_again<'a>(
     pool: &Pool<AnyPair, &'a LocalHeap>,
     seat: &mut PoolSeat<AnyPair, &'a LocalHeap>,
@@ -83,7 +83,7 @@ fn push_four_again<'a>(
     one && two
 }
 
-// The same where all memory is taken first but this piece, which is given back.
+// The same after all memory was taken except this piece.
 fn push_four_in<'a>(
     alloc: Global,
     memory: &'a LocalHeap,
@@ -101,7 +101,7 @@ fn push_four_in<'a>(
 }
 
 // Whether a pool in this memory gives four entries that two seats push; none if it can't be opened. A piece
-// of memory is left for its growths at first. The memory is one thread's alone.
+// of memory is left for its growth at first. Only one thread uses the memory.
 fn gives_pushed<'a>(
     alloc: Global,
     memory: &'a LocalHeap,
@@ -118,8 +118,8 @@ fn gives_pushed<'a>(
     }
 }
 
-// How a pool of four entries fares in ever more memory, and how often a push was made again. Memory that
-// isn't given back is wrong.
+// How a pool of four entries fares with more and more memory, and how often a push was repeated. Memory that
+// isn't freed is wrong.
 fn fare_with_four(alloc: Global) -> Result<(Tally, u32), AllocError> {
     let mut tally = Tally::new();
     let mut again: u32 = 0;
@@ -145,7 +145,7 @@ fn open_is_refused_or_whole(rt: HostRuntime) -> Result<(), Fail> {
     Ok(())
 }
 
-// Whether a push without memory is refused, and a pop finds nothing then.
+// Whether a push without memory is refused, and a pop finds nothing afterwards.
 fn is_refused<'a>(
     alloc: Global,
     memory: &'a LocalHeap,
@@ -174,7 +174,7 @@ fn is_pushed<'a>(
 
 const ONE_OUT: [Option<(u64, u32)>; 2] = [Some((3, 1)), None];
 
-// Whether a push without memory is refused, and with memory isn't: of one entry, which comes out then.
+// Whether a push of one entry is refused without memory and succeeds with it, and the entry is popped.
 fn is_pushed_again(alloc: Global, memory: &LocalHeap) -> Result<(bool, bool), AllocError> {
     let (pool, mut seat) = Pool::<AnyPair, &LocalHeap>::open(memory, 2)?;
     let refused = is_refused(alloc, memory, &pool, &mut seat);
@@ -183,7 +183,7 @@ fn is_pushed_again(alloc: Global, memory: &LocalHeap) -> Result<(bool, bool), Al
     Ok((refused, pushed && rest))
 }
 
-// The same in a memory of its own.
+// The same in a separate memory.
 fn push_in_memory(alloc: Global) -> Result<(bool, bool), AllocError> {
     let memory = LocalHeap::new(alloc, 65536)?;
     is_pushed_again(alloc, &memory)
@@ -197,7 +197,7 @@ fn push_refused_then_again(rt: HostRuntime) -> Result<(), Fail> {
     Ok(())
 }
 
-// Counts an entry at its key.
+// Counts an entry by key.
 pub fn count(counts: &mut [u32], entry: Entry) {
     let key = entry.key;
     if key < counts.len() as u64 {
@@ -216,7 +216,7 @@ fn count_left<A: Allocator>(counts: &mut [u32], mut left: ClosedPool<A>) {
     }
 }
 
-// Pushes an entry with this key, and says whether its growth was refused. What comes back is counted.
+// Pushes an entry with this key, and returns whether its growth was refused. Counts what is handed back.
 fn push_or_count<'a>(
     pool: &Pool<AnyPair, &'a LocalHeap>,
     seat: &mut PoolSeat<AnyPair, &'a LocalHeap>,
@@ -250,7 +250,7 @@ fn pop_and_count<'a>(
     }
 }
 
-// Pushes 600 keys, with a pop behind every seventh push, and says how many growths were refused.
+// Pushes 600 keys, with a pop after every seventh push, and returns how many growths were refused.
 fn push_six_hundred<'a>(
     pool: &Pool<AnyPair, &'a LocalHeap>,
     seat: &mut PoolSeat<AnyPair, &'a LocalHeap>,
@@ -319,7 +319,7 @@ fn solo_hands_the_entry_back(rt: HostRuntime) -> Result<(), Fail> {
     Ok(())
 }
 
-// Whether a Solo is empty, and gives the one entry that is pushed or hands it back.
+// Whether a `Solo` is empty, and gives the one entry that is pushed or hands it back.
 fn gives_one(solo: &mut Solo<&LocalHeap>) -> bool {
     let empty = solo.len() == 0;
     let one = match solo.push_at(3, entry(1, 4)) {
@@ -329,7 +329,7 @@ fn gives_one(solo: &mut Solo<&LocalHeap>) -> bool {
     empty && one && solo.pop_at(3, 0).is_none()
 }
 
-// Whether a new Solo in this memory does so; none if it was refused.
+// Whether a new `Solo` in this memory does; none if it was refused.
 fn gives_one_in(memory: &LocalHeap) -> Option<bool> {
     match Solo::<&LocalHeap>::new(memory, 4) {
         Ok(mut solo) => Some(gives_one(&mut solo)),

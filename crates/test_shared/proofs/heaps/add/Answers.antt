@@ -7,7 +7,7 @@ use Rattle.ea_pool.specs.Entries.{only, AreKnown, IsKnown}
 use Rattle.ea_pool.proofs.Weights.{known_one}
 use Rattle.test_shared.proofs.heaps.add.Goals as goal
 
--- one more that is known
+-- one more known entry
 known_snoc : (known : ℕ → ℕ → Type 0) (xs : List Entry) (x : Entry) → AreKnown known xs → IsKnown known x → AreKnown known (xs ++ x ∷ [])
 known_snoc known [] x all may e there = known_one known x may e there
 known_snoc known (y ∷ xs) x all may e there = dite (dec_lt 0 (only e y)) (λ here. all e (omega arith)) (λ none. known_snoc known xs x (λ d some. all d (omega arith)) may e (omega arith))
