@@ -19,8 +19,8 @@ const VISITED: [Visit; 6] = [
     (6, 4, 0, false),
 ];
 
-/// The index of the first of the counts that is not the expected one in a run of one worker over two heaps
-/// with batches of two, whose generator always gives 0; behind them all where its arrivals are, or its turns.
+/// The index of the first wrong count in a run of one worker over two heaps with batches of two, whose
+/// generator always returns 0; the number of counts if the arrivals or the turns are wrong.
 fn wrong_by_twos<H: Threads + Sync>(
     alloc: Global,
     rt: &H,
@@ -87,7 +87,7 @@ fn batch_of_two_in_two_turns(rt: HostRuntime) -> Result<(), Fail> {
 
 const NODES: u16 = 40;
 
-/// Runs workers that leave at a turn of this number.
+/// Runs workers that leave at the turn with this number.
 fn run_until<H: Threads + Sync>(
     alloc: Global,
     rt: &H,
@@ -115,7 +115,7 @@ fn run_until<H: Threads + Sync>(
     run(alloc, rt, given, crew)
 }
 
-/// Whether a worker's counts hang together.
+/// Whether a worker's counts are consistent.
 fn is_even(c: &Counters) -> bool {
     let kinds = [c.empty, c.busy, c.stale, c.scanned, c.refused, c.cut];
     let mut turns = 0u64;
@@ -131,7 +131,7 @@ fn is_even(c: &Counters) -> bool {
         && c.pushed <= c.lowered
 }
 
-/// Whether the counts of a run are in balance.
+/// Whether the counts of a run balance.
 fn is_balanced(came: &Came) -> bool {
     let mut pushed = came.seeded;
     let mut popped = came.drained;
@@ -144,8 +144,8 @@ fn is_balanced(came: &Came) -> bool {
     even && pushed == popped && came.finish <= came.drained.wrapping_add(came.returned)
 }
 
-/// Whether a run of workers that leave at a turn of this number gives the answer of one thread and counts
-/// that are in balance.
+/// Whether a run of workers that leave at the turn with this number gives the answer of one thread, with
+/// counts that balance.
 fn is_right_until<H: Threads + Sync>(
     alloc: Global,
     rt: &H,
@@ -159,7 +159,7 @@ fn is_right_until<H: Threads + Sync>(
     Ok(is_balanced(&came) && are_same(&came.answer, alone, NODES))
 }
 
-/// How many turns each worker makes at most, and at which it leaves.
+/// The most turns of each worker, and the turn at which it leaves.
 const ENDS: [(u64, u64); 7] = [
     (0, 9),
     (1, 9),
@@ -170,7 +170,7 @@ const ENDS: [(u64, u64); 7] = [
     (900, 900),
 ];
 
-/// Whether this many workers are right, whose turns are few or whose tracers leave.
+/// Whether this many workers are right with few turns or with tracers that leave.
 fn are_workers_right<H: Threads + Sync>(
     alloc: Global,
     rt: &H,
@@ -191,7 +191,7 @@ fn are_workers_right<H: Threads + Sync>(
     Ok(true)
 }
 
-/// The number of workers, and how large their batches.
+/// The number of workers, and the size of their batches.
 const CREWS: [(u32, u32); 25] = [
     (1, 1),
     (1, 2),
@@ -220,7 +220,7 @@ const CREWS: [(u32, u32); 25] = [
     (16, 64),
 ];
 
-/// Whether each number of workers is right on one network, with batches of each size.
+/// Whether each number of workers is right on one network with batches of each size.
 fn all_right<H: Threads + Sync>(
     alloc: Global,
     rt: &H,
@@ -250,7 +250,7 @@ fn are_batches_right<H: Threads + Sync>(alloc: Global, rt: &H, seed: u64) -> Res
     all_right(alloc, rt, &given, seed, &alone)
 }
 
-/// The first seed whose network has a run that isn't right.
+/// The first seed with a run that isn't right.
 fn wrong_seed<H: Threads + Sync>(alloc: Global, rt: &H) -> Result<Option<usize>, Fail> {
     for seed in 0..12u64 {
         if !are_batches_right(alloc, rt, seed)? {

@@ -24,10 +24,10 @@ fn goes_on(member: &mut Member<'_>, turns: u32) -> bool {
 }
 
 /// Which of two workers makes turns of a kind, from which number on and how many, and whether it continues
-/// after all.
+/// after all of them.
 type Row = (usize, TurnKind, u64, u64, bool);
 
-/// The first of the rows that goes otherwise with two workers of a new company.
+/// The first of the rows that goes wrong with two workers of a new company.
 fn wrong_row(rows: &[Row]) -> Option<usize> {
     let company = Company::new();
     let mut one = company.member();
@@ -61,7 +61,7 @@ fn nobody_leaves_before_the_first_entry_is_found(rt: HostRuntime) {
     assert_that(&rt, "goes on", goes_on(&mut early, 2_000));
 }
 
-/// Short pauses, those of 160 turns, are no end.
+/// Short pauses, those of 160 turns, end no worker.
 const ALL_LEAVE: [Row; 11] = [
     (0, TurnKind::Scanned, 1, 1, true),
     (1, TurnKind::Empty, 0, 2_000, true),
@@ -93,7 +93,7 @@ fn a_refused_worker_leaves(rt: HostRuntime) {
     assert_none_wrong(&rt, wrong_row(&REFUSED));
 }
 
-/// After how many visits a worker leaves in each of which this many labels fall, at most 100,000.
+/// The visit after which a worker leaves if this many labels fall in each, at most 100,000.
 fn visits_of_falls(member: &mut Member<'_>, lowered: u64) -> u64 {
     for number in 0..100_000 {
         if !after_falls(member, number, TurnKind::Scanned, lowered) {
@@ -103,8 +103,8 @@ fn visits_of_falls(member: &mut Member<'_>, lowered: u64) -> u64 {
     100_000
 }
 
-/// Whether a worker leaves after this many visits as should be, while the other one found nothing in 160
-/// turns; and the other one then.
+/// Whether a worker leaves after this many visits as expected, after the other found nothing in 160 turns,
+/// and whether the other one does.
 fn leaves_alone() -> bool {
     let company = Company::new();
     let mut one = company.member();
@@ -116,11 +116,11 @@ fn leaves_alone() -> bool {
     alone > 10_000 && alone < 100_000 && !goes_on(&mut other, 2_000)
 }
 
-/// What the other one does before a worker's visits: whether it scans an entry or makes this many turns that
-/// find nothing; and how many labels fall in each visit. The worker makes 100,000 visits and continues.
+/// What the other worker does before a worker's visits: it scans an entry, or makes this many turns that find
+/// nothing; and how many labels fall in each visit. The worker makes 100,000 visits and continues.
 const STAYS: [(bool, u32, u64); 3] = [(true, 0, 1), (false, 0, 1), (false, 160, 0)];
 
-/// Whether the other one continues after that; there is none if it does nothing.
+/// Whether the other worker continues after that; true if it does nothing.
 fn other_goes_on(company: &Company, scans: bool, turns: u32) -> bool {
     if !scans && turns == 0 {
         return true;
@@ -152,14 +152,13 @@ fn a_worker_that_is_long_alone_leaves(rt: HostRuntime) {
     assert_that(&rt, "both leave", leaves_alone());
 }
 
-/// Nobody leaves while others are active, before others begin, or from visits that lead nowhere.
+/// No worker leaves while others are active, before others begin, or during visits that lower nothing.
 #[test]
 fn nobody_else_leaves(rt: HostRuntime) {
     assert_none_wrong(&rt, wrong_stay());
 }
 
-/// After how many visits a worker leaves in each of which ten labels fall, while another is active; at most
-/// 10,000.
+/// The visit after which a worker leaves if ten labels fall in each, while another is active; at most 10,000.
 fn visits_of_ten_falls(company: &Company) -> u64 {
     let mut one = company.member();
     let mut other = company.member();
@@ -173,13 +172,13 @@ fn visits_of_ten_falls(company: &Company) -> u64 {
     10_000
 }
 
-/// Nodes of a company, and after how many such visits a worker leaves. 100 + 50 + 16,384 labels may fall:
-/// after visit 1,600 16,010 fell, and after visit 1,664 16,650. 1,000 + 500 + 16,384: after visit 1,728
-/// 17,290 fell, and after visit 1,792 17,930.
+/// The nodes of a company, and the visit after which a worker leaves. 100 + 50 + 16,384 labels may fall:
+/// 16,010 fell after visit 1,600, and 16,650 after visit 1,664. 1,000 + 500 + 16,384: 17,290 fell after visit
+/// 1,728, and 17,930 after visit 1,792.
 const FALLS: [(u32, u64); 3] = [(100, 1_664), (1_000, 1_792), (1_000_000, 10_000)];
 
-/// The index of the first company whose worker leaves after another number of visits; behind them all where
-/// one of a company of which nothing is known does.
+/// The index of the first company whose worker leaves after another number of visits; the number of companies
+/// if a worker of a company of unknown size leaves.
 fn wrong_falls() -> Option<usize> {
     for (place, (nodes, visits)) in FALLS.iter().enumerate() {
         if visits_of_ten_falls(&Company::on(*nodes)) != *visits {
@@ -197,8 +196,8 @@ fn workers_leave_where_labels_fall_too_often(rt: HostRuntime) {
     assert_none_wrong(&rt, wrong_falls());
 }
 
-/// The number of the first visit after which a worker leaves of a company on 100 nodes, where a million
-/// labels fall in each; 300 where it doesn't.
+/// The number of the visit after which a worker of a company on 100 nodes leaves if a million labels fall in
+/// each; 300 if it doesn't.
 fn first_look() -> u64 {
     let company = Company::on(100);
     let mut one = company.member();
@@ -215,8 +214,8 @@ fn workers_look_from_turn_256_on(rt: HostRuntime) {
     assert_that(&rt, "visit 256 is the last", first_look() == 256);
 }
 
-/// Whether a worker still continues that found nothing in this many turns after 16,000 such ones, beside an
-/// active one.
+/// Whether a worker still continues after this many turns that found nothing, after 16,000 before, with
+/// another worker active.
 fn goes_on_after_waits(company: &Company, turns: u32) -> bool {
     let mut one = company.member();
     let mut other = company.member();
@@ -228,16 +227,16 @@ fn goes_on_after_waits(company: &Company, turns: u32) -> bool {
 
 #[test]
 fn workers_leave_where_they_wait_too_long(rt: HostRuntime) {
-    // 16,384 may find nothing, and one for the 2 visits. After 639 more turns 512 more count, after 640 more
-    // 513.
+    // 16,384 turns may find nothing, and one more for the 2 visits. After 639 more turns 512 more count,
+    // after 640 more 513.
     let (goes, leaves) = (Company::on(1_000_000), Company::on(1_000_000));
     assert_that(&rt, "goes on after 639", goes_on_after_waits(&goes, 639));
     assert_that(&rt, "leaves after 640", !goes_on_after_waits(&leaves, 640));
     assert_that(&rt, "goes on", goes_on_after_waits(&Company::new(), 20_000));
 }
 
-/// Whether a worker continues that finds an entry after each 127 turns that found nothing, so often, beside
-/// an active one.
+/// Whether a worker continues that finds an entry after every 127 turns that found nothing, this often, with
+/// another worker active.
 fn goes_on_after_short_waits(company: &Company, finds: u64) -> bool {
     let mut one = company.member();
     let mut other = company.member();

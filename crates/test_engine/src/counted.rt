@@ -12,7 +12,8 @@ use std::test::Fail;
 use std::thread::Threads;
 use test_support::networks::Given;
 
-/// The key, the node and the lowered heads of a turn that visits an entry, and whether the entry is stale.
+/// The key, the node and the number of lowered heads of a turn that visits an entry, and whether the entry is
+/// stale.
 pub type Visit = (u64, u32, u64, bool);
 
 /// The visits of one worker that pops entry by entry, in their order.
@@ -25,7 +26,7 @@ pub const POPPED: [Visit; 6] = [
     (11, 4, 0, true),
 ];
 
-/// Whether a turn is what the turn of its number is: the first ones are these visits, the rest are empty.
+/// Whether a turn is the one expected for its number: the first ones are these visits, the rest are empty.
 fn is_right(turn: &Turn, visits: &[Visit]) -> bool {
     let (key, node, lowered) = (turn.key, turn.node, turn.lowered);
     match turn.kind {
@@ -38,7 +39,7 @@ fn is_right(turn: &Turn, visits: &[Visit]) -> bool {
     }
 }
 
-/// Whether this is the visit of a turn's number.
+/// Whether this is the visit of the turn with this number.
 fn is_visit(turn: &Turn, visits: &[Visit], visit: Visit) -> bool {
     match visits.get(turn.number as usize) {
         Some(wanted) => *wanted == visit,
@@ -46,8 +47,7 @@ fn is_visit(turn: &Turn, visits: &[Visit], visit: Visit) -> bool {
     }
 }
 
-/// What a turn adds to the number of the turns before it: 1, and far more where it isn't the turn that comes
-/// next.
+/// What a turn adds to the number of turns before it: 1, or far more if it isn't the expected turn.
 fn step(turn: &Turn, before: u64, visits: &[Visit]) -> u64 {
     if turn.number == before && is_right(turn, visits) {
         1
@@ -56,8 +56,8 @@ fn step(turn: &Turn, before: u64, visits: &[Visit]) -> u64 {
     }
 }
 
-/// How one worker runs on four-nodes: which visits it makes, at which turn it leaves, and how many turns its
-/// tracer is shown.
+/// A run of one worker on four-nodes: its visits, the turn at which it leaves, and the number of turns that
+/// its tracer sees.
 #[derive(Clone, Copy)]
 pub struct Watched {
     pub settings: Settings,
@@ -66,8 +66,8 @@ pub struct Watched {
     pub turns: u64,
 }
 
-/// The index of the first of the counts that is not the expected one in a run of one worker; behind them all
-/// where its arrivals are, or a turn that its tracer is shown.
+/// The index of the first wrong count in a run of one worker; the number of counts if the arrivals, or a turn
+/// that its tracer sees, are wrong.
 fn wrong_on<H: Threads + Sync, R: Rng + Send + Drop>(
     alloc: Global,
     rt: &H,
@@ -103,8 +103,8 @@ pub fn wrong_watched<H: Threads + Sync, R: Rng + Send + Drop>(
     wrong_on(alloc, rt, &four(alloc)?, watched, rng, wanted)
 }
 
-/// The same of a worker that pops entry by entry, makes this many turns at most and leaves at the turn of a
-/// number.
+/// The same for a worker that pops entry by entry, makes at most this many turns and leaves at the turn with
+/// this number.
 pub fn wrong_until<H: Threads + Sync>(
     alloc: Global,
     rt: &H,
@@ -123,7 +123,7 @@ pub fn wrong_until<H: Threads + Sync>(
     wrong_watched(alloc, rt, &watched, words, wanted)
 }
 
-/// With batches of one entry each turn pops once, and each lowered head is pushed by itself.
+/// With batches of one entry each turn pops once, and each lowered head is pushed alone.
 const OF_ONE_WORKER: [Wanted; 15] = [
     (Count::Workers, 1),
     (Count::Seeded, 1),
@@ -164,8 +164,7 @@ fn leave_at_once(rt: HostRuntime) -> Result<(), Fail> {
     assert_told(&rt, wrong_until(rt.alloc(), &rt, 100, 0, 1, &LEFT_AT_ONCE))
 }
 
-/// The index of the first of the counts that is not the expected one in a run of workers whose turns are
-/// shown to no one.
+/// The index of the first wrong count in a run of workers without tracers.
 fn wrong_crew<H: Threads + Sync, R: Rng + Send + Drop>(
     alloc: Global,
     rt: &H,
@@ -203,7 +202,7 @@ const OVER_EIGHT: [Wanted; 7] = [
     (Count::Popped, 0),
 ];
 
-/// The words of the one worker pick heap 2 first, and then heap 5.
+/// The words of the one worker draw heap 2 first, then heap 5.
 #[test]
 fn eight_heaps(rt: HostRuntime) -> Result<(), Fail> {
     let rngs = constants(rt.alloc(), 1, 2)?;

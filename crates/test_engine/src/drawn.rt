@@ -1,4 +1,4 @@
-//! Which heaps are looked at: seeds and pops with known words over eight heaps.
+//! Which heaps are inspected: seeds and pops with known words over eight heaps.
 use crate::ran::{
     Count, Wanted, assert_told, constants, posed, run_crew_on_four, run_with, singly, total,
     wrong_beside,
@@ -38,18 +38,18 @@ fn run_turns<H: Threads + Sync, R: Rng + Send + Drop>(
     ))
 }
 
-/// Sources, the two words that a generator gives in turn, how many turns there are, and what they come to on
+/// Sources, the two words between which a generator alternates, the number of turns, and the outcome on
 /// four-nodes.
 type Case = (&'static [(u32, u64)], u64, u64, u64, Few);
 
-/// What the turns of a case come to.
+/// The outcome of a case.
 fn run_case<H: Threads + Sync>(alloc: Global, rt: &H, case: &Case) -> Result<Few, Fail> {
     let (sources, word, next, turns, _) = *case;
     let given = posed(alloc, 4, &FOUR_NODES, sources)?;
     run_turns(alloc, rt, &given, InTurn { word, next }, turns)
 }
 
-/// The index of the first case that results in something else.
+/// The index of the first case with another outcome.
 fn wrong_case<H: Threads + Sync>(
     alloc: Global,
     rt: &H,
@@ -71,7 +71,7 @@ const SEEDS: [Case; 3] = [
     (THREE, 2, 2, 1, (2, 0, 0)),
 ];
 
-/// A word is taken for each push and not for each source: the third source's entry is in heap 1.
+/// Each push takes a word, not each source: the third source's entry is in heap 1.
 #[test]
 fn seeds_take_words_where_they_are_pushed(rt: HostRuntime) -> Result<(), Fail> {
     assert_told(&rt, wrong_case(rt.alloc(), &rt, &SEEDS))
@@ -86,7 +86,7 @@ const POPS: [Case; 4] = [
     (ONE, 6, 9, 1, (1, 0, 0)),
 ];
 
-/// The one entry is in heap 0, which a pop looks at by its first word or by its second.
+/// The one entry is in heap 0, which a pop inspects by its first word or by its second.
 #[test]
 fn pop_draws_two_words_in_their_order(rt: HostRuntime) -> Result<(), Fail> {
     assert_told(&rt, wrong_case(rt.alloc(), &rt, &POPS))
@@ -94,16 +94,15 @@ fn pop_draws_two_words_in_their_order(rt: HostRuntime) -> Result<(), Fail> {
 
 const PUSH: [Case; 1] = [(&[(2, 0)], 3, 11, 2, (1, 2, 4))];
 
-/// The first turn looks at heaps 3 and 0, pops the seed and pushes one entry with word 3; the second one
-/// finds it in heap 3.
+/// The first turn inspects heaps 3 and 0, pops the seed and pushes one entry with word 3; the second finds it
+/// in heap 3.
 #[test]
 fn push_goes_to_the_heap_of_its_word(rt: HostRuntime) -> Result<(), Fail> {
     assert_told(&rt, wrong_case(rt.alloc(), &rt, &PUSH))
 }
 
-/// The index of the first of the counts that is not the expected one in a run of two workers with eight heaps
-/// each, whose generators give this word alone; behind them all where they pop entries and shouldn't, or
-/// should and don't.
+/// The index of the first wrong count in a run of two workers with eight heaps each, whose generators return
+/// only this word; the number of counts if they pop entries although they shouldn't, or the reverse.
 fn wrong_two<H: Threads + Sync>(
     alloc: Global,
     rt: &H,
@@ -127,10 +126,10 @@ const OF_TWO: [Wanted; 7] = [
     (Count::Popped, 0),
 ];
 
-/// A word, whether two workers pop entries by it, and what is counted.
+/// A word, whether two workers pop entries by it, and the counts.
 type OfWord = (u64, bool, &'static [Wanted]);
 
-/// Words 16 and 32 pick heap 0 of sixteen.
+/// Words 16 and 32 draw heap 0 of sixteen.
 const WORDS: [OfWord; 5] = [
     (2, false, &OF_TWO),
     (8, false, &OF_TWO),
@@ -139,7 +138,7 @@ const WORDS: [OfWord; 5] = [
     (32, true, &[]),
 ];
 
-/// The index of the first word by which two workers run otherwise.
+/// The index of the first word by which two workers run differently.
 fn wrong_word<H: Threads + Sync>(alloc: Global, rt: &H) -> Result<Option<usize>, Fail> {
     for (place, (word, pops, wanted)) in WORDS.iter().enumerate() {
         if wrong_two(alloc, rt, *word, *pops, wanted)?.is_some() {
@@ -149,14 +148,14 @@ fn wrong_word<H: Threads + Sync>(alloc: Global, rt: &H) -> Result<Option<usize>,
     Ok(None)
 }
 
-/// Two workers with eight heaps each share sixteen: words 8 and 24 look at heap 8 and another, and of
-/// eight heaps they would look at the seed's.
+/// Two workers with eight heaps each share sixteen: words 8 and 24 draw heap 8 and another; with eight heaps
+/// they would draw the seed's.
 #[test]
 fn heaps_are_as_many_for_each_worker(rt: HostRuntime) -> Result<(), Fail> {
     assert_told(&rt, wrong_word(rt.alloc(), &rt))
 }
 
-/// Six arcs of one node among others, so that the order of heads, of weights and of arcs differ.
+/// Six arcs of one node among others, with different orders of heads, of weights and of arcs.
 const FAN: [Row; 8] = [
     (2, 7, 90, 0),
     (1, 5, 6, 0),
@@ -168,7 +167,7 @@ const FAN: [Row; 8] = [
     (1, 4, 10, 0),
 ];
 
-/// This many turns on the fan, by words that count.
+/// This many turns on the fan, with words that count.
 fn run_on_fan<H: Threads + Sync>(alloc: Global, rt: &H, turns: u64) -> Result<Few, Fail> {
     let given = posed(alloc, 7, &FAN, &[(1, 0)])?;
     run_turns(alloc, rt, &given, Numbered(0), turns)
@@ -177,7 +176,7 @@ fn run_on_fan<H: Threads + Sync>(alloc: Global, rt: &H, turns: u64) -> Result<Fe
 /// The node of each number of turns on the fan, from one turn on.
 const ON_FAN: [u64; 5] = [1, 3, 5, 7, 6];
 
-/// The index of the first number of turns that results in something else.
+/// The index of the first number of turns with another outcome.
 fn wrong_on_fan<H: Threads + Sync>(alloc: Global, rt: &H) -> Result<Option<usize>, Fail> {
     for (place, node) in ON_FAN.iter().enumerate() {
         let turns = place as u64 + 1;
@@ -188,8 +187,8 @@ fn wrong_on_fan<H: Threads + Sync>(alloc: Global, rt: &H) -> Result<Option<usize
     Ok(None)
 }
 
-/// The words count: 0 and 1 pop the seed from heap 0, and then 2 to 7 bring the heads to heaps 2 to 7 in the
-/// order of the arcs. The next turns look at heaps 0 and 3, 2 and 7, 4 and 3, 6 and 0.
+/// The words count: 0 and 1 pop the seed from heap 0, and then 2 to 7 push the heads to heaps 2 to 7 in the
+/// order of the arcs. The next turns inspect heaps 0 and 3, 2 and 7, 4 and 3, 6 and 0.
 #[test]
 fn arcs_are_followed_in_ascending_order(rt: HostRuntime) -> Result<(), Fail> {
     assert_told(&rt, wrong_on_fan(rt.alloc(), &rt))

@@ -7,11 +7,12 @@ use std::test::Fail;
 use std::thread::Threads;
 use test_support::networks::Given;
 
-/// Counts its calls by three workers, of which each makes fewer than 1,000 turns, and notes a call whose
+/// Counts its calls by three workers, each of which makes fewer than 1,000 turns, and records a call whose
 /// number isn't the count so far.
 #[derive(Drop)]
 struct Counting {
-    /// Those of worker 0, a thousand for each of worker 1, and a million for each of worker 2.
+    /// The sum: one for each call of worker 0, a thousand for each of worker 1, and a million for each of
+    /// worker 2.
     calls: AtomicU64,
     wrong: AtomicU64,
 }
@@ -34,7 +35,7 @@ impl Gate for Counting {
     }
 }
 
-/// How many calls are a worker's.
+/// The number of a worker's calls.
 fn calls_of(calls: u64, worker: u32) -> u64 {
     match worker {
         0 => calls % 1_000,
@@ -44,7 +45,7 @@ fn calls_of(calls: u64, worker: u32) -> u64 {
 }
 
 impl Counting {
-    /// Notes a turn that is shown where its gate wasn't the last one that was called for its worker.
+    /// Records a turn that a tracer sees unless the last call of its worker's gate was for it.
     fn shown(&self, worker: u32, turn: u64) {
         let calls = self.calls.load(Ordering::SeqCst);
         if calls_of(calls, worker) != turn.wrapping_add(1) {
@@ -53,7 +54,7 @@ impl Counting {
     }
 }
 
-/// Runs three workers with this gate, each of which leaves at a turn of its own.
+/// Runs three workers with this gate, each of which leaves at a different turn.
 fn run_gated<H: Threads + Sync>(
     alloc: Global,
     rt: &H,
@@ -80,8 +81,8 @@ fn run_gated<H: Threads + Sync>(
     run(alloc, rt, given, crew)
 }
 
-/// The first worker that made no turns, or another number than the gate was called for it; behind them all
-/// where there aren't three workers, or a call was wrong.
+/// The first worker without turns, or with another number of turns than calls of the gate; the number of
+/// workers if there aren't three, or a call was wrong.
 fn wrong_worker(counters: &[Counters], gate: &Counting) -> Option<usize> {
     if counters.len() != 3 || gate.wrong.load(Ordering::SeqCst) != 0 {
         return Some(counters.len());
@@ -95,7 +96,7 @@ fn wrong_worker(counters: &[Counters], gate: &Counting) -> Option<usize> {
     None
 }
 
-/// The same of a run.
+/// The same for a run.
 fn wrong_counting<H: Threads + Sync>(
     alloc: Global,
     rt: &H,

@@ -1,11 +1,11 @@
-//! Words that keep a worker at its own heaps.
+//! Words that mostly draw a worker's own heaps.
 use crate::asserts::{assert_none_wrong, assert_that};
 use ea_engine::Homing;
 use rand_core::{Rng, SeedableRng};
 use rand_xoshiro::Xoshiro256PlusPlus;
 use test_support::constant::Constant;
 
-/// Whether two words in a row draw two different heaps of a worker's own, as a pop draws them.
+/// Whether two consecutive words, as a pop draws them, draw two different own heaps of a worker.
 fn draws_its_own(first: u64, second: u64, worker: u32, workers: u32, heaps: u32) -> bool {
     let own = u64::from(heaps);
     let all = u64::from(workers).wrapping_mul(own);
@@ -19,7 +19,7 @@ fn draws_its_own(first: u64, second: u64, worker: u32, workers: u32, heaps: u32)
     i != j && from <= i && i < end && from <= j && j < end
 }
 
-/// Whether 20 pairs of a worker's words draw heaps of its own; not with it no such worker.
+/// Whether 20 pairs of a worker's words draw its own heaps; false if there is no such worker.
 fn all_draw_its_own(worker: u32, workers: u32, heaps: u32) -> bool {
     if worker >= workers || workers > 16 || heaps < 2 || heaps > 8 {
         return false;
@@ -59,20 +59,20 @@ fn words_draw_the_heaps_of_their_worker(rt: HostRuntime) {
     assert_none_wrong(&rt, wrong_workers());
 }
 
-/// Heaps as bits: the one of this number, which is below 64.
+/// Sets of heaps as bits: the bit of a heap's number, which is below 64.
 fn bit_of(heap: u64) -> u64 {
     if heap < 64 { 1 << heap } else { 0 }
 }
 
-/// How many heaps each of three workers has, and, as bits, those of worker 1 and all others but its first
-/// one.
+/// The number of heaps of each of three workers and, as bits, those of worker 1 and all others except its
+/// first one.
 const OWN: [(u32, u64, u64); 3] = [
     (2, 0b1100, 0b11_1011),
     (4, 0b1111_0000, 0b1111_1110_1111),
     (8, 0b1111_1111_0000_0000, 0b1111_1111_1111_1110_1111_1111),
 ];
 
-/// Which heaps worker 1 of three draws by as many words as it has heaps, from 2 to 8.
+/// The heaps that worker 1 of three draws by as many words as it has heaps, from 2 to 8.
 fn drawn(heaps: u32) -> u64 {
     let mut bits = 0;
     if heaps < 2 || heaps > 8 {
@@ -86,8 +86,8 @@ fn drawn(heaps: u32) -> u64 {
     bits
 }
 
-/// The heap that a pop of worker 1 of three draws as its second one by a random word; none if its first one
-/// isn't the worker's first.
+/// The heap that a pop of worker 1 of three draws second by a random word; none if its first one isn't the
+/// worker's first.
 fn second_of(random: u64, heaps: u32) -> Option<u64> {
     if heaps < 2 || heaps > 8 {
         return None;
@@ -102,7 +102,7 @@ fn second_of(random: u64, heaps: u32) -> Option<u64> {
     Some(first.wrapping_add(1).wrapping_add(second) % all)
 }
 
-/// Which heaps are such a second one by some random word below their number; none if a first one is wrong.
+/// The heaps drawn second by some random word below their number; none if a first one is wrong.
 fn seconds(heaps: u32) -> Option<u64> {
     let mut bits = 0;
     for random in 0..(3 * u64::from(heaps)).saturating_sub(1) {
@@ -114,7 +114,7 @@ fn seconds(heaps: u32) -> Option<u64> {
     Some(bits)
 }
 
-/// The index of the first number of heaps of which others are drawn.
+/// The index of the first number of heaps with other draws.
 fn wrong_drawn() -> Option<usize> {
     for (place, (heaps, own, _)) in OWN.iter().enumerate() {
         if drawn(*heaps) != *own {
@@ -124,7 +124,7 @@ fn wrong_drawn() -> Option<usize> {
     None
 }
 
-/// The index of the first number of heaps of which others are drawn by random words.
+/// The index of the first number of heaps with other draws by random words.
 fn wrong_seconds() -> Option<usize> {
     for (place, (heaps, _, others)) in OWN.iter().enumerate() {
         if seconds(*heaps) != Some(*others) {
@@ -144,7 +144,7 @@ fn random_words_draw_an_own_heap_first_and_then_any_other(rt: HostRuntime) {
     assert_none_wrong(&rt, wrong_seconds());
 }
 
-/// How many of 10,000 words aren't those of a generator that draws its own heaps alone.
+/// How many of 10,000 words aren't those of a generator that draws only its own heaps.
 fn random_words() -> u32 {
     let mut words = Homing::new(Xoshiro256PlusPlus::seed_from_u64(1), 2, 4, 2);
     let mut own = Homing::new(Constant(u64::MAX), 2, 4, 2);

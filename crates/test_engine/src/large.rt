@@ -53,7 +53,7 @@ fn is_along(alloc: Global, answer: &Answer) -> Result<bool, Fail> {
     }
 }
 
-/// Whether workers popped entries and gave such an answer.
+/// Whether workers popped entries and gave this answer.
 fn pops_along(alloc: Global, came: &Came) -> Result<bool, Fail> {
     if total(came, Count::Popped) == 0 {
         return Ok(false);
@@ -61,7 +61,7 @@ fn pops_along(alloc: Global, came: &Came) -> Result<bool, Fail> {
     is_along(alloc, &came.answer)
 }
 
-/// Whether two workers with eight heaps each do, whose generators give 16 alone.
+/// Whether two workers with eight heaps each do, with generators that return only 16.
 fn run_along<H: Threads + Sync>(alloc: Global, rt: &H, given: &Given) -> Result<bool, Fail> {
     let rngs = constants(alloc, 2, 16)?;
     let came = run_crew(alloc, rt, given, 8, 1_000_000, rngs, &NoGate)?;
@@ -78,7 +78,7 @@ fn two_workers_along_a_million_nodes(rt: HostRuntime) -> Result<(), Fail> {
     assert_right(&rt, "arrivals, walk and pops", two_along(rt.alloc(), &rt))
 }
 
-/// Whether one thread gives such an answer.
+/// Whether one thread gives this answer.
 fn run_alone(alloc: Global, given: &Given) -> Result<bool, Fail> {
     let answer = answer_alone(alloc, given)?;
     is_along(alloc, &answer)
@@ -98,8 +98,8 @@ const RING: u32 = 80_000;
 
 const LATE: [Wanted; 2] = [(Count::Drained, 1), (Count::Finish, 1)];
 
-/// The index of the first of the counts that is not the expected one in a run of four workers on a late ring
-/// whose generators give 2 alone; behind them all where the ring's arrivals are.
+/// The index of the first wrong count in a run of four workers on a late ring with generators that return
+/// only 2; the number of counts if the ring's arrivals are wrong.
 fn wrong_round<H: Threads + Sync>(
     alloc: Global,
     rt: &H,
@@ -111,10 +111,10 @@ fn wrong_round<H: Threads + Sync>(
     Ok(wrong_beside(&came, goes_round(&came.answer, RING), &LATE))
 }
 
-/// How many turns are made at most. A pass in the order of opening takes quadratic time on the ring.
+/// The most turns. A pass in the order of opening takes quadratic time on the ring.
 const TURNS: [u32; 2] = [0, 1000];
 
-/// The index of the first number of turns with which a run goes otherwise.
+/// The index of the first number of turns with which a run goes wrong.
 fn wrong_turns<H: Threads + Sync>(
     alloc: Global,
     rt: &H,
@@ -128,7 +128,8 @@ fn wrong_turns<H: Threads + Sync>(
     Ok(None)
 }
 
-/// With no turns, and with heaps that the workers' words never meet, all is left to the end of the run.
+/// With no turns, and with heaps that the workers' words never draw, everything is left to the end of the
+/// run.
 #[test]
 fn late_work_is_done_in_the_order_of_labels(rt: HostRuntime) -> Result<(), Fail> {
     let given = late_ring(rt.alloc(), RING)?;

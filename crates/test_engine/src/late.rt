@@ -1,5 +1,4 @@
-//! A network whose open nodes are few for long and then many at once, on which several workers have nothing
-//! to gain.
+//! A network with few open nodes for long and then many at once, on which several workers gain nothing.
 ghost use Rattle.std.specs.Prelude.{◌<◌};
 
 use crate::ran::{Came, Count, arrives, assert_right, posed, run, total};
@@ -11,15 +10,15 @@ use std::test::Fail;
 use std::thread::Threads;
 use test_support::networks::{Given, Row};
 
-/// How many nodes lie on the path before the ring.
+/// The number of nodes on the path before the ring.
 const PATH: u32 = 100;
 
-/// How many nodes the ring has.
+/// The number of nodes of the ring.
 const RING: u32 = 20_000;
 
-/// A path of arcs of weight 0 leads to the first node of a ring of this many nodes. From there an arc of
-/// weight 2i leads to the i-th node after it, in descending order, and from each of these an arc of weight 1
-/// to the next one.
+/// A path of arcs of weight 0 to the first node of a ring of this many nodes. From there an arc of weight 2i
+/// leads to the i-th node after it, in descending order, and from each of these an arc of weight 1 to the
+/// next one.
 fn rows_of(alloc: Global, ring: u32) -> Result<Vec<Row>, AllocError>
     requires { ring < 1_000_000 }
 {
@@ -37,7 +36,7 @@ fn rows_of(alloc: Global, ring: u32) -> Result<Vec<Row>, AllocError>
     Ok(rows)
 }
 
-/// What is given by them, from node 1 at 0.
+/// Their problem, from node 1 at 0.
 pub fn late_ring(alloc: Global, ring: u32) -> Result<Given, Fail>
     requires { ring < 1_000_000 }
 {
@@ -54,7 +53,7 @@ fn two_words(alloc: Global) -> Result<Vec<Xoshiro256PlusPlus>, AllocError> {
     Ok(rngs)
 }
 
-/// Two workers of a company on the ring, which take this many entries at once.
+/// Two workers of a company on the ring, with batches of this size.
 fn search<H: Threads + Sync>(
     alloc: Global,
     rt: &H,

@@ -13,7 +13,7 @@ const LEFT_AT_TWO: [Wanted; 5] = [
     (Count::Finish, 2),
 ];
 
-/// The first turn at which a worker leaves from a run that is not the expected one than it should be.
+/// The first turn such that a run is wrong in which a worker leaves at it.
 fn wrong_last<H: Threads + Sync>(alloc: Global, rt: &H) -> Result<Option<usize>, Fail> {
     for last in 0..38u64 {
         let wanted = if last == 2 { &LEFT_AT_TWO[..] } else { &[] };

@@ -1,4 +1,4 @@
-//! Two workers that wait for each other: each is there while the other one is.
+//! Two workers that wait for each other: each runs while the other does.
 use crate::ran::{
     Came, Count, arrives, assert_right, constants, has_four, posed, run, run_crew_on_four, singly,
     total,
@@ -11,8 +11,7 @@ use std::test::Fail;
 use std::thread::Threads;
 use test_support::networks::{Given, Row};
 
-/// Each of the workers raises its flag before its first turn and then looks for all others'. There are four
-/// flags.
+/// Each worker raises its flag before its first turn and then looks for all others'. There are four flags.
 #[derive(Drop)]
 struct Meeting {
     /// Four bits, the first one that of worker 0.
@@ -31,7 +30,7 @@ fn flag_of(worker: u32) -> u64 {
 }
 
 impl Meeting {
-    /// A meeting of those workers whose flags aren't raised from the beginning.
+    /// A meeting of the workers whose flags aren't raised at the beginning.
     fn new(raised: u64) -> Meeting {
         Meeting {
             flags: AtomicU64::new(raised),
@@ -39,7 +38,7 @@ impl Meeting {
         }
     }
 
-    /// Raises a worker's flag. Only this worker does.
+    /// Raises a worker's flag. Only this worker calls it.
     fn raise(&self, worker: u32) {
         if !self.is_there(worker) {
             self.flags.fetch_add(flag_of(worker), Ordering::SeqCst);
@@ -54,7 +53,7 @@ impl Meeting {
         self.flags.load(Ordering::SeqCst) == 15
     }
 
-    /// Looks so often whether all are there, and notes if they aren't.
+    /// Looks this often whether all flags are raised, and records if they aren't.
     fn wait(&self) {
         for _ in 0..100_000_000 {
             if self.are_all_there() || self.missed.load(Ordering::SeqCst) == 1 {
@@ -75,8 +74,8 @@ impl Gate for Meeting {
     }
 }
 
-/// Whether a run of this many workers has the arrivals, all of them were there and none missed another one,
-/// and they pop entries.
+/// Whether a run of this many workers has the arrivals, all flags were raised, no worker missed another, and
+/// they pop entries.
 fn have_met(came: &Came, workers: usize, meeting: &Meeting) -> bool {
     has_four(&came.answer)
         && came.counters.len() == workers
@@ -110,7 +109,7 @@ fn four_workers_meet(rt: HostRuntime) -> Result<(), Fail> {
 }
 
 /// A worker that popped something waits until all have. One that found nothing at its first turn waits until
-/// the star is spread.
+/// the star is scanned.
 #[derive(Drop)]
 struct Sharing {
     popped: Meeting,
@@ -159,7 +158,7 @@ fn star(alloc: Global) -> Result<Given, Fail> {
     posed(alloc, 4_000, &rows, &[(1, 0)])
 }
 
-/// A run of four workers on the star, which share what there is.
+/// A run of four workers on the star, which share its entries.
 fn run_sharing<H: Threads + Sync>(
     alloc: Global,
     rt: &H,
@@ -182,8 +181,8 @@ fn run_sharing<H: Threads + Sync>(
     run(alloc, rt, given, crew)
 }
 
-/// Whether four workers share the star: each of them pops something, none misses another one, and its last
-/// node is reached.
+/// Whether four workers share the star: each pops something, none misses another, and its last node is
+/// reached.
 fn is_shared(came: &Came, sharing: &Sharing) -> bool {
     let mut right = came.counters.len() == 4;
     for counters in &came.counters {

@@ -45,8 +45,8 @@ const TO_TWO: [Wanted; 4] = [
     (Count::Cut, 1),
 ];
 
-/// The index of the first of the counts that is not the expected one for the pair of nodes 1 and 2; behind
-/// them all where its answer is.
+/// The index of the first wrong count for the pair of nodes 1 and 2; the number of counts if the answer is
+/// wrong.
 fn wrong_to_two<H: Threads + Sync>(alloc: Global, rt: &H) -> Result<Option<usize>, Fail> {
     let came = run_pair(alloc, rt, 3, &ONE_ARC_TOO_FAR, 2)?;
     Ok(wrong_beside(&came, asks_two(&came.answer), &TO_TWO))

@@ -1,5 +1,5 @@
-//! Runs, and what is read of them. All tests run their workers through here, so that what a run promises is
-//! carried by one function.
+//! Runs and their outcomes. All tests run their workers through here, so that one function carries the
+//! promises of a run.
 ghost use Rattle.std.specs.Prelude.{◌≡◌, All, IsTrue};
 ghost use Rattle.ea_engine.specs.Limits.{AreSettings};
 
@@ -17,7 +17,7 @@ use std::thread::Threads;
 use test_support::constant::Constant;
 use test_support::networks::{FOUR_NODES, Given, Row, pose};
 
-/// What a run came to.
+/// The outcome of a run.
 #[derive(Drop)]
 pub struct Came {
     pub answer: Answer,
@@ -28,7 +28,7 @@ pub struct Came {
     pub counters: Vec<Counters>,
 }
 
-/// What is read of a run's outcome: generators and tracers are let go.
+/// The outcome without generators and tracers, which are dropped.
 pub fn came_of<R: Drop, T: Drop>(solved: Solved<R, T>) -> Came {
     Came {
         answer: solved.answer,
@@ -40,7 +40,7 @@ pub fn came_of<R: Drop, T: Drop>(solved: Solved<R, T>) -> Came {
     }
 }
 
-/// Whether settings are such as tests have, and this many generators and tracers are one for each worker.
+/// Whether settings are those of tests, and each worker has a generator and a tracer.
 pub fn fits(settings: Settings, rngs: usize, tracers: usize) -> bool
     ensures settings { IsTrue result → AreSettings settings }
     ensures rngs { IsTrue result → rngs ≡ settings.workers }
@@ -61,7 +61,7 @@ pub fn fits(settings: Settings, rngs: usize, tracers: usize) -> bool
     rngs == settings.workers as usize && tracers == settings.workers as usize
 }
 
-/// Runs a crew; none if it doesn't fit or what is given makes no problem.
+/// Runs a crew; none if it doesn't fit or there is no problem.
 pub fn attempt<
     H: Threads + Sync,
     R: Rng + Send + Drop,
@@ -79,7 +79,7 @@ pub fn attempt<
     Ok(Some(came_of(solved)))
 }
 
-/// Runs a crew that fits on what makes a problem.
+/// Runs a crew that fits on a problem.
 pub fn run<H: Threads + Sync, R: Rng + Send + Drop, G: Gate, T: FnMut(Turn) -> Flow + Send + Drop>(
     alloc: Global,
     rt: &H,
@@ -91,7 +91,7 @@ pub fn run<H: Threads + Sync, R: Rng + Send + Drop, G: Gate, T: FnMut(Turn) -> F
     Ok(attempt(alloc, rt, given, crew)?.ok_or("problem")?)
 }
 
-/// What is given by rows for all nodes, from these sources.
+/// The problem of rows for all nodes, from these sources.
 pub fn posed(
     alloc: Global,
     nodes: u32,
@@ -101,7 +101,7 @@ pub fn posed(
     Ok(pose(alloc, nodes, rows, sources)?.ok_or("rows")?)
 }
 
-/// What is given in the example four-nodes, from node 1 at 0.
+/// The problem of the example four-nodes, from node 1 at 0.
 pub fn four(alloc: Global) -> Result<Given, Fail> {
     posed(alloc, 4, &FOUR_NODES, &[(1, 0)])
 }
@@ -117,7 +117,7 @@ pub fn singly(workers: u32, heaps: u32, turns: u64) -> Settings {
     }
 }
 
-/// Runs workers by generators of the test, one a worker, that are shown to no one.
+/// Runs workers with the test's generators, one for each, and no tracers.
 pub fn run_crew<H: Threads + Sync, R: Rng + Send + Drop, G: Gate>(
     alloc: Global,
     rt: &H,
@@ -141,7 +141,7 @@ pub fn run_crew<H: Threads + Sync, R: Rng + Send + Drop, G: Gate>(
     run(alloc, rt, given, crew)
 }
 
-/// Runs workers on the example four-nodes by generators of the test.
+/// Runs workers on the example four-nodes with the test's generators.
 pub fn run_crew_on_four<H: Threads + Sync, R: Rng + Send + Drop, G: Gate>(
     alloc: Global,
     rt: &H,
@@ -153,7 +153,7 @@ pub fn run_crew_on_four<H: Threads + Sync, R: Rng + Send + Drop, G: Gate>(
     run_crew(alloc, rt, &four(alloc)?, heaps, turns, rngs, gate)
 }
 
-/// This many generators that give one word alone.
+/// This many generators that return only one word.
 pub fn constants(alloc: Global, workers: u32, word: u64) -> Result<Vec<Constant>, AllocError> {
     let mut rngs = Vec::new(alloc);
     for _ in 0..workers {
@@ -162,7 +162,7 @@ pub fn constants(alloc: Global, workers: u32, word: u64) -> Result<Vec<Constant>
     Ok(rngs)
 }
 
-/// This many generators that begin with seeds.
+/// This many generators from seeds.
 pub fn seeded(
     alloc: Global,
     workers: u32,
@@ -175,7 +175,7 @@ pub fn seeded(
     Ok(rngs)
 }
 
-/// The answer of workers whose generators begin with a seed.
+/// The answer of workers with generators from a seed.
 pub fn run_all<H: Threads + Sync>(
     alloc: Global,
     rt: &H,
@@ -213,7 +213,7 @@ pub fn run_with<H: Threads + Sync, R: Rng + Send + Drop, T: FnMut(Turn) -> Flow 
     run(alloc, rt, given, crew)
 }
 
-/// Runs one worker over two heaps, with the words of seed 1, whose turns are shown to no one.
+/// Runs one worker over two heaps, with the words of seed 1 and no tracer.
 pub fn run_plain<H: Threads + Sync>(
     alloc: Global,
     rt: &H,
@@ -233,19 +233,19 @@ pub fn answer_alone(alloc: Global, given: &Given) -> Result<Answer, Fail> {
     Ok(solve_alone(alloc, &given.network, &given.times, &given.query)?)
 }
 
-/// Ends a test where a row of its table is wrong, and tells its place.
+/// Fails a test if a row of its table is wrong, and reports its index.
 pub fn assert_told<H: Abort>(rt: &H, wrong: Result<Option<usize>, Fail>) -> Result<(), Fail> {
     assert_none_wrong(rt, wrong?);
     Ok(())
 }
 
-/// Ends a test where something isn't right, and says what.
+/// Fails a test if something isn't right, and says what.
 pub fn assert_right<H: Abort>(rt: &H, what: &str, right: Result<bool, Fail>) -> Result<(), Fail> {
     assert_that(rt, what, right?);
     Ok(())
 }
 
-/// What is counted of a run, and what each of its workers counts.
+/// The counts of a run, and those of each of its workers.
 #[derive(Clone, Copy)]
 pub enum Count {
     Workers,
@@ -268,7 +268,7 @@ pub enum Count {
     Returned,
 }
 
-/// A count of a run as a whole; none if its workers count it.
+/// A count of a run as a whole; none if it is a worker's.
 fn of_run(came: &Came, count: Count) -> Option<u128> {
     match count {
         Count::Workers => Some(came.counters.len() as u128),
@@ -280,7 +280,7 @@ fn of_run(came: &Came, count: Count) -> Option<u128> {
     }
 }
 
-/// What a worker counts.
+/// A count of a worker.
 fn of_worker(counters: &Counters, count: Count) -> u64 {
     match count {
         Count::Turns => counters.turns,
@@ -303,7 +303,7 @@ fn of_worker(counters: &Counters, count: Count) -> u64 {
 /// A count and its number.
 pub type Wanted = (Count, u128);
 
-/// Whether each of the workers counts this number.
+/// Whether each of the workers has this count.
 fn all_count(workers: &[Counters], count: Count, number: u128) -> bool {
     for counters in workers {
         if u128::from(of_worker(counters, count)) != number {
@@ -313,7 +313,7 @@ fn all_count(workers: &[Counters], count: Count, number: u128) -> bool {
     true
 }
 
-/// The index of the first of the counts that is not the expected one.
+/// The index of the first wrong count.
 pub fn wrong_count(came: &Came, wanted: &[Wanted]) -> Option<usize> {
     for (place, (count, number)) in wanted.iter().enumerate() {
         let right = match of_run(came, *count) {
@@ -327,14 +327,12 @@ pub fn wrong_count(came: &Came, wanted: &[Wanted]) -> Option<usize> {
     None
 }
 
-/// The index of the first of the counts that is not the expected one in a run on four-nodes; behind them all
-/// where its arrivals are.
+/// The index of the first wrong count in a run on four-nodes; the number of counts if its arrivals are wrong.
 pub fn told(came: &Came, wanted: &[Wanted]) -> Option<usize> {
     wrong_beside(came, has_four(&came.answer), wanted)
 }
 
-/// The index of the first of the counts that is not the expected one; behind them all where the rest of what
-/// a test looks at isn't right.
+/// The index of the first wrong count; the number of counts if the rest that a test checks is wrong.
 pub fn wrong_beside(came: &Came, right: bool, wanted: &[Wanted]) -> Option<usize> {
     if right {
         wrong_count(came, wanted)
@@ -343,7 +341,7 @@ pub fn wrong_beside(came: &Came, right: bool, wanted: &[Wanted]) -> Option<usize
     }
 }
 
-/// How often workers together did something.
+/// How often workers did something, all together.
 pub fn total(came: &Came, count: Count) -> u64 {
     let mut sum = 0u64;
     for counters in &came.counters {

@@ -27,7 +27,7 @@ fn rows_of(alloc: Global, nodes: u16, seed: u64) -> Result<Vec<Row>, AllocError>
     Ok(rows)
 }
 
-/// What is given by a network of this many nodes, at random by a seed, from two sources.
+/// A random problem by a seed: a network of this many nodes, and two sources.
 pub fn posed_by(alloc: Global, nodes: u16, seed: u64) -> Result<Given, Fail>
     requires { 0 < nodes }
 {
@@ -80,7 +80,7 @@ fn are_all_same<H: Threads + Sync>(alloc: Global, rt: &H, seed: u64) -> Result<b
     each_is_same(alloc, rt, &given, 7 * (seed % 9), &alone)
 }
 
-/// The first seed whose network has a run of another answer.
+/// The first seed with a run that gives another answer.
 fn wrong_seed<H: Threads + Sync>(alloc: Global, rt: &H) -> Result<Option<usize>, Fail> {
     for seed in 0..60u64 {
         if !are_all_same(alloc, rt, seed)? {

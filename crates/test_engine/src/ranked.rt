@@ -1,4 +1,4 @@
-//! A recorded run over as many heaps as there may be.
+//! A recorded run over the most heaps.
 use crate::ran::{assert_right, posed};
 use ea_rank::{Event, Record, ranks, record_run};
 use ea_road::is_problem;
@@ -56,7 +56,7 @@ fn are_two_recorded(alloc: Global) -> Result<bool, Fail> {
     is_recorded(alloc, &given)
 }
 
-/// The heads' entries go to heaps 127 and 63, and the next pop looks at heaps 127 and 0: 8,255 is 0 mod 127
+/// The heads' entries go to heaps 127 and 63, and the next pop inspects heaps 127 and 0: 8,255 is 0 mod 127
 /// and 63 mod 128.
 #[test]
 fn ranks_over_128_heaps(rt: HostRuntime) -> Result<(), Fail> {

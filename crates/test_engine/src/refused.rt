@@ -1,5 +1,5 @@
-//! Tests where memory is refused: they take all of the process's memory but for a few bytes, before a run or
-//! in its middle.
+//! Tests with refused memory: they take all of the process's memory except a few bytes, before a run or
+//! during it.
 
 mod greedy;
 mod solving;

@@ -13,8 +13,8 @@ use test_support::networks::{FOUR_NODES, Given, Row, with_period};
 /// A node, its arrival and its walk.
 type Line = (u32, u64, &'static [u32]);
 
-/// Nodes, rows, the period of class 1, when it departs from node 1, the target, which is 0 where all nodes
-/// are asked, and the lines of the answer.
+/// Nodes, rows, the period of class 1, the departure from node 1, the target (0 if all nodes are asked), and
+/// the lines of the answer.
 type Case = (u32, &'static [Row], u32, u32, u32, &'static [Line]);
 
 const TWO_WAYS_TO_FIFTEEN: Case = (
@@ -89,11 +89,11 @@ const CASES: [Case; 8] = [
     CYCLE_OF_ZERO,
     CANONICAL_TIES,
     TIES_AT_ZERO,
-    // Keys are equal where it is cut.
+    // Equal keys at the cut.
     (6, &EQUAL_KEYS, 0, 0, 3, &[(3, 3, &[1, 2, 3])]),
 ];
 
-/// Whether an answer is exactly these lines: each node that it asks has its line.
+/// Whether an answer has exactly these lines: each asked node has its line.
 fn is_told(alloc: Global, answer: &Answer, lines: &[Line]) -> Result<bool, AllocError> {
     let mut asked = 0u32;
     for node in 1..answer.nodes().saturating_add(1) {
@@ -108,7 +108,7 @@ fn is_told(alloc: Global, answer: &Answer, lines: &[Line]) -> Result<bool, Alloc
     Ok(right)
 }
 
-/// Whether each run with seeds 1 to 5 gives these lines.
+/// Whether each run with seeds 1 to 5 has these lines.
 fn told_by_seeds<H: Threads + Sync>(
     alloc: Global,
     rt: &H,
@@ -124,8 +124,8 @@ fn told_by_seeds<H: Threads + Sync>(
     Ok(right)
 }
 
-/// Whether each run gives these lines: by 1, 2 and 4 workers, 2 and 8 heaps for each, 0, 1 and 100 turns,
-/// seeds 1 to 5.
+/// Whether each run has these lines: by 1, 2 and 4 workers, 2 and 8 heaps for each, 0, 1 and 100 turns, seeds
+/// 1 to 5.
 fn all_told<H: Threads + Sync>(
     alloc: Global,
     rt: &H,
@@ -175,7 +175,7 @@ fn is_case_told<H: Threads + Sync>(alloc: Global, rt: &H, case: &Case) -> Result
     all_told(alloc, rt, &given_of(alloc, case)?, case.5)
 }
 
-/// The index of the first case of which a run gives other lines.
+/// The index of the first case with a run that has other lines.
 fn wrong_case<H: Threads + Sync>(alloc: Global, rt: &H) -> Result<Option<usize>, Fail> {
     for (place, case) in CASES.iter().enumerate() {
         if !is_case_told(alloc, rt, case)? {

@@ -1,4 +1,4 @@
-//! What is counted of sources, and a run of as many workers as there may be.
+//! The counts of sources, and a run of the most workers.
 use crate::ran::{
     Came, Count, Wanted, arrives, assert_right, assert_told, four, has_four, posed, run_all,
     run_plain, singly, wrong_beside,
@@ -8,18 +8,17 @@ use std::test::Fail;
 use std::thread::Threads;
 use test_support::networks::{FOUR_NODES, Given};
 
-/// Nodes, sources, turns, the arrival at node 4, and what is counted.
+/// Nodes, sources, turns, the arrival at node 4, and the counts.
 type Case = (u32, &'static [(u32, u64)], u64, u64, &'static [Wanted]);
 
-/// A run of one worker on four-nodes, or as many more nodes.
+/// A run of one worker on four-nodes, or with as many more nodes.
 fn run_case<H: Threads + Sync>(alloc: Global, rt: &H, case: &Case) -> Result<Came, Fail> {
     let (nodes, sources, turns, ..) = *case;
     let given = posed(alloc, nodes, &FOUR_NODES, sources)?;
     run_plain(alloc, rt, &given, turns)
 }
 
-/// The index of the first of the counts that is not the expected one in such a run; behind them all where the
-/// arrival at node 4 is.
+/// The index of the first wrong count in such a run; the number of counts if the arrival at node 4 is wrong.
 fn wrong_of_case<H: Threads + Sync>(
     alloc: Global,
     rt: &H,
@@ -57,7 +56,7 @@ const ALL_TEN: &[Wanted] = &[
     (Count::Drained, 10),
 ];
 
-/// A source that lowers nothing is neither seeded nor returned, and so are not later sources at one node.
+/// A source that lowers nothing is neither seeded nor returned, as are later sources at one node.
 const CASES: [Case; 4] = [
     (4, THRICE, 0, 6, ONCE),
     (4, THRICE, 100, 6, ONCE),
@@ -65,7 +64,7 @@ const CASES: [Case; 4] = [
     (10, TEN, 0, 3, ALL_TEN),
 ];
 
-/// The index of the first case that is counted otherwise.
+/// The index of the first case with other counts.
 fn wrong_case<H: Threads + Sync>(alloc: Global, rt: &H) -> Result<Option<usize>, Fail> {
     for (place, case) in CASES.iter().enumerate() {
         if wrong_of_case(alloc, rt, case)?.is_some() {
@@ -86,7 +85,7 @@ fn run_sixteen<H: Threads + Sync>(alloc: Global, rt: &H, given: &Given) -> Resul
     Ok(has_four(&answer))
 }
 
-/// As many workers as there may be, with as many heaps for each.
+/// The most workers, with the most heaps for each.
 #[test]
 fn sixteen_workers_with_eight_heaps_each(rt: HostRuntime) -> Result<(), Fail> {
     let given = four(rt.alloc())?;

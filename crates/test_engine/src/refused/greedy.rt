@@ -1,4 +1,4 @@
-//! A generator that always gives one word, and takes all memory at one of its calls.
+//! A generator that always returns one word, and takes all memory at one of its calls.
 ghost use Rattle.std.specs.Prelude.{◌≡◌, ℕ, ◌%◌, ◌^◌};
 ghost use Rattle.rand_core.specs.Steps.{stream_of, steps_u64_low};
 

@@ -29,7 +29,7 @@ impl Gate for Counted {
     }
 }
 
-/// Generators that give 1 and after this many calls take all memory, with room for this many blocks.
+/// Generators that return 1 and take all memory after this many calls, with room for this many blocks.
 fn greedy(alloc: Global, workers: u32, calls: u32, room: usize) -> Result<Vec<Greedy>, AllocError> {
     let mut rngs = Vec::new(alloc);
     for _ in 0..workers {
@@ -42,8 +42,8 @@ fn greedy(alloc: Global, workers: u32, calls: u32, room: usize) -> Result<Vec<Gr
     Ok(rngs)
 }
 
-/// A generator that gives 1 and takes all memory at its third word: a turn draws two words before it pops,
-/// and the third one is that of the worker's first push.
+/// A generator that returns 1 and takes all memory at its third word: a turn draws two words before it pops,
+/// and the third is that of the worker's first push.
 fn words(alloc: Global) -> Result<Greedy, AllocError> {
     Ok(Greedy {
         word: 1,
@@ -82,8 +82,8 @@ fn is_refused(turn: &Turn, batch: u32) -> bool {
         && (turn.node, turn.key, turn.lowered) == (1, 0, u64::from(batch))
 }
 
-/// The index of the first of the counts that is not the expected one in such a run; behind them all where its
-/// arrivals are, or its tracer was shown anything but the refused turn.
+/// The index of the first wrong count in such a run; the number of counts if the arrivals are wrong, or the
+/// tracer saw anything but the refused turn.
 fn wrong_refused<H: Threads + Sync>(
     alloc: Global,
     rt: &H,
@@ -145,7 +145,7 @@ enum Call {
     Closure,
 }
 
-/// What a run with little memory came to.
+/// The outcome of a run with little memory.
 #[derive(Clone, Copy, PartialEq, Eq)]
 enum Fared {
     Right,
@@ -171,7 +171,7 @@ fn attempt_arrivals<
     Ok(Some(came_of(solved)))
 }
 
-/// Runs a crew by a closure that is made here; none if it doesn't fit.
+/// Runs a crew with a closure; none if it doesn't fit.
 fn attempt_by_closure<
     H: Threads + Sync,
     R: Rng + Send + Drop,
@@ -215,7 +215,7 @@ fn attempt_by<
     }
 }
 
-/// Runs the four nodes with little memory left, with it a piece, by generators of the test.
+/// Runs the four nodes with the test's generators and little memory left, except a piece.
 fn run_small<H: Threads + Sync>(
     alloc: Global,
     rt: &H,
@@ -263,8 +263,8 @@ fn verdict(answer: Result<Option<Came>, AllocError>, calls: u64) -> Fared {
     }
 }
 
-/// Runs with little memory left, and after a refusal with all that there is: how it went at first if it
-/// wasn't refused, and whether it went right in the end.
+/// Runs with little memory left, and after a refusal with all memory: the outcome at first if it wasn't
+/// refused, and whether it was right in the end.
 fn run_again<H: Threads + Sync>(
     alloc: Global,
     rt: &H,
@@ -282,7 +282,7 @@ fn run_again<H: Threads + Sync>(
     Ok((None, came == Fared::Right))
 }
 
-/// Gives a call less memory than it needs, ever a little more, and after each refusal all that there is.
+/// Gives a call less memory than it needs, a little more each time, and all memory after each refusal.
 fn each_growth<H: Threads + Sync>(
     alloc: Global,
     rt: &H,
@@ -312,8 +312,8 @@ const CALLS: [(Call, u32); 6] = [
     (Call::Closure, 2),
 ];
 
-/// The index of the first of the calls that fares other than expected: it is refused at least ten times and
-/// right twice, and never wrong.
+/// The index of the first of the calls that fares other than expected: it should be refused at least ten
+/// times, be right twice, and never be wrong.
 fn wrong_call<H: Threads + Sync>(
     alloc: Global,
     rt: &H,
