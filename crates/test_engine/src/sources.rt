@@ -11,7 +11,7 @@ use test_support::networks::{FOUR_NODES, Given};
 /// Nodes, sources, turns, the arrival at node 4, and the counts.
 type Case = (u32, &'static [(u32, u64)], u64, u64, &'static [Wanted]);
 
-/// A run of one worker on four-nodes, or with as many more nodes.
+/// A run of one worker on four-nodes, or on its arcs among more nodes.
 fn run_case<H: Threads + Sync>(alloc: Global, rt: &H, case: &Case) -> Result<Came, Fail> {
     let (nodes, sources, turns, ..) = *case;
     let given = posed(alloc, nodes, &FOUR_NODES, sources)?;
