@@ -1,11 +1,14 @@
-"""Searches of one thread in turns: the proved program of bench/alone beside searches by hand, from a network's middle node.
+"""Searches of one thread in turns: the proved program of bench/alone and searches in plain Rust, from a
+network's middle node.
 
     python3 bench/alone_rounds.py ROUNDS HAND PROGRAM NETWORK
 
-NETWORK.gr and NETWORK.tp are its files, HAND is the program of bench/hand, PROGRAM that of bench/alone. In each round each program is run
-once, in another order, and searches several times; the quickest search of a run counts. A table is printed for the network without
-timetables and one with them: the least, the middle and the greatest of the rounds in microseconds, and beside the binary heap by hand the
-least of all, the middle of the rounds' ratios and their spread. Where two searches find other arrivals, it ends with an error.
+NETWORK.gr and NETWORK.tp are its files, HAND is the program of bench/hand, PROGRAM that of bench/alone. In
+each round each program is run once, in another order, and searches several times; the fastest search of a run
+counts. A table is printed for the network without timetables and one with them: the least, the median and the
+greatest of the rounds in microseconds, and, relative to the binary heap in plain Rust, the ratio of the least
+times, the median of the rounds' ratios and their spread. If two searches find different arrivals, it ends
+with an error.
 """
 import random
 import re
@@ -24,26 +27,26 @@ def said(words):
 
 
 def middle_of(graph):
-    """The node in the middle of a graph's numbers."""
+    """The node with the middle number of a graph."""
     with open(graph, encoding="ascii") as lines:
         return next(int(line.split()[2]) // 2 for line in lines if line.startswith("p "))
 
 
 def by_hand(hand, method, network, timetable, sources):
-    """The quickest search of a method by hand, and the sum of the arrivals."""
+    """The fastest search of a method in plain Rust, and the sum of the arrivals."""
     found = said([hand, "run", method, f"{network}.gr", sources, timetable, "0", "1", "/dev/null"])
     total = int(re.search(r"sum (\d+)", found)[1])
     return {method: (int(re.search(r"least_us (\d+)", found)[1]), total % 2**64)}
 
 
 def walks_by_hand(hand, network, timetable, node):
-    """The quickest search for walks by hand, which sees by itself that its answers are right."""
+    """The fastest search for walks in plain Rust, which checks its own answers."""
     found = said([hand, "walks", f"{network}.gr", timetable, str(node), str(SEARCHES)])
     return {"walks, by hand": (int(re.search(r"windows, walks +least +(\d+)", found)[1]), None)}
 
 
 def ours(program, network, timetable, node):
-    """The quickest search of ours without walks and with them, and the sum of the arrivals."""
+    """Our fastest search without walks and with them, and the sum of the arrivals."""
     took = {}
     for walks, micros, source, total in re.findall(r"walks (\w+) search_us (\d+) source (\d+) sum (\d+)", said([program, f"{network}.gr", timetable])):
         if int(source) == node:
@@ -52,7 +55,7 @@ def ours(program, network, timetable, node):
 
 
 def rounds_of(count, hand, program, network, timetable, node):
-    """For each program the quickest search of each round."""
+    """For each program the fastest search of each round."""
     sources = f"{network}.middle.ss"
     with open(sources, "w", encoding="ascii") as file:
         file.write(f"p aux sp ss {SEARCHES}\n" + f"s {node}\n" * SEARCHES)

@@ -1,9 +1,10 @@
-"""Measures the program beside its peers and writes bench/results/*.csv, docs/performance.md and its pictures.
+"""Measures the program and its peers, and writes bench/results/*.csv, docs/performance.md and its pictures.
 
     python3 bench/bench.py [--large] [--rounds N] [--nodes N ..] [--no-traps] [--others-stopped] [--scratch FOLDER]
 
-`make bench` builds the program and calls this. Who has stopped all other work of the machine says so by --others-stopped, since the
-load before is that of the minutes before. Networks have 10^4, 10^5 and 10^6 nodes, with --large 10^7 too.
+`make bench` builds the program and calls this. With --others-stopped the caller states that all other work of
+the machine is stopped; the load average can't show it, since it covers the minutes before. Networks have
+10^4, 10^5 and 10^6 nodes, with --large 10^7 too.
 """
 import argparse
 import os
@@ -24,7 +25,7 @@ THREADS = (1, 2, 4)
 
 
 def first_line(words):
-    """The first line that a program prints, or that it isn't there."""
+    """The first line that a program prints, or that it is missing."""
     try:
         return subprocess.run(words, capture_output=True, text=True).stdout.split("\n")[0].strip() or "unknown"
     except OSError:
@@ -58,7 +59,7 @@ def machine(built, before, stopped):
 
 
 class Bench:
-    """The parts of the bench and the rows that they gave."""
+    """The parts of the bench and their rows."""
 
     def __init__(self, options):
         self.options, self.rows = options, {}
@@ -99,7 +100,7 @@ class Bench:
         os.remove(report)
 
     def python(self):
-        """The package in Python, where the library is built, on the largest network up to 10^6 nodes."""
+        """The Python package, if the library is built, on the largest network up to 10^6 nodes."""
         if not python_search.is_there():
             self.built.left_out.append("the Python package (make lib builds it)")
             return

@@ -1,15 +1,15 @@
-"""Writes a network whose open nodes are few for long and then many at once, in the worst order.
+"""Writes a network with few open nodes for long and then many at once, in the worst order.
 
-A path of so many nodes, whose arcs have weight 0, leads to the first node of a ring. From there an arc of weight 2i leads to
-the i-th node of the ring after it, in descending order, and from each of these an arc of weight 1 to the next one. Where the
-workers leave on the path, a pass in the order in which nodes are opened takes quadratic time on the ring; one in about the
-order of labels takes linear time.
+A path of nodes, with arcs of weight 0, leads to the first node of a ring. From there an arc of weight 2i
+leads to the i-th node of the ring after it, in descending order, and from each of these an arc of weight 1 to
+the next one. If the workers leave on the path, a pass in the order in which nodes are opened takes quadratic
+time on the ring; one in nearly the order of labels takes linear time.
 """
 import sys
 
 
 def lines(path, ring):
-    """The lines of the network, which has `path` nodes and then `ring` nodes."""
+    """The lines of the network of `path` nodes, then `ring` nodes."""
     first = path + 1
     last = path + ring
     yield f"p sp {last} {path + 2 * (ring - 1) - 1}"

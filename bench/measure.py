@@ -1,4 +1,4 @@
-"""Programs are run side by side in turns, their answers compared, and the times written as rows."""
+"""Runs programs in turns, compares their answers, and writes the times as rows."""
 import csv
 import filecmp
 import glob
@@ -14,7 +14,8 @@ FIELDS = ("input", "nodes", "program", "threads", "problems", "round", "seconds"
 
 
 class Job(NamedTuple):
-    """A program on an input. A report goes to standard output, or to a file among the words; some print their own times."""
+    """A program on an input. A report goes to standard output, or to a file among the words; some print
+    their own times."""
     input: str
     nodes: int
     program: str
@@ -39,14 +40,15 @@ def ran(job, by):
 
 
 def told(said):
-    """The seconds of solving and the sum of the arrivals that a program printed, where it printed them."""
+    """The seconds of solving and the sum of the arrivals that a program printed, if it did."""
     found = re.search(r"(?:walks false us|solve_us|pairs in) (\d+)", said)
     total = re.search(r"sum (\d+)", said)
     return int(found[1]) / 1e6 if found else None, int(total[1]) if total else None
 
 
 class Turns:
-    """Rounds of jobs. The first report of an input, and the first sum of its arrivals, are what all others of this input have to give."""
+    """Rounds of jobs. The first report of an input and the first sum of its arrivals are compared with all
+    others of this input."""
 
     def __init__(self, jobs, rounds, by, same=True):
         self.jobs, self.rounds, self.by, self.same = jobs, rounds, by, same
@@ -94,13 +96,13 @@ def written(name, rows, fields=FIELDS):
 
 
 def cleared():
-    """Takes away what an earlier bench wrote, so that a page never shows two machines or two days."""
+    """Deletes what an earlier bench wrote, so that a page never shows two machines or two days."""
     for file in glob.glob(os.path.join(RESULTS, "*.csv")):
         os.remove(file)
 
 
 def rows_of(name):
-    """The rows of bench/results/NAME.csv as dictionaries; none where there is no such file."""
+    """The rows of bench/results/NAME.csv as dictionaries; none if there is no such file."""
     place = os.path.join(RESULTS, f"{name}.csv")
     if not os.path.exists(place):
         return []
@@ -115,6 +117,6 @@ class Spread(NamedTuple):
 
 
 def spread(values):
-    """Least, middle and greatest of some values; None of none."""
+    """The least, median and greatest value; None if there is none."""
     values = [float(it) for it in values if it != ""]
     return Spread(min(values), statistics.median(values), max(values)) if values else None

@@ -87,7 +87,7 @@ def groups(rows, field, ours_alone=False):
 
 
 def shown(found):
-    """Those of at least 10^5 nodes, or all where there are none: what is smaller is in the pictures alone."""
+    """Those of at least 10^5 nodes, or all if there are none: smaller ones are only in the pictures."""
     large = {at: these for at, these in found.items() if at[1] >= 100_000}
     return (large or found).items()
 
@@ -101,7 +101,8 @@ def seconds(value):
 
 
 def table(title, these, base, memory=None):
-    """A table of programs: least, middle, greatest seconds, and the ratio of the middle times; and what is quicker than ours."""
+    """A table of programs: least, median, greatest seconds, the ratio of the median times, and what is
+    faster than ours."""
     columns = ["program", "threads", "least s", "middle s", "greatest s", "beside the base"] + (["memory MB"] if memory else [])
     out = [f"**{title}**", "", "| " + " | ".join(columns) + " |", "|" + "---|" * len(columns)]
     for (program, threads), found in sorted(these.items(), key=lambda it: it[1].middle):
@@ -116,7 +117,7 @@ def table(title, these, base, memory=None):
 
 
 def lost(these):
-    """Which programs are quicker than ours with as many threads."""
+    """The programs that are faster than ours with as many threads."""
     best = {}
     for (program, threads), found in these.items():
         if is_ours(program):
@@ -138,7 +139,7 @@ def machine():
     return {row["name"]: row["value"] for row in rows_of("machine")}
 
 
-# What is said of other work that was stopped for the bench.
+# The sentence on other work that was stopped for the bench.
 STOPPED = "stopped while it ran"
 
 
@@ -203,7 +204,7 @@ def checks(rows, rounds):
 
 
 def embedded(rows):
-    """The Python package beside the program."""
+    """The Python package compared with the program."""
     if not rows:
         return []
     out = [EMBEDDED, "| nodes | what | middle s | ratio | to |", "|---|---|---|---|---|"]
@@ -223,7 +224,7 @@ def rings(rows):
 
 
 def drawn(name, *words):
-    """Writes a picture, where it has lines."""
+    """Writes a picture, if it has lines."""
     text = plots.chart(*words)
     if text:
         os.makedirs(PICTURES, exist_ok=True)
@@ -232,7 +233,7 @@ def drawn(name, *words):
 
 
 def lines_by_nodes(found, kind, scale=1.0):
-    """A line over nodes for each program with one thread or four; MultiQueues with four alone."""
+    """A line over nodes for each program with one thread or four; MultiQueues with four only."""
     lines = {}
     for (kind_of, nodes, _), these in found.items():
         for (program, threads), value in these.items():
@@ -263,7 +264,7 @@ def pictures(whole, many):
 
 
 def rounds_of(rows):
-    """How many rounds a group had."""
+    """The number of rounds of a group."""
     found = {}
     for row in rows:
         at = row["input"], int(row["nodes"]), int(row["problems"])

@@ -3,14 +3,15 @@ import html
 import math
 
 COLOURS = ("#0b6e4f", "#c0392b", "#2c5aa0", "#b8860b", "#6c3483", "#5d6d7e", "#d35400", "#148f77", "#7b241c", "#1a5276")
-# Of lines of ours, in the same order on each chart.
+# The colours of our lines, in the same order on each chart.
 OURS = ("#111111", "#8e8e8e")
 WIDTH, HEIGHT = 790, 420
 LEFT, RIGHT, TOP, BOTTOM = 70, 300, 40, 50
 
 
 def ticks(low, high):
-    """Round values that cover a range: 1, 2 and 5 times powers of ten, or the powers alone where the range is wide."""
+    """Round values that cover a range: 1, 2 and 5 times powers of ten, or only the powers if the range is
+    wide."""
     steps = (1,) if high / low > 300 else (1, 2, 5)
     powers = range(math.floor(math.log10(low)) - 1, math.ceil(math.log10(high)) + 1)
     return [step * 10.0 ** power for power in powers for step in steps if low * 0.999 <= step * 10.0 ** power <= high * 1.001]
@@ -61,7 +62,8 @@ def chart(title, across, up, lines):
 
 
 def strokes(names):
-    """How the lines are drawn: ours are broad, in colours that no other has, and where the others' colours come again they are dashed."""
+    """How the lines are drawn: ours are thick, in colours of no other line. If the others' colours repeat,
+    they are dashed."""
     drawn, ours, others = [], 0, 0
     for name in names:
         if name.startswith("earliest"):
@@ -75,7 +77,7 @@ def strokes(names):
 
 
 def line(name, points, drawn, x, y, height):
-    """A line with its points and its name beside the chart."""
+    """A line with its points, and its name next to the chart."""
     places = [(x.at(a), y.at(b)) for a, b in points]
     path = " ".join(f"{a:.1f},{b:.1f}" for a, b in places)
     out = [f'<polyline points="{path}" fill="none" {drawn}/>']

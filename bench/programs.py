@@ -1,4 +1,4 @@
-"""The programs of the bench: how they are built, and which words they are run with."""
+"""The programs of the bench: how they are built, and the words with which they are run."""
 import os
 import shutil
 import subprocess
@@ -19,7 +19,7 @@ BASE = ALONE["heap"]
 
 
 def compiled(words):
-    """Whether a compiler made its program; what it says is shown where it fails."""
+    """Whether a compiler made its program. If it failed, its output is shown."""
     if shutil.which(words[0]) is None:
         return False
     ran = subprocess.run(words, stdout=subprocess.PIPE, stderr=subprocess.STDOUT, text=True)
@@ -27,7 +27,7 @@ def compiled(words):
 
 
 def rust(name, scratch):
-    """Compiles bench/NAME.rs: the program."""
+    """Compiles bench/NAME.rs. Returns the program."""
     program = os.path.join(scratch, name.replace("/main", ""))
     if not compiled([*RUST, os.path.join(HERE, f"{name}.rs"), "-o", program]):
         sys.exit(f"bench/{name}.rs isn't compiled: rustc is needed")
@@ -35,7 +35,7 @@ def rust(name, scratch):
 
 
 def python_with(module):
-    """A Python that has a module and NumPy; None where none of those on the path has."""
+    """A Python with a module and NumPy; None if no Python on the path has them."""
     for python in filter(shutil.which, (sys.executable, "/usr/bin/python3", "python3")):
         found = subprocess.run([python, "-c", f"import numpy, {module}"], stdout=subprocess.DEVNULL, stderr=subprocess.DEVNULL)
         if found.returncode == 0:
@@ -44,7 +44,7 @@ def python_with(module):
 
 
 class Programs:
-    """What was built in a scratch folder, and the names of what is left out, with the reason."""
+    """The programs built in a scratch folder, and the names of those left out, with the reason."""
 
     def __init__(self, scratch):
         self.scratch, self.left_out, self.peers = scratch, [], {}
@@ -77,7 +77,8 @@ class Programs:
 
 
 class Network:
-    """A road-like network of about so many nodes, its timetables, sources and pairs, in files of the scratch."""
+    """A road-like network of about this many nodes, its timetables, sources and pairs, in files of the
+    scratch folder."""
 
     def __init__(self, programs, nodes):
         self.nodes, self.base = nodes, programs.at(f"road{nodes}")
@@ -97,12 +98,12 @@ class Network:
         return {"plain": self.none, "timetables": f"{self.base}.tp", "patterns": f"{self.base}.patterns.tp"}[kind]
 
     def words(self, kind):
-        """The words for timetables, for our program and for those by hand."""
+        """The words for timetables, for our program and for those in plain Rust."""
         return ([], "-") if kind == "plain" else (["--tp", self.tp(kind)], self.tp(kind))
 
 
 def whole(programs, network, kind, threads):
-    """Whole runs from one source: read, solve, write; and the engine alone."""
+    """Whole runs from one source (read, solve, write), and the engine alone."""
     ours, tp = network.words(kind)
     out, at = programs.at("out.report"), (kind, network.nodes)
     by_hand = lambda method, count: [programs.hand, "run", method, network.gr, network.one, tp, str(DEPART), str(count), out]
@@ -112,7 +113,7 @@ def whole(programs, network, kind, threads):
         jobs.append(Job(*at, "earliest", count, 1, words, out, True))
         jobs += [Job(*at, name, count, 1, by_hand(method, count), out) for method, name in SEVERAL.items()]
         if programs.several:
-            # Where one worker is asked for the program searches by the engine of one thread, which is 0 here.
+            # If one worker is asked for, the program searches with the engine of one thread, which is 0 here.
             workers = str(count if count > 1 else 0)
             words = [programs.several, network.gr, network.tp(kind), str(DEPART), workers, "2", "1", "32", "65536"]
             jobs.append(Job(*at, "earliest, solving alone", count, 1, words))
@@ -133,12 +134,13 @@ def plain_and_patterns(programs, network):
 
 
 def by_one(count):
-    """So many problems at once, each by one thread. (Where one is searched at a time the program picks several on large networks.)"""
+    """This many problems at once, each by one thread. (If one is searched at a time, the program chooses
+    several threads on large networks.)"""
     return ["--at-once", str(count), "--workers", "1"]
 
 
 def many(programs, network, threads):
-    """64 sources with timetables, so many at once."""
+    """64 sources with timetables, this many at once."""
     ours, tp = network.words("timetables")
     out, at, jobs = programs.at("out.report"), ("timetables", network.nodes), []
     for count in threads:
@@ -164,7 +166,7 @@ def pairs(programs, network, count):
 
 
 def checks(programs, network, report):
-    """Checking a report, beside searching again; and rank errors."""
+    """Checking a report, compared with searching again; and rank errors."""
     ours, tp = network.words("timetables")
     at, depart = ("timetables", network.nodes), ["--depart", str(DEPART)]
     return [

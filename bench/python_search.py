@@ -1,7 +1,10 @@
-"""Searches from Python by the package, beside the engine's own: python3 bench/python_search.py GR SS [THREADS]
+"""Searches from Python by the package, compared with the engine's own.
 
-As a module it measures. As a program it is what is measured: with THREADS it searches from all sources on one road by so many threads,
-without from the first source alone, five times, and prints microseconds, reading aside, and the sum of the arrivals.
+    python3 bench/python_search.py GR SS [THREADS]
+
+As a module it measures. As a program it is measured: with THREADS it searches from all sources on one road by
+this many threads; without, from the first source only, five times. It prints microseconds, without reading,
+and the sum of the arrivals.
 """
 import os
 import re
@@ -31,7 +34,7 @@ def road_of(gr, ss):
 
 
 def search_all(gr, ss, threads):
-    """Searches from all sources by threads that keep a search each."""
+    """Searches from all sources by threads, each with one search."""
     import threading
     from concurrent.futures import ThreadPoolExecutor
 
@@ -51,7 +54,7 @@ def search_all(gr, ss, threads):
 
 
 def search_one(gr, ss):
-    """Searches from one source with arrays of its own each time, as often as the engine's program does beside it."""
+    """Searches from one source with new arrays each time, as often as the engine's program."""
     road, sources, never = road_of(gr, ss)
     for _ in range(TIMES):
         begun = time.perf_counter()
@@ -61,20 +64,20 @@ def search_one(gr, ss):
 
 
 def sum_of(arrivals, never):
-    """The sum of the arrivals that there are, which NumPy makes in little time; without it the first and the last arrival alone."""
+    """The sum of all arrivals, which NumPy computes fast; without it only of the first and the last."""
     if hasattr(arrivals, "dtype"):
         return int(arrivals[arrivals != never].sum())
     return sum(it for it in (arrivals[0], arrivals[-1]) if it != never)
 
 
 def printed(words, name):
-    """All numbers behind a name in what a program prints."""
+    """All numbers after a name in a program's output."""
     said = subprocess.run(words, capture_output=True, text=True, check=True).stdout
     return [int(it) for it in re.findall(rf"\b{name} (\d+)", said)]
 
 
 def measured(network, programs, rounds):
-    """Rows of the table: 64 sources by 1, 2 and 4 threads, and one search beside the engine's own."""
+    """Rows of the table: 64 sources by 1, 2 and 4 threads, and one search compared with the engine's own."""
     from programs import python_with
 
     python = [python_with("sys") or sys.executable, os.path.abspath(__file__), network.gr]

@@ -1,8 +1,11 @@
-"""Networks on which several workers have little to gain: python3 bench/traps.py [--settings N] [--rounds N] [--scratch FOLDER]
+"""Networks on which several workers gain little.
 
-Late rings (late_ring.py) are run with many settings of workers, heaps, seeds, turns and batches; a path of 10^6 nodes, stars of as many
-and a road-like network of 1,000 nodes with four workers. Each is a whole run beside one worker's, in turns; the reports are compared. It
-writes bench/results/traps.csv, which the page shows, and traps_rounds.csv with each round.
+    python3 bench/traps.py [--settings N] [--rounds N] [--scratch FOLDER]
+
+Late rings (late_ring.py) are run with many settings of workers, heaps, seeds, turns and batches; a path of
+10^6 nodes, stars of as many and a road-like network of 1,000 nodes with four workers. Each is a whole run, in
+turns with one worker's; the reports are compared. It writes bench/results/traps.csv, which the page shows,
+and traps_rounds.csv with each round.
 """
 import argparse
 import os
@@ -22,7 +25,7 @@ FIELDS = ("network", "settings", "one", "middle", "worst", "ratio", "setting")
 
 
 def settings(count):
-    """So many settings: those of one kind each first, and then others drawn with a fixed seed."""
+    """This many settings: first fixed ones, then random ones with a fixed seed."""
     found = [["--workers", str(workers)] for workers in (2, 3, 4, 8, 16)]
     found += [["--workers", "4", "--turns", turns] for turns in ("0", "1", "40")]
     found += [["--workers", "4", "--heaps", "8"], ["--workers", "4", "--batch", "1"]]
@@ -36,7 +39,7 @@ def settings(count):
 
 
 def star(base, leaves, before=0):
-    """A path of so many arcs to a node that has arcs of many weights to all others."""
+    """A path of arcs to a node with arcs of many weights to all others."""
     middle = before + 1
     with open(f"{base}.gr", "w", encoding="ascii") as file:
         file.write(f"p sp {middle + leaves} {before + leaves}\n")
@@ -45,7 +48,7 @@ def star(base, leaves, before=0):
 
 
 def stars(base, middles, leaves):
-    """Arcs to so many nodes, each of which has arcs of many weights to so many others."""
+    """Arcs to `middles` nodes, each with arcs of many weights to `leaves` others."""
     with open(f"{base}.gr", "w", encoding="ascii") as file:
         file.write(f"p sp {1 + middles + middles * leaves} {middles + middles * leaves}\n")
         file.writelines(f"a 1 {1 + middle} {middle % 97 + 1}\n" for middle in range(1, middles + 1))
@@ -67,7 +70,8 @@ def ring(base, before, nodes):
 
 
 def compared(name, base, given, rounds, by):
-    """The network with these settings beside one worker: a row of the table, and the rows of all rounds."""
+    """The network with these settings compared with one worker: a row of the table, and the rows of all
+    rounds."""
     with open(f"{base}.ss", "w", encoding="ascii") as file:
         file.write("p aux sp ss 1\ns 1\n")
     front, out = [programs.EARLIEST, "run", f"{base}.gr", f"{base}.ss"], f"{base}.report"

@@ -1,10 +1,11 @@
-"""Proves and builds a timing program (bench/NAME/program) over copies of the crates that it stands on, in a folder of the scratch.
+"""Proves and builds a timing program (bench/NAME/program) with copies of the crates that it needs, in a
+scratch folder.
 
     python3 bench/workspace.py NAME [SCRATCH] [-- WORD ..]
 
-It is run once, on the words. The last line printed is the path of the built program. What the repository's crates have proved already
-(crates/*/out) is taken along; JOBS in the environment is the number of processors that rt takes. The programs are Rattle sources, under
-names that the gate does not read.
+It is run once, on the words. The last line printed is the path of the built program. Proofs of the
+repository's crates (crates/*/out) are copied; JOBS in the environment is the number of processors for rt. The
+programs are Rattle sources under names that the gate does not read.
 """
 import os
 import shutil
@@ -30,7 +31,7 @@ SCRATCH = "/tmp/bench"
 
 
 def copied(name, room):
-    """Copies a crate: its sources anew, what is proved of it where nothing is there yet."""
+    """Copies a crate: its sources always, its proofs if there are none yet."""
     here, there = os.path.join(repository.ROOT, "crates", name), os.path.join(room, "crates", name)
     os.makedirs(there, exist_ok=True)
     for part in os.listdir(here):
@@ -45,7 +46,7 @@ def copied(name, room):
 
 
 def placed(name, room):
-    """Puts a program's sources where a crate has them: main.rt.txt, and FUNCTION-FILE.antt.txt of proofs."""
+    """Puts a program's sources where a crate has them: main.rt.txt, and the proofs FUNCTION-FILE.antt.txt."""
     folder = os.path.join(room, "crates", f"{name}_times")
     for part in ("src", "proofs", "specs"):
         shutil.rmtree(os.path.join(folder, part), ignore_errors=True)
@@ -62,7 +63,7 @@ def placed(name, room):
 
 
 def built(name, scratch=SCRATCH, words=(), say=print):
-    """The path of the built program; None where it isn't proved or there is no toolchain."""
+    """The path of the built program; None if it isn't proved or there is no toolchain."""
     if shutil.which("rt") is None:
         return None
     room = os.path.join(scratch, "workspace")

@@ -1,15 +1,16 @@
-"""Builds the program bin/earliest: proves the libraries that it stands on, as many side by side as there are processors and memory,
-tells which of how many are done, and then proves, builds and runs the program once, which answers the run that is stored in it.
+"""Builds the program bin/earliest: proves the libraries that it needs, as many at once as processors and
+memory allow, reports progress, and then proves, builds and runs the program once on its built-in run.
 
-Libraries with long chains of others above them decide when all are done: each of those is checked by two jobs, and any other by one,
-since two take a fifth to two thirds more of the processors in all. No more jobs run than there are processors. A library that nothing can
-run beside has them all.
+Libraries with long chains of others above them decide when everything is done: each of those is checked by
+two jobs, and any other by one, since two jobs take a fifth to two thirds more processor time. No more jobs
+run than there are processors. A library that must be built alone gets all of them.
 
-A first build keeps the statements of a library and not its proofs: what stands above is then checked in less time, since it loads less.
-Statements fit only the builds that they were proved over. So crates/NAME/out/first tells what a library's first build was made of; where it
-is as it was then, it is built so again, and gives the same. Where it was changed, or stands on what was, it keeps in crates/NAME/out what
-it proved, and the next build proves of it what changed. Of `rt lib` itself one call would wait for the other wherever both stand on one
-library, so all are built by one process, which holds their folders, as `rt ci` does.
+A first build keeps the statements of a library and not its proofs, so that what depends on it loads less and
+is checked in less time. Statements fit only the builds over which they were proved. So crates/NAME/out/first
+says what a library's first build was made of; if that is unchanged, it is built in the same way again, with
+the same result. If it or a library below changed, crates/NAME/out keeps what was proved, and the next build
+proves only what changed. Two calls of `rt lib` would wait for each other if both needed one library, so one
+process builds all of them and holds their folders, as `rt ci` does.
 """
 import os
 import shutil
@@ -24,20 +25,21 @@ import repository
 
 PROGRAM = "earliest_program"
 
-# What a library's proof takes, in bytes, with no job and for each: more than any of them was seen to take.
+# The memory of a library's proof, in bytes, without jobs and for each job: more than any was seen to take.
 MEMORY, MEMORY_OF_A_JOB = 1_500_000_000, 1_200_000_000
 
-# A chain counts as long from this part of the longest one on: what a line takes to prove differs from library to library by a factor of two.
+# A chain counts as long from this part of the longest one on: the time to prove a line differs between
+# libraries by a factor of two.
 LONG = 0.75
 
 
 class Libraries:
-    """The libraries of the program as they are built, and what is told of them."""
+    """The program's libraries while they are built, and the progress that is reported."""
 
     def __init__(self):
         self.rt, self.rtlib = repository.kit()
         os.chdir(repository.ROOT)
-        # Its first call sets the handler of a signal, which only this thread may.
+        # The first call sets the handler of a signal, which only this thread may.
         self.rtlib.guarded()
         every = {crate.name: crate for crate in self.rtlib.crates_below(repository.ROOT)}
         self.program = every[PROGRAM]
@@ -45,7 +47,7 @@ class Libraries:
         self.done = []
 
     def build(self, crate, jobs):
-        """Builds a library by so many jobs: whether it is built."""
+        """Builds a library by this many jobs. Returns whether it is built."""
         begun = time.monotonic()
         with tempfile.TemporaryFile("w+", errors="replace") as crate.out:
             is_built = self.status_of(crate, ["--jobs", str(jobs)]) == 0
@@ -59,7 +61,7 @@ class Libraries:
         return is_built
 
     def status_of(self, crate, flags):
-        """Builds a library where it isn't built: the status."""
+        """Builds a library unless it is built. Returns the status."""
         out, stamp = os.path.join(crate.folder, "out"), crate.stamp()
         first, kept = os.path.join(out, "first"), os.path.join(out, "rlib", "statements")
         was = self.rtlib.text_of(first)
@@ -86,7 +88,8 @@ class Libraries:
         return chain
 
     def build_all(self):
-        """Builds all, those with the longest chain of others above them first: whether all are built."""
+        """Builds all, those with the longest chain of others above them first. Returns whether all are
+        built."""
         held = self.rtlib.lock(self.left)
         chain = self.chains()
         left = sorted(self.left, key=lambda crate: -chain[crate.name])
@@ -116,7 +119,7 @@ class Libraries:
         return len(built) == len(self.left)
 
     def run_program(self):
-        """Proves, builds and runs the program, by all processors: its status."""
+        """Proves, builds and runs the program, by all processors. Returns its status."""
         jobs = str(self.rt.processors())
         return subprocess.run(["rt", "run", "--jobs", jobs], cwd=self.program.folder, stdout=subprocess.PIPE).returncode
 

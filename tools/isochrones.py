@@ -2,11 +2,11 @@
 
     python3 tools/isochrones.py REPORT CO [--graph GR] [--problem K] [--band T] [--out FILE]
 
-REPORT is a report of `earliest run`, CO a coordinates file of the 9th DIMACS Challenge (`v NODE X Y`). Each node is a dot
-whose colour tells how long after the source's departure it is reached, in bands of T time units (by default an eighth of the
-longest); a node that isn't reached is grey. With --graph the roads are drawn too, and if the report has walks, those that the
-walks take stand out: they are the tree of shortest paths. --problem K takes the K-th problem of the report (from 1). The
-picture goes to FILE, or to standard output.
+REPORT is a report of `earliest run`, CO a coordinates file of the 9th DIMACS Challenge (`v NODE X Y`). Each
+node is a dot whose colour shows how long after the source's departure it is reached, in bands of T time units
+(by default an eighth of the longest); a node that isn't reached is grey. With --graph the roads are drawn
+too. If the report has walks, the arcs of walks are highlighted: they are the tree of shortest paths.
+--problem K takes the K-th problem of the report (from 1). The picture goes to FILE, or to standard output.
 """
 import argparse
 import sys
@@ -18,7 +18,7 @@ GREY = "#c8c8c8"
 
 
 class Refused(Exception):
-    """A text that is not what it should be, with its file and line."""
+    """A faulty text, with its file and line."""
 
 
 def fields_of(file):
@@ -41,7 +41,7 @@ def numbers(file, number, fields):
 
 
 def places_of(file):
-    """Where each node lies."""
+    """The position of each node."""
     places = {}
     for number, fields in fields_of(file):
         if fields[0] == "v" and len(fields) == 4:
@@ -55,7 +55,7 @@ def places_of(file):
 
 
 def arcs_of(file):
-    """Tail and head of each arc, the first that of arc 1."""
+    """The tail and head of each arc, the first those of arc 1."""
     return [tuple(numbers(file, number, fields[1:3])) for number, fields in fields_of(file) if fields[0] == "a" and len(fields) == 4]
 
 
@@ -67,7 +67,8 @@ class Problem:
 
 
 def problem_of(file, wanted):
-    """One problem of a report, counted from 1. A problem begins with the first `s` line after a line of another sort."""
+    """One problem of a report, counted from 1. A problem begins with the first `s` line after another kind
+    of line."""
     count, before, problem = 0, "", Problem()
     for number, fields in fields_of(file):
         if fields[0] == "s" and before != "s":
@@ -103,7 +104,7 @@ class Map:
 
 
 def path(view, places, arcs, colour, width):
-    """Arcs between places that are known, as one path of the picture."""
+    """Arcs between known places, as one path of the picture."""
     steps = []
     for tail, head in arcs:
         if tail in places and head in places:

@@ -14,7 +14,7 @@ COUNT = 100
 
 
 def arrivals(words, departures):
-    """The arrival at the target for each departure; None where it isn't reached."""
+    """The arrival at the target for each departure; None if it isn't reached."""
     options = list(words.options) + ["--depart", str(departures[0]), "--gap", str(departures.step)]
     pairs = f"p aux sp p2p {len(departures)}\n" + f"q {words.source} {words.target}\n" * len(departures)
     ran = subprocess.run([words.program, "pairs", words.gr, "-", *options], input=pairs, capture_output=True, text=True)
@@ -25,7 +25,7 @@ def arrivals(words, departures):
 
 
 def latest(words):
-    """The latest departure in time and its arrival; None where there is none."""
+    """The latest departure in time and its arrival; None if there is none."""
     low, high, best = 0, words.wished, None
     while low <= high:
         step = (high - low) // COUNT + 1

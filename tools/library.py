@@ -28,13 +28,13 @@ Cflags: -I${includedir}
 
 
 def memory():
-    """The archive of the kit that joins the library to malloc, realloc and free."""
+    """The archive of the kit that links the library to malloc, realloc and free."""
     page = subprocess.run(["rt", "doc"], stdout=subprocess.PIPE, text=True, check=True).stdout.split("\n")[0]
     return os.path.join(os.path.dirname(page.strip()), "c", "liblibc_c.a")
 
 
 def joined(archive, folder):
-    """Makes libearliest.a and libearliest.so of the crate's archive in a folder."""
+    """Makes libearliest.a and libearliest.so from the crate's archive in a folder."""
     os.makedirs(folder, exist_ok=True)
     static, shared = os.path.join(folder, "libearliest.a"), os.path.join(folder, "libearliest.so")
     with tempfile.TemporaryDirectory() as room:
@@ -49,15 +49,15 @@ def joined(archive, folder):
 
 
 def archived():
-    """Proves the crate and makes its archive here: the archive, the status and what was said."""
+    """Proves the crate and makes its archive here. Returns the archive, the status and the output."""
     folder = os.path.join(ROOT, "crates", CRATE)
     ran = subprocess.run(["rt", "lib"], cwd=folder, stdout=subprocess.PIPE, stderr=subprocess.STDOUT, text=True, errors="replace")
     return os.path.join(folder, "out", f"lib{CRATE}.a"), ran.returncode, ran.stdout
 
 
 def archived_over(room):
-    """The same in a room where rt ci has proved what the crate stands on, by one job, since the gate tries edits meanwhile. (`rt lib` would
-    prove that again: what rt ci leaves has no stamp.)"""
+    """The same in a room in which rt ci proved the crates below, by one job, since the gate tries edits
+    meanwhile. (`rt lib` would prove them again: what rt ci leaves has no stamp.)"""
     _, rtlib = repository.kit()
     os.chdir(room)
     rtlib.guarded()
@@ -69,7 +69,7 @@ def archived_over(room):
 
 
 def built(room=None):
-    """Proves and builds the library: 0, or the status of what failed."""
+    """Proves and builds the library. Returns 0, or the status of what failed."""
     archive, status, said = archived_over(room) if room else archived()
     if status:
         print(said)

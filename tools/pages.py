@@ -1,7 +1,8 @@
 """Writes the man page and the shells' completions, all from the program's own texts: python3 tools/pages.py PROGRAM FOLDER
 
-FOLDER gets share/man/man1/earliest.1, share/bash-completion/completions/earliest, share/zsh/site-functions/_earliest and
-share/fish/vendor_completions.d/earliest.fish. Nothing about a command or an option stands here, so they can't differ from the help.
+FOLDER gets share/man/man1/earliest.1, share/bash-completion/completions/earliest,
+share/zsh/site-functions/_earliest and share/fish/vendor_completions.d/earliest.fish. No command or option is
+written here, so they can't differ from the help.
 """
 import os
 import re
@@ -15,7 +16,7 @@ def said(program, *words):
 
 
 def parts(text):
-    """The parts of a help text: what stands before `Usage:`, the usage, the named lists, and what comes after them."""
+    """The parts of a help text: what precedes `Usage:`, the usage, the named lists, and what follows them."""
     about, _, rest = text.partition("\nUsage: ")
     usage, _, rest = rest.partition("\n")
     lists, after, name = {}, [], None
@@ -54,7 +55,7 @@ def escaped(text):
 
 
 def literal(text):
-    """A text that is shown as it is."""
+    """A text that is shown unchanged."""
     return f".nf\n{escaped(text)}\n.fi\n"
 
 

@@ -2,10 +2,10 @@
 
     python3 tools/parts.py FILE COUNT FOLDER [--depart T] [--gap G]
 
-writes FOLDER/1.ss .. FOLDER/COUNT.ss (or .p2p), each with as many sources as the others or one more, in their order, and
-FOLDER/parts.txt with a line for each part: its file, and the values of --depart and --gap with which `earliest` gives its
-sources the departures that they have in the whole (source i, from 0, departs at T + i * G). The reports of the parts one after
-the other are the report of the whole.
+writes FOLDER/1.ss .. FOLDER/COUNT.ss (or .p2p), each with as many sources as the others or one more, in their
+order, and FOLDER/parts.txt with a line for each part: its file, and the values of --depart and --gap with
+which `earliest` gives its sources the departures that they have in the whole (source i, from 0, departs at T
++ i * G). The reports of the parts, one after another, are the report of the whole.
 """
 import argparse
 import os
@@ -16,7 +16,7 @@ HORIZON = 2**48 - 1
 
 
 class Refused(Exception):
-    """What keeps a file from being cut."""
+    """Why a file can't be cut."""
 
 
 def read(file):

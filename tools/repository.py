@@ -1,4 +1,5 @@
-"""The repository as its scripts see it: where it lies, its crates as crates.txt lists them, `rt` and the tools as modules."""
+"""The repository for its scripts: its path, its crates as crates.txt lists them, `rt` and the tools as
+modules."""
 import importlib.machinery
 import importlib.util
 import os
@@ -9,7 +10,7 @@ ROOT = os.path.normpath(os.path.join(os.path.dirname(os.path.abspath(__file__)),
 
 
 def listed():
-    """The lines of crates.txt by crate, and which crates and libraries each stands on."""
+    """The lines of crates.txt by crate, and the crates and libraries that each needs."""
     lines, uses = {}, {}
     with open(os.path.join(ROOT, "crates.txt"), encoding="utf-8") as file:
         for line in file:
@@ -21,7 +22,7 @@ def listed():
 
 
 def below(name, uses):
-    """The crates of the repository that a crate stands on, itself left out."""
+    """The crates of the repository that a crate needs, without itself."""
     found, left = [], list(uses[name])
     while left:
         one = left.pop()

@@ -4,9 +4,10 @@ FEED is a folder with stop_times.txt and trips.txt, and calendar.txt or calendar
 writes OUT.gr, OUT.tp and OUT.stops (a line for each node: its number and the stop's name in the feed). Times are seconds
 from the midnight at which DAY begins, and go beyond 24 hours as the feed's do.
 
-An arc leads from a stop of a route to the next, with one timetable of kind trips. Its weight is the shortest ride, and the
-X of a `v` line is what a ride takes beside it. A ride that one of the same route overtakes is left out: who waits for that
-one arrives sooner. To change at a stop takes no time here; who needs some adds arcs of their own.
+An arc leads from a stop of a route to the next, with one timetable of kind trips. Its weight is the shortest
+ride, and the X of a `v` line is what a ride takes beyond it. A ride that a later one of the same route
+overtakes is left out: waiting for the later one arrives sooner. Changing at a stop takes no time here; to
+model it, add arcs.
 """
 import csv
 import datetime
@@ -17,7 +18,7 @@ WEEKDAYS = ("monday", "tuesday", "wednesday", "thursday", "friday", "saturday", 
 
 
 def rows(feed, name):
-    """The rows of a file of the feed, none where it isn't there."""
+    """The rows of a file of the feed, none if the file is missing."""
     path = os.path.join(feed, name)
     if not os.path.exists(path):
         return []
@@ -42,7 +43,7 @@ def seconds(time):
 
 
 def rides(feed, day):
-    """For each route and pair of stops that follow each other: the departures and arrivals of the day's rides."""
+    """For each route and pair of consecutive stops: the departures and arrivals of the day's rides."""
     runs = services(feed, day)
     route_of = {row["trip_id"]: row["route_id"] for row in rows(feed, "trips.txt") if row["service_id"] in runs}
     calls = {}
@@ -58,7 +59,7 @@ def rides(feed, day):
 
 
 def not_overtaken(times):
-    """The departures and arrivals without those of which a later departure arrives no later."""
+    """The departures and arrivals without those that a later departure overtakes or equals."""
     kept = []
     for leaves, arrives in sorted(times, key=lambda time: (time[0], -time[1])):
         while kept and kept[-1][1] >= arrives:

@@ -1,7 +1,7 @@
-"""Runs a command of the program with no proof: python3 tools/try.py WORD ..
+"""Runs a command of the program without proof: python3 tools/try.py WORD ..
 
-The program is run by `rt try`, which proves nothing and is slow on large files; `make run` builds the proved one. Words that name files are
-handed to it as copies.
+The program is run by `rt try`, which proves nothing and is slow on large files; `make run` builds the proved
+one. It gets copies of the files that words name.
 """
 import os
 import shlex
@@ -13,7 +13,8 @@ import repository
 
 
 def handed_in(words, folder):
-    """The words with each file named as the program finds it, and the flags of `rt try` that hand it in."""
+    """The words with each file's name as the program finds it, and the flags of `rt try` that pass the
+    files."""
     told, flags = [], []
     for word in words:
         option, equals, value = word.rpartition("=") if word.startswith("-") else ("", "", word)

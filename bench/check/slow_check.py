@@ -9,7 +9,7 @@ HORIZON = 2**48 - 1
 
 
 def lines_of(report):
-    """The lines that say something: number and fields."""
+    """The lines that are neither blank nor comments: number and fields."""
     lines = report.split(b"\n")
     if lines and lines[-1] == b"":
         lines.pop()

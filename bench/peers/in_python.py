@@ -1,7 +1,9 @@
-"""Dijkstra's method of scipy or igraph on plain weights: python3 in_python.py scipy|igraph GR SS DEPART OUT
+"""Dijkstra's algorithm of scipy or igraph on plain weights.
 
-The texts are read and the report is written by NumPy and Python. Times are floating-point numbers there, exact below 2^53. scipy takes no
-parallel arcs and no weight 0, as the road-like networks have none.
+    python3 in_python.py scipy|igraph GR SS DEPART OUT
+
+The texts are read and the report is written by NumPy and Python. Times are floating-point numbers, exact
+below 2^53. scipy takes no parallel arcs and no weight 0; the road-like networks have none.
 """
 import sys
 import time
