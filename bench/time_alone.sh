@@ -1,6 +1,6 @@
 #!/bin/sh
-# Times the engine of one thread beside searches by hand, in turns, on road-like graphs of 10^5, 10^6 and 10^7 nodes, plain and with
-# timetables.
+# Times the engine of one thread and searches in plain Rust, in turns, on road-like graphs of 10^5, 10^6 and
+# 10^7 nodes, plain and with timetables.
 set -e
 here=$(cd "$(dirname "$0")" && pwd)
 scratch=${1:-/tmp/bench}

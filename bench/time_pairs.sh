@@ -1,6 +1,6 @@
 #!/bin/sh
-# Times many pairs whose search reaches about 1,000 nodes each, on a road-like network of 10^6 nodes without timetables,
-# beside the same by hand.
+# Times many pairs whose search reaches about 1,000 nodes each, on a road-like network of 10^6 nodes without
+# timetables, and the same in plain Rust.
 set -e
 here=$(cd "$(dirname "$0")" && pwd)
 scratch=${1:-/tmp/bench}

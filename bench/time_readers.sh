@@ -1,5 +1,5 @@
 #!/bin/sh
-# Times the readers beside a plain Rust reader, on what make_inputs.sh wrote.
+# Times the readers and a plain Rust reader on the files that make_inputs.sh wrote.
 set -e
 here=$(cd "$(dirname "$0")" && pwd)
 scratch=${1:-/tmp/bench}

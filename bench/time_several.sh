@@ -1,5 +1,6 @@
 #!/bin/sh
-# Times the engine of several threads with many settings beside that of one, and MultiQueues by hand, on road-like graphs with timetables.
+# Times the engine of several threads with many settings, that of one thread, and MultiQueues in plain Rust,
+# on road-like graphs with timetables.
 set -e
 here=$(cd "$(dirname "$0")" && pwd)
 scratch=${1:-/tmp/bench}

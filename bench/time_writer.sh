@@ -1,5 +1,5 @@
 #!/bin/sh
-# Times the writing of reports, on what make_inputs.sh wrote.
+# Times the writing of reports, on the files that make_inputs.sh wrote.
 set -e
 here=$(cd "$(dirname "$0")" && pwd)
 scratch=${1:-/tmp/bench}

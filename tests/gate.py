@@ -1,5 +1,5 @@
-"""The gate: `rt ci`, which proves every crate and tries the must-fail edits, then the test suites with what it built. With a program as
-its one word: the suites alone, with that program.
+"""The gate: `rt ci`, which proves every crate and tries the must-fail edits, then the test suites with what
+it built. With a program as the only word: only the suites, with that program.
 
 `rt ci` alone judges proofs and edits. Each suite is tests/NAME/run.py, whose last line is `N passed, M failed`. The last line here adds
 all of them up.
@@ -17,7 +17,8 @@ COUNTS = re.compile(r"(\d+) passed, (\d+) failed\b.*\n?")
 
 
 def counted(name, words):
-    """Runs a command and shows what it says: how many passed and failed. One that ends ill without saying so has failed."""
+    """Runs a command and shows its output. Returns the numbers of passed and failed tests. A command that
+    fails without reporting them counts as one failure."""
     begun, last = time.monotonic(), ""
     with subprocess.Popen(words, cwd=ROOT, stdout=subprocess.PIPE, text=True, errors="replace") as ran:
         for last in ran.stdout:
@@ -35,7 +36,8 @@ def suites():
 
 
 def proved():
-    """Runs `rt ci` and builds the library over what it proved: how many passed and failed."""
+    """Runs `rt ci` and builds the library over what it proved. Returns the numbers of passed and failed
+    tests."""
     passed, failed = counted("rt ci", ["rt", "ci"])
     if not failed:
         built = subprocess.run([sys.executable, os.path.join(ROOT, "tools", "library.py"), "--over", ROOT])

@@ -1,5 +1,6 @@
 #!/usr/bin/env bash
-# Times push/pop pairs of the proved pool beside the same protocol in plain Rust: nanoseconds for a pair of each thread.
+# Times push/pop pairs of the proved pool and of the same protocol in plain Rust: nanoseconds for a pair of
+# each thread.
 set -eu
 here=$(cd "$(dirname "$0")" && pwd)
 scratch=${1:-/tmp/bench}

@@ -1,5 +1,6 @@
-"""Many problems searched at once: the report of each setting is, to the byte, that of one problem after the other; and where
-memory or the output gives out, what went out is a front of it, as long as the program says."""
+"""Many problems searched at once: the report of each setting equals, byte for byte, that of one problem
+after another. If memory or the output gives out, the output is the first bytes of it, as many as the
+program says."""
 import os
 import random
 import resource
@@ -36,7 +37,8 @@ def put(room, name, text):
 
 
 def same_bytes(program, room):
-    """Random networks, 1 to 200 problems, each of several settings beside one problem after the other."""
+    """Random networks with 1 to 200 problems: several settings give the report of one problem after
+    another."""
     rng = random.Random(20)
     for at in range(NETWORKS):
         nodes = rng.choice((1, 2, 5, 30, 300))
@@ -53,7 +55,7 @@ def same_bytes(program, room):
 
 
 def cut(program, room):
-    """Outputs that take no more than so many bytes: what went out is a front, as long as the line says."""
+    """Outputs with a limit of bytes: they get the first bytes, as many as the line says."""
     rng = random.Random(21)
     put(room, "n.gr", network(rng, 500, 1500))
     put(room, "n.starts", starts(rng, 500, 60, False))
@@ -73,7 +75,7 @@ def cut(program, room):
 
 
 def scarce(program, room):
-    """Less and less memory: the whole report, or a front of it and the line that memory was refused."""
+    """Less and less memory: the whole report, or its first bytes and the line that memory was refused."""
     rng = random.Random(22)
     put(room, "n.gr", network(rng, 200_000, 300_000))
     put(room, "n.starts", starts(rng, 200_000, 8, False))

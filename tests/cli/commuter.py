@@ -12,7 +12,7 @@ WIDE, HIGH, MAIN, PIER = 20, 15, 7, 12
 HOME, OFFICE = (4, 11), (15, 11)
 DAY = 86400
 
-# Patterns of speeds, in per cent of free flow: from so many minutes of the day on.
+# Patterns of speeds, in per cent of free flow, by the minute of the day from which they hold.
 INTO_TOWN = ((0, 100), (405, 80), (435, 55), (465, 40), (510, 55), (540, 85), (570, 100))
 OUT_OF_TOWN = ((0, 100), (960, 80), (990, 50), (1020, 35), (1080, 55), (1110, 85), (1140, 100))
 BRIDGE_IN = ((0, 100), (420, 60), (450, 40), (470, 12), (510, 35), (540, 70), (570, 100))
@@ -60,7 +60,8 @@ def kinds():
 
 
 def places():
-    """The lines of the crossings' places: a hundred units from one to the next, and twice as far over the river."""
+    """The lines of the crossings' places: a hundred units from one to the next, twice as far across the
+    river."""
     for row in range(HIGH):
         for column in range(WIDE):
             yield f"v {node(column, row)} {100 * (column + (column >= WIDE // 2))} {100 * (HIGH - 1 - row)}\n"

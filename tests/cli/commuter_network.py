@@ -1,5 +1,5 @@
-"""The commuter network of examples/ and the ferry's feed: their files are those that the scripts make, and their reports those of a
-plain search of one's own, with speeds summed second by second."""
+"""The commuter network of examples/ and the ferry's feed: the files equal those that the scripts make, and
+the reports those of a separate plain search, with speeds summed second by second."""
 import heapq
 import os
 import subprocess
@@ -33,7 +33,7 @@ class Search:
                     heapq.heappush(waiting, (arrival, head))
 
     def arrival(self, number, time):
-        """When an arc arrives that is left at a time."""
+        """The arrival by an arc left at a time."""
         return travel_times.arrive(self.kinds[self.class_of[number] - 1], self.arcs[number - 1][2], time)
 
     def tight(self, node):
@@ -41,7 +41,7 @@ class Search:
         return [number for number in self.leaving.get(node, []) if self.arrival(number, self.least[node]) == self.least[self.arcs[number - 1][1]]]
 
     def walk(self, target):
-        """The canonical walk: the fewest tight arcs, and from its end on the lowest numbers."""
+        """The canonical walk: the fewest tight arcs and, from its end on, the lowest numbers."""
         level, ring, last = {self.source: 0}, [self.source], {}
         for node in ring:
             for number in self.tight(node):
@@ -86,7 +86,7 @@ def stored(folder, name):
 
 
 def results(program):
-    """A name, what was, and what is wanted."""
+    """Names, results, and expected results."""
     texts = dict(commuter.texts())
     found = [(f"commuter.py makes {name}", stored(EXAMPLES, name), text) for name, text in texts.items()]
     found += [(f"a plain search gives {name}", stored(EXAMPLES, name), text) for name, text in reports(texts)]

@@ -1,9 +1,10 @@
-"""What the documents show: each block of README.md, docs/, docs/guide/ and docs/design/ whose first line begins with `$ ` is run, in a
-folder that has bin/earliest, examples/ and tools/ as the repository has, and has to give what stands there.
+"""The commands in the documents: each block of README.md, docs/, docs/guide/ and docs/design/ whose first
+line begins with `$ ` is run in a folder that has bin/earliest, examples/ and tools/ like the repository, and
+must give what the block shows.
 
-A line that begins with `$ ` is a command, and a `\\` at its end goes on in the next one. What follows is all that it writes, to standard output
-and then to standard error; of what is shown as `..` any lines may stand there. A command ends with status 0, or with N where it ends in
-`# status N`. The blocks of a document run one after the other in one folder.
+A line that begins with `$ ` is a command; a `\\` at its end continues it in the next line. What follows is
+its whole output, standard output first, then standard error; `..` matches any lines. A command ends with
+status 0, or with N if it ends in `# status N`. The blocks of a document run one after another in one folder.
 """
 import os
 import re
@@ -22,20 +23,21 @@ def documents():
 
 
 def commands(text):
-    """The commands of a document and what each is shown to write."""
+    """The commands of a document and the output shown for each."""
     for block in re.findall(r"(?ms)^```\w*\n(\$ .*?)^```", text):
         for command, shown in re.findall(r"(?ms)^\$ ((?:[^\n]*\\\n)*[^\n]*)\n(.*?)(?=^\$ |\Z)", block):
             yield command, shown
 
 
 def pattern(shown):
-    """What may be written where this is shown."""
+    """The pattern for what is shown."""
     lines = [re.escape(line) if line != "..\n" else r"(?:.*\n)*" for line in shown.splitlines(True)]
     return "".join(lines)
 
 
 def run_in(room, name):
-    """The commands of a document, run in a folder: each with its status and whether it wrote what is shown."""
+    """The commands of a document, run in a folder: for each its status and whether the output is the one
+    shown."""
     with open(os.path.join(ROOT, name), encoding="utf-8") as file:
         shown_there = list(commands(file.read()))
     for command, shown in shown_there:
@@ -47,7 +49,7 @@ def run_in(room, name):
 
 
 def results(program):
-    """Each command with what came and what has to come. Some command is shown."""
+    """Each command with its result and the expected one. There is at least one command."""
     found = []
     for name in documents():
         with tempfile.TemporaryDirectory(prefix="document-") as room:

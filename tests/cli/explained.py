@@ -1,5 +1,5 @@
-"""What faults mean, text by text: the page on each fault, by its number and by its name, and what is said after the line of a fault
-that no first mistake of people.py comes to."""
+"""What faults mean, text by text: the page on each fault, by its number and by its name, and the
+explanations after the line of a fault that the first mistakes of people.py don't cover."""
 import os
 import random
 import re
@@ -9,7 +9,7 @@ import tempfile
 
 HERE = os.path.dirname(os.path.abspath(__file__))
 EXAMPLES = os.path.join(HERE, "..", "..", "examples")
-# How many faults there are, each with a page.
+# The number of faults, each with a page.
 FAULTS = 19
 
 
@@ -34,7 +34,7 @@ def paged(program):
 
 
 REPORT, WALKS = read(EXAMPLES, "four-nodes.report"), read(EXAMPLES, "canonical-ties.walks.report")
-# The files of a checked report, the report, and what is said; {} is the report's name.
+# The files of a checked report, the report, and the output; {} is the report's name.
 CHECKED = (
     ("four-nodes.gr", REPORT + "d 5 7\n", "1 BadLine line 6", "d 5 7", "a line of the report isn't the one that has to stand there; line 0: the report ends too early"),
     ("four-nodes.gr", REPORT[:-6], "1 BadLine line 0", None, "a line of the report isn't the one that has to stand there; line 0: the report ends too early"),
@@ -72,7 +72,7 @@ def scarce(program, folder):
 
 
 def results(program):
-    """Each of these: name, what came, what was wanted."""
+    """For each of these: name, result, expected result."""
     yield from paged(program)
     with tempfile.TemporaryDirectory(prefix="explained-") as folder:
         yield from checked(program, folder)

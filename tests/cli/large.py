@@ -1,4 +1,4 @@
-"""Networks at the size of real use, whose answers are known by a formula: the program has to answer them, within seconds."""
+"""Networks of real size whose answers follow a formula: the program must answer them within seconds."""
 import os
 import subprocess
 import tempfile
@@ -30,13 +30,14 @@ def path_report():
 
 
 def path_pair_report():
-    """Its walk goes over all arcs."""
+    """The walk has all arcs."""
     arcs = " ".join(map(str, range(1, NODES)))
     return f"q 1 {NODES} 0\nd {NODES} {NODES - 1}\nw {NODES} {NODES - 1} {arcs}\n"
 
 
 def write_star(folder):
-    """From node 1 an arc to each other node, left at a second of its own, and as many slow arcs between neighbours."""
+    """From node 1 an arc to each other node, each left at a different second, and as many slow arcs
+    between neighbours."""
     near = "".join(f"a 1 {node} {node}\n" for node in range(2, STAR_NODES + 1))
     slow = "".join(f"a {2 + at % (STAR_NODES - 2)} {3 + at % (STAR_NODES - 2)} 4294967295\n" for at in range(STAR_ARCS - STAR_NODES + 1))
     write(folder, "star.gr", [f"p sp {STAR_NODES} {STAR_ARCS}\n", near, slow])
@@ -52,26 +53,27 @@ def star_report():
 
 
 def write_most(folder):
-    """As many nodes as a file may have, an arc from the first to the last and one from there to the second; and one node more."""
+    """The most nodes of a file, with an arc from the first to the last and one from there to the second;
+    and one node more."""
     write(folder, "most.gr", [f"p sp {MOST_NODES} 2\na 1 {MOST_NODES} 5\na {MOST_NODES} 2 7\n"])
     write(folder, "most.p2p", ["p aux sp p2p 1\nq 1 2\n"])
     write(folder, "over.gr", [f"p sp {MOST_NODES + 1} 0\n"])
 
 
 def write_sources(folder):
-    """A node without arcs, and as many sources there as a file may have; four nodes from 10,000 sources."""
+    """A node without arcs with the most sources of a file; four nodes with 10,000 sources."""
     write(folder, "one.gr", ["p sp 1 0\n"])
     write(folder, "million.ss", ["p aux sp ss 1000000\n", "s 1\n" * 1_000_000])
     write(folder, "many.ss", ["p aux sp ss 10000\n", "s 1\ns 4\n" * 5_000])
 
 
 def many_report():
-    """What the nodes 1 and 4 of four-nodes.gr reach, again and again."""
+    """The arrivals from nodes 1 and 4 of four-nodes.gr, repeated."""
     return "s 1 0\nd 1 0\nd 2 5\nd 3 2\nd 4 6\ns 4 0\nd 1 inf\nd 2 inf\nd 3 inf\nd 4 0\n" * 5_000
 
 
 def results(program, examples):
-    """For each call its words, what it gave and what it must give."""
+    """For each call its words, its result and the expected one."""
     with tempfile.TemporaryDirectory(prefix="earliest-") as folder:
         def ran(words, wanted, status=0, said=b""):
             run = subprocess.run([program, *words.split()], cwd=folder, stdin=subprocess.DEVNULL, capture_output=True, timeout=100)

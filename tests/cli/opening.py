@@ -1,7 +1,9 @@
-"""Files that can't be opened: of each command, each file missing and each two, and which of them is told."""
+"""Files that can't be opened: for each command, each file missing and each two, and which of them is
+reported."""
 import itertools
 
-# The words of each command with its files, in the order in which they are opened: the file's word, and what names it.
+# The words of each command with its files, in the order in which they are opened: the file's word, and its
+# name.
 COMMANDS = {
     "run": (["run", "{gr}", "{ss}", "--tp", "{tp}"], ("gr", "ss", "tp")),
     "pairs": (["pairs", "{gr}", "{p2p}", "--tp", "{tp}"], ("gr", "p2p", "tp")),
@@ -12,7 +14,8 @@ THERE = {"gr": "every-ten.gr", "ss": "four-nodes.ss", "p2p": "every-ten.p2p", "t
 
 
 def cases():
-    """Words, and what they must give: the first missing file in the order of opening is told, and nothing is read."""
+    """Words and the expected result: the first missing file in the order of opening is reported, and
+    nothing is read."""
     for words, files in COMMANDS.values():
         for missing in itertools.chain(itertools.combinations(files, 1), itertools.combinations(files, 2)):
             names = {word: "nothing" if word in missing else name for word, name in THERE.items()}

@@ -1,5 +1,5 @@
-"""Where reports go: streams and descriptors by their names, files that are replaced, kept or left as they were, part files that a killed
-run left, and processes that begin with closed descriptors."""
+"""Outputs of reports: streams and descriptors by name; files that are replaced, kept or unchanged; part
+files that a killed run left; and processes that begin with closed descriptors."""
 import os
 import shutil
 import signal
@@ -15,7 +15,7 @@ NOBODY = 65534
 
 
 def read(*path):
-    """What a file has; none where it isn't there."""
+    """The content of a file; None if it is missing."""
     try:
         with open(os.path.join(*path), "rb") as file:
             return file.read()
@@ -34,7 +34,7 @@ def ran(program, words, **how):
 
 
 def streams(program, folder):
-    """Names that lead to a descriptor: what it had stays, and no link of the system is replaced."""
+    """Names of descriptors: their earlier content stays, and no link of the system is replaced."""
     link = os.path.join(folder, "link")
     os.symlink("/dev/stdout", link)
     for name in ("/dev/stdout", "/dev/fd/1", "/proc/self/fd/1", "/proc/thread-self/fd/1", "/dev/../dev/stdout", link):
@@ -60,7 +60,7 @@ def streams(program, folder):
 
 
 def closed(program, folder):
-    """Descriptors that are closed when the program begins: no file takes their place."""
+    """Descriptors that are closed when the program begins: no file takes their number."""
     out = os.path.join(folder, "closed")
 
     def close(*numbers):
@@ -77,7 +77,7 @@ def closed(program, folder):
 
 
 def named(program, folder):
-    """Files by names: what is made, what stays, what is refused."""
+    """Files by name: what is created, what stays, what is refused."""
     unopened = (4, b"", b"earliest: out: 15 OpenFailed\n")
     place = os.path.join(folder, "place")
     os.mkdir(place)
@@ -124,7 +124,7 @@ def begun(program, folder, name):
 
 
 def ended(run, writer):
-    """Gives the run its network: status, standard output and standard error."""
+    """Sends the run its network. Returns status, standard output and standard error."""
     writer.write(read(EXAMPLES, FILES[0]))
     writer.close()
     out, errors = run.communicate(timeout=60)
@@ -163,7 +163,8 @@ def parts(program, folder):
 
 
 def guarded(program, folder):
-    """Files that can't be replaced: written in place, or refused before the search; a report that can't be put there is kept."""
+    """Files that can't be replaced: written directly, or refused before the search. A report that can't be
+    moved into place is kept."""
     if os.geteuid() != 0:
         print("left out: files that can't be replaced, which only root can make")
         return
@@ -222,7 +223,7 @@ def guarded(program, folder):
 
 
 def results(program):
-    """Each test with what came and what has to come."""
+    """Each test with its result and the expected one."""
     with tempfile.TemporaryDirectory(prefix="outputs-") as folder:
         found = []
         for tests in (streams, closed, named, parts, guarded):

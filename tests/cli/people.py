@@ -1,4 +1,5 @@
-"""What people do: pipes into the program, reports into files, texts that can't be written, and first mistakes with their answers."""
+"""What people do: pipes into the program, reports into files, texts that can't be written, and first
+mistakes with their answers."""
 import gzip
 import os
 import select
@@ -56,7 +57,7 @@ def into(program, words, name, **how):
 
 
 def filed(program):
-    """Reports into files, which are whole or as they were."""
+    """Reports into files, which are whole or unchanged."""
     with tempfile.TemporaryDirectory() as folder:
         name = os.path.join(folder, "report")
         for option in (f"-o {name}", f"--output {name}", f"--output={name}", f"-o{name}"):
@@ -88,7 +89,7 @@ def filed(program):
 
 
 def unwritten(program):
-    """Texts that were asked for: into a full device they fail with a line, into a closed pipe without."""
+    """Texts that were asked for: a full device fails with a line, a broken pipe without."""
     for words in ("", "check four-nodes.gr four-nodes.ss four-nodes.report", "--help", "run --help", "--version", "explain", "explain 6", "formats"):
         with open("/dev/full", "wb") as full:
             run = subprocess.run([program, *words.split()], cwd=EXAMPLES, stdin=subprocess.DEVNULL, stdout=full, stderr=subprocess.PIPE, timeout=60)
@@ -100,7 +101,7 @@ def unwritten(program):
         yield f"into a closed pipe: {words}", (run.returncode, run.stderr), (4, b"")
 
 
-# First mistakes: what a file has, the words with {} for its name, and what is said; {} is the file's name there, too.
+# First mistakes: the content of a file, the words with {} for its name, and the output with {} for its name.
 MISTAKES = (
     (b"p sp 2 1\ne 1 2\n", "run {} four-nodes.ss", 1, "earliest: gr 2: 3 UnknownLine\n  {}, line 2: e 1 2\n  `e` lines are edges of other formats: write each as an arc `a U V W`, and as two where it goes both ways\n"),
     (b"p aux sp ss 1\ns 0\n", "run four-nodes.gr {}", 1, "earliest: ss 2: 6 OutOfRange\n  {}, line 2: s 0\n  a source is a node: `s S`; S is 1 to the network's number of nodes, and 0 is none\n"),
@@ -140,7 +141,8 @@ def mistaken(program):
 
 
 def on_terminal(program):
-    """What is said where standard error is a terminal: explanations without a word for them, and where to go on."""
+    """The output if standard error is a terminal: explanations without an option for them, and where to
+    continue."""
     more = b"This is a small network that is built in. `earliest run --help` says how to give your own.\n"
     for words, status, out, says in (
         ("", 0, REPORT, more),
@@ -159,7 +161,8 @@ def on_terminal(program):
 
 
 def typed(shell, folder):
-    """What zsh makes of words that are begun, with a completion in a folder: whether it completes an option and a command."""
+    """What zsh makes of partial words, with a completion in a folder: whether it completes an option and a
+    command."""
     master, slave = os.openpty()
     kept = {"PATH": os.environ["PATH"], "TERM": "dumb", "HOME": folder}
     run = subprocess.Popen([shell, "-f", "-i"], stdin=slave, stdout=slave, stderr=slave, start_new_session=True, env=kept)
@@ -180,7 +183,7 @@ def typed(shell, folder):
 
 
 def completed(program):
-    """The completions of zsh and fish, loaded by these where they are there."""
+    """The completions of zsh and fish, loaded by these shells if they are installed."""
     with tempfile.TemporaryDirectory() as folder:
         pages.write_all(program, folder)
         if shutil.which("zsh"):
@@ -198,7 +201,7 @@ def completed(program):
 
 
 def paged(program):
-    """The man page and the completions: each command and option is in each, and bash completes."""
+    """The man page and the completions: each has each command and option, and bash completes."""
     with tempfile.TemporaryDirectory() as folder:
         pages.write_all(program, folder)
         texts = [open(os.path.join(folder, place), encoding="utf-8").read().replace("\\-", "-") for place in pages.PAGES]
@@ -218,7 +221,7 @@ def paged(program):
 
 
 def results(program):
-    """All of these: name, what came, what was wanted."""
+    """All of these: name, result, expected result."""
     program = os.path.abspath(program)
     for some in (piped, filed, unwritten, mistaken, on_terminal, paged, completed):
         yield from some(program)

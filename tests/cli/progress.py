@@ -1,5 +1,6 @@
-"""What `--progress` tells: lines on standard error while a run goes on, at most one a second, and nothing else that is different. A run
-takes over a second here since its network, from a pipe, comes late, or since nobody reads its report for a while."""
+"""`--progress`: lines on standard error during a run, at most one a second, and no other difference. A run
+takes over a second here because its network comes late from a pipe, or because its report isn't read for a
+while."""
 import os
 import re
 import subprocess
@@ -33,7 +34,7 @@ def late(program, words, folder, pause=PAUSE, errors=subprocess.PIPE):
 
 
 def told(said):
-    """What lines tell, where they are nothing else: so many done, of so many; none where they come too often."""
+    """The numbers of problems done and of all, if all lines have this form; None if they come too often."""
     found = [tuple(map(int, it)) for it in LINE.findall(said)]
     seconds = [it[2] for it in found]
     if LINE.sub(b"", said) or any(b <= a for a, b in zip([0, *seconds], seconds)):
@@ -42,7 +43,8 @@ def told(said):
 
 
 def slow(program):
-    """Each command, with a network that comes late: its first problems are told, and all that it writes is the same."""
+    """Each command with a network that comes late: its first problems are reported, and all other output
+    is the same."""
     with tempfile.TemporaryDirectory(prefix="progress-") as folder:
         for name, text in (("three.ss", SOURCES), ("three.p2p", b"p aux sp p2p 3\nq 1 4\nq 2 4\nq 4 1\n"), ("right", RIGHT), ("wrong", RIGHT.replace(b"d 4 4", b"d 4 5"))):
             with open(os.path.join(folder, name), "wb") as file:
@@ -80,7 +82,7 @@ def slow(program):
 
 
 def unread(program):
-    """A report that is read with pauses: the lines come with them, and what was done only grows."""
+    """A report that is read with pauses: the lines come with them, and the number done only grows."""
     nodes, problems = 20_000, 40
     with tempfile.TemporaryDirectory(prefix="progress-") as folder:
         with open(os.path.join(folder, "line.gr"), "w", encoding="ascii") as file:
@@ -107,7 +109,7 @@ def unread(program):
 
 
 def results(program):
-    """All of these: name, what came, what was wanted."""
+    """All of these: name, result, expected result."""
     program = os.path.abspath(program)
     yield from slow(program)
     yield from unread(program)

@@ -1,5 +1,5 @@
-"""A road-like network of 10^5 nodes, runs of it that may differ in their `c` lines alone, and the report that they must give
-by a plain search of one's own (Dijkstra's method with a heap)."""
+"""A road-like network of 10^5 nodes, runs of it that may differ only in their `c` lines, and the expected
+report by a separate plain search (Dijkstra's algorithm with a heap)."""
 import heapq
 import os
 import random
@@ -13,7 +13,8 @@ RUNS = ("--workers 1 --heaps 2 --seed 1", "--workers 2 --heaps 8 --seed 7", "--w
 
 
 def network():
-    """Arcs, kinds of timetable by number, and the kind of each arc that has one: streets both ways between neighbours of a grid."""
+    """Arcs, kinds of timetable by number, and the kind of each arc with one: streets both ways between
+    neighbours of a grid."""
     words = random.Random(20261122)
     arcs = []
     for node in range(1, SIDE * SIDE + 1):
@@ -38,7 +39,7 @@ def write(folder, arcs, kinds, timed):
 
 
 def arrive(kind, weight, departure):
-    """When an arc of this kind, left at the departure, arrives."""
+    """The arrival by an arc of this kind, left at the departure."""
     word, *rest = kind
     if word == "every":
         return departure + (rest[1] - departure) % rest[0] + weight
@@ -71,7 +72,8 @@ def expected(arcs, kinds, timed):
 
 
 def results(program):
-    """For each run its words, what it gave and what it must give: status, number of `c` lines, and whether the others are right."""
+    """For each run its words, its result and the expected one: status, number of `c` lines, and whether
+    the others are right."""
     arcs, kinds, timed = network()
     lines = "\n".join(expected(arcs, kinds, timed)).encode().split(b"\n")
     with tempfile.TemporaryDirectory(prefix="earliest-") as folder:

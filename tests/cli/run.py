@@ -1,6 +1,6 @@
 """Tests the built program: python3 tests/cli/run.py PROGRAM
 
-A case fails where the status, the standard output or the standard error differs in any byte.
+A case fails if the status, the standard output or the standard error differs in any byte.
 """
 import os
 import resource
@@ -31,7 +31,7 @@ EXAMPLES = os.path.join(HERE, "..", "..", "examples")
 
 
 def wanted(text):
-    """The bytes that a column means: none, those of a file of examples/ or tests/, or the text itself."""
+    """The bytes that a column means: none, those of a file of examples/ or tests/, or the text."""
     if text == "-":
         return b""
     for folder in (EXAMPLES, HERE):
@@ -58,8 +58,8 @@ def ran(program, words, out=subprocess.PIPE):
 
 
 def into_devices(program):
-    """What the program does where its output can't be written: a full device, where a line says so, and a pipe that nobody reads,
-    where none does."""
+    """The program with an output that can't be written: a full device, for which a line says so, and a
+    broken pipe, for which none does."""
     for words in ("run four-nodes.gr four-nodes.ss", "pairs four-nodes.gr four-nodes.p2p", "rank four-nodes.gr four-nodes.ss"):
         with open("/dev/full", "wb") as full:
             yield f"into a full device: {words}", ran(program, words.split(), full), b"earliest: 12 WriteFailed after 0 bytes\n"
@@ -72,13 +72,13 @@ def into_devices(program):
 
 
 def no_text(program):
-    """What the program does where a word is no UTF-8: the command, a file's name, an option's value."""
+    """The program with a word that is no UTF-8: the command, a file's name, an option's value."""
     for words in ([b"\xff.gr", "x.ss"], ["run", b"\xff.gr", "four-nodes.ss"], ["run", "four-nodes.gr", "four-nodes.ss", "--seed", b"\xe9"]):
         yield f"words {words}", ran(program, words)
 
 
 def scarce(program):
-    """What the program does where it may take less memory than its words fill."""
+    """The program with less memory than its words fill."""
     def limit():
         resource.setrlimit(resource.RLIMIT_DATA, (2**20, 2**20))
 
@@ -87,7 +87,8 @@ def scarce(program):
 
 
 def held(program):
-    """What the program does with a short file that announces the most arcs, where memory is far less than these would take."""
+    """The program with a short file that announces the most arcs, and far less memory than these would
+    take."""
     def limit():
         resource.setrlimit(resource.RLIMIT_DATA, (2**26, 2**26))
 
@@ -99,8 +100,8 @@ def held(program):
 
 
 def alike(program):
-    """Pairs of runs whose outputs are to be equal, or different: seeds and numbers of heaps matter for statistics and rank
-    errors, and of the heaps only how many there are."""
+    """Pairs of runs whose outputs must be equal, or different: seeds and numbers of heaps matter for
+    statistics and rank errors, and of the heaps only the number."""
     road = "road.gr road.ss --tp road.tp --depart 1000"
     for command, this, that, equal in (
         ("run", "--stats --workers 1 --heaps 8 --seed 1", "--stats --workers 1 --heaps 8 --seed 2", False),
@@ -117,7 +118,8 @@ def alike(program):
 
 
 def all_results(program):
-    """Runs all cases: each with what came and what has to come. What waits for clocks runs beside the rest."""
+    """Runs all cases. Returns each with its result and the expected one. Tests that wait for clocks run at
+    the same time as the others."""
     program = os.path.abspath(program)
     with ThreadPoolExecutor(1) as pool:
         waiting = pool.submit(list, progress.results(program))
@@ -134,7 +136,7 @@ def main():
 
 
 def run_each(program):
-    """Runs the other cases one after another: each with what came and what has to come."""
+    """Runs the other cases one after another. Returns each with its result and the expected one."""
     results = [(shlex.join(words), ran(program, words), (status, out, err)) for words, status, out, err in cases()]
     results += [(name, result, (4, None, line)) for name, result, line in into_devices(program)]
     refused = b"error: invalid UTF-8 was detected in one or more arguments\n\nFor more information, try '--help'.\n"

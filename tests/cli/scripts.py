@@ -1,6 +1,6 @@
-"""The scripts of tools/ on the examples: parts of many sources, whose reports one after the other are the report of the whole; the
-picture of arrivals, which has a dot for each node and a line for each arc that a walk takes; and the latest departure, in time by a plain
-search, where one unit later is late."""
+"""The scripts of tools/ on the examples: parts of many sources, whose reports one after another are the
+report of the whole; the picture of arrivals, which has a dot for each node and a line for each arc of a
+walk; and the latest departure, in time by a plain search, while one unit later is late."""
 import os
 import re
 import subprocess
@@ -55,7 +55,7 @@ def picture(program, room):
 
 
 def departure(program):
-    """The latest departures from home to work in the commuter town, and where no departure is in time."""
+    """The latest departures from home to work in the commuter town, also if no departure is in time."""
     texts = {}
     for name in ("commuter.gr", "commuter.tp"):
         with open(os.path.join(EXAMPLES, name), encoding="ascii") as text:

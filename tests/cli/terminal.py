@@ -1,5 +1,5 @@
-"""What a terminal is shown of names, option values and words that hold control bytes, escape sequences or marks that turn the order of
-text: `?` in their place. What is no terminal gets them as they are."""
+"""Names, option values and words with control bytes, escape sequences or marks that change the order of
+text: a terminal gets `?` in their place, anything else the bytes themselves."""
 import os
 import pty
 import subprocess
@@ -11,7 +11,7 @@ SHOWN = "a?[31m??b??.gr"
 
 
 def on_terminal(program, words):
-    """Status and standard error of the program, whose standard error is a terminal."""
+    """Status and standard error of the program, with a terminal as standard error."""
     ours, theirs = pty.openpty()
     run = subprocess.Popen([program, *words], cwd=EXAMPLES, stdin=subprocess.DEVNULL, stdout=subprocess.DEVNULL, stderr=theirs)
     os.close(theirs)
@@ -29,7 +29,7 @@ def on_terminal(program, words):
 
 
 def results(program):
-    """Each test with what came and what has to come."""
+    """Each test with its result and the expected one."""
     unopened = f"earliest: gr: 15 OpenFailed\n  {SHOWN}: there is no such file\n"
     found = [("a file's name on a terminal", on_terminal(program, ["run", EVIL, "four-nodes.ss"]), (4, unopened))]
     value = f"earliest: 14 BadOption\n  --seed {SHOWN}: it has to be a whole number from 0 to 18446744073709551615\n"

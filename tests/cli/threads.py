@@ -1,5 +1,6 @@
-"""How many threads a run has: as many problems are searched at once as are asked for, and by default as many as there are processors; and
-as many workers as are asked for are there, but no more than processors, and no two or three on few nodes. With statistics all are there."""
+"""The number of threads of a run: as many problems are searched at once as asked for, by default one for
+each processor. As many workers run as asked for, but at most one for each processor, and no two or three
+on few nodes. With statistics all run."""
 import os
 import random
 import subprocess
@@ -7,12 +8,12 @@ import tempfile
 import time
 
 NODES, ARCS = 300_000, 900_000
-# A run is long enough to be looked at hundreds of times, and is asked for again where that many threads weren't seen.
+# A run takes long enough for hundreds of samples, and is repeated if that many threads weren't seen.
 TRIES = 3
 
 
 def write(folder, problems):
-    """A random network, and so many sources."""
+    """A random network and its sources."""
     words = random.Random(25)
     arcs = [f"a {words.randint(1, NODES)} {words.randint(1, NODES)} {words.randint(1, 1000)}\n" for _ in range(ARCS)]
     with open(os.path.join(folder, "net.gr"), "w", encoding="ascii") as file:
@@ -22,8 +23,8 @@ def write(folder, problems):
 
 
 def seen(program, words, folder, processors):
-    """The status of a run on so many processors, and the most threads that it was seen to have while it wrote its report: the
-    network, which is read before, is read by as many threads as there are processors."""
+    """The status of a run on this many processors, and the most threads seen while it wrote its report.
+    (While the network is read before, as many threads as processors read it.)"""
     def limit():
         os.sched_setaffinity(0, processors)
 
@@ -41,15 +42,15 @@ def seen(program, words, folder, processors):
 
 
 def results(program):
-    """Each run with its status and number of threads, and what these have to be."""
+    """Each run with its status and number of threads, and the expected ones."""
     here = sorted(os.sched_getaffinity(0))
     four = 4 if here[3:] else 1
     with tempfile.TemporaryDirectory(prefix="threads-") as folder:
         write(folder, 12)
         for words, processors, wanted in (
-            # One problem after the other, each by a worker for each processor where there are four.
+            # One problem after another, each by one worker for each processor if there are four.
             ("--at-once 1", here, min(len(here), 16) if here[3:] else 1),
-            # The one that sends the reports makes some too.
+            # The thread that sends the reports makes some too.
             ("--at-once 3", here, 3),
             ("--at-once 5", here[:1], 5),
             ("", here[:1], 1),
@@ -58,7 +59,8 @@ def results(program):
             ("--workers 4", here, four),
             ("--workers 16 --at-once 1", here[:4], four),
             ("--workers 4 --at-once 1", here[:1], 1),
-            # More than there are processors are not worth starting, nor two or three on so few nodes, unless they are counted.
+            # More than the processors aren't worth starting, nor two or three on so few nodes, unless they
+            # are counted.
             ("--workers 2 --at-once 1", here, 1),
             ("--stats --workers 2", here[:1], 2),
             ("--stats --workers 3", here, 3),

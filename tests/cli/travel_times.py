@@ -1,5 +1,6 @@
-"""Speeds, trips and points through the program: worked values, faults with their lines, and random texts of timetables beside a reader
-and arrivals of one's own, which go line by line and time by time as docs/guide/formats.md and docs/guide/travel-times.md say it."""
+"""Speeds, trips and points through the program: worked values, faults with their lines, and random texts of
+timetables, compared with a separate reader and arrivals that go line by line and time by time as
+docs/guide/formats.md and docs/guide/travel-times.md say."""
 import os
 import random
 import subprocess
@@ -31,7 +32,8 @@ VALUES = (
     ("points a period apart at most", "points 4294967296 2/v 0 4294967296/v 4294967295 4294967295", 0, {0: 4294967296, 2147483648: 6442450943}),
 )
 
-# Texts of timetables of a network with one arc, with the line and the number of their fault; none where they have none.
+# Texts of timetables of a network with one arc, with the line and the number of their fault; None if they
+# have none.
 TEXTS = (
     ("all-but-the-last-zero", "p tp 1 0/k 1 speeds 10 2/v 0 0/v 5 0", (4, 6)),
     ("all-but-the-last-zero", "p tp 1 0/k 1 speeds 10 1/v 0 0", (3, 6)),
@@ -127,11 +129,11 @@ def worked(files):
 
 
 class Fault(Exception):
-    """A number of a fault."""
+    """The number of a fault."""
 
 
 def numbers(fields, ranges):
-    """The numbers of fields, each in its range; a range may ask for the numbers before it."""
+    """The numbers in fields, each in its range; a range may depend on the numbers before it."""
     if not all(field.isascii() and field.isdigit() for field in fields):
         raise Fault(5)
     values = [int(field) for field in fields]
@@ -158,7 +160,7 @@ STEPPED = ("speeds", "trips", "points")
 
 
 class Table:
-    """What the lines of a text say so far."""
+    """The lines of a text so far."""
 
     def __init__(self, arcs):
         self.arcs, self.announced, self.kinds, self.entries, self.due = arcs, None, [], [], 0
@@ -225,7 +227,7 @@ class Table:
 
 
 def read(text, arcs):
-    """The table of a text, and none; or none, and the line and the number of its fault."""
+    """The table of a text and None; or None, and the line and the number of its fault."""
     table, count = Table(arcs), 0
     try:
         for count, line in enumerate(text.split("\n")[: -1 if text.endswith("\n") else None], 1):
@@ -241,7 +243,7 @@ def read(text, arcs):
 
 
 def arrive(kind, weight, departure):
-    """The arrival of a kind, time by time."""
+    """The arrival by a kind, time by time."""
     if kind is None or kind[0] == "plain":
         return departure + weight
     name, steps = kind[0], kind[-1]
@@ -306,7 +308,7 @@ def some_text(words, arcs):
 
 
 def spoilt(words, lines):
-    """The lines, in half of the cases with a change."""
+    """The lines, changed in half of the cases."""
     place = words.randrange(len(lines))
     for _ in range(words.choice([0, 0, 1, 2])):
         change = words.randrange(6)
@@ -330,7 +332,7 @@ def spoilt(words, lines):
 
 
 def at_random(files, count=250):
-    """Random texts: the fault that they have, or the arrivals that they give."""
+    """Random texts: their fault, or their arrivals."""
     words = random.Random(20261123)
     for number in range(count):
         arcs = words.randint(1, 4)
@@ -351,7 +353,7 @@ def at_random(files, count=250):
 
 
 def results(program):
-    """All of these: a name, what was, and what is wanted."""
+    """All of these: name, result, expected result."""
     with tempfile.TemporaryDirectory() as folder:
         files = Files(os.path.abspath(program), folder)
         return [*worked(files), *at_random(files)]

@@ -1,7 +1,7 @@
-"""The engine in other people's programs: the calls of C, the C++ classes and the Python package, against the program's own reports:
-python3 tests/embedding/run.py PROGRAM, after the library was built.
+"""The engine in other people's programs: the calls of C, the C++ classes and the Python package, compared
+with the program's reports: python3 tests/embedding/run.py PROGRAM, after the library was built.
 
-What can't be run for want of a compiler or of a checker of memory is told, and left out.
+What can't run, since a compiler or a checker of memory is missing, is reported and left out.
 """
 import os
 import random
@@ -26,7 +26,7 @@ def ran(words, **more):
 
 
 def built(compiler, flags, source, to):
-    """Compiles a program over the library; None where that is done, else what the compiler says."""
+    """Compiles a program over the library. Returns None, or the compiler's output if it fails."""
     words = [compiler, *flags, "-Wall", "-Wextra", "-I" + os.path.join(ROOT, "include"), source, STATIC, "-o", to]
     run = subprocess.run(words, capture_output=True, text=True)
     return run.stderr if run.returncode or run.stderr else None
@@ -38,7 +38,8 @@ def read(*parts):
 
 
 def numbered():
-    """The numbers of refusals and the last time in the header are those of the crates, and its words name each by its number."""
+    """The numbers of refusals and the last time in the header equal those of the crates, and its messages
+    name each by its number."""
     header, crate = read("include", "earliest.h"), read("crates", "ea_capi", "src", "fault_numbers.rt")
     told = {name: int(number) for name, number in re.findall(r"EARLIEST_(\w+) = (\d+)", header)}
     for name, number in re.findall(r"pub const (\w+): u32 = (\d+);", crate):
@@ -53,7 +54,8 @@ def numbered():
 
 
 def in_c(room):
-    """Each call of C with each refusal, and 100,000 calls with bad numbers, under a checker of memory; the example."""
+    """Each call of C with each refusal, and 100,000 calls with bad numbers, under a checker of memory; the
+    example."""
     checked, plain, example = (os.path.join(room, name) for name in ("checked", "plain", "walk_to"))
     said = built("cc", ["-std=c99", "-g", "-fsanitize=address,undefined"], os.path.join(HERE, "calls.c"), checked)
     yield "the calls of C, compiled", said, None
@@ -86,7 +88,7 @@ def in_cpp(room):
 
 
 def report(road, source, departure, earliest):
-    """A problem's lines of a report, by the package."""
+    """The lines of a problem's report, by the package."""
     found = road.search([source], [departure])
     lines = [f"s {source} {departure}\n"]
     for node, time in enumerate(found.arrivals, 1):
@@ -98,7 +100,7 @@ def report(road, source, departure, earliest):
 
 
 def failure_of(call):
-    """The exception of a call: its type, and what it tells."""
+    """The exception of a call: its type and message."""
     try:
         call()
     except Exception as refused:
@@ -107,7 +109,7 @@ def failure_of(call):
 
 
 def of_arcs(earliest):
-    """Roads of lists and of NumPy's arrays beside the same of texts, and their failures."""
+    """Roads of lists and of NumPy's arrays equal those of texts, and so do their failures."""
     words = random.Random(26)
     kinds = "k 1 every 10 3\nk 2 closed 4 9\n"
     shapes = [("lists", list)]
@@ -182,7 +184,7 @@ def in_python(program):
 
 
 def with_numpy(road, earliest):
-    """Arrays in and out, on the network of four nodes, where NumPy is there."""
+    """Arrays in and out, on the network of four nodes, if NumPy is installed."""
     numpy = earliest._engine.numpy
     if not numpy:
         return
@@ -209,7 +211,7 @@ def with_numpy(road, earliest):
 
 
 def installed(room):
-    """The package, installed with no network, in an environment of its own."""
+    """The package, installed without a network, in a separate environment."""
     place = os.path.join(room, "environment")
     subprocess.run([sys.executable, "-m", "venv", place], check=True)
     python = os.path.join(place, "bin", "python")
@@ -221,7 +223,7 @@ def installed(room):
 
 
 def results(program):
-    """Each test with what came and what has to come."""
+    """Each test with its result and the expected one."""
     yield from numbered()
     with tempfile.TemporaryDirectory() as room:
         for compiler, cases in (("cc", in_c), ("c++", in_cpp)):

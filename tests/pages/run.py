@@ -1,7 +1,8 @@
 """Tests the pages: python3 tests/pages/run.py [PROGRAM]
 
-What a page names has to be there: crates, files, scripts, functions, links. What a page counts has to be what the code has. With a program,
-its exit statuses have to be those of the page on the life of a run. The last line is `N passed, M failed`.
+What a page names must exist: crates, files, scripts, functions, links. What a page counts must equal what the
+code has. With a program, its exit statuses must be those of the page on the life of a run. The last line is
+`N passed, M failed`.
 """
 import glob
 import importlib.util
@@ -20,10 +21,10 @@ CODE = (".rt", ".antt", ".py", ".sh", ".rs", ".c", ".cpp", ".h", ".hpp", ".edit"
 # The most words of a folder or a page.
 MOST_WORDS = {"docs/design": 9_000, "docs/guide": 9_000, "README.md": 700}
 
-# Phrases that are plainer said otherwise. Pages for maintainers have none of them.
+# Phrases with a plainer form. Pages for maintainers have none of them.
 PLAINER = ("so many", "is told", "let go of", "by hand", "of its own")
 
-# What the toolchain has, which pages name in its messages.
+# Names of the toolchain that pages quote from its messages.
 OF_THE_TOOLCHAIN = {"also_shares", "shr_at", "allocate"}
 
 
@@ -55,13 +56,13 @@ def crates():
 
 
 def sources():
-    """The files with code, by their paths."""
+    """The paths of the files with code."""
     return [path for folder in ("crates", "tools", "tests", "bench", "include", "python", "docs/pictures")
             for path in found(f"{folder}/**/*") if path.endswith(CODE) and "/out/" not in path and "/results/" not in path]
 
 
 def words_in(text):
-    """How many words a text has: marks of tables and lists are none."""
+    """The number of words of a text, without marks of tables and lists."""
     return sum(1 for word in text.split() if re.search(r"\w", word))
 
 
@@ -74,7 +75,7 @@ def is_defined(name, path):
 
 
 def rows(page, columns):
-    """The rows of a page's tables that have so many columns, heads left out."""
+    """The rows of a page's tables with this many columns, without heads."""
     for line in text_of(page).splitlines():
         cells = [cell.strip() for cell in line.strip().strip("|").split(" | ")]
         if line.startswith("|") and len(cells) == columns and not set(line) <= set("|-: "):
@@ -101,18 +102,19 @@ def decisions_are_there():
 
 
 def constants_are_equal():
-    """Each constant of design/where.md has the value that stands there."""
+    """Each constant of design/where.md has the value in the code."""
     for name, (path, value) in constants().items():
         said = re.search(rf"const {name}: \w+ = ([\d_]+);", text_of(path))
         yield f"where.md: {name} is {value}", said is not None and int(said[1].replace("_", "")) == value
 
 
 def numbers_in_prose():
-    """Numbers of pages that the code has too: those with a constant's name behind them, from how many nodes on workers start, how much
-    of reports a thread keeps, and how many threads read."""
+    """Numbers in pages that the code has too: those followed by a constant's name, the number of nodes
+    from which workers start, the bytes of reports that a thread keeps, and the number of threads that
+    read."""
     known = {name: value for name, (_, value) in constants().items()}
     starts = {known[name] for name in ("FEW_NODES", "FEW_FOR_TWO", "MANY_NODES", "MANY_FOR_TWO")}
-    # One thread takes the bytes while as many read as `read_four` has pieces.
+    # One thread takes the bytes while others read, as many as `read_four` has pieces.
     readers = {"five", "5", str(known["MOST_READERS"])}
     units = {"MB": 10**6, "MiB": 2**20, "KiB": 2**10, "KB": 10**3}
     seen = {"nodes": 0, "reports": 0, "threads": 0}
@@ -137,7 +139,7 @@ def numbers_in_prose():
 
 
 def names_are_there():
-    """Crates, files and scripts that pages name."""
+    """The crates, files and scripts that pages name exist."""
     listed, everything = set(crates()), found("**/*")
     bases = {os.path.basename(path) for path in everything}
     for page in PAGES:
@@ -155,7 +157,7 @@ def names_are_there():
 
 
 def identifiers_are_there():
-    """Each name of code that a page for maintainers has in backquotes stands in some file with code."""
+    """Each name of code that a page for maintainers has in backquotes occurs in some file with code."""
     known = set(re.findall(r"\w+", "\n".join(text_of(path) for path in sources()))) | OF_THE_TOOLCHAIN
     for page in MAINTAINERS:
         for name in sorted({name for said in re.findall(r"`([^`\n]+)`", text_of(page)) for name in re.findall(r"[A-Za-z_]\w+", said)}):
@@ -190,7 +192,7 @@ def crates_say_one_thing():
 
 
 def pages_are_short():
-    """Folders and pages keep their numbers of words."""
+    """Folders and pages keep their limits of words."""
     for place, most in MOST_WORDS.items():
         pages = found(place) if place.endswith(".md") else found(f"{place}/*.md")
         count = sum(words_in(text_of(page)) for page in pages)
@@ -199,7 +201,7 @@ def pages_are_short():
 
 
 def words_are_plain():
-    """Pages for maintainers have no phrase that is plainer said otherwise."""
+    """Pages for maintainers have no phrase with a plainer form."""
     for page in MAINTAINERS:
         text = " ".join(text_of(page).lower().split())
         for phrase in PLAINER:
@@ -207,7 +209,8 @@ def words_are_plain():
 
 
 def run_is_drawn():
-    """The life of a run: its steps change the crate, as often as the page says; their functions are there; the picture is of them."""
+    """The life of a run: each step changes the crate, as often as the page says; the functions exist; the
+    picture shows the steps."""
     path = os.path.join(ROOT, "docs", "pictures", "life_of_a_run.py")
     spec = importlib.util.spec_from_file_location("life_of_a_run", path)
     picture = importlib.util.module_from_spec(spec)
@@ -250,12 +253,12 @@ def status(program, *words, **how):
 
 
 def little_memory():
-    """Leaves the process hardly any memory."""
+    """Leaves the process very little memory."""
     resource.setrlimit(resource.RLIMIT_DATA, (2**20, 2**20))
 
 
 def statuses(program):
-    """How a run ends early, by what happens as the page on the life of a run says it."""
+    """How a run ends early, in the words of the page on the life of a run."""
     run = ("run", "four-nodes.gr", "four-nodes.ss")
     with tempfile.TemporaryDirectory(prefix="pages-") as room:
         wrong = os.path.join(room, "wrong")
