@@ -54,7 +54,8 @@ impl Style {
     }
 }
 
-/// How much of the full speed a rush takes away at a time, in thousandths: most in its middle, nothing from an end of it on.
+/// The part of the full speed that a rush takes at a time, in thousandths: most in its middle, nothing from
+/// its ends on.
 fn lost(time: u64, middle: u64, half: u64, most: u64) -> u64 {
     most - (most * time.abs_diff(middle) / half).min(most)
 }
@@ -69,7 +70,8 @@ fn patterns(base: &str, arcs: u64, mut words: Words) -> Result<()> {
     writeln!(tp, "p tp {CLASSES} {}", given.len())?;
     for j in 1..=CLASSES {
         writeln!(tp, "k {j} speeds 8640000 {STEPS}")?;
-        // In steps: a rush round eight and one round half past five, each of one to three hours to either side.
+        // In steps: a rush around eight and one around half past five, each of one to three hours on either
+        // side.
         let rushes = [32, 70].map(|middle| (middle - 3 + words.below(7), 4 + words.below(9), 200 + words.below(500)));
         for step in 0..STEPS {
             let lost: u64 = rushes.iter().map(|(middle, half, most)| lost(step, *middle, *half, *most)).sum();

@@ -1,11 +1,11 @@
-//! Runs a program and tells what it took: `measure OUT WORD ..` puts its output into OUT and prints its microseconds, its greatest
-//! memory in KiB and its status. A small program of its own, since what a process had in memory before it became another one counts
-//! as the other one's too.
+//! Runs a program and measures it: `measure OUT WORD ..` writes its output to OUT and prints its
+//! microseconds, its greatest memory in KiB and its status. A separate small program, since the memory that a
+//! process had before `exec` counts as that of the program too.
 use std::fs::File;
 use std::process::{Command, Stdio};
 use std::time::Instant;
 
-/// The system's `struct rusage`: two times of two numbers each, and then the greatest memory.
+/// The system's `struct rusage`: two times of two numbers each, then the greatest memory.
 #[repr(C)]
 #[derive(Default)]
 struct Usage {

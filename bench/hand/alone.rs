@@ -4,7 +4,7 @@ use crate::queues::{Buckets, Entry, Queue};
 use std::hint::black_box;
 use std::sync::atomic::{AtomicU64, Ordering::Relaxed};
 
-/// Dijkstra's method: entries whose label has fallen since are passed over.
+/// Dijkstra's algorithm with stale entries skipped.
 pub fn dijkstra<Q: Queue>(network: &Network, source: u32, departure: u64) -> Vec<u64> {
     let mut labels = vec![NONE; network.nodes + 1];
     let mut queue = Q::new();
@@ -26,7 +26,7 @@ pub fn dijkstra<Q: Queue>(network: &Network, source: u32, departure: u64) -> Vec
     labels
 }
 
-/// What labels are kept in.
+/// The storage of labels.
 pub trait Labels {
     fn label(&self, node: u32) -> u64;
 }
@@ -45,7 +45,7 @@ impl Labels for Vec<AtomicU64> {
     }
 }
 
-/// Reads what the scans of these entries are going to read, in loops of loads that don't wait for one another.
+/// Prefetches what the scans of these entries will read. The loads of a loop don't depend on one another.
 #[inline(always)]
 pub fn read_ahead<L: Labels>(network: &Network, labels: &L, entries: &[Entry]) {
     let mut seen = 0;
@@ -63,7 +63,8 @@ pub fn read_ahead<L: Labels>(network: &Network, labels: &L, entries: &[Entry]) {
     black_box(seen);
 }
 
-/// Corrects labels over windows of times: 16 entries of the window are scanned together, in no order.
+/// A label-correcting search over windows of times: 16 entries of the window are scanned together, in no
+/// order.
 pub fn buckets(network: &Network, source: u32, departure: u64, bits: u32) -> Vec<u64> {
     let mut labels = vec![NONE; network.nodes + 1];
     let mut queue = Buckets::new(bits);

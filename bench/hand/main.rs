@@ -1,4 +1,5 @@
-//! Earliest arrivals by hand in plain Rust, to be timed beside the proved program on the same files and with the same reports:
+//! Earliest arrivals in plain Rust, timed against the proved program on the same files and with the same
+//! reports:
 //!
 //!   hand run METHOD GR SS TP DEPART THREADS OUT      METHOD: heap radix buckets multiqueue multiqueue_of_buckets
 //!   hand several METHOD GR SS TP DEPART THREADS OUT  so many sources at once, each by one thread
@@ -7,8 +8,9 @@
 //!   hand walks GR TP NODE ROUNDS                     canonical walks from a node, in turns with a heap without walks
 //!   hand make_pairs GR OUT COUNT NODES
 //!
-//! TP is `-` for none. All but walks and make_pairs print the microseconds of reading, of the index, of all searches, of the quickest
-//! search of `run` and of writing, and the sum of the arrivals. One file: `rustc -O main.rs`.
+//! TP is `-` for none. All but walks and make_pairs print the microseconds of reading, of the index, of all
+//! searches, of the fastest search of `run` and of writing, and the sum of the arrivals. One file: `rustc -O
+//! main.rs`.
 mod alone;
 mod multiqueue;
 mod network;
@@ -47,7 +49,7 @@ fn sum(times: &[u64]) -> u64 {
     times.iter().filter(|time| **time != NONE).fold(0, |sum, time| sum.wrapping_add(*time))
 }
 
-/// The times of the parts of a run, in microseconds, and the sum of what was found.
+/// The times of the parts of a run, in microseconds, and the sum of the arrivals.
 #[derive(Default)]
 struct Took {
     read: u128,
@@ -83,7 +85,8 @@ fn run(method: &str, network: &Network, sources: &[u32], departure: u64, workers
     }
 }
 
-/// So many sources at once: each thread takes the next one, and waits with its text until those before it are written.
+/// Several sources at once: each thread takes the next one, and waits with its text until those before it are
+/// written.
 fn several(method: &str, network: &Network, sources: &[u32], departure: u64, threads: usize, out: &str, took: &mut Took) {
     let begun = Instant::now();
     let file = Mutex::new((File::create(out).expect("a place for the report"), 0, 0u64));
@@ -121,7 +124,7 @@ fn all_pairs(network: &Network, file: &str, departure: u64, out: &str, took: &mu
     took.sum = sum(&times);
 }
 
-/// Compares a report with one that is made anew.
+/// Compares a report with a new one.
 fn check(network: &Network, sources: &[u32], departure: u64, file: &str, took: &mut Took) {
     let given = std::fs::read(file).expect("a report");
     let begun = Instant::now();

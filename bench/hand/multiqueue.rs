@@ -1,5 +1,6 @@
-//! A MultiQueue (Rihani, Sanders, Dementiev, SPAA 2015) with std's atomics. Heaps lie 128 bytes apart, each behind a word with
-//! its least time; a pop takes from the one of two whose word is less, and a heap that another worker has isn't waited for.
+//! A MultiQueue (Rihani, Sanders, Dementiev, SPAA 2015) with std's atomics. Heaps are 128 bytes apart, each
+//! behind a word with its least time. A pop takes from the one of two whose word is less, and doesn't wait
+//! for a heap that another worker has.
 use crate::alone::read_ahead;
 use crate::network::{HORIZON, NONE, Network};
 use crate::queues::{Buckets, Entry};
@@ -11,24 +12,24 @@ use std::sync::atomic::{AtomicU64, Ordering::Acquire, Ordering::Relaxed, Orderin
 const EMPTY: u64 = 1 << 48;
 const OUT: u64 = EMPTY + 1;
 
-/// So many entries are given also while a node with many arcs is scanned.
+/// This many fresh entries are pushed even while a node with many arcs is scanned.
 const MOST_FRESH: usize = 64;
 
-/// How workers go about it.
+/// The settings of workers.
 #[derive(Clone, Copy)]
 pub struct Settings {
     pub workers: usize,
     /// For each worker.
     pub heaps: usize,
-    /// Entries that are taken or given at once.
+    /// The size of batches.
     pub batch: usize,
-    /// Of so many turns one looks at foreign heaps, and a worker pushes to its own; 0: all heaps are alike.
+    /// One turn in this many inspects others' heaps, and a worker pushes to its own; 0: all heaps are alike.
     pub steal: u64,
-    /// The lowest bits of a window's times, where heaps are buckets.
+    /// The number of low bits of a window's times, if heaps are buckets.
     pub bits: u32,
 }
 
-/// What a heap of the pool is.
+/// A heap of the pool.
 pub trait Heap: Send {
     fn new(bits: u32) -> Self;
     fn push(&mut self, entry: Entry);
@@ -83,7 +84,7 @@ struct Pool<H> {
     slots: Vec<Slot<H>>,
 }
 
-/// A slot is used only by who has put OUT into its word.
+/// A slot is used only by the worker that put OUT into its word.
 unsafe impl<H: Send> Sync for Pool<H> {}
 
 impl<H: Heap> Pool<H> {
@@ -98,7 +99,7 @@ impl<H: Heap> Pool<H> {
         self.words[heap].0.load(Relaxed)
     }
 
-    /// What the use of a heap gives, None where it isn't at home as it was seen.
+    /// The result of using a heap; None if its word isn't the one seen.
     fn with<T>(&self, heap: usize, seen: u64, used: impl FnOnce(&mut H) -> T) -> Option<T> {
         if seen == OUT || self.words[heap].0.compare_exchange(seen, OUT, Acquire, Relaxed).is_err() {
             return None;
@@ -109,14 +110,14 @@ impl<H: Heap> Pool<H> {
         Some(got)
     }
 
-    /// Pushes all entries to a heap, or to the next one that is at home.
+    /// Pushes all entries to a heap, or to the next one at home.
     fn push(&self, mut heap: usize, entries: &mut Vec<Entry>) {
         while self.with(heap, self.seen(heap), |content| entries.drain(..).for_each(|entry| content.push(entry))).is_none() {
             heap = (heap + 1) % self.words.len();
         }
     }
 
-    /// Takes at most so many entries of the one of two heaps that has the lesser word; whether there were some.
+    /// Pops a batch of the one of two heaps with the lesser word. Returns whether there was an entry.
     fn pop(&self, first: usize, second: usize, most: usize, out: &mut Vec<Entry>) -> bool {
         let (x, y) = (self.seen(first), self.seen(second));
         let (heap, seen) = if y < x { (second, y) } else { (first, x) };
@@ -148,7 +149,7 @@ impl<H: Heap> Worker<'_, H> {
         self.me * self.settings.heaps + next(&mut self.word) as usize % self.settings.heaps
     }
 
-    /// The heaps that a pop looks at.
+    /// The heaps that a pop inspects.
     fn draws(&mut self, idle: u32) -> (usize, usize) {
         let (all, heaps) = (self.pool.words.len(), self.settings.heaps);
         let is_home = self.settings.steal > 0;
@@ -219,7 +220,7 @@ impl<H: Heap> Worker<'_, H> {
     }
 }
 
-/// What no worker found before all of them left, by one thread.
+/// Searches, by one thread, what the workers left.
 fn finish(network: &Network, labels: &mut [u64], mut open: BinaryHeap<Reverse<Entry>>) {
     while let Some(Reverse((time, node))) = open.pop() {
         if labels[node as usize] < time {

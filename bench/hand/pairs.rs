@@ -1,5 +1,5 @@
-//! Many pairs: Dijkstra's method with a binary heap that stops at the target, and a stamp beside each label, so that no array
-//! is cleared between two pairs.
+//! Many pairs: Dijkstra's algorithm with a binary heap that stops at the target, and a stamp with each label,
+//! so that no array is cleared between two pairs.
 use crate::network::{HORIZON, NONE, Network};
 use crate::queues::Entry;
 use std::cmp::Reverse;
@@ -17,7 +17,7 @@ impl Search {
         Search { labels: vec![(NONE, 0); network.nodes + 1], stamp: 0, heap: BinaryHeap::new() }
     }
 
-    /// Settles nodes from a source until `done` says that the last one was enough: that one's time and node.
+    /// Settles nodes from a source until `done` returns true. Returns the time and node of the last one.
     fn run(&mut self, network: &Network, source: u32, departure: u64, mut done: impl FnMut(u32) -> bool) -> Option<Entry> {
         self.stamp += 1;
         self.heap.clear();
@@ -45,7 +45,7 @@ impl Search {
     }
 }
 
-/// Writes so many pairs, each from a random node to the last of so many nodes that are nearest to it.
+/// Writes pairs, each from a random node to the last of the `nodes` nodes nearest to it.
 pub fn make(network: &Network, out: &str, count: usize, nodes: usize) {
     let mut file = std::io::BufWriter::new(std::fs::File::create(out).expect("a place for pairs"));
     writeln!(file, "p aux sp p2p {count}").unwrap();
@@ -62,7 +62,7 @@ pub fn make(network: &Network, out: &str, count: usize, nodes: usize) {
     }
 }
 
-/// The arrival of each pair; NONE where the target isn't reached.
+/// The arrival of each pair; NONE if the target isn't reached.
 pub fn solve(network: &Network, pairs: &[(u32, u32)], departure: u64) -> Vec<u64> {
     let mut search = Search::new(network);
     let mut arrival = |(source, target): &(u32, u32)| match search.run(network, *source, departure, |node| node == *target) {

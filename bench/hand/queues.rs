@@ -4,7 +4,7 @@ use std::collections::BinaryHeap;
 
 pub type Entry = (u64, u32);
 
-/// A queue whose entries come in the order of times, where none is pushed below the one that came last.
+/// A queue that pops entries in the order of times, if none is pushed below the last popped one.
 pub trait Queue {
     fn new() -> Self;
     fn push(&mut self, entry: Entry);
@@ -27,9 +27,9 @@ impl Queue for BinaryHeap<Reverse<Entry>> {
     }
 }
 
-/// Entries by the highest bit in which their window differs from the current one, whose entries are list 0 in no order. A
-/// window is the times that agree but for so many of the lowest bits; with 0 of them this is the radix heap of Ahuja, Mehlhorn,
-/// Orlin and Tarjan (Journal of the ACM 37, 1990).
+/// Entries by the highest bit in which their window differs from the current one, whose entries are the
+/// unordered list 0. A window is the times that agree except for this many low bits; with 0 it is the radix
+/// heap of Ahuja, Mehlhorn, Orlin and Tarjan (Journal of the ACM 37, 1990).
 pub struct Buckets {
     lists: Vec<Vec<Entry>>,
     window: u64,
@@ -42,7 +42,7 @@ impl Buckets {
         Buckets { lists: vec![Vec::new(); 65], window: 0, bits, len: 0 }
     }
 
-    /// The list of a window; one before the current window counts as that.
+    /// The list of a window; an earlier window counts as the current one.
     #[inline(always)]
     fn place(&self, time: u64) -> usize {
         let window = time >> self.bits;
@@ -56,7 +56,7 @@ impl Buckets {
         self.len += 1;
     }
 
-    /// Where the window is empty: goes on to the next one that has entries.
+    /// If the window is empty, moves to the next one with entries.
     #[inline(always)]
     fn settle(&mut self) {
         if self.len > 0 && self.lists[0].is_empty() {
@@ -76,14 +76,14 @@ impl Buckets {
         self.lists[next] = from;
     }
 
-    /// The first time of the window, None where nothing is left.
+    /// The first time of the window; None if nothing is left.
     #[inline(always)]
     pub fn least(&mut self) -> Option<u64> {
         self.settle();
         (self.len > 0).then_some(self.window << self.bits)
     }
 
-    /// Takes at most so many entries of the window.
+    /// Pops at most `most` entries of the window.
     #[inline(always)]
     pub fn take(&mut self, most: usize, out: &mut Vec<Entry>) {
         self.settle();

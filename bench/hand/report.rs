@@ -34,7 +34,7 @@ fn arrival(text: &mut Vec<u8>, node: u64, time: u64) {
     }
 }
 
-/// Sends the report of a problem in pieces of at least 64 KiB; labels have a place for node 0.
+/// Sends the report of a problem in pieces of at least 64 KiB; labels have an unused place for node 0.
 pub fn of_problem(source: u32, departure: u64, labels: &[u64], mut send: impl FnMut(&[u8])) {
     let mut text = Vec::with_capacity(1 << 17);
     line(&mut text, b's', &[u64::from(source), departure]);

@@ -1,4 +1,5 @@
-//! Canonical walks: a search over windows of times notes the arcs by which labels fell, and the notes are followed afterwards.
+//! Canonical walks: a search over windows of times logs the arcs by which labels fell, and the log is
+//! replayed afterwards.
 use crate::alone::dijkstra;
 use crate::network::{HORIZON, NONE, Network};
 use crate::queues::{Buckets, Entry};
@@ -9,12 +10,12 @@ use std::time::Instant;
 
 const NO_LEVEL: u32 = u32::MAX;
 
-/// How many entries are taken from the window at once, and how many arcs of them there is room for.
+/// The most entries taken from the window at once, and the most arcs of them.
 const AHEAD: usize = 16;
 const ROOM: usize = 128;
 
-/// By which arc a node's label fell, or was reached again: its tail, its place among those that leave the tail, twice, and 1 where the
-/// label was reached again.
+/// The arc by which a node's label fell or was met: its tail, its place among those that leave the tail,
+/// times two, plus 1 if the label was met.
 #[derive(Clone, Copy, Default)]
 struct Note {
     node: u32,
@@ -22,7 +23,7 @@ struct Note {
     code: u32,
 }
 
-/// Notes, in a list that is filled some thousands ahead, so that the next one finds its memory in the cache.
+/// Notes, in a list that is filled some thousands ahead, so that the next push hits the cache.
 #[derive(Default)]
 struct Notes {
     list: Vec<Note>,
@@ -40,7 +41,7 @@ impl Notes {
     }
 }
 
-/// Reads what the scans of these entries are going to read: where their arcs begin, and the first of these.
+/// Prefetches what the scans of these entries will read: the offsets of their arcs, and the first arc.
 fn read_ahead(network: &Network, labels: &[u64], hand: &mut Vec<Entry>) {
     let mut seen = 0;
     for entry in hand.iter() {
@@ -53,7 +54,7 @@ fn read_ahead(network: &Network, labels: &[u64], hand: &mut Vec<Entry>) {
     black_box(seen);
 }
 
-/// The labels. The arcs of all entries of a hand are followed before any label is changed.
+/// The labels. The arcs of all entries of a hand are relaxed before any label changes.
 fn search(network: &Network, source: u32, notes: &mut Option<Notes>) -> Vec<u64> {
     let mut labels = vec![NONE; network.nodes + 1];
     let mut queue = Buckets::new(network.window_bits() + 1);
@@ -95,7 +96,8 @@ fn search(network: &Network, source: u32, notes: &mut Option<Notes>) -> Vec<u64>
     }
 }
 
-/// How a node's walk ends: of so many arcs, by an arc (its number, or its place among those that leave the tail), from its tail.
+/// How a node's walk ends: its number of arcs, its last arc (its number, or its place among those that leave
+/// the tail), and that arc's tail.
 #[derive(Clone, Copy, PartialEq)]
 struct Link {
     level: u32,
@@ -106,16 +108,16 @@ struct Link {
 const NO_LINK: Link = Link { level: NO_LEVEL, arc: 0, from: 0 };
 const SEED: Link = Link { level: 0, arc: 0, from: 0 };
 
-/// A network with the numbers of its arcs in the order of tails, and where a search begins.
+/// A network with the numbers of its arcs in the order of tails, and the start of a search.
 struct Roads<'a> {
     network: &'a Network,
     numbers: Vec<u32>,
     source: u32,
 }
 
-/// What is listed while notes are followed: nodes with several arcs at their labels, each with the tail of such an arc; nodes whose
-/// level changed, so that their heads may lie too low or too high; nodes that offer links by all their arcs once more; and how many
-/// looks at ties were spent.
+/// Lists for the replay: nodes with several arcs at their labels, each with the tail of such an arc; nodes
+/// whose level changed, so that their heads may lie too low or too high; nodes that offer links by all their
+/// arcs once more; and how many looks at ties were spent.
 #[derive(Default)]
 struct Listed {
     ties: Vec<(u32, u32)>,
@@ -136,7 +138,7 @@ impl Roads<'_> {
         links
     }
 
-    /// The links, or None where some level stays too low or too many looks are spent: then all would be found anew.
+    /// The links; None if some level stays too low or too many looks are spent: then all would be found anew.
     fn follow(&self, labels: &[u64], notes: &[Note]) -> Option<Vec<Link>> {
         let mut links = self.no_links();
         let mut listed = Listed::default();
@@ -181,7 +183,7 @@ impl Roads<'_> {
         }
     }
 
-    /// The canonical links, plainly: by the fewest tight arcs, and of these by the lowest number.
+    /// The canonical links by their definition: the fewest tight arcs, then the lowest number.
     fn canonical(&self, labels: &[u64]) -> Vec<Link> {
         let mut links = self.no_links();
         self.mend(labels, &mut links, VecDeque::from([self.source]));
@@ -190,7 +192,8 @@ impl Roads<'_> {
 }
 
 impl Listed {
-    /// A node takes a link by the arc that it has, to another level. Where it rose, another of its arcs may be better now.
+    /// A node takes a link by its arc with another level. If the level rose, another of its arcs may be
+    /// better.
     fn relevel(&mut self, links: &mut [Link], node: u32, new: Link) {
         let level = links[node as usize].level;
         links[node as usize] = new;
@@ -210,7 +213,7 @@ impl Listed {
         self.looks += 256;
     }
 
-    /// A node was reached again.
+    /// A node was met.
     fn meet(&mut self, roads: &Roads, links: &mut [Link], node: u32, new: Link) {
         let old = links[node as usize];
         if old.level == 0 {
@@ -228,7 +231,8 @@ impl Listed {
         }
     }
 
-    /// Passes levels that changed on to the nodes that have their links by arcs from there. False where too many looks are spent.
+    /// Passes changed levels on to the nodes whose links have arcs from there. Returns false if too many
+    /// looks are spent.
     fn pass_on(&mut self, network: &Network, links: &mut [Link]) -> bool {
         while let Some(node) = self.changed.pop() {
             if self.looks > 16 * links.len() + 65_536 {
@@ -246,9 +250,10 @@ impl Listed {
     }
 }
 
-/// Searches in turns: Dijkstra's method over a binary heap without walks, the search over windows without walks, and the one with notes
-/// that are followed. Sees that labels and links are right, and prints the least and the middle time of each, its ratio to the heap's
-/// least, and in how many rounds all links would be found anew; that is not in the times.
+/// Searches in turns: Dijkstra's algorithm with a binary heap without walks, the search over windows without
+/// walks, and the one with a log and its replay. Checks labels and links, and prints the least and the median
+/// time of each, its ratio to the heap's least, and in how many rounds all links would be found anew; that is
+/// not in the times.
 pub fn compare(network: &Network, numbers: Vec<u32>, source: u32, rounds: usize) {
     let heap = || dijkstra::<BinaryHeap<Reverse<Entry>>>(network, source, 0);
     let roads = Roads { network, numbers, source };

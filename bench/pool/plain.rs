@@ -1,4 +1,4 @@
-//! The same protocol, written plainly: words and heaps 128 bytes apart, with std's atomics.
+//! The same protocol in plain Rust: words and heaps 128 bytes apart, with std's atomics.
 use std::cell::UnsafeCell;
 use std::cmp::Reverse;
 use std::collections::BinaryHeap;
