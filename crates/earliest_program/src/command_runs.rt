@@ -1,4 +1,4 @@
-//! What a command does.
+//! Carrying out a command.
 ghost use Rattle.ea_messages.specs.Named.{HasFiles};
 ghost use Rattle.ea_options.specs.Limits.{HasLimits};
 
@@ -12,7 +12,7 @@ use ea_messages::FORMATS;
 use earliest::{Command, Performed, outcome_of, perform};
 use std::thread::Threads;
 
-/// Does what a command asks for, and answers the status.
+/// Carries out a command. Returns the exit status.
 pub fn carry_out<H: Threads + Sync>(
     rt: &HostRuntime,
     threads: &H,
@@ -31,7 +31,7 @@ pub fn carry_out<H: Threads + Sync>(
     }
 }
 
-/// Does what a command asks for that names files.
+/// Carries out a command that names files. Returns the exit status.
 fn carry_out_with<H: Threads + Sync>(
     rt: &HostRuntime,
     threads: &H,

@@ -1,5 +1,5 @@
 //! The program: `main`.
-//! It opens the files that its words name, and hands them to the calls of the library.
+//! Opens the files that its words name, and passes them to the calls of the library.
 #![tactic(auto)]
 
 mod command_runs;
@@ -16,7 +16,8 @@ fn main(rt: HostRuntime) -> ExitCode {
     ExitCode::from(run(&rt, &rt))
 }
 
-/// Does what the words ask for, and answers the status. Faults are explained where the words ask for it, and on a terminal.
+/// Carries out the words. Returns the exit status. Faults are explained if the words ask for it, or on a
+/// terminal.
 fn run<H: Threads + Sync>(rt: &HostRuntime, threads: &H) -> u8 {
     let _held = hold_descriptors(rt);
     let words = match words_of(rt) {

@@ -1,4 +1,4 @@
-//! The run that is built in, which is done where there are no words.
+//! The built-in run, which is done without words.
 use ea_bytes::{StdIn, StdOut};
 use ea_cli::{Output, tell};
 use earliest::{AnswerFault, Outcome, RunOptions, answer};
@@ -25,11 +25,11 @@ const DEFAULTS: RunOptions = RunOptions {
     gap: 0,
 };
 
-/// What is said after it on a terminal.
+/// Printed after it on a terminal.
 const MORE: &str =
     "This is a small network that is built in. `earliest run --help` says how to give your own.";
 
-/// Answers four nodes and five arcs, from node 1 at time 0.
+/// Answers four nodes and five arcs, from node 1 at time 0. Returns the exit status.
 pub fn stored<H: Threads + Sync>(rt: &HostRuntime, threads: &H) -> u8 {
     let mut gr = StdIn::new(GRAPH);
     let mut ss = StdIn::new(SOURCES);
