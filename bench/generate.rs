@@ -1,12 +1,13 @@
 //! Road-like test inputs. One file, stock Rust: `rustc -O generate.rs`.
 //!
 //! `generate ARCS OUT [plain|odd|patterns] [seed]` writes OUT.gr, OUT.ss, OUT.tp and OUT.co: a grid of nodes
-//! with about 2.5 arcs a node, both ways along streets, with weights like travel times, some missing
-//! streets and some fast roads; up to 100 sources; 16 kinds of timetable, given to a third of the
-//! arcs; and where each node lies, 1,000 units from its neighbours but for a little. `odd` writes the
-//! same texts with tabs, carriage returns, runs of blanks and comments. `patterns` writes the same texts as `plain`, and beside
-//! them OUT.patterns.tp, in which a third of the arcs have one of 200 traffic patterns of 96 steps: the speed of each quarter of
-//! an hour in a day with a rush in the morning and one in the evening, where a unit of time is a hundredth of a second.
+//! with about 2.5 arcs for each node, both ways along streets, with weights like travel times, some missing
+//! streets and some fast roads; up to 100 sources; 16 kinds of timetable, given to a third of the arcs; and
+//! the coordinates of the nodes, about 1,000 units from one to the next. `odd` writes the same texts with
+//! tabs, carriage returns, runs of blanks and comments. `patterns` writes the same texts as `plain`, and
+//! OUT.patterns.tp, in which a third of the arcs have one of 200 traffic patterns of 96 steps: the speed of
+//! each quarter of an hour in a day with a rush in the morning and one in the evening. A unit of time is a
+//! hundredth of a second there.
 use std::fs::File;
 use std::io::{BufWriter, Result, Write};
 

@@ -46,7 +46,7 @@ def copied(name, room):
 
 
 def placed(name, room):
-    """Puts a program's sources where a crate has them: main.rt.txt, and the proofs FUNCTION-FILE.antt.txt."""
+    """Copies a program's sources to a crate's places: main.rt.txt, and the proofs FUNCTION-FILE.antt.txt."""
     folder = os.path.join(room, "crates", f"{name}_times")
     for part in ("src", "proofs", "specs"):
         shutil.rmtree(os.path.join(folder, part), ignore_errors=True)

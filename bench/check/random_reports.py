@@ -1,5 +1,5 @@
 #!/usr/bin/env python3
-"""Compares the built checker with the slow one on random reports: PROGRAM SEED COUNT, where PROGRAM is the
+"""Compares the built checker with the slow one on random reports: PROGRAM SEED COUNT. PROGRAM is the
 timing program that bench/time_check.sh builds. Prints the first report on which they differ, and the
 number of each verdict."""
 import os

@@ -2,7 +2,7 @@
 //! reports:
 //!
 //!   hand run METHOD GR SS TP DEPART THREADS OUT      METHOD: heap radix buckets multiqueue multiqueue_of_buckets
-//!   hand several METHOD GR SS TP DEPART THREADS OUT  so many sources at once, each by one thread
+//!   hand several METHOD GR SS TP DEPART THREADS OUT  THREADS sources at once, each by one thread
 //!   hand pairs GR P2P TP DEPART OUT
 //!   hand check GR SS TP DEPART REPORT                searches again and compares
 //!   hand walks GR TP NODE ROUNDS                     canonical walks from a node, in turns with a heap without walks

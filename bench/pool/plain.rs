@@ -73,7 +73,7 @@ impl Pool {
         Err(entry)
     }
 
-    // None where both are empty or one is out
+    // None if both are empty or one is out
     fn pop(&self, first: u64, second: u64) -> Option<Entry> {
         let heaps = self.words.len() as u64;
         let i = (first % heaps) as usize;

@@ -141,7 +141,7 @@ def mistaken(program):
 
 
 def on_terminal(program):
-    """The output if standard error is a terminal: explanations without an option for them, and where to
+    """The output if standard error is a terminal: explanations without an option for them, and how to
     continue."""
     more = b"This is a small network that is built in. `earliest run --help` says how to give your own.\n"
     for words, status, out, says in (

@@ -15,6 +15,7 @@ import tempfile
 from urllib.parse import unquote
 
 sys.dont_write_bytecode = True
+import words
 ROOT = os.path.normpath(os.path.join(os.path.dirname(os.path.abspath(__file__)), "..", ".."))
 CODE = (".rt", ".antt", ".py", ".sh", ".rs", ".c", ".cpp", ".h", ".hpp", ".edit", ".txt")
 
@@ -208,6 +209,11 @@ def words_are_plain():
             yield f"{page}: \"{phrase}\"", re.search(rf"\b{phrase}\b", text) is None
 
 
+def words_are_swept():
+    """Comments and pages have no phrase with a plainer form, unless words.py has a reason for it."""
+    yield from words.results()
+
+
 def run_is_drawn():
     """The life of a run: each step changes the crate, as often as the page says; the functions exist; the
     picture shows the steps."""
@@ -290,7 +296,7 @@ def runs_end_so(program):
 def main(words):
     passed = failed = 0
     checks = [decisions_are_there, constants_are_equal, numbers_in_prose, names_are_there, identifiers_are_there, links_lead_somewhere,
-              crates_say_one_thing, pages_are_short, words_are_plain, run_is_drawn, decisions_are_short]
+              crates_say_one_thing, pages_are_short, words_are_plain, words_are_swept, run_is_drawn, decisions_are_short]
     found_by = [(check.__name__, check()) for check in checks]
     if words:
         found_by.append((runs_end_so.__name__, runs_end_so(os.path.abspath(words[0]))))

@@ -49,7 +49,7 @@ pub(crate) struct Job<'a> {
     pub queries: &'a [Query],
     pub options: &'a RunOptions,
     pub plan: Plan,
-    /// Where threads get the memory of texts that were sent.
+    /// The source of memory from texts that were sent.
     pub spare: &'a Stealer<Vec<u8>>,
 }
 

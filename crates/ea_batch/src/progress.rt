@@ -23,7 +23,7 @@ pub struct Progress {
     pub written: u128,
     /// The last search, whose arrays the next one reuses.
     pub search: Option<Search>,
-    /// Where the memory of sent texts is left, if others make texts.
+    /// A queue for the memory of sent texts, if others make texts.
     pub(crate) used: Option<Worker<Vec<u8>>>,
 }
 

@@ -1,4 +1,4 @@
--- Where lines and fields end.
+-- The ends of lines and fields.
 use Rattle.std.proofs.Common.{◌≡◌, ◌≢◌, ℕ, suc, zero, ◌<◌, true, false, cond, List, [], ◌∷◌, ◌++◌, length, get_or, take, drop, refl, ap, sym, ◌∙◌, arith, tests}
 use Rattle.std.specs.List.{slice_split, onto_first}
 use Rattle.std.specs.Prelude.{nat_lt, filter}

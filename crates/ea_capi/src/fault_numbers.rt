@@ -1,4 +1,4 @@
-//! The numbers of refusals: the program's where they fit, and the library's above.
+//! The numbers of refusals: the program's and, above them, the library's.
 ghost use Rattle.std.specs.Prelude.{◌≡◌};
 ghost use Rattle.ea_capi.specs.Faults.{told};
 

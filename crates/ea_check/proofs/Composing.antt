@@ -158,7 +158,7 @@ module _ (roads : Roads) (answers : ℕ → ℕ → ℕ → ℕ → Type 0) wher
       no_problems [] (reported ∷ problems) none says = absurd (omega (arith, as_many says))
       no_problems (sources ∷ queries) problems none says = cc
 
-  -- where reading goes wrong, the check finds the fault
+  -- if reading goes wrong, the check finds that fault
   pub wrong_checked : (queries : List (List Source)) (lines : List Line) (fault : CheckFault) → roads.nodes + 1 < 2 ^ 64 → AreAllSmall queries → IsWrong (ReportWrong roads.nodes queries lines) fault → IsChecked roads answers queries lines (Err fault)
   wrong_checked queries lines (BadLine number) few small wrong = wrong_is_bad roads.nodes few queries lines number small wrong
   wrong_checked queries lines OutOfMemory few small wrong = tt

@@ -1,4 +1,4 @@
--- Counting fields where they begin, and fields that are numbers.
+-- Counting fields by their first bytes, and fields that are numbers.
 use Rattle.std.proofs.Common.{◌≡◌, ◌∙◌, refl, ℕ, ◌+◌, ◌<◌, ◌≤◌, Bool, true, false, not, cond, ◌||◌, ◌&&◌, List, [], ◌∷◌, ◌++◌, length, drop, get_or, add-one, arith, ap, sym, subst, ◌==◌, eqb-true}
 use Rattle.std.proofs.Math.Seq.{drop-cons}
 use mir.Val.{bool_byte}

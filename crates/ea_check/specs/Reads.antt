@@ -1,4 +1,4 @@
--- What the lines that are still to be read say, place by place, and where they go wrong.
+-- What the lines that are still to be read say, place by place, and which are wrong.
 use Rattle.std.specs.Prelude.{◌≡◌, ◌≢◌, ◌⊎◌, ℕ, suc, ◌+◌, List, [], ◌∷◌, length, Option, Some, None}
 use Rattle.ea_bytes.specs.Text.{field_lines, fields_of}
 use Rattle.ea_road.specs.declared.TheConstants.{NONE}

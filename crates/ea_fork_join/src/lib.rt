@@ -1,8 +1,8 @@
 //! Work on the parts of a row, by threads that one thread starts.
 //!
 //! One thread starts all others. The calls of `std::thread` halve the slice, so that two threads start others
-//! at the same moment. Linux often puts these on one processor, where they stay for up to 30 ms while another
-//! is idle.
+//! at the same moment. Linux often puts these on one processor and leaves them there for up to 30 ms while
+//! another is idle.
 #![tactic(auto)]
 
 mod beside_join;

@@ -92,7 +92,7 @@ pub record IsLawfulBound (nodes : ℕ) (words : List ℕ) (seats : List SeatReco
   pub above_word : label_of words b.node ≤ b.time
   pub comes_from : IsNoneOrLoweredTo seats b.node b.time
 
--- The lowering is to a known time, from NONE or from where another ended, and the word is no higher.
+-- The lowering is to a known time, from NONE or from the end of another lowering, and the word is no higher.
 pub record IsLawfulLowering (known : ℕ → ℕ → Type 0) (nodes : ℕ) (words : List ℕ) (seats : List SeatRecord) (l : Lowering) : Type 0 where
   pub of_node : IsNode nodes l.node
   pub falls : l.to < l.from

@@ -30,7 +30,7 @@ pub(crate) fn number_of(network: &Network, from: u32, place: u32) -> Option<u32>
     network.leaving(from).numbers.get(place as usize).copied()
 }
 
-/// The node was met by the arc of its own link, whose tail may have changed its level: the node takes the
+/// The node was met by the arc of its link, whose tail may have changed its level: the node takes the
 /// level above the tail's. Returns false if the replay is given up.
 pub(crate) fn relevel(
     node: u32,

@@ -100,7 +100,7 @@ each_node-next text i =
     let next : i + 1 ≡ suc i = omega arith in
     ap (each_node text) next ∙ ap (λ n. each_node text i ++ text n) (sym next)
 
--- A text that stops where more of it is pending stops as the longer text.
+-- A text that stops while more of it is pending stops as the longer text.
 pub stops_after : {T : Type 0} (r : Result T WriteFault) (old new : Seen) (d : Delivery) (pending more : List ℕ) → pending ≡ d.pending ++ more
     → IfErr r (Cuts old (record d { pending = pending }) new)
     → IfErr r (λ fault. Stops old d new fault more)

@@ -22,8 +22,7 @@ const MANY_ARCS: usize = 65_536;
 pub struct Network {
     nodes: u32,
     arcs: ArcList,
-    /// Where each node's arcs begin in `numbers` and `by_tail`, and at the end where those of the last node
-    /// end.
+    /// The index of each node's first arc in `numbers` and `by_tail`, and at the end that after the last arc.
     starts: Vec<u32>,
     /// The numbers of the arcs by their tails, ascending for each tail.
     numbers: Vec<u32>,

@@ -564,7 +564,7 @@ fn is_row_said(alloc: Global, place: usize, row: &[u8]) -> Result<bool, AllocErr
     Ok(true)
 }
 
-/// The first place where the checker's verdicts are not the row's.
+/// The first place at which the checker's verdicts are not the row's.
 fn wrong_row(alloc: Global) -> Result<Option<usize>, AllocError> {
     for (place, row) in VERDICTS.iter().enumerate() {
         if !is_row_said(alloc, place, row)? {

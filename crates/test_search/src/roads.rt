@@ -462,7 +462,7 @@ fn pair_is_posed(alloc: Global, from: u32, to: u32, posed: bool) -> Result<bool,
     is_posed(alloc, &Query::pair(source_at(from), to), posed)
 }
 
-/// The first pair that makes a problem where it should not, or none if it should.
+/// The first pair that makes a problem but should not, or makes none but should.
 fn wrong_pair(alloc: Global) -> Result<Option<usize>, AllocError> {
     for (place, (from, to, posed)) in PAIRS.iter().enumerate() {
         if !pair_is_posed(alloc, *from, *to, *posed)? {

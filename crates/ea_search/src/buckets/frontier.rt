@@ -155,7 +155,7 @@ impl Frontier {
         least
     }
 
-    /// Moves the window to the least time of a list, and its entries to the lists where they belong then.
+    /// Moves the window to the least time of a list, and its entries to the lists to which they belong then.
     fn spread(&mut self, list: usize)
         requires { list < 66 }
         ensures { (label : ℕ → ℕ) → KeepsWaiting label self.old self.new }

@@ -1,4 +1,4 @@
-//! Where nodes wait from the fall of their labels to their scans.
+//! The list in which nodes wait from the fall of their labels to their scans.
 ghost use Rattle.std.specs.Prelude.{◌≡◌, ℕ, ◌+◌, ◌<◌, ◌≤◌};
 ghost use Rattle.ea_search.specs.Worklist.{Room};
 
