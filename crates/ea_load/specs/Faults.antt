@@ -14,11 +14,11 @@ answer_fault (file.Read word fault) = Read word fault
 answer_fault (file.Input word fault) = Input word fault
 answer_fault file.OutOfMemory = OutOfMemory 0
 
--- A fault of writing, after so many bytes in all.
+-- A fault of writing, after this many bytes in all.
 abbrev pub fault_by : WriteFaultKind → ℕ → AnswerFault
 fault_by WriteFailed written = Write written
 fault_by NoMemory written = OutOfMemory written
 
--- A fault of one text, after so many bytes of those before.
+-- A fault of one text, after this many bytes of those before.
 abbrev pub fault_after : ℕ → WriteFault → AnswerFault
 fault_after before fault = fault_by fault.kind (before + fault.written)

@@ -1,4 +1,4 @@
--- The words by which messages call files.
+-- The names of files in messages.
 use Rattle.std.specs.Prelude.{ℕ, List, codes}
 use Rattle.ea_load.specs.declared.file_fault.FileWord.{FileWord}
 use Rattle.ea_load.specs.declared.file_fault.FileWord.TheVariants.{Gr, Ss, Tp, P2p, Report, Out}

@@ -1,4 +1,4 @@
--- What readers give, and why they give nothing.
+-- The results of reading files, and why there is none.
 use Rattle.std.specs.Prelude.{◌≡◌, ◌⊎◌, ℕ, ◌<◌, ◌≤◌, List, length, Option, Some, None, IfSome, option_map}
 use Rattle.ea_base.specs.declared.limits.TheConstants.{MOST_BYTES}
 use Rattle.ea_bytes.specs.Device.{Seen, BearsOn, GivesUp}
@@ -18,17 +18,17 @@ use Rattle.ea_load.specs.declared.file_fault.FileWord.TheVariants.{Gr, Tp}
 use Rattle.ea_load.specs.declared.file_fault.FileFault.{FileFault}
 use Rattle.ea_load.specs.declared.file_fault.FileFault.TheVariants.{Read, Input, OutOfMemory}
 
--- All bytes that a reader had, where it tells them.
+-- All bytes that a reader had, if its type says.
 abbrev pub IsAll : Option (List ℕ) → List ℕ → Type 0
 IsAll had text = IfSome had (λ left. text ≡ left)
 
--- The same of a reader that may be left out.
+-- The same for an optional reader.
 abbrev pub IsAllIfThere : Option (Option (List ℕ)) → Option (List ℕ) → Type 0
 IsAllIfThere None None = Unit {0}
 IsAllIfThere (Some had) (Some text) = IsAll had text
 IsAllIfThere _ _ = ⊥
 
--- The bytes that a reader has which may be left out.
+-- The bytes of an optional reader.
 abbrev pub bytes_there : {R : Type 0} → (R → Seen) → Option R → Option (Option (List ℕ))
 bytes_there seen reader = option_map (λ there. (seen there).bytes) reader
 
@@ -40,64 +40,66 @@ pub record Reading : Type 0 where
 abbrev pub reading : {R : Type 0} → (R → Seen) → R → R → Reading
 reading seen old new = record { old = seen old; new = seen new }
 
--- No read failed, and the interruptions were borne.
+-- No read failed, and the interruptions were tolerated.
 abbrev pub IsBorne : Reading → Type 0
 IsBorne reading = BearsOn reading.old reading.new
 
--- A file's text, as it was read: all bytes that the reader had, at most MOST_BYTES, and the device bore it.
+-- A file's text, as it was read: all bytes that the reader had, at most MOST_BYTES, without a failure of the
+-- device.
 pub record IsFileText (reading : Reading) (text : List ℕ) : Type 0 where
   pub all : IsAll reading.old.bytes text
   pub few : length text ≤ MOST_BYTES
   pub borne : IsBorne reading
 
--- The same of a file that may be left out: there is a text just where there is a reader.
+-- The same for an optional file: there is a text exactly if there is a reader.
 abbrev pub IsTextIfThere : {R : Type 0} → (R → Seen) → Option R → Option R → Option (List ℕ) → Type 0
 IsTextIfThere seen None None None = Unit {0}
 IsTextIfThere seen (Some old) (Some new) (Some text) = IsFileText (reading seen old new) text
 IsTextIfThere seen _ _ _ = ⊥
 
--- The reads of a file that may be left out were borne.
+-- No read of an optional file failed, and the interruptions were tolerated.
 abbrev pub IsBorneIfThere : {R : Type 0} → (R → Seen) → Option R → Option R → Type 0
 IsBorneIfThere seen None None = Unit {0}
 IsBorneIfThere seen (Some old) (Some new) = BearsOn (seen old) (seen new)
 IsBorneIfThere seen _ _ = ⊥
 
--- Why a file wasn't read: it has more than MOST_BYTES, or its device gave up, just then.
+-- Why a file wasn't read: it has more than MOST_BYTES, or its device gave up at that point.
 abbrev pub IsUnread : Reading → ReadFault → Type 0
 IsUnread reading TooLarge = IfSome reading.old.bytes (λ left. MOST_BYTES < length left) × IsBorne reading
 IsUnread reading ReadFailed = GivesUp reading.old reading.new
 IsUnread reading no_memory = ⊥
 
--- Why a file gave nothing: it wasn't read, or its text has this fault, or memory was refused while reading was borne.
+-- Why a file has no result: it wasn't read, or its text has this fault, or memory was refused while reading
+-- succeeded.
 abbrev pub IsFaultIn : FileWord → Format → Reading → FileFault → Type 0
 IsFaultIn file format reading (Read word fault) = (word ≡ file) × IsUnread reading fault
 IsFaultIn file format reading (Input word fault) = (word ≡ file) × ((text : List ℕ) × IsFileText reading text × IsFaultOf format (field_lines text) fault)
 IsFaultIn file format reading OutOfMemory = IsBorne reading
 
--- The same where only reading may have failed.
+-- The same if only reading may have failed.
 abbrev pub IsUnreadBy : FileWord → Reading → FileFault → Type 0
 IsUnreadBy file reading (Read word fault) = (word ≡ file) × IsUnread reading fault
 IsUnreadBy file reading (Input word fault) = ⊥
 IsUnreadBy file reading OutOfMemory = IsBorne reading
 
--- A text's fault as one of its file; want of memory is none of the text.
+-- A text's fault as one of its file; refused memory is none of the text.
 abbrev pub IsFaultAs : FileWord → InputFault → FileFault → Type 0
 IsFaultAs file found (Read word fault) = ⊥
 IsFaultAs file found (Input word fault) = (word ≡ file) × (fault ≡ found) × ((found ≡ out_of_memory) → ⊥)
 IsFaultAs file found OutOfMemory = found.kind ≡ kind.OutOfMemory
 
--- The same of a fault of reading.
+-- The same for a fault of reading.
 abbrev pub IsReadFaultAs : FileWord → ReadFault → FileFault → Type 0
 IsReadFaultAs file found (Read word fault) = (word ≡ file) × (fault ≡ found) × ((found ≡ no_memory) → ⊥)
 IsReadFaultAs file found (Input word fault) = ⊥
 IsReadFaultAs file found OutOfMemory = found ≡ no_memory
 
--- The same of a text that is read as its bytes come.
+-- The same for a text that is read as its bytes come.
 abbrev pub IsStreamFaultAs : FileWord → StreamFault → FileFault → Type 0
 IsStreamFaultAs file (FromDevice found) told = IsReadFaultAs file found told
 IsStreamFaultAs file (FromText found) told = IsFaultAs file found told
 
--- The fault of a file that may be left out: memory was refused, or it is that of the file, which is there.
+-- The fault of an optional file: memory was refused, or it is that of the file, if there is one.
 abbrev pub IsFaultThere : {R : Type 0} → (R → Seen) → FileWord → Format → Option R → Option R → FileFault → Type 0
 IsFaultThere seen file format (Some old) (Some new) fault = IsFaultIn file format (reading seen old new) fault
 IsFaultThere seen file format _ _ fault = ⊥
@@ -106,12 +108,12 @@ abbrev pub IsFaultIfThere : {R : Type 0} → (R → Seen) → FileWord → Forma
 IsFaultIfThere seen file format old new fault =
     ((fault ≡ OutOfMemory) × IsBorneIfThere seen old new) ⊎ IsFaultThere seen file format old new fault
 
--- A reader that may be left out wasn't touched.
+-- An optional reader wasn't touched.
 abbrev pub IsUntouchedIfThere : {R : Type 0} → (R → Seen) → Option R → Option R → Type 0
 IsUntouchedIfThere seen old new = option_map seen new ≡ option_map seen old
 
--- What becomes of the file of timetables: its fault, for so many arcs; or it was read with no fault of the device; or it wasn't
--- touched.
+-- The outcome of reading the file of timetables: its fault, for this many arcs; or it was read without a
+-- fault of the device; or it wasn't touched.
 pub record Tables : Type 1 where
   pub IsFault : ℕ → FileFault → Type 0
   pub IsRead : Type 0
@@ -130,7 +132,7 @@ tables seen old new = record {
 abbrev pub IsGraphOf : Reading → Graph → Type 0
 IsGraphOf reading graph = (text : List ℕ) × IsFileText reading text × DenotesGraph (field_lines text) graph
 
--- A text that a reader gave denotes starts among so many nodes.
+-- A text that a reader gave denotes starts among this many nodes.
 abbrev pub HasStarts : {X : Type 0} → (ℕ → List (List (List ℕ)) → X → Type 0) → ℕ → Reading → Type 0
 HasStarts {X} DenotesStarts nodes reading = (text : List ℕ) × (starts : X) × IsFileText reading text × DenotesStarts nodes (field_lines text) starts
 
@@ -138,8 +140,8 @@ HasStarts {X} DenotesStarts nodes reading = (text : List ℕ) × (starts : X) ×
 abbrev pub IsUntouched : Reading → Type 0
 IsUntouched reading = reading.new ≡ reading.old
 
--- The first fault of the files: that of the network; or where it is sound that of the starts; or where both are that of the
--- timetables. What comes after it wasn't touched.
+-- The first fault of the files: the network's; or, if it has none, that of the starts; or, if neither has
+-- any, the timetables'. Later files weren't touched.
 pub data IsFirstFault {X : Type 0}
     (word : FileWord)
     (format : ℕ → Format)

@@ -1,4 +1,4 @@
--- What the files give: a network, and when its arcs arrive.
+-- What the files denote: a network and its travel times.
 use Rattle.std.specs.Prelude.{◌≡◌, ℕ, ◌≤◌, List, length, Option, Some, None, IfSome}
 use Rattle.ea_base.specs.declared.limits.TheConstants.{MOST_BYTES}
 use Rattle.ea_bytes.specs.Text.{field_lines}
@@ -20,7 +20,7 @@ pub record Given : Type 0 where
   pub graph : Graph
   pub table : Table
 
--- What a graph and a table in memory are.
+-- A graph and a table in memory.
 abbrev pub given_by : RawGraph → RawTable → Given
 given_by graph table = record { graph = graph_of graph; table = table_of table }
 
@@ -28,8 +28,8 @@ given_by graph table = record { graph = graph_of graph; table = table_of table }
 abbrev pub roads_of : Given → Roads
 roads_of given = record { nodes = given.graph.nodes; arcs = arcs_with given.table.assigned given.graph.arcs }
 
--- When an arc of a class and a weight arrives that is left at a departure: class 0 is plain, class J is the J-th kind,
--- whose steps are among those of all kinds.
+-- The arrival by an arc of a class and a weight, left at a departure: class 0 is plain, class J is the J-th
+-- kind, whose steps are among those of all kinds.
 abbrev pub times_of : Table → ℕ → ℕ → ℕ → ℕ → Type 0
 times_of table class weight departure arrival = TimetablesAnswer table.kinds table.steps class weight departure arrival
 
@@ -37,7 +37,7 @@ times_of table class weight departure arrival = TimetablesAnswer table.kinds tab
 abbrev pub no_table : Table
 no_table = nothing
 
--- What the text of timetables denotes for so many arcs, where there is one.
+-- The table that the text of timetables denotes for this many arcs, if there is a text.
 abbrev pub IsTableOf : ℕ → Option (List ℕ) → Table → Type 0
 IsTableOf arcs None table = table ≡ no_table
 IsTableOf arcs (Some text) table = DenotesTable arcs (field_lines text) table
@@ -53,8 +53,8 @@ pub record IsRoadOf (given : Given) (road : Road) : Type 0 where
   pub kinds : road.times.list.items ≡ given.table.kinds
   pub steps : steps_in road.times.steps ≡ given.table.steps
 
--- What readers gave, each at most MOST_BYTES, denotes this: a graph with timetables, where there is a file of them, and where
--- searches start.
+-- What readers gave, each at most MOST_BYTES, denotes this: a graph with timetables, if there is a file of
+-- them, and the starts of searches.
 pub record AreGiven {X : Type 0}
     (DenotesStarts : ℕ → List (List (List ℕ)) → X → Type 0)
     (gr starts : Option (List ℕ))

@@ -14,6 +14,6 @@ IsPosed road query =
 abbrev pub AreProblems : Road → List Asking → Type 0
 AreProblems road queries = All (IsPosed road) queries
 
--- When the arcs of a road arrive.
+-- The arrivals by the arcs of a road.
 abbrev pub times_on : Road → ℕ → ℕ → ℕ → ℕ → Type 0
 times_on road class weight departure arrival = TimetablesAnswer road.times.list.items (steps_in road.times.steps) class weight departure arrival

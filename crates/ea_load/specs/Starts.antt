@@ -1,4 +1,4 @@
--- Where and when searches start, and what they ask.
+-- The sources and departures of searches, and their problems.
 use Rattle.std.specs.Prelude.{ℕ, ◌+◌, ◌*◌, ◌<◌, ◌≤◌, Bool, List, [], ◌∷◌, map, if◌then◌else◌, Some, None}
 use Rattle.ea_base.specs.declared.limits.TheConstants.{HORIZON}
 use Rattle.ea_road.specs.declared.source.Source.{Source}
@@ -8,7 +8,7 @@ use Rattle.ea_road.specs.Queries.{Asking}
 abbrev pub departure : ℕ → ℕ → ℕ → ℕ
 departure depart gap i = depart + i * gap
 
--- The departures of so many are within the horizon.
+-- This many departures are within the horizon.
 abbrev pub AreWithin : ℕ → ℕ → ℕ → Type 0
 AreWithin depart gap count = (i : ℕ) → i < count → departure depart gap i ≤ HORIZON
 
@@ -21,7 +21,7 @@ sources_from depart gap i (node ∷ nodes) = record { node = node; departure = d
 abbrev pub asks_all : List Source → Asking
 asks_all sources = record { sources = sources; target = None }
 
--- The problems of a run: each source by itself, or all together.
+-- The problems of a run: each source alone, or all together.
 abbrev pub run_problems : Bool → ℕ → ℕ → List ℕ → List Asking
 run_problems joint depart gap nodes =
     let sources = sources_from depart gap 0 nodes in

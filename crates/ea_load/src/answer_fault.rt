@@ -7,7 +7,7 @@ use ea_bytes::ReadFault;
 use std::alloc::AllocError;
 use thiserror::Error;
 
-/// Why a report is not whole. `written` is how many bytes of it went out: they are its front.
+/// Why a report is not whole. `written` is the number of bytes written, the first of the report.
 #[derive(Clone, Copy, Debug, PartialEq, Eq, Error)]
 pub enum AnswerFault {
     /// A file couldn't be read, or is too large; nothing was written.

@@ -1,4 +1,4 @@
-//! Where and when searches start, and what they ask.
+//! The sources and departures of searches, and their queries.
 ghost use Rattle.std.specs.Prelude.{◌≡◌, ◌↔◌, ◌≤◌, ◌<◌, ℕ, [], ◌∷◌, All, IsTrue, IfOk, length, map};
 ghost use Rattle.ea_load.specs.Starts.{AreWithin, asks_all, sources_from, run_problems, pair_problems};
 ghost use Rattle.ea_road.specs.Queries.{IsSource};
@@ -8,8 +8,7 @@ use ea_base::HORIZON;
 use ea_road::{Query, Source};
 use std::alloc::{AllocError, Global};
 
-/// Whether the departures of so many sources or pairs are within the horizon, the first at `depart`, each next one
-/// later by `gap`.
+/// Whether this many departures are within the horizon, the first at `depart`, each next one later by `gap`.
 pub fn departures_fit(count: usize, depart: u64, gap: u64) -> bool
     requires depart { depart ≤ HORIZON }
     requires gap { gap ≤ HORIZON }
@@ -38,7 +37,7 @@ fn sources_of(
     Ok(sources)
 }
 
-/// Each source as a query.
+/// Each source as a separate query.
 fn queries_from(alloc: Global, sources: &[Source]) -> Result<Vec<Query>, AllocError>
     requires { All IsSource sources.now }
     ensures { IfOk result (λ queries. queries.items
@@ -51,7 +50,8 @@ fn queries_from(alloc: Global, sources: &[Source]) -> Result<Vec<Query>, AllocEr
     Ok(queries)
 }
 
-/// The queries of a run: each node as a source by itself, or all together. Node i, from 0, departs at `depart + i * gap`.
+/// The queries of a run: each node as a separate source, or all together. Node i, from 0, departs at `depart
+/// + i * gap`.
 pub fn run_queries(
     alloc: Global,
     nodes: &[u32],

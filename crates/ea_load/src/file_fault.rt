@@ -1,4 +1,4 @@
-//! Files by their names in messages, and why one gave nothing.
+//! Files by their names in messages, and why one has no result.
 ghost use Rattle.std.specs.Prelude.{◌≡◌, Some};
 ghost use Rattle.ea_load.specs.FileNames.{file_word};
 
@@ -8,7 +8,7 @@ use std::alloc::AllocError;
 use std::fmt;
 use thiserror::Error;
 
-/// A file, as messages call it.
+/// A file, by its name in messages.
 #[derive(Clone, Copy, Debug, PartialEq, Eq)]
 pub enum FileWord {
     /// The network.
@@ -21,7 +21,7 @@ pub enum FileWord {
     P2p,
     /// A report that is checked.
     Report,
-    /// The file that a report goes to.
+    /// The file to which a report is written.
     Out,
 }
 
@@ -49,7 +49,7 @@ impl fmt::Display for FileWord {
     }
 }
 
-/// Why a file gave nothing.
+/// Why a file has no result.
 #[derive(Clone, Copy, Debug, PartialEq, Eq, Error)]
 pub enum FileFault {
     /// It couldn't be read, or is too large.
@@ -58,7 +58,7 @@ pub enum FileFault {
     /// Its text has a fault.
     #[error("{file}: {fault}")]
     Input { file: FileWord, fault: InputFault },
-    /// Memory was refused, which says nothing of the file.
+    /// Memory was refused; the file may be right or wrong.
     #[error("there is not enough memory (13 OutOfMemory)")]
     OutOfMemory,
 }

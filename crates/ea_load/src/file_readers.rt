@@ -1,4 +1,4 @@
-//! Files, read and understood.
+//! Reading and parsing files.
 ghost use Rattle.std.specs.Prelude.{◌≡◌, ℕ, List, Option, Some, IfOk, IfErr, OnOk};
 ghost use Rattle.std.specs.Io.KnownBytes.{IsAtEnd};
 ghost use Rattle.ea_bytes.specs.Text.{field_lines};
@@ -34,7 +34,7 @@ pub(crate) fn text_of<R: ByteIn>(
     }
 }
 
-/// A fault of reading as one of its file.
+/// The fault of a file that couldn't be read.
 pub(crate) fn read_fault_of(file: FileWord, fault: ReadFault) -> FileFault
     ensures { IsReadFaultAs file fault result }
 {
@@ -44,7 +44,7 @@ pub(crate) fn read_fault_of(file: FileWord, fault: ReadFault) -> FileFault
     }
 }
 
-/// A text's fault as one of its file.
+/// The fault of a file whose text has a fault.
 pub(crate) fn fault_of(file: FileWord, fault: InputFault) -> FileFault
     ensures { IsFaultAs file fault result }
 {
@@ -115,7 +115,7 @@ pub(crate) fn no_table(alloc: Global) -> RawTable
     }
 }
 
-/// The timetables of a file that may be left out.
+/// The timetables of an optional file.
 pub(crate) fn read_table<R: ByteIn>(
     alloc: Global,
     tp: &mut Option<R>,
@@ -133,7 +133,7 @@ pub(crate) fn read_table<R: ByteIn>(
     }
 }
 
-/// All bytes of a report, at most 2^33. What they say is not looked at.
+/// All bytes of a report, at most 2^33. They aren't parsed.
 pub fn read_report<R: ByteIn>(alloc: Global, report: &mut R) -> Result<Vec<u8>, FileFault>
     ensures text { IfOk result
         (λ bytes. IsFileText (reading R.seen report.old report.new) bytes.items) }

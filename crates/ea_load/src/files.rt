@@ -29,10 +29,10 @@ pub struct PairFiles {
     pub pairs: Vec<(u32, u32)>,
 }
 
-/// Reads the files of a run: network, sources, and timetables where there are any. Each is read to its end and
-/// understood before the next is touched, and its text is let go.
+/// Reads the files of a run: network, sources and, if there are any, timetables. Each is read to its end and
+/// parsed before the next is touched, and its text is dropped.
 ///
-/// The first fault in this order is answered; `OutOfMemory` may stand in place of any answer.
+/// Fails with the first fault in this order, or with `OutOfMemory` at any point.
 pub fn read_run<G: ByteIn, S: ByteIn, T: ByteIn>(
     alloc: Global,
     gr: &mut G,
@@ -57,7 +57,7 @@ pub fn read_run<G: ByteIn, S: ByteIn, T: ByteIn>(
     Ok(RunFiles { road, sources })
 }
 
-/// Reads the files of pairs, as `read_run_by` those of a run.
+/// Reads the files of pairs, like `read_run_by` those of a run.
 pub fn read_pairs<H: Threads + Sync, G: ByteIn, P: ByteIn, T: ByteIn>(
     alloc: Global,
     rt: &H,

@@ -1,4 +1,4 @@
-//! A road of texts that lie in memory.
+//! A road from texts in memory.
 ghost use Rattle.std.specs.Prelude.{◌≡◌, ◌≤◌, ℕ, List, IfOk, IfErr, length};
 ghost use Rattle.ea_bytes.specs.Text.{field_lines};
 ghost use Rattle.ea_input.specs.Graph.{DenotesGraph};
@@ -27,7 +27,7 @@ fn graph_in(alloc: Global, gr: &[u8]) -> Result<RawGraph, FileFault>
     }
 }
 
-/// The timetables of a text; none of an empty one.
+/// The timetables of a text; an empty text has none.
 fn table_in(alloc: Global, tp: &[u8], arcs: u32) -> Result<RawTable, FileFault>
     ensures denoted { IfOk result (λ found. IsTableOf arcs (text_if_any tp.now) (table_of found)) }
     ensures fault { IfErr result (IsTableFault arcs tp.now) }
@@ -56,9 +56,9 @@ fn road_with(alloc: Global, graph: RawGraph, tp: &[u8]) -> Result<Road, FileFaul
     Ok(road)
 }
 
-/// The road of the text of a network and of that of its timetables; an empty text of timetables is none. The texts are
-/// not copied. The first fault is answered, that of the network before that of the timetables; `OutOfMemory` may stand in
-/// place of any answer.
+/// The road of a network's text and its timetables' text; an empty text has no timetables. The texts are not
+/// copied. Fails with the first fault, the network's before the timetables', or with `OutOfMemory` at any
+/// point.
 pub fn road_of_texts(alloc: Global, gr: &[u8], tp: &[u8]) -> Result<Road, FileFault>
     ensures road { IfOk result (λ road. (given : Given)
         × Denotes gr.now (text_if_any tp.now) given × IsRoadOf given road) }

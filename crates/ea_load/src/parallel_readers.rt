@@ -1,4 +1,4 @@
-//! Files that are read block by block, by several threads.
+//! Reading files in blocks, by several threads.
 ghost use Rattle.std.specs.Prelude.{◌≡◌, ℕ, List, IfOk, IfErr, OnOk, Option, Some, length};
 ghost use Rattle.ea_bytes.specs.Device.{BearsOn};
 ghost use Rattle.ea_bytes.specs.Text.{field_lines};
@@ -29,7 +29,8 @@ use std::thread::{Threads, available_parallelism};
 /// The most threads that read a text.
 const MOST_READERS: usize = 16;
 
-/// How many threads may read a text: as many as there are processors, and one where they can't be counted.
+/// The number of threads that may read a text: one for each processor, or one if the processors can't be
+/// counted.
 fn readers<H: Threads>(rt: &H) -> usize {
     match available_parallelism(rt) {
         Ok(processors) => processors.get().min(MOST_READERS),
@@ -37,7 +38,7 @@ fn readers<H: Threads>(rt: &H) -> usize {
     }
 }
 
-/// A fault of a device's text as one of its file.
+/// The fault of a file whose device or text has a fault.
 fn fault_from(file: FileWord, fault: StreamFault) -> FileFault
     ensures { IsStreamFaultAs file fault result }
 {
@@ -47,7 +48,7 @@ fn fault_from(file: FileWord, fault: StreamFault) -> FileFault
     }
 }
 
-/// The graph of a file, as `read_graph` reads it, block by block and by several threads.
+/// Like `read_graph`, in blocks and by several threads.
 pub(crate) fn read_graph_by<H: Threads + Sync, R: ByteIn>(
     alloc: Global,
     rt: &H,
@@ -65,7 +66,7 @@ pub(crate) fn read_graph_by<H: Threads + Sync, R: ByteIn>(
     }
 }
 
-/// The sources of a file, as `read_sources` reads them, block by block.
+/// Like `read_sources`, in blocks.
 fn read_sources_by<H: Threads + Sync, R: ByteIn>(
     alloc: Global,
     rt: &H,
@@ -84,7 +85,7 @@ fn read_sources_by<H: Threads + Sync, R: ByteIn>(
     }
 }
 
-/// The pairs of a file, as `read_pairs` reads them, block by block.
+/// Like `read_pairs`, in blocks.
 pub(crate) fn read_pairs_by<H: Threads + Sync, R: ByteIn>(
     alloc: Global,
     rt: &H,
@@ -103,7 +104,7 @@ pub(crate) fn read_pairs_by<H: Threads + Sync, R: ByteIn>(
     }
 }
 
-/// The timetables of a file, block by block.
+/// The timetables of a file, in blocks.
 fn read_timetables_by<H: Threads + Sync, R: ByteIn>(
     alloc: Global,
     rt: &H,
@@ -122,7 +123,7 @@ fn read_timetables_by<H: Threads + Sync, R: ByteIn>(
     }
 }
 
-/// The timetables of a file that may be left out, as `read_table` reads them, block by block.
+/// Like `read_table`, in blocks.
 fn read_table_by<H: Threads + Sync, R: ByteIn>(
     alloc: Global,
     rt: &H,
@@ -141,7 +142,7 @@ fn read_table_by<H: Threads + Sync, R: ByteIn>(
     }
 }
 
-/// The road of a graph and a table, as `road_of` makes it, by two threads.
+/// Like `road_of`, by two threads.
 fn road_of_by<H: Threads + Sync>(
     alloc: Global,
     rt: &H,
@@ -158,7 +159,7 @@ fn road_of_by<H: Threads + Sync>(
     Ok(Road { network, times })
 }
 
-/// The road of a graph and a file of timetables, as `read_road` reads it, by two threads.
+/// Like `read_road`, by two threads.
 pub(crate) fn read_road_by<H: Threads + Sync, T: ByteIn>(
     alloc: Global,
     rt: &H,
@@ -178,7 +179,7 @@ pub(crate) fn read_road_by<H: Threads + Sync, T: ByteIn>(
     Ok(road)
 }
 
-/// Reads the files of a run as `read_run` does, block by block, and by up to five threads at once where there are several processors.
+/// Like `read_run`, in blocks, and by up to five threads if there are several processors.
 pub fn read_run_by<H: Threads + Sync, G: ByteIn, S: ByteIn, T: ByteIn>(
     alloc: Global,
     rt: &H,

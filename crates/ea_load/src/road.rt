@@ -1,4 +1,4 @@
-//! A network and its timetables, of what files denote.
+//! A network and its timetables, from what files denote.
 ghost use Rattle.std.specs.Prelude.{◌≡◌, ℕ, List, Option, IfOk, IfErr, length};
 ghost use Rattle.ea_input.specs.Graph.{DenotesGraph};
 ghost use Rattle.ea_input.specs.Table.{DenotesTable, Table};
@@ -16,7 +16,7 @@ use ea_road::{ArcList, Network};
 use ea_travel_times::Timetables;
 use std::alloc::{AllocError, Global};
 
-/// A network, and when its arcs arrive.
+/// A network and its travel times.
 #[derive(Drop)]
 pub struct Road {
     pub network: Network,
@@ -47,7 +47,7 @@ pub(crate) fn road_of(alloc: Global, graph: RawGraph, table: RawTable) -> Result
     Ok(Road { network, times })
 }
 
-/// The road of a graph and a file of timetables, which may be left out.
+/// The road of a graph and an optional file of timetables.
 pub(crate) fn read_road<T: ByteIn>(
     alloc: Global,
     graph: RawGraph,
@@ -66,8 +66,7 @@ pub(crate) fn read_road<T: ByteIn>(
     Ok(road)
 }
 
-/// The law of the texts of timetables: the kinds and steps that they denote are those that travel
-/// times ask for. It computes nothing.
+/// A law on the texts of timetables: their kinds and steps fit travel times. Computes nothing.
 pub fn timetables_law(_arcs: u32)
     ensures { (lines : List (List (List ℕ))) (table : Table) → DenotesTable _arcs lines table
         → AreFit table.kinds table.steps }
