@@ -10,7 +10,7 @@ use rand_core::{Rng, utils};
 /// Generator words below this, one in eight, make a random word.
 const RANDOM: u64 = 1 << 61;
 
-/// The random words differ in this many values.
+/// A random word adds a multiple of all heaps, below this.
 const SPAN: u64 = 1 << 28;
 
 /// The number of stored words.

@@ -36,7 +36,7 @@ impl Words {
         }
     }
 
-    /// Reserves memory for `words` words. Returns false if it was refused.
+    /// Reserves memory for `many` words. Returns false if it was refused.
     pub fn reserve(&mut self, many: usize) -> bool
         ensures { self.new ≡ self.old }
     {
