@@ -126,7 +126,7 @@ fn lower_by_arc<T: TravelTimes>(
     }
 }
 
-/// The lowest node whose reported time an arc improves, or `lowest` if no lower one is.
+/// The lowest node whose reported time an arc improves, or `above` if no lower one is.
 fn lowest_by_arcs<T: TravelTimes>(
     network: &Network,
     times: &T,
@@ -182,7 +182,7 @@ fn lower_by_source<T: TravelTimes>(
     }
 }
 
-/// The lowest node whose reported time a source improves, or `lowest` if no lower one is.
+/// The lowest node whose reported time a source improves, or `above` if no lower one is.
 fn lowest_by_sources<T: TravelTimes>(
     network: &Network,
     times: &T,
