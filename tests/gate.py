@@ -1,8 +1,8 @@
 """The gate: `rt ci`, which proves every crate and tries the must-fail edits, then the test suites with what
 it built. With a program as the only word: only the suites, with that program.
 
-`rt ci` alone judges proofs and edits. Each suite is tests/NAME/run.py, whose last line is `N passed, M failed`. The last line here adds
-all of them up.
+`rt ci` alone judges proofs and edits. Each suite is tests/NAME/run.py, whose last line is `N passed, M
+failed`. The last line here adds all of them up.
 """
 import os
 import re

@@ -60,7 +60,8 @@ def arcs_of(file):
 
 
 class Problem:
-    """A problem of a report: its sources with their departures, the arrival at each node, and the arcs of all walks."""
+    """A problem of a report: its sources with their departures, the arrival at each node, and the arcs of
+    all walks."""
 
     def __init__(self):
         self.sources, self.arrivals, self.arcs = [], {}, set()

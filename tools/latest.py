@@ -2,9 +2,9 @@
 
     python3 tools/latest.py GR SOURCE TARGET WISHED [--tp FILE] [--program bin/earliest]
 
-A later departure never arrives earlier, so the latest one that is in time is found by narrowing: each call of `earliest pairs` asks
-for a hundred departures with the same gap between them, and the next one for those between the last that is in time and the first that
-is late. It prints that departure and its arrival.
+A later departure never arrives earlier, so the latest one that is in time is found by narrowing: each call of
+`earliest pairs` asks for a hundred departures with the same gap between them, and the next one for those
+between the last that is in time and the first that is late. It prints that departure and its arrival.
 """
 import argparse
 import subprocess

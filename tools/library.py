@@ -1,8 +1,8 @@
 """Builds the library for programs that are not Rattle: lib/libearliest.a and lib/libearliest.so.
 
-The crate is proved and built first, over what earlier builds left in crates/NAME/out. With `--over ROOM` it is proved and built in a copy of
-the repository in which `rt ci` has just proved the crates below it, over these. With `--install PREFIX FOLDER` what was built is copied to
-a folder, which programs find as PREFIX.
+The crate is proved and built first, over what earlier builds left in crates/NAME/out. With `--over ROOM` it
+is proved and built in a copy of the repository in which `rt ci` has just proved the crates below it, over
+these. With `--install PREFIX FOLDER` what was built is copied to a folder, which programs find as PREFIX.
 """
 import os
 import shutil

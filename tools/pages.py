@@ -1,4 +1,6 @@
-"""Writes the man page and the shells' completions, all from the program's own texts: python3 tools/pages.py PROGRAM FOLDER
+"""Writes the man page and the shells' completions, all from the program's own texts.
+
+    python3 tools/pages.py PROGRAM FOLDER
 
 FOLDER gets share/man/man1/earliest.1, share/bash-completion/completions/earliest,
 share/zsh/site-functions/_earliest and share/fish/vendor_completions.d/earliest.fish. No command or option is

@@ -1,8 +1,8 @@
 """A network of one day's departures, from a GTFS feed: python3 tools/trips_of_gtfs.py FEED DAY OUT
 
-FEED is a folder with stop_times.txt and trips.txt, and calendar.txt or calendar_dates.txt or both; DAY is as 20261123. It
-writes OUT.gr, OUT.tp and OUT.stops (a line for each node: its number and the stop's name in the feed). Times are seconds
-from the midnight at which DAY begins, and go beyond 24 hours as the feed's do.
+FEED is a folder with stop_times.txt and trips.txt, and calendar.txt or calendar_dates.txt or both; DAY is as
+20261123. It writes OUT.gr, OUT.tp and OUT.stops (a line for each node: its number and the stop's name in the
+feed). Times are seconds from the midnight at which DAY begins, and go beyond 24 hours as the feed's do.
 
 An arc leads from a stop of a route to the next, with one timetable of kind trips. Its weight is the shortest
 ride, and the X of a `v` line is what a ride takes beyond it. A ride that a later one of the same route

@@ -1,9 +1,9 @@
 """The commuter network of examples/, made anew: python3 tests/cli/commuter.py FOLDER
 
-A town of 300 crossings, 20 from west to east and 15 from north to south, in two halves with a river between the tenth and the
-eleventh column: a main road through the middle row, which crosses the river by the only bridge, side streets, and a ferry
-further south. Times are seconds of the day. It writes commuter.gr, commuter.tp, commuter.ss, commuter.p2p, and where the
-crossings lie on a map, commuter.co.
+A town of 300 crossings, 20 from west to east and 15 from north to south, in two halves with a river between
+the tenth and the eleventh column: a main road through the middle row, which crosses the river by the only
+bridge, side streets, and a ferry further south. Times are seconds of the day. It writes commuter.gr,
+commuter.tp, commuter.ss, commuter.p2p, and where the crossings lie on a map, commuter.co.
 """
 import os
 import sys

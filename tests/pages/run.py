@@ -184,7 +184,8 @@ def links_lead_somewhere():
 
 
 def crates_say_one_thing():
-    """The first line of a crate's README, its comment in crates.txt and the first line of its root file are equal."""
+    """The first line of a crate's README, its comment in crates.txt and the first line of its root file
+    are equal."""
     for crate, comment in crates().items():
         lines = [line for line in text_of(f"crates/{crate}/README.md").splitlines() if line]
         yield f"{crate}: README.md and crates.txt", lines[:2] == [f"# {crate}", comment]

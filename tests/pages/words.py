@@ -1,7 +1,7 @@
 """Counts phrases with a plainer form in comments and pages: python3 tests/pages/words.py
 
-Reads the comments of crates/, tests/, tools/, bench/ and docs/, and the pages of docs/. Prints each phrase that is
-left without a reason, and how often each phrase is left. `run.py` runs it as one of its tests.
+Reads the comments of crates/, tests/, tools/, bench/ and docs/, and the pages of docs/. Prints each phrase
+that is left without a reason, and how often each phrase is left. `run.py` runs it as one of its tests.
 """
 import ast
 import fnmatch
@@ -68,7 +68,8 @@ ALLOWED = (
 
 
 def marked(lines, marks):
-    """The comments behind one of the marks, each block of whole lines as one: the first line and the text of each."""
+    """The comments behind one of the marks, each block of whole lines as one: the first line and the text
+    of each."""
     blocks, last = [], None
     for number, line in enumerate(lines, 1):
         found = re.match(rf"\s*({marks})(?!\S*[-=]{{3}})\s?(.*)", line)
@@ -99,7 +100,8 @@ def of_page(text):
 
 
 def comments_of(path):
-    """The comments of a file, or the lines of a page: the line and the text of each, without quotations and links."""
+    """The comments of a file, or the lines of a page: the line and the text of each, without quotations
+    and links."""
     with open(os.path.join(ROOT, path), encoding="utf-8") as file:
         text = file.read()
     if path.endswith(".py"):
@@ -142,8 +144,8 @@ def left():
 
 
 def results():
-    """Whether no comment and no page has a phrase without a reason, for each phrase; whether each reason for a comment
-    is still needed."""
+    """Whether no comment and no page has a phrase without a reason, for each phrase; whether each reason
+    for a comment is still needed."""
     found = list(left())
     plainer = {phrase: instead for phrase, _, instead in PHRASES}
     for phrase in plainer:
