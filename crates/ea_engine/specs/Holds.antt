@@ -22,8 +22,9 @@ ComeInOrder Least entries = IsAscending entries
 ComeInOrder Buckets entries = Unit {0}
 
 -- A pop from this many heaps of a kind returned between one and `most` known entries, the first one last. If
--- the seat has all shares, the entries were left in the pool: with two heaps of least entries the least is
--- among them; with buckets they come under a word that no remaining key is below.
+-- the seat has all shares, the entries were left in the pool. If it also has just two heaps, the first has
+-- the least key of all that is left; with buckets, no key that is left is below the word under which it was
+-- popped.
 pub record TookSome (known : ℕ → ℕ → Type 0) (kind : HeapKind) (heaps most : ℕ) (taken : List Entry) (before after : Account) : Type 0 where
   pub out : List Entry
   pub turned : taken ≡ reverse out
