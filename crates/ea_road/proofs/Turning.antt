@@ -6,7 +6,7 @@ use Rattle.ea_road.specs.declared.arc.Arc.{Arc}
 use Rattle.ea_road.specs.Roads.{FitsNodes, IsArc, IsNetwork, Roads}
 use Rattle.ea_road.specs.Turned.{turned_arc, turned_roads}
 
--- what is mapped lies where it lay
+-- the arc at a place of the turned list is the arc there, turned
 pub mapped_back : (arcs : List Arc) (place : ℕ) (arc : Arc) → slice_get (map turned_arc arcs) place ≡ Some arc → slice_get arcs place ≡ Some (turned_arc arc)
 mapped_back [] place arc at = cc
 mapped_back (first ∷ arcs) zero arc at = let same : turned_arc first ≡ arc = cc in ap (λ a. Some (turned_arc a)) same

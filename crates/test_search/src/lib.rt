@@ -10,6 +10,8 @@ mod asserts;
 #[cfg(test)]
 mod constants;
 #[cfg(test)]
+mod latest;
+#[cfg(test)]
 mod networks;
 #[cfg(test)]
 mod refused;
