@@ -6,8 +6,11 @@ import tempfile
 NODES = 1_000_000
 MOST_NODES = 67_108_864
 STAR_NODES = 2_000_000
-STAR_ARCS = 5_000_000
+STAR_ARCS = 7_000_000
 CLASSES = 65_535
+STEPS = 65_536
+STEPPED_CLASSES = 16
+MANY = 100_000
 
 
 def write(folder, name, parts):
@@ -61,15 +64,40 @@ def write_most(folder):
 
 
 def write_sources(folder):
-    """A node without arcs with the most sources of a file; four nodes with 10,000 sources."""
+    """A node without arcs with the most sources of a file; four nodes with many sources and many pairs."""
     write(folder, "one.gr", ["p sp 1 0\n"])
     write(folder, "million.ss", ["p aux sp ss 1000000\n", "s 1\n" * 1_000_000])
-    write(folder, "many.ss", ["p aux sp ss 10000\n", "s 1\ns 4\n" * 5_000])
+    write(folder, "many.ss", [f"p aux sp ss {MANY}\n", "s 1\ns 4\n" * (MANY // 2)])
+    write(folder, "many.p2p", [f"p aux sp p2p {MANY}\n", "q 1 4\nq 4 1\n" * (MANY // 2)])
 
 
 def many_report():
     """The arrivals from nodes 1 and 4 of four-nodes.gr, repeated."""
-    return "s 1 0\nd 1 0\nd 2 5\nd 3 2\nd 4 6\ns 4 0\nd 1 inf\nd 2 inf\nd 3 inf\nd 4 0\n" * 5_000
+    return "s 1 0\nd 1 0\nd 2 5\nd 3 2\nd 4 6\ns 4 0\nd 1 inf\nd 2 inf\nd 3 inf\nd 4 0\n" * (MANY // 2)
+
+
+def many_pair_report():
+    """Node 4 is reached from node 1 at 6, node 1 from node 4 never."""
+    return "q 1 4 0\nd 4 6\nq 4 1 0\nd 1 inf\n" * (MANY // 2)
+
+
+def write_steps(folder):
+    """A class for each of several arcs of a path, each with the most steps, a million in all: a trip at each
+    tenth second, which takes 3 seconds more in each class than in the one before."""
+    arcs = [f"a {node} {node + 1} 1\n" for node in range(1, STEPPED_CLASSES + 1)]
+    write(folder, "steps.gr", [f"p sp {STEPPED_CLASSES + 1} {STEPPED_CLASSES}\n", *arcs])
+    kinds = [[f"k {at} trips {10 * STEPS} {STEPS}\n", *[f"v {10 * step} {3 * at}\n" for step in range(STEPS)]] for at in range(1, STEPPED_CLASSES + 1)]
+    classes = [f"t {at} {at}\n" for at in range(1, STEPPED_CLASSES + 1)]
+    write(folder, "steps.tp", [f"p tp {STEPPED_CLASSES} {STEPPED_CLASSES}\n", *[line for kind in kinds for line in kind], *classes])
+
+
+def steps_report(departure):
+    """Each arc waits for the next tenth second and takes 1 and three times its number."""
+    lines, now = [f"s 1 {departure}\nd 1 {departure}\n"], departure
+    for at in range(1, STEPPED_CLASSES + 1):
+        now = -(-now // 10) * 10 + 1 + 3 * at
+        lines.append(f"d {at + 1} {now}\n")
+    return "".join(lines)
 
 
 def results(program, examples):
@@ -89,6 +117,8 @@ def results(program, examples):
         yield ran("check path.gr path.ss path.report", "ok\n")
         write_star(folder)
         yield ran("run star.gr star.ss --tp star.tp", star_report())
+        write(folder, "star.report", [star_report()])
+        yield ran("check star.gr star.ss star.report --tp star.tp", "ok\n")
         write_most(folder)
         yield ran("pairs most.gr most.p2p", "q 1 2 0\nd 2 12\n")
         yield ran("pairs over.gr most.p2p", "", 1, b"earliest: gr 1: 6 OutOfRange\n")
@@ -96,5 +126,10 @@ def results(program, examples):
         yield ran("run one.gr million.ss --joint", "s 1 0\n" * 1_000_000 + "d 1 0\n")
         four_nodes = os.path.join(examples, "four-nodes.gr")
         yield ran(f"run {four_nodes} many.ss --workers 1", many_report())
+        yield ran(f"pairs {four_nodes} many.p2p", many_pair_report())
         write(folder, "many.report", [many_report()])
         yield ran(f"check {four_nodes} many.ss many.report", "ok\n")
+        write_steps(folder)
+        write(folder, "first.ss", ["p aux sp ss 1\ns 1\n"])
+        for departure in (0, 7, 10 * STEPS - 9, 10 * STEPS * 1000 + 4):
+            yield ran(f"run steps.gr first.ss --tp steps.tp --depart {departure}", steps_report(departure))

@@ -20,6 +20,7 @@ import opening
 import outputs
 import people
 import progress
+import resources
 import road_network
 import scripts
 import terminal
@@ -156,6 +157,7 @@ def run_each(program):
     results += scripts.results(program)
     results += terminal.results(program)
     results += documents.results(program)
+    results += resources.results(program)
     return results + list(large.results(program, EXAMPLES))
 
 

@@ -1,0 +1,146 @@
+"""What a run takes: memory beside the size of its text, calls of read and write, what is made ahead of a
+slow reader, and how processor time grows with a size. Times are compared between two sizes in one run, with
+a margin of three, so no clock of a machine decides."""
+import os
+import random
+import resource
+import subprocess
+import tempfile
+import time
+
+NODES, ARCS = 300_000, 1_200_000
+WAIT = 4.0
+MEGABYTE = 2**20
+
+
+def write(folder, name, parts):
+    with open(os.path.join(folder, name), "w", encoding="ascii") as file:
+        file.writelines(parts)
+
+
+def write_path(folder, name, nodes, weight=1, backwards=False):
+    """A path over all nodes, from the first to the last or the other way."""
+    arcs = (f"a {node + 1} {node} {weight}\n" if backwards else f"a {node} {node + 1} {weight}\n" for node in range(1, nodes))
+    write(folder, name, [f"p sp {nodes} {nodes - 1}\n", *arcs])
+
+
+def limited(megabytes):
+    """What a child calls to get this much memory, or None for no limit."""
+    if megabytes is None:
+        return None
+    return lambda: resource.setrlimit(resource.RLIMIT_DATA, (megabytes * MEGABYTE, megabytes * MEGABYTE))
+
+
+def ran(program, words, folder, megabytes=None):
+    """A run with its report thrown away: status, standard error, processor seconds, calls of read, calls of
+    write and bytes written."""
+    with subprocess.Popen([program, *words.split()], cwd=folder, stdin=subprocess.DEVNULL, stdout=subprocess.DEVNULL, stderr=subprocess.PIPE, preexec_fn=limited(megabytes)) as run:
+        said = run.stderr.read()
+        os.waitid(os.P_PID, run.pid, os.WEXITED | os.WNOWAIT)
+        with open(f"/proc/{run.pid}/io", encoding="ascii") as file:
+            counts = dict(line.split(": ") for line in file)
+        _, status, usage = os.wait4(run.pid, 0)
+        run.returncode = os.waitstatus_to_exitcode(status)
+        return run.returncode, said, usage.ru_utime + usage.ru_stime, int(counts["syscr"]), int(counts["syscw"]), int(counts["wchar"])
+
+
+def seconds(program, words, folder):
+    """The least processor time of three runs that end well."""
+    least = 1e9
+    for _ in range(3):
+        status, said, took = ran(program, words, folder)[:3]
+        if status != 0:
+            raise RuntimeError(f"{words}: {status} {said}")
+        least = min(least, took)
+    return least
+
+
+def grows(name, small, large, most):
+    """Whether the processor time grows at most by this factor."""
+    return name, large <= most * max(small, 0.01) or (small, large), True
+
+
+def network(program, folder):
+    """A random network of 23 MB: it is read and solved in four times the memory of its text, and by few
+    calls of the system."""
+    rng = random.Random(26)
+    arcs = [f"a {rng.randint(1, NODES)} {rng.randint(1, NODES)} {rng.randint(1, 1000)}\n" for _ in range(ARCS)]
+    write(folder, "net.gr", [f"p sp {NODES} {ARCS}\n", *arcs])
+    write(folder, "one.ss", ["p aux sp ss 1\ns 1\n"])
+    size = os.path.getsize(os.path.join(folder, "net.gr"))
+    for words in ("run net.gr one.ss", "run net.gr one.ss --workers 1"):
+        status, said, _, reads, writes, written = ran(program, words, folder, 4 * size // MEGABYTE + 8)
+        yield f"resources: {words} in four times the memory of its text", (status, said), (0, b"")
+        yield f"resources: {words}, calls of read a megabyte", reads <= 24 * size // MEGABYTE or reads, True
+        yield f"resources: {words}, calls of write a megabyte", writes <= 24 * written // MEGABYTE + 8 or writes, True
+
+
+def slow_reader(program, folder):
+    """Hundreds of reports of which nobody reads more than the first byte: only so many are made ahead."""
+    write(folder, "many.ss", ["p aux sp ss 400\n", *[f"s {at}\n" for at in range(1, 401)]])
+    words = "run net.gr many.ss --at-once 4"
+    with subprocess.Popen([program, *words.split()], cwd=folder, stdin=subprocess.DEVNULL, stdout=subprocess.PIPE) as run:
+        run.stdout.read(1)
+        time.sleep(WAIT)
+        with open(f"/proc/{run.pid}/status", encoding="ascii") as file:
+            fields = dict(line.split(":", 1) for line in file)
+        is_waiting = run.poll() is None
+        run.kill()
+    peak = int(fields["VmHWM"].split()[0]) // 1024
+    yield f"resources: {words}, megabytes ahead of a slow reader", (is_waiting, peak <= 240 or peak), (True, True)
+
+
+def long_walks(program, folder):
+    """A path of 1,000 nodes from each of them, with walks: half a gigabyte of report in 200 MB."""
+    write_path(folder, "walks.gr", 1000)
+    write(folder, "walks.ss", ["p aux sp ss 1000\n", *[f"s {node}\n" for node in range(1, 1001)]])
+    status, said, _, _, _, written = ran(program, "run walks.gr walks.ss --walks --at-once 4", folder, 256)
+    yield "resources: walks of a path from each node, in 256 MB", (status, said, written > 400 * MEGABYTE), (0, b"", True)
+
+
+def near_pairs(program, folder):
+    """Pairs of near nodes on a long path: each puts back only the labels that it changed."""
+    write_path(folder, "long.gr", 2_000_000)
+    for name, pairs in (("one.p2p", 1), ("many.p2p", 5000)):
+        write(folder, name, [f"p aux sp p2p {pairs}\n", *[f"q {1 + 4 * at} {51 + 4 * at}\n" for at in range(pairs)]])
+    one, many = (seconds(program, f"pairs long.gr {name} --at-once 1", folder) for name in ("one.p2p", "many.p2p"))
+    yield grows("resources: 5,000 near pairs beside one, on 2,000,000 nodes", one, many, 3)
+
+
+def long_lines(program, folder):
+    """A line of 8 MB and one of 64 MB: a comment, blanks between two fields."""
+    for name, front, back in (("a comment", "c ", "\np sp 1 0\n"), ("blanks", "p sp 1 ", "0\n")):
+        for megabytes in (8, 64):
+            write(folder, f"line{megabytes}.gr", [front, " " * (megabytes * MEGABYTE), back])
+        small, large = (seconds(program, f"run line{megabytes}.gr one.ss", folder) for megabytes in (8, 64))
+        yield grows(f"resources: a line of 64 MB beside one of 8 MB, {name}", small, large, 24)
+
+
+def many_steps(program, folder):
+    """A class of 16 steps and one of 65,536, asked at each arc of a path: the step is found by halves."""
+    nodes = 300_000
+    write_path(folder, "steps.gr", nodes)
+    for steps in (16, 65_536):
+        kind = [f"v {at * 65_536 // steps * 100} 1000\n" for at in range(steps)]
+        classes = [f"t {arc} 1\n" for arc in range(1, nodes)]
+        write(folder, f"steps{steps}.tp", [f"p tp 1 {nodes - 1}\nk 1 speeds 6553600 {steps}\n", *kind, *classes])
+    few, many = (seconds(program, f"run steps.gr one.ss --tp steps{steps}.tp --workers 1", folder) for steps in (16, 65_536))
+    yield grows("resources: arcs of a class of 65,536 steps beside one of 16", few, many, 3)
+
+
+def hard_shapes(program, folder):
+    """Paths and stars, on which several workers have nothing to share: by default, beside one thread."""
+    nodes = 500_000
+    write_path(folder, "zero.gr", nodes, 0, True)
+    write(folder, "last.ss", [f"p aux sp ss 1\ns {nodes}\n"])
+    write(folder, "star.gr", [f"p sp {nodes} {nodes - 1}\n", *[f"a 1 {node} {node}\n" for node in range(2, nodes + 1)]])
+    for words in ("run zero.gr last.ss", "run star.gr one.ss"):
+        alone, default = seconds(program, f"{words} --workers 1", folder), seconds(program, words, folder)
+        yield grows(f"resources: {words} by default beside one thread", alone, default, 3)
+
+
+def results(program):
+    """Each measure with whether it holds, or its figures, and True."""
+    with tempfile.TemporaryDirectory(prefix="resources-") as folder:
+        for part in (network, slow_reader, long_walks, near_pairs, long_lines, many_steps, hard_shapes):
+            yield from part(program, folder)
