@@ -76,7 +76,7 @@ def network(program, folder):
 
 
 def slow_reader(program, folder):
-    """Hundreds of reports of which nobody reads more than the first byte: only so many are made ahead."""
+    """Hundreds of reports, and a reader that stops after the first byte: few reports are made ahead."""
     write(folder, "many.ss", ["p aux sp ss 400\n", *[f"s {at}\n" for at in range(1, 401)]])
     words = "run net.gr many.ss --at-once 4"
     with subprocess.Popen([program, *words.split()], cwd=folder, stdin=subprocess.DEVNULL, stdout=subprocess.PIPE) as run:
