@@ -1,5 +1,6 @@
 /* The calls of include/earliest.h: happy paths, each refusal, and many calls with bad numbers. Exits with the line of the first test that
- * fails, or 0. Its words are the files of two networks and of the second one's timetables. */
+ * fails, or 0. Its words are the files of two networks and of the second one's timetables; then,
+ * if it is there, the number of arcs of a long path. */
 #include <stdio.h>
 #include <stdlib.h>
 #include <string.h>
@@ -260,11 +261,48 @@ static int many(const char *gr, size_t gr_length, const char *tp, size_t tp_leng
     return 0;
 }
 
+/* A path of lists with this many arcs, all of weight 1, from the last node to the first: arrivals, a walk of all arcs, and what `count` is
+ * after each refused walk. */
+static int long_path(uint32_t arcs) {
+    uint32_t *tails = malloc(arcs * sizeof *tails), *heads = malloc(arcs * sizeof *heads), *weights = malloc(arcs * sizeof *weights), *walk = malloc(arcs * sizeof *walk);
+    uint64_t *arrivals = malloc((arcs + (size_t)1) * sizeof *arrivals), departure = 5, count = 77, arrival = 0;
+    uint32_t from = arcs + 1;
+    earliest_road road = EARLIEST_NOTHING;
+    earliest_search search = EARLIEST_NOTHING;
+    earliest_fault fault;
+    TEST(tails && heads && weights && walk && arrivals);
+    for (uint32_t i = 0; i < arcs; i++) tails[i] = i + 2, heads[i] = i + 1, weights[i] = 1;
+    TEST(earliest_road_of_arcs(arcs + 1, tails, heads, weights, NULL, arcs, "", 0, &road, &fault) == 0);
+    TEST(earliest_road_nodes(&road) == arcs + 1 && earliest_road_arcs(&road) == arcs);
+    TEST(earliest_search_new(&road, 1, &search) == 0);
+    TEST(earliest_search_from(&search, &from, 1, &departure, 1) == 0);
+    TEST(earliest_search_arrivals(&search, arrivals, arcs + (size_t)1) == 0);
+    for (uint32_t i = 0; i <= arcs; i++) TEST(arrivals[i] == departure + arcs - i);
+    TEST(earliest_search_walk(&search, 1, walk, arcs - 1, &count) == EARLIEST_ROOM_TOO_SMALL && count == arcs);
+    count = 77;
+    TEST(earliest_search_walk(&search, arcs + 2, walk, arcs, &count) == EARLIEST_NO_SUCH_NODE && count == 77);
+    TEST(earliest_search_walk(&search, 1, walk, arcs, &count) == 0 && count == arcs);
+    for (uint32_t i = 0; i < arcs; i++) TEST(walk[i] == arcs - i);
+    from = 1, count = 77;
+    TEST(earliest_search_from(&search, &from, 1, &departure, 1) == 0);
+    TEST(earliest_search_walk(&search, 2, walk, arcs, &count) == EARLIEST_NOT_REACHED && count == 77);
+    TEST(earliest_search_pair(&search, arcs + 1, departure, 1) == 0);
+    TEST(earliest_search_arrival(&search, 1, &arrival) == 0 && arrival == departure + arcs);
+    TEST(earliest_search_walk(&search, 2, walk, arcs, &count) == EARLIEST_NOT_ASKED && count == 77);
+    TEST(earliest_search_walk(&search, 1, walk, arcs, &count) == 0 && count == arcs && walk[0] == arcs && walk[arcs - 1] == 1);
+    count = 77;
+    TEST(earliest_search_new(&road, 0, &search) == 0 && earliest_search_from(&search, &from, 1, &departure, 1) == 0);
+    TEST(earliest_search_walk(&search, 1, walk, arcs, &count) == EARLIEST_NO_WALKS && count == 77);
+    earliest_search_free(&search), earliest_road_free(&road);
+    free(tails), free(heads), free(weights), free(walk), free(arrivals);
+    return 0;
+}
+
 int main(int count, char **words) {
-    if (count != 4) return 2;
+    if (count != 4 && count != 5) return 2;
     size_t four_length, gr_length, tp_length;
     char *four = text_of(words[1], &four_length), *gr = text_of(words[2], &gr_length), *tp = text_of(words[3], &tp_length);
-    int failed = four_nodes(four, four_length) || of_lists() || no_lists() || many(gr, gr_length, tp, tp_length);
+    int failed = four_nodes(four, four_length) || of_lists() || no_lists() || many(gr, gr_length, tp, tp_length) || long_path(count == 5 ? strtoul(words[4], NULL, 10) : 1000);
     free(four), free(gr), free(tp);
     return failed;
 }

@@ -59,7 +59,7 @@ def in_c(room):
     checked, plain, example = (os.path.join(room, name) for name in ("checked", "plain", "walk_to"))
     said = built("cc", ["-std=c99", "-g", "-fsanitize=address,undefined"], os.path.join(HERE, "calls.c"), checked)
     yield "the calls of C, compiled", said, None
-    yield "the calls of C", ran([checked, *FILES]), (0, b"", b"")
+    yield "the calls of C", ran([checked, *FILES, "1000000"]), (0, b"", b"")
     if shutil.which("valgrind"):
         yield "the calls of C, compiled for valgrind", built("cc", ["-std=c99", "-g"], os.path.join(HERE, "calls.c"), plain), None
         words = ["valgrind", "-q", "--error-exitcode=9", "--leak-check=full"]
