@@ -1,13 +1,18 @@
 """Earliest arrivals in road networks whose travel times depend on the departure, by a proved engine.
 
     road = earliest.Road.read("x.gr", "x.tp")
-    found = road.search([1], departures=[28800])
+    found = road.search(1, departures=28800)
     found.arrivals      # a place for each node, the first for node 1
     found.walk(4)       # the numbers of the arcs of its walk
+    road.arrivals([1, 2, 3], departures=28800)      # a row for each source, by all processors
 
 Nodes and arcs are numbered from 1. Times are whole numbers from 0 to HORIZON, in the unit of the travel times. A call of the engine
-releases the interpreter's lock, so several threads search on one road at the same time.
+releases the interpreter's lock, so several threads search on one road at the same time. `python -m earliest` has commands for files.
 """
-from ._engine import HORIZON, NEVER, Answer, Failure, InputFailure, Road, Search
+from ._engine import Answer, Answers, Road, Search
+from ._failures import Busy, Failure, InputFailure
+from ._library import HORIZON, NEVER
+from ._names import Names
+from ._version import VERSION as __version__
 
-__all__ = ["HORIZON", "NEVER", "Answer", "Failure", "InputFailure", "Road", "Search"]
+__all__ = ["HORIZON", "NEVER", "Answer", "Answers", "Busy", "Failure", "InputFailure", "Names", "Road", "Search", "__version__"]

@@ -1,6 +1,6 @@
 """Cuts a file of sources (or of pairs) into parts, so that many processes or machines share the work.
 
-    python3 tools/parts.py FILE COUNT FOLDER [--depart T] [--gap G]
+    python -m earliest parts FILE COUNT FOLDER [--depart T] [--gap G]
 
 writes FOLDER/1.ss .. FOLDER/COUNT.ss (or .p2p), each with as many sources as the others or one more, in their
 order, and FOLDER/parts.txt with a line for each part: its file, and the values of --depart and --gap with
@@ -58,14 +58,15 @@ def cut(head, lines, count, folder, depart, gap):
             list_of_parts.write(f"{name} {depart + first * gap} {gap}\n")
 
 
-def main():
-    words = argparse.ArgumentParser(description=__doc__, formatter_class=argparse.RawDescriptionHelpFormatter)
-    words.add_argument("file")
-    words.add_argument("count", type=int)
-    words.add_argument("folder")
-    words.add_argument("--depart", type=int, default=0)
-    words.add_argument("--gap", type=int, default=0)
-    asked = words.parse_args()
+def main(words=None):
+    """Cuts a file; the words are those of the command line if none are given."""
+    parser = argparse.ArgumentParser(prog="python -m earliest parts", description=__doc__, formatter_class=argparse.RawDescriptionHelpFormatter)
+    parser.add_argument("file")
+    parser.add_argument("count", type=int)
+    parser.add_argument("folder")
+    parser.add_argument("--depart", type=int, default=0)
+    parser.add_argument("--gap", type=int, default=0)
+    asked = parser.parse_args(words)
     try:
         cut(*read(asked.file), asked.count, asked.folder, asked.depart, asked.gap)
     except Refused as fault:

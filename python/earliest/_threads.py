@@ -1,0 +1,169 @@
+"""Many searches by several threads, each with arrays of its own, straight into the memory of the result."""
+from __future__ import annotations
+
+import ctypes
+import itertools
+import os
+import threading
+from typing import Any, Callable, Optional
+
+from . import _numbers
+from ._failures import test
+from ._library import NEVER, library
+from ._numbers import numpy
+
+MOST = 16
+"""How many threads search where nobody says how many."""
+CHUNK = 64
+"""How many pairs a thread takes at once."""
+
+
+def processors() -> int:
+    """How many processors this process may use."""
+    if hasattr(os, "sched_getaffinity"):
+        return max(1, len(os.sched_getaffinity(0)))
+    return os.cpu_count() or 1
+
+
+def counted(threads: Optional[int], parts: int) -> int:
+    """How many threads search so many parts."""
+    if threads is None:
+        threads = min(processors(), MOST)
+    elif _numbers.whole(threads, "threads") < 1:
+        raise ValueError(f"threads has to be at least 1, not {threads}")
+    return max(1, min(int(threads), parts))
+
+
+def by_threads(parts: int, threads: Optional[int], worker: Callable[[], Callable[[int], None]]) -> None:
+    """Does each of some parts, counted from 0. `worker` is called once in each thread, and what it returns once for each part that the thread
+    takes. The first exception of a thread ends all of them and is raised."""
+    if parts == 0:
+        return
+    count, taken, stop, raised = counted(threads, parts), itertools.count(), threading.Event(), []
+
+    def run():
+        try:
+            do = worker()
+            for part in taken:
+                if part >= parts or stop.is_set():
+                    return
+                do(part)
+        except BaseException as error:  # It is raised by the thread that called.
+            raised.append(error)
+            stop.set()
+
+    others = [threading.Thread(target=run, name="earliest") for _ in range(count - 1)]
+    started = []
+    try:
+        for other in others:
+            other.start()
+            started.append(other)
+    except RuntimeError:
+        pass  # The system starts no more threads: those that there are do the work.
+    try:
+        run()
+    finally:
+        try:
+            for other in started:
+                other.join()
+        except BaseException:
+            stop.set()
+            for other in started:
+                other.join()
+            raise
+    if raised:
+        raise raised[0]
+
+
+def rows(road: Any, sources: Any, departures: Any, picks: Any, threads: Optional[int]):
+    """The arrivals at all nodes, or at those of `picks`, one row for each source."""
+    from ._engine import Search
+
+    counted(threads, 1)
+    out = _numbers.room((len(sources), road.nodes if picks is None else len(picks)))
+    first_node, first_time = _numbers.address(sources), _numbers.address(departures)
+    places = None if picks is None else (picks.astype(numpy.intp) - 1 if numpy is not None else [node - 1 for node in picks])
+
+    def worker():
+        search, calls = Search(road, False), library()
+        whole = None if picks is None else _numbers.room((road.nodes,))
+
+        def do(row):
+            test(calls.earliest_search_from(search._handle, first_node + 4 * row, 1, first_time + 8 * row, 1))
+            into = out[row] if whole is None else whole
+            test(calls.earliest_search_arrivals(search._handle, _numbers.address(into), road.nodes))
+            if whole is not None:
+                _pick(whole, places, out, row)
+
+        return do
+
+    by_threads(len(sources), threads, worker)
+    if len(sources) == 0:
+        Search(road, False)  # A road that is closed is refused here too.
+    return out
+
+
+def _pick(whole, places, out, row):
+    """The members of a whole row at some places."""
+    if numpy is not None:
+        numpy.take(whole, places, out=out[row], mode="clip")
+    else:
+        for at, place in enumerate(places):
+            out[row][at] = whole[place]
+
+
+def pairs(road: Any, sources: Any, targets: Any, departures: Any, threads: Optional[int]):
+    """The arrivals of pairs."""
+    def ask(arrival):
+        return lambda at: arrival(int(sources[at]), int(departures[at]), int(targets[at]))
+
+    return _each_pair(road, len(sources), threads, ask)
+
+
+def latest(road: Any, sources: Any, targets: Any, arrivals: Any, threads: Optional[int]):
+    """The latest departures of pairs, each found by halving the times between a departure that is in time and one that is late."""
+    def ask(arrival):
+        def one(at):
+            source, target, by = int(sources[at]), int(targets[at]), int(arrivals[at])
+            if arrival(source, 0, target) > by:
+                return NEVER
+            low, high = 0, by + 1
+            while high - low > 1:
+                middle = (low + high) // 2
+                if arrival(source, middle, target) <= by:
+                    low = middle
+                else:
+                    high = middle
+            return low
+
+        return one
+
+    return _each_pair(road, len(sources), threads, ask)
+
+
+def _each_pair(road, count, threads, ask):
+    from ._engine import Search
+
+    counted(threads, 1)
+    out = _numbers.room((count,))
+
+    def worker():
+        search, calls, found = Search(road, False), library(), ctypes.c_uint64()
+
+        def arrival(source, departure, target):
+            test(calls.earliest_search_pair(search._handle, source, departure, target))
+            test(calls.earliest_search_arrival(search._handle, target, found))
+            return found.value
+
+        one = ask(arrival)
+
+        def do(part):
+            for at in range(part * CHUNK, min(count, (part + 1) * CHUNK)):
+                out[at] = one(at)
+
+        return do
+
+    by_threads(-(-count // CHUNK), threads, worker)
+    if count == 0:
+        Search(road, False)
+    return out
