@@ -1,50 +1,195 @@
-// The engine of `earliest` in a C++ program (C++17): classes over the calls of earliest.h, which says what a caller owes. They keep
-// its rules on handles; one thread at a time uses a Road or a Search, and searches on one road run on different threads.
+// The engine of `earliest` in a C++ program: classes over the calls of earliest.h, which says what a caller owes. C++17 serves; where there is
+// std::span (C++20) it is taken and given.
+//
+// A road never changes, and any number of threads may ask it and make searches on it at the same time. A search is for one thread at a time;
+// searches on one road run on different threads. Both are moved and never copied. What was moved from holds nothing: a call on it is
+// refused (EARLIEST_NO_ROAD, EARLIEST_NO_SEARCH).
+//
+// A call that is refused throws `failure`, or `input_failure` where a text has a fault. If EARLIEST_EXPECTED is defined before this file is
+// included, nothing is thrown: calls return `expected<T>` with a value or an `error`, and the factories road::read, road::of_arcs and search::on
+// stand in for constructors. It is std::expected where there is one (C++23).
 #ifndef EARLIEST_HPP
 #define EARLIEST_HPP
 
+#include <cstddef>
 #include <cstdint>
+#include <initializer_list>
+#include <memory>
+#include <mutex>
 #include <optional>
-#include <stdexcept>
 #include <string>
 #include <string_view>
+#include <type_traits>
 #include <utility>
 #include <vector>
+
+#if __has_include(<version>)
+#include <version>
+#endif
+#ifdef __cpp_lib_span
+#include <span>
+#endif
+#ifdef EARLIEST_EXPECTED
+#ifdef __cpp_lib_expected
+#include <expected>
+#else
+#include <variant>
+#endif
+#else
+#include <stdexcept>
+#endif
 
 #include "earliest.h"
 
 namespace earliest {
+#ifdef EARLIEST_EXPECTED
+inline namespace returning {
+#else
+inline namespace throwing {
+#endif
 
 /// The arrival at a node that no walk reaches within the horizon.
 inline constexpr std::uint64_t never = EARLIEST_NEVER;
+/// The greatest time.
+inline constexpr std::uint64_t horizon = EARLIEST_HORIZON;
 
+/// Why a call was refused.
+struct error {
+    std::uint32_t number = 0;
+    /// Of a text's fault: its line from 1, 0 for the whole text; and which text, 1 the network, 2 the timetables, 3 the report, 0 none.
+    std::uint64_t line = 0;
+    std::uint32_t text = 0;
+    /// As "gr 2: a number is out of its range (6 OutOfRange)".
+    std::string message() const {
+        if (!text) return earliest_message(number);
+        return (text == 1 ? "gr " : text == 2 ? "tp " : "report ") + std::to_string(line) + ": " + earliest_message(number);
+    }
+    friend bool operator==(const error &a, const error &b) { return a.number == b.number && a.line == b.line && a.text == b.text; }
+    friend bool operator!=(const error &a, const error &b) { return !(a == b); }
+};
+
+#ifdef EARLIEST_EXPECTED
+#ifdef __cpp_lib_expected
+template <class T> using expected = std::expected<T, error>;
+#else
+/// A value, or why there is none: a part of std::expected.
+template <class T> class [[nodiscard]] expected {
+    using held = std::conditional_t<std::is_void_v<T>, std::monostate, T>;
+
+public:
+    using value_type = T;
+    using error_type = earliest::error;
+    template <class U = held, std::enable_if_t<std::is_default_constructible_v<U>, int> = 0> expected() : it_(std::in_place_index<0>) {}
+    expected(held value) : it_(std::in_place_index<0>, std::move(value)) {}
+    expected(error_type why) : it_(std::in_place_index<1>, why) {}
+    bool has_value() const noexcept { return it_.index() == 0; }
+    explicit operator bool() const noexcept { return has_value(); }
+    /// The value; a call where there is none ends the program.
+    held &operator*() & noexcept { return *std::get_if<0>(&it_); }
+    const held &operator*() const & noexcept { return *std::get_if<0>(&it_); }
+    held &&operator*() && noexcept { return std::move(*std::get_if<0>(&it_)); }
+    held *operator->() noexcept { return std::get_if<0>(&it_); }
+    const held *operator->() const noexcept { return std::get_if<0>(&it_); }
+    const error_type &error() const noexcept { return *std::get_if<1>(&it_); }
+
+private:
+    std::variant<held, error_type> it_;
+};
+#endif
+namespace detail {
+template <class T> using returned = expected<T>;
+inline auto refusal(std::uint32_t number, const earliest_fault &fault) {
+    error why = fault.text ? error{fault.number, fault.line, fault.text} : error{number, 0, 0};
+#ifdef __cpp_lib_expected
+    return std::unexpected(why);
+#else
+    return why;
+#endif
+}
+}  // namespace detail
+#define EARLIEST_TEST_(call, fault) \
+    if (std::uint32_t number_ = (call)) return detail::refusal(number_, fault)
+#define EARLIEST_DONE_ return {}
+#else
 /// A call was refused.
 class failure : public std::runtime_error {
 public:
-    explicit failure(std::uint32_t number, const std::string &told = "") : std::runtime_error(told + earliest_message(number)), number_(number) {}
-    std::uint32_t number() const noexcept { return number_; }
+    explicit failure(const error &why) : std::runtime_error(why.message()), why_(why) {}
+    explicit failure(std::uint32_t number) : failure(error{number, 0, 0}) {}
+    std::uint32_t number() const noexcept { return why_.number; }
+    const error &why() const noexcept { return why_; }
 
-private:
-    std::uint32_t number_;
+protected:
+    error why_;
 };
 
 /// A text has a fault.
 class input_failure : public failure {
 public:
-    explicit input_failure(const earliest_fault &fault)
-        : failure(fault.number, (fault.text == 1 ? "gr " : fault.text == 2 ? "tp " : "report ") + std::to_string(fault.line) + ": "), fault_(fault) {}
+    explicit input_failure(const earliest_fault &fault) : failure(error{fault.number, fault.line, fault.text}) {}
     /// From 1; 0 for a fault of the whole text.
-    std::uint64_t line() const noexcept { return fault_.line; }
+    std::uint64_t line() const noexcept { return why_.line; }
     /// 1 the network, 2 the timetables, 3 the report.
-    std::uint32_t text() const noexcept { return fault_.text; }
-
-private:
-    earliest_fault fault_;
+    std::uint32_t text() const noexcept { return why_.text; }
 };
 
-inline void test(std::uint32_t number) {
-    if (number) throw failure(number);
+namespace detail {
+template <class T> using returned = T;
+[[noreturn]] inline void refuse(std::uint32_t number, const earliest_fault &fault) {
+    if (fault.text) throw input_failure(fault);
+    throw failure(number);
 }
+}  // namespace detail
+#define EARLIEST_TEST_(call, fault) \
+    if (std::uint32_t number_ = (call)) detail::refuse(number_, fault)
+#define EARLIEST_DONE_ return
+#endif
+
+/// A list that a call reads: a vector, an array, a std::span, or {a, b, ..}. It is good while what it was made of is.
+template <class T> class list {
+public:
+    constexpr list() noexcept = default;
+    constexpr list(const T *data, std::size_t size) noexcept : data_(data), size_(size) {}
+    constexpr list(std::initializer_list<T> members) noexcept { data_ = members.begin(), size_ = members.size(); }
+    template <std::size_t N> constexpr list(const T (&members)[N]) noexcept : data_(members), size_(N) {}
+    template <class C, class = std::enable_if_t<!std::is_same_v<C, list> && std::is_convertible_v<decltype(std::declval<const C &>().data()), const T *> &&
+                                                std::is_convertible_v<decltype(std::declval<const C &>().size()), std::size_t>>>
+    constexpr list(const C &members) noexcept : data_(members.data()), size_(members.size()) {}
+
+    constexpr const T *begin() const noexcept { return data_; }
+    constexpr const T *end() const noexcept { return data_ + size_; }
+    constexpr std::size_t size() const noexcept { return size_; }
+    constexpr const T &operator[](std::size_t at) const noexcept { return data_[at]; }
+    /// Where the members lie, which is never null.
+    const T *data() const noexcept {
+        static const T none{};
+        return data_ ? data_ : &none;
+    }
+
+private:
+    const T *data_ = nullptr;
+    std::size_t size_ = 0;
+};
+
+#ifdef __cpp_lib_span
+/// Memory of the caller that a call fills.
+template <class T> using room = std::span<T>;
+#else
+/// Memory of the caller that a call fills: a vector, an array, or a pointer and how many members it has.
+template <class T> class room {
+public:
+    constexpr room() noexcept = default;
+    constexpr room(T *data, std::size_t size) noexcept : data_(data), size_(size) {}
+    template <class C, class = std::enable_if_t<!std::is_same_v<C, room> && std::is_convertible_v<decltype(std::declval<C &>().data()), T *>>>
+    constexpr room(C &members) noexcept : data_(members.data()), size_(members.size()) {}
+    constexpr T *data() const noexcept { return data_; }
+    constexpr std::size_t size() const noexcept { return size_; }
+
+private:
+    T *data_ = nullptr;
+    std::size_t size_ = 0;
+};
+#endif
 
 /// Where and when a search starts.
 struct start {
@@ -52,113 +197,185 @@ struct start {
     std::uint64_t departure;
 };
 
+class search;
+
 /// A road with its timetables.
 class road {
 public:
+#ifndef EARLIEST_EXPECTED
+    /// As read.
+    explicit road(std::string_view gr, std::string_view tp = {}) : road(read(gr, tp)) {}
+#endif
     /// The road of the text of a network and of that of its timetables; an empty text of timetables is none.
-    explicit road(std::string_view gr, std::string_view tp = {}) {
+    static detail::returned<road> read(std::string_view gr, std::string_view tp = {}) {
+        road made(std::make_unique<core>());
         earliest_fault fault = {0, 0, 0};
-        std::uint32_t number = earliest_road_read(at(gr), gr.size(), at(tp), tp.size(), &handle_, &fault);
-        if (number && fault.text) throw input_failure(fault);
-        test(number);
+        EARLIEST_TEST_(earliest_road_read(at(gr), gr.size(), at(tp), tp.size(), &made.core_->handle, &fault), fault);
+        return made.counted();
     }
     /// The road of so many nodes and of arcs with these tails, heads, weights and classes, where no classes make all arcs plain; the text of
     /// timetables has kinds and assigns no arcs.
-    static road of_arcs(std::uint32_t nodes, const std::vector<std::uint32_t> &tails, const std::vector<std::uint32_t> &heads,
-                        const std::vector<std::uint32_t> &weights, const std::vector<std::uint32_t> &classes = {}, std::string_view tp = {}) {
-        road made;
+    static detail::returned<road> of_arcs(std::uint32_t nodes, list<std::uint32_t> tails, list<std::uint32_t> heads, list<std::uint32_t> weights,
+                                          list<std::uint32_t> classes = {}, std::string_view tp = {}) {
+        road made(std::make_unique<core>());
         earliest_fault fault = {0, 0, 0};
-        std::uint32_t number = earliest_road_of_lists(nodes, at(tails), tails.size(), at(heads), heads.size(), at(weights), weights.size(),
-                                                      at(classes), classes.size(), at(tp), tp.size(), &made.handle_, &fault);
-        if (number && fault.text) throw input_failure(fault);
-        test(number);
-        return made;
+        EARLIEST_TEST_(earliest_road_of_lists(nodes, tails.data(), tails.size(), heads.data(), heads.size(), weights.data(), weights.size(),
+                                              classes.data(), classes.size(), at(tp), tp.size(), &made.core_->handle, &fault),
+                       fault);
+        return made.counted();
     }
-    road(road &&other) noexcept : handle_(std::exchange(other.handle_, earliest_road EARLIEST_NOTHING)) {}
-    road &operator=(road &&other) noexcept {
-        std::swap(handle_, other.handle_);
-        return *this;
+    road(road &&) noexcept = default;
+    /// Lets go what this held; the other holds nothing then.
+    road &operator=(road &&) noexcept = default;
+    road(const road &) = delete;
+    road &operator=(const road &) = delete;
+
+    /// How many nodes and how many arcs it has.
+    detail::returned<std::uint32_t> nodes() const {
+        EARLIEST_TEST_(core_ ? 0u : std::uint32_t{EARLIEST_NO_ROAD}, earliest_fault{});
+        return core_->nodes;
     }
-    ~road() { earliest_road_free(&handle_); }
-
-    std::uint32_t nodes() { return earliest_road_nodes(&handle_); }
-    std::uint32_t arcs() { return earliest_road_arcs(&handle_); }
-
-    /// Checks a report of searches from these nodes; one that isn't right is an input_failure with the line of its first fault.
-    void check(const std::vector<std::uint32_t> &nodes, const earliest_starts &starts, std::string_view report) {
+    detail::returned<std::uint32_t> arcs() const {
+        EARLIEST_TEST_(core_ ? 0u : std::uint32_t{EARLIEST_NO_ROAD}, earliest_fault{});
+        return core_->arcs;
+    }
+    /// Checks a report of searches from these nodes; one that isn't right is refused with the line of its first fault.
+    detail::returned<void> check(list<std::uint32_t> nodes, const earliest_starts &starts, std::string_view report) const {
+        EARLIEST_TEST_(core_ ? 0u : std::uint32_t{EARLIEST_NO_ROAD}, earliest_fault{});
         earliest_fault fault = {0, 0, 0};
-        std::uint32_t number = earliest_check(&handle_, at(nodes), nodes.size(), &starts, at(report), report.size(), &fault);
-        if (number && fault.text) throw input_failure(fault);
-        test(number);
+        std::lock_guard<std::mutex> alone(core_->lock);
+        EARLIEST_TEST_(earliest_check(&core_->handle, nodes.data(), nodes.size(), &starts, at(report), report.size(), &fault), fault);
+        EARLIEST_DONE_;
     }
 
 private:
     friend class search;
-    road() = default;
-    static const char *at(std::string_view text) { return text.data() ? text.data() : ""; }
-    static const std::uint32_t *at(const std::vector<std::uint32_t> &list) {
-        static const std::uint32_t none = 0;
-        return list.empty() ? &none : list.data();
+    /// A handle, the lock under which one thread at a time calls with it, and what never changes.
+    struct core {
+        earliest_road handle = EARLIEST_NOTHING;
+        std::mutex lock;
+        std::uint32_t nodes = 0, arcs = 0;
+        core() = default;
+        core(const core &) = delete;
+        core &operator=(const core &) = delete;
+        ~core() { earliest_road_free(&handle); }
+    };
+    explicit road(std::unique_ptr<core> it) noexcept : core_(std::move(it)) {}
+    road counted() {
+        core_->nodes = earliest_road_nodes(&core_->handle), core_->arcs = earliest_road_arcs(&core_->handle);
+        return std::move(*this);
     }
-    earliest_road handle_ = EARLIEST_NOTHING;
+    static const char *at(std::string_view text) { return text.data() ? text.data() : ""; }
+    std::unique_ptr<core> core_;
 };
 
 /// A search on a road, with its last answer. It has a share of the road, which may go before it.
 class search {
 public:
-    explicit search(road &on, bool walks = true) : nodes_(on.nodes()) { test(earliest_search_new(&on.handle_, walks, &handle_)); }
-    search(search &&other) noexcept : handle_(std::exchange(other.handle_, earliest_search EARLIEST_NOTHING)), nodes_(other.nodes_) {}
+#ifndef EARLIEST_EXPECTED
+    /// As on.
+    explicit search(const road &where, bool walks = true) : search(on(where, walks)) {}
+#endif
+    /// A search on a road; with walks each query finds canonical walks, too, which takes about twice as long.
+    static detail::returned<search> on(const road &where, bool walks = true) {
+        EARLIEST_TEST_(where.core_ ? 0u : std::uint32_t{EARLIEST_NO_ROAD}, earliest_fault{});
+        search made;
+        std::lock_guard<std::mutex> alone(where.core_->lock);
+        EARLIEST_TEST_(earliest_search_new(&where.core_->handle, walks ? 1 : 0, &made.handle_), earliest_fault{});
+        made.nodes_ = where.core_->nodes;
+        return made;
+    }
+    search(search &&other) noexcept : handle_(std::exchange(other.handle_, earliest_search EARLIEST_NOTHING)), nodes_(std::exchange(other.nodes_, 0)) {}
+    /// Lets go what this held; the other holds nothing then.
     search &operator=(search &&other) noexcept {
-        std::swap(handle_, other.handle_);
-        std::swap(nodes_, other.nodes_);
+        if (this != &other) {
+            earliest_search_free(&handle_);
+            handle_ = std::exchange(other.handle_, earliest_search EARLIEST_NOTHING);
+            nodes_ = std::exchange(other.nodes_, 0);
+        }
         return *this;
     }
+    search(const search &) = delete;
+    search &operator=(const search &) = delete;
     ~search() { earliest_search_free(&handle_); }
 
-    /// Searches from these starts to all nodes.
-    search &from(const std::vector<start> &starts) {
+    /// Searches from these starts, as one problem, to all nodes.
+#ifdef EARLIEST_EXPECTED
+    expected<void> from(list<start> starts) {
+#else
+    search &from(list<start> starts) {
+#endif
         std::vector<std::uint32_t> nodes(1 + starts.size());
         std::vector<std::uint64_t> departures(1 + starts.size());
         for (std::size_t i = 0; i < starts.size(); i++) nodes[i] = starts[i].node, departures[i] = starts[i].departure;
-        test(earliest_search_from(&handle_, nodes.data(), starts.size(), departures.data(), starts.size()));
+        EARLIEST_TEST_(earliest_search_from(&handle_, nodes.data(), starts.size(), departures.data(), starts.size()), earliest_fault{});
+#ifdef EARLIEST_EXPECTED
+        return {};
+#else
         return *this;
+#endif
     }
     /// Searches from one start to one target: the earliest arrival, none where no walk reaches it within the horizon.
-    std::optional<std::uint64_t> to(start source, std::uint32_t target) {
-        test(earliest_search_pair(&handle_, source.node, source.departure, target));
+    detail::returned<std::optional<std::uint64_t>> to(start source, std::uint32_t target) {
+        EARLIEST_TEST_(earliest_search_pair(&handle_, source.node, source.departure, target), earliest_fault{});
         return arrival(target);
     }
     /// The earliest arrival at a node for which the last query asked.
-    std::optional<std::uint64_t> arrival(std::uint32_t node) {
+    detail::returned<std::optional<std::uint64_t>> arrival(std::uint32_t node) {
         std::uint64_t time = never;
-        test(earliest_search_arrival(&handle_, node, &time));
-        return time == never ? std::nullopt : std::optional(time);
+        EARLIEST_TEST_(earliest_search_arrival(&handle_, node, &time), earliest_fault{});
+        return time == never ? std::optional<std::uint64_t>() : std::optional<std::uint64_t>(time);
     }
     /// The earliest arrivals at all nodes, the first at node 1; `never` where no walk reaches a node.
-    std::vector<std::uint64_t> arrivals() {
-        std::vector<std::uint64_t> out(nodes_);
-        test(earliest_search_arrivals(&handle_, out.data(), out.size()));
+    detail::returned<std::vector<std::uint64_t>> arrivals() {
+        std::vector<std::uint64_t> out(nodes_ + std::size_t{1});
+        EARLIEST_TEST_(earliest_search_arrivals(&handle_, out.data(), nodes_), earliest_fault{});
+        out.pop_back();
         return out;
     }
+    /// The same into the caller's memory, which has a place for each node; another size is refused (EARLIEST_ROOM_TOO_SMALL).
+    detail::returned<void> arrivals_into(room<std::uint64_t> out) {
+        std::uint64_t none = 0;
+        EARLIEST_TEST_(earliest_search_arrivals(&handle_, out.size() ? out.data() : &none, out.size()), earliest_fault{});
+        EARLIEST_DONE_;
+    }
+    /// A row of arrivals for each source, each a problem of its own: into the caller's memory, which has a place for each source and node. One
+    /// departure serves for all sources. Threads that have a search each divide the rows of a matrix. The last answer is that of the last row.
+    detail::returned<void> rows_into(list<std::uint32_t> sources, list<std::uint64_t> departures, room<std::uint64_t> out) {
+        EARLIEST_TEST_(handle_.at ? 0u : std::uint32_t{EARLIEST_NO_SEARCH}, earliest_fault{});
+        EARLIEST_TEST_(departures.size() == sources.size() || departures.size() == 1 ? 0u : std::uint32_t{EARLIEST_LENGTHS_DIFFER}, earliest_fault{});
+        EARLIEST_TEST_(out.size() == sources.size() * nodes_ ? 0u : std::uint32_t{EARLIEST_ROOM_TOO_SMALL}, earliest_fault{});
+        for (std::size_t row = 0; row < sources.size(); row++) {
+            const std::uint64_t *departure = departures.data() + (departures.size() == 1 ? 0 : row);
+            EARLIEST_TEST_(earliest_search_from(&handle_, sources.data() + row, 1, departure, 1), earliest_fault{});
+            EARLIEST_TEST_(earliest_search_arrivals(&handle_, out.data() + row * nodes_, nodes_), earliest_fault{});
+        }
+        EARLIEST_DONE_;
+    }
     /// The numbers of the arcs of a node's canonical walk; none where no walk reaches it within the horizon.
-    std::optional<std::vector<std::uint32_t>> walk(std::uint32_t node) {
+    detail::returned<std::optional<std::vector<std::uint32_t>>> walk(std::uint32_t node) {
         std::vector<std::uint32_t> out(256);
         std::uint64_t count = 0;
         std::uint32_t number = earliest_search_walk(&handle_, node, out.data(), out.size(), &count);
         if (number == EARLIEST_ROOM_TOO_SMALL) {
-            out.resize(count);
+            out.resize(static_cast<std::size_t>(count));
             number = earliest_search_walk(&handle_, node, out.data(), out.size(), &count);
         }
-        if (number == EARLIEST_NOT_REACHED) return std::nullopt;
-        test(number);
-        out.resize(count);
-        return out;
+        if (number == EARLIEST_NOT_REACHED) return std::optional<std::vector<std::uint32_t>>();
+        EARLIEST_TEST_(number, earliest_fault{});
+        out.resize(static_cast<std::size_t>(count));
+        return std::optional<std::vector<std::uint32_t>>(std::move(out));
     }
 
 private:
+    search() = default;
     earliest_search handle_ = EARLIEST_NOTHING;
-    std::uint32_t nodes_;
+    std::uint32_t nodes_ = 0;
 };
 
+}  // namespace throwing or returning
 }  // namespace earliest
+
+#undef EARLIEST_TEST_
+#undef EARLIEST_DONE_
 #endif

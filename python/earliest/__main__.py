@@ -60,13 +60,20 @@ def main(words: List[str]) -> int:
     if words[0] not in there():
         sys.stderr.write(f"earliest: there is no command {words[0]}; there are {', '.join(there())}\n")
         return 2
+    return importlib.import_module(COMMANDS[words[0]]).main(words[1:]) or 0
+
+
+def run() -> int:
+    """The command of the command line. Where standard output is a pipe that nobody reads any more, the status is 4 and nothing is told."""
     try:
-        return importlib.import_module(COMMANDS[words[0]]).main(words[1:]) or 0
+        status = main(sys.argv[1:])
+        sys.stdout.flush()
+        return status
     except BrokenPipeError:
-        # Standard output is a pipe that nobody reads any more; the null device takes what is left in the buffer at exit.
+        # The null device takes what is left in the buffer at exit.
         os.dup2(os.open(os.devnull, os.O_WRONLY), sys.stdout.fileno())
         return 4
 
 
 if __name__ == "__main__":
-    sys.exit(main(sys.argv[1:]))
+    sys.exit(run())

@@ -130,7 +130,7 @@ class Road:
     def __init__(self, gr: bytes, tp: Optional[bytes] = None, files: Sequence[str] = ("gr", "tp")):
         """The road of the text of a network (.gr) and of that of its timetables (.tp), as bytes. `files` names them in failures."""
         for text, word in ((gr, "gr"), (tp, "tp")):
-            if text is not None and not isinstance(text, (bytes, bytearray, memoryview)):
+            if (text is not None or word == "gr") and not isinstance(text, (bytes, bytearray, memoryview)):
                 raise TypeError(f"the text {word} has to be bytes, not {type(text).__name__}; Road.read takes paths and files")
         texts = [None if text is None else _texts.unpacked(bytes(text), name) for text, name in zip((gr, tp), files)]
         self._core, self._names, self._edges = _of_texts(texts[0], texts[1], files), None, None  # type: ignore[arg-type]
@@ -555,7 +555,7 @@ class Search:
     def pair(self, source: Any, departure: Any, target: Any, *, unit: Optional[str] = None, origin: Any = None, as_float: bool = False) -> Any:
         """The earliest arrival at a target from a source that is left at a departure; None if no walk reaches it within the horizon."""
         times = Times(unit, origin, False, as_float)
-        if not _is_one_time(departure):
+        if departure is None or not _is_one_time(departure):
             raise TypeError(f"a pair has one departure, not {departure!r}")
         start, end = self._road.number(source), self._road.number(target)
         when, found = int(times.departures(departure, 1)[0]), ctypes.c_uint64()

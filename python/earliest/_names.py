@@ -78,7 +78,7 @@ class Names(collections.abc.Sequence):
             raise Failure(18, f"no node is called {name!r}", name)
         return found
 
-    def numbers(self, names: Iterable[Hashable]):
+    def numbers(self, names: Iterable[Hashable]) -> Any:
         """The numbers of the nodes with these names, as an array of uint32 (array.array("I") without NumPy)."""
         if hasattr(names, "to_numpy"):
             names = names.to_numpy()

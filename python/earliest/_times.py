@@ -32,7 +32,9 @@ class Times:
         if origin is not None:
             if unit is None:
                 raise TypeError("origin= needs unit=, the unit of the road's times, as unit=\"s\"")
-            self.origin = _moment(origin)
+            moment = _moment(origin)
+            counted = moment.astype(f"datetime64[{unit}]")
+            self.origin = counted if counted == moment else moment
 
     def _check_unit(self, unit):
         try:

@@ -241,8 +241,8 @@ class _Parser:
         """A line `s`, `t` or `q`, and the problem that it ends."""
         kinds = {(b"s", 3): (False, False), (b"t", 3): (False, True), (b"q", 4): (True, False), (b"t", 4): (True, True)}
         kind = kinds.get((fields[0], len(fields)))
-        if kind is None or (self.first is not None and (self.first.pair, self.first.turned) != kind):
-            raise self.wrong(line)
+        if kind is None or (self.any and (bool(self.pair), self.turned) != kind):
+            raise self.wrong(line)  # All problems are of one kind.
         done = None
         if self.after_d or kind[0]:
             if self.any and not self.starts:
@@ -250,8 +250,6 @@ class _Parser:
             if self.any:
                 done = self._ended(line)
             self._begin(*kind)
-        elif self.pair is not None and (self.pair, self.turned) != kind:
-            raise self.wrong(line)
         self.pair, self.turned, self.any = kind[0], kind[1], True
         for field in fields[1:-1]:
             self.starts.append(self._number(line, field, 2**32 - 1))

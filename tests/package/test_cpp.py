@@ -1,0 +1,101 @@
+"""The classes of include/earliest.hpp, by C++17 and C++20, with exceptions and with expected results; and the CMake package."""
+import os
+import shutil
+import subprocess
+import tempfile
+
+import earliest
+import plain
+from optional import needs_program
+from test_engine import Case
+
+INCLUDE = os.path.join(plain.ROOT, "include")
+
+
+def ran(words, **more):
+    run = subprocess.run(words, capture_output=True, text=True, timeout=80, **more)
+    return run.returncode, run.stdout, run.stderr
+
+
+class Cpp(Case):
+    def setUp(self):
+        self.room = tempfile.TemporaryDirectory()
+        self.library = os.environ["EARLIEST_LIBRARY"]
+
+    def tearDown(self):
+        self.room.cleanup()
+
+    def tried(self, source, *flags, compiler="c++"):
+        """A program is compiled without a word and ends with 0."""
+        program = os.path.join(self.room.name, "program")
+        folder, name = os.path.split(self.library)
+        words = [compiler, "-g", "-O0", "-Wall", "-Wextra", "-Wpedantic", "-pthread", *flags, "-I" + INCLUDE, os.path.join(plain.HERE, source), f"-L{folder}", f"-l:{name}", f"-Wl,-rpath,{folder}", "-o", program]
+        self.assertEqual(ran(words), (0, "", ""))
+        self.assertEqual(ran([program]), (0, "", ""))
+
+    @needs_program("c++")
+    def test_exceptions(self):
+        for standard in ("-std=c++17", "-std=c++20"):
+            self.tried("classes.cpp", standard, "-fsanitize=address,undefined")
+
+    @needs_program("c++")
+    def test_expected(self):
+        for standard, more in (("-std=c++17", "-fno-exceptions"), ("-std=c++23", "-fno-exceptions")):
+            self.tried("expected.cpp", standard, more)
+
+    @needs_program("clang++")
+    def test_clang(self):
+        self.tried("classes.cpp", "-std=c++20", compiler="clang++")
+        self.tried("expected.cpp", "-std=c++17", compiler="clang++")
+
+    @needs_program("c++")
+    def test_nothing_is_copied(self):
+        """Roads and searches can't be copied: such a program isn't compiled."""
+        for line, compiles in (("earliest::road other(std::move(road));", True), ("earliest::road other(road);", False), ("other = road;", False), ("other = std::move(road);", True),
+                               ("earliest::search two(one);", False), ("two = one;", False), ("two = std::move(one);", True), ("earliest::search two(std::move(one));", True)):
+            given = {"other = ": "earliest::road other(std::move(road)); ", "two = ": "earliest::search two(std::move(one)); "}
+            before = next((text for begin, text in given.items() if line.startswith(begin)), "")
+            source = os.path.join(self.room.name, "copies.cpp")
+            with open(source, "w", encoding="ascii") as file:
+                file.write(f'#include "earliest.hpp"\nvoid tried(earliest::road road, earliest::search one) {{ (void)one; {before}{line} }}\n')
+            status, _, said = ran(["c++", "-std=c++17", "-fsyntax-only", "-I" + INCLUDE, source])
+            self.assertEqual(status == 0, compiles, line)
+            if not compiles:
+                self.assertIn("deleted function", said)
+
+    @needs_program("cmake", "c++")
+    def test_cmake(self):
+        """A project finds the package where it is installed, and links with what is there; where it isn't, or is another version, it says so."""
+        prefix, built = (os.path.join(self.room.name, name) for name in ("prefix", "built"))
+        place = os.path.join(prefix, "lib", "cmake", "earliest")
+        for folder in (place, os.path.join(prefix, "include")):
+            os.makedirs(folder)
+        for name in ("earliest.h", "earliest.hpp"):
+            shutil.copy(os.path.join(INCLUDE, name), os.path.join(prefix, "include"))
+        shutil.copy(os.path.join(plain.ROOT, "cmake", "earliest-config.cmake"), place)
+        with open(os.path.join(plain.ROOT, "cmake", "earliest-config-version.cmake.in"), encoding="ascii") as file:
+            text = file.read().replace("@VERSION@", earliest.__version__)
+        with open(os.path.join(place, "earliest-config-version.cmake"), "w", encoding="ascii") as file:
+            file.write(text)
+        configure = lambda *more: ran(["cmake", "-S", os.path.join(plain.HERE, "project"), "-B", built, f"-DCMAKE_PREFIX_PATH={prefix}", *more])
+        status, _, said = configure()
+        self.assertEqual((status != 0, "there is neither libearliest.so nor libearliest.a" in " ".join(said.split())), (True, True), said)
+        shutil.copy(self.library, os.path.join(prefix, "lib", "libearliest.so"))
+        archive = next((it for it in (os.path.join(os.path.dirname(self.library), "libearliest.a"), os.path.join(plain.ROOT, "lib", "libearliest.a")) if os.path.isfile(it)), None)
+        if archive:
+            shutil.copy(archive, os.path.join(prefix, "lib", "libearliest.a"))
+        else:
+            print("left out: the static library with CMake, libearliest.a, which is not beside the shared one")
+        shutil.rmtree(built)
+        status, _, said = configure()
+        self.assertEqual((status, said), (0, ""))
+        self.assertEqual(ran(["cmake", "--build", built])[0::2], (0, ""))
+        status, out, said = ran(["ctest", "--test-dir", built])
+        self.assertEqual((status, f"100% tests passed, 0 tests failed out of {2 if archive else 1}" in out), (0, True), out + said)
+        for version, found in ((earliest.__version__, True), ("0.1", True), ("0.2", False), ("1.0", False), ("0.0.9", False)):
+            listed = os.path.join(self.room.name, "versions", version)
+            os.makedirs(listed)
+            with open(os.path.join(listed, "CMakeLists.txt"), "w", encoding="ascii") as file:
+                file.write(f"cmake_minimum_required(VERSION 3.13)\nproject(version NONE)\nfind_package(earliest {version} CONFIG REQUIRED)\n")
+            status, _, said = ran(["cmake", "-S", listed, "-B", listed + ".built", f"-DCMAKE_PREFIX_PATH={prefix}"])
+            self.assertEqual(status == 0, found, (version, said))
