@@ -755,6 +755,11 @@ class Answers(Sequence[Answer]):
         place %= len(self)
         return Answer(self._road, *self._starts[place], self._times, _Row(self, place))
 
+    def __getattr__(self, name):
+        if name in ("arrival", "walk", "path", "edges", "reached", "series"):
+            raise AttributeError(f"a list of sources has an answer for each of them: take one, as found[0].{name}, or pass one node in place of a list")
+        raise AttributeError(f"'Answers' object has no attribute {name!r}")
+
     def _walk(self, at: int, node: int) -> Optional[List[int]]:
         """A walk of one problem, by a search that goes from problem to problem."""
         if not self._walks:

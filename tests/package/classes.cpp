@@ -26,6 +26,12 @@ template <class Call> static void refused(Call call, std::uint32_t number, const
 }
 #define REFUSED(call, number, words) refused([&] { call; }, number, words, __LINE__)
 
+// Roads and searches are moved and never copied.
+template <class T> constexpr bool only_moves = !std::is_copy_constructible_v<T> && !std::is_copy_assignable_v<T> && !std::is_constructible_v<T, T &> && !std::is_assignable_v<T &, T &> &&
+                                               std::is_nothrow_move_constructible_v<T> && std::is_nothrow_move_assignable_v<T>;
+static_assert(only_moves<earliest::road> && only_moves<earliest::search>);
+static_assert(!std::is_default_constructible_v<earliest::road> && !std::is_default_constructible_v<earliest::search>);
+
 static const std::string FOUR = "p sp 4 5\na 1 2 7\na 1 3 2\na 3 2 3\na 2 4 1\na 3 4 9\n";
 static const std::vector<std::uint64_t> FROM_1 = {0, 5, 2, 6};
 static const char *NO_ROAD = "the handle holds no road (16 NoRoad)", *NO_SEARCH = "the handle holds no search (17 NoSearch)";
@@ -135,7 +141,7 @@ static void texts() {
     REFUSED(earliest::road::of_arcs(2, {1, 2}, {2}, {1, 1}), EARLIEST_LENGTHS_DIFFER, "lists that belong together have different lengths (23 LengthsDiffer)");
     REFUSED(earliest::road::of_arcs(2, {3}, {2}, {1}), EARLIEST_OUT_OF_RANGE, "gr 2: a number is out of its range (6 OutOfRange)");
     // A NUL byte is a byte as others are.
-    earliest::road road(std::string_view("p sp 2 1\nc \0\na 1 2 3\n", 22));
+    earliest::road road(std::string_view("p sp 2 1\nc \0\na 1 2 3\n", 21));
     TEST(road.arcs() == 1);
     // Timetables: the arc is left at 4 of each 10.
     earliest::search search(earliest::road("p sp 2 1\na 1 2 3\n", "p tp 1 1\nk 1 every 10 4\nt 1 1\n"));

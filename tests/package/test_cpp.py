@@ -35,33 +35,18 @@ class Cpp(Case):
 
     @needs_program("c++")
     def test_exceptions(self):
-        for standard in ("-std=c++17", "-std=c++20"):
-            self.tried("classes.cpp", standard, "-fsanitize=address,undefined")
+        self.tried("classes.cpp", "-std=c++17", "-fsanitize=address,undefined")
+        self.tried("classes.cpp", "-std=c++20")
 
     @needs_program("c++")
     def test_expected(self):
-        for standard, more in (("-std=c++17", "-fno-exceptions"), ("-std=c++23", "-fno-exceptions")):
-            self.tried("expected.cpp", standard, more)
+        """By the header's own kind of result, and by std::expected where the compiler has it."""
+        self.tried("expected.cpp", "-std=c++17", "-fno-exceptions")
+        self.tried("expected.cpp", "-std=c++23", "-fno-exceptions")
 
     @needs_program("clang++")
     def test_clang(self):
         self.tried("classes.cpp", "-std=c++20", compiler="clang++")
-        self.tried("expected.cpp", "-std=c++17", compiler="clang++")
-
-    @needs_program("c++")
-    def test_nothing_is_copied(self):
-        """Roads and searches can't be copied: such a program isn't compiled."""
-        for line, compiles in (("earliest::road other(std::move(road));", True), ("earliest::road other(road);", False), ("other = road;", False), ("other = std::move(road);", True),
-                               ("earliest::search two(one);", False), ("two = one;", False), ("two = std::move(one);", True), ("earliest::search two(std::move(one));", True)):
-            given = {"other = ": "earliest::road other(std::move(road)); ", "two = ": "earliest::search two(std::move(one)); "}
-            before = next((text for begin, text in given.items() if line.startswith(begin)), "")
-            source = os.path.join(self.room.name, "copies.cpp")
-            with open(source, "w", encoding="ascii") as file:
-                file.write(f'#include "earliest.hpp"\nvoid tried(earliest::road road, earliest::search one) {{ (void)one; {before}{line} }}\n')
-            status, _, said = ran(["c++", "-std=c++17", "-fsyntax-only", "-I" + INCLUDE, source])
-            self.assertEqual(status == 0, compiles, line)
-            if not compiles:
-                self.assertIn("deleted function", said)
 
     @needs_program("cmake", "c++")
     def test_cmake(self):

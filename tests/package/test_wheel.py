@@ -1,6 +1,5 @@
 """The wheel, its editable form and the source distribution: what is in them, that pip installs them, and what is said where the library is missing."""
 import email
-import glob
 import importlib.util
 import os
 import re
@@ -43,10 +42,10 @@ class Wheel(Case):
         self.room.cleanup()
 
     def environment(self):
-        """An environment of its own, and a way to run its Python among the examples, where nothing says where package and library are."""
+        """An environment of its own: ways to run its Python among the examples, where nothing says where package and library are, and to
+        install there with no network."""
         place = os.path.join(self.room.name, "environment")
         subprocess.run([sys.executable, "-m", "venv", "--without-pip", place], check=True)
-        site = glob.glob(os.path.join(place, "lib", "python*", "site-packages"))[0]
         python = os.path.join(place, "bin", "python")
         clean = {name: value for name, value in os.environ.items() if not name.startswith(("EARLIEST", "PYTHON"))}
 
@@ -55,10 +54,13 @@ class Wheel(Case):
             return ran.returncode, ran.stdout, ran.stderr
 
         def pip(*words, **more):
-            ran = subprocess.run([sys.executable, "-m", "pip", "--disable-pip-version-check", "--no-cache-dir", "install", "-q", "--no-index", "--root-user-action=ignore", "--target", site, *words], capture_output=True, text=True, env={**clean, **more})
-            return ran.returncode, ran.stdout, ran.stderr
+            ran = subprocess.run([sys.executable, "-m", "pip", "--python", python, "--disable-pip-version-check", "install", "-q", "--no-cache-dir", "--no-index", *words], capture_output=True, text=True, env={**clean, **more})
+            if "no such option: --python" in ran.stderr:
+                self.skipTest("this pip is older than 22.3, and installs into no other environment")
+            said = "".join(line for line in ran.stderr.splitlines(True) if "as the 'root' user" not in line)
+            return ran.returncode, ran.stdout, said
 
-        return run, pip, site
+        return run, pip
 
     def test_contents(self):
         name = backend().build_wheel(self.room.name)
@@ -137,62 +139,38 @@ class Wheel(Case):
             self.assertEqual(((major, minor) >= (2, 25), own.needs(text)[2]), (True, (major, minor)))
             self.assertIn(f"manylinux_{major}_{minor}_", own.tag_of(text))
 
-    def test_install(self):
-        run, pip, site = self.environment()
-        name = backend().build_wheel(self.room.name)
-        self.assertEqual(pip(os.path.join(self.room.name, name)), (0, "", ""))
-        self.assertEqual(run("-c", ASK), (0, f"{earliest.__version__} [2, 3, 4]\n", ""))
-        self.assertEqual(run("-m", "earliest", "--version"), (0, earliest.__version__ + "\n", ""))
-        self.assertEqual(run("-c", "import importlib.metadata as it; print(it.version('earliest'))"), (0, earliest.__version__ + "\n", ""))
-
     def copy(self):
         """A copy of the sources without a library."""
         place = os.path.join(self.room.name, "python")
         shutil.copytree(PYTHON, place, ignore=shutil.ignore_patterns("*.so", "__pycache__", "*.egg-info", "build"))
         return place
 
-    def test_install_from_sources(self):
-        """`pip install` of the folder, with the library beside the package; and without, where it says what is missing."""
-        run, pip, site = self.environment()
+    def test_install(self):
+        """`pip install ./python`, with the library beside the package; and without, where it says what is missing."""
+        run, pip = self.environment()
         place = self.copy()
-        status, _, said = pip(place)
-        self.assertTrue(status)
-        self.assertIn("`make lib`", said)
+        os.environ.pop("EARLIEST_LIBRARY")
+        try:
+            self.told(FileNotFoundError, "`make lib`", lambda: backend(place).build_wheel(self.room.name))
+        finally:
+            os.environ["EARLIEST_LIBRARY"] = self.library
         shutil.copy(self.library, os.path.join(place, "earliest", "libearliest.so"))
         self.assertEqual(pip(place), (0, "", ""))
         self.assertEqual(run("-c", ASK), (0, f"{earliest.__version__} [2, 3, 4]\n", ""))
+        self.assertEqual(run("-m", "earliest", "--version"), (0, earliest.__version__ + "\n", ""))
+        self.assertEqual(run("-c", "import importlib.metadata as it; print(it.version('earliest'))"), (0, earliest.__version__ + "\n", ""))
 
     def test_editable(self):
-        """An editable install follows the sources. It is made without a library too, and then the first call says what is missing."""
-        place = os.path.join(self.room.name, "environment")
-        subprocess.run([sys.executable, "-m", "venv", "--without-pip", place], check=True)
-        site = glob.glob(os.path.join(place, "lib", "python*", "site-packages"))[0]
+        """`pip install -e` follows the sources. It is made without a library too, and then the first call says what is missing."""
+        run, pip = self.environment()
         sources = self.copy()
-        name = backend(sources).build_editable(self.room.name)
-        with zipfile.ZipFile(os.path.join(self.room.name, name)) as wheel:
-            wheel.extractall(site)
-        clean = {name: value for name, value in os.environ.items() if not name.startswith(("EARLIEST", "PYTHON"))}
-        ask = lambda: subprocess.run([os.path.join(place, "bin", "python"), "-c", ASK], cwd=plain.EXAMPLES, capture_output=True, text=True, env=clean)
-        self.assertIn("run `make lib`", ask().stderr)
+        self.assertEqual(pip("-e", sources), (0, "", ""))
+        self.assertIn("run `make lib`", run("-c", ASK)[2])
         shutil.copy(self.library, os.path.join(sources, "earliest", "libearliest.so"))
-        self.assertEqual((ask().stdout, ask().stderr), (f"{earliest.__version__} [2, 3, 4]\n", ""))
-        with open(os.path.join(sources, "earliest", "_version.py"), "w") as file:
+        self.assertEqual(run("-c", ASK + "; print(earliest.__file__)"), (0, f"{earliest.__version__} [2, 3, 4]\n{sources}/earliest/__init__.py\n", ""))
+        with open(os.path.join(sources, "earliest", "_version.py"), "w", encoding="ascii") as file:
             file.write('VERSION = "9.8.7"\n')
-        self.assertEqual(ask().stdout, "9.8.7 [2, 3, 4]\n")
-
-    def test_editable_by_pip(self):
-        place = os.path.join(self.room.name, "environment")
-        made = subprocess.run([sys.executable, "-m", "venv", place], capture_output=True)
-        if made.returncode:
-            self.skipTest("this Python makes no environment with pip (apt-get install python3-venv)")
-        sources = self.copy()
-        shutil.copy(self.library, os.path.join(sources, "earliest", "libearliest.so"))
-        python = os.path.join(place, "bin", "python")
-        clean = {name: value for name, value in os.environ.items() if not name.startswith(("EARLIEST", "PYTHON"))}
-        ran = subprocess.run([python, "-m", "pip", "--disable-pip-version-check", "install", "-q", "--no-index", "-e", sources], capture_output=True, text=True, env=clean)
-        self.assertEqual((ran.returncode, ran.stderr), (0, ""))
-        ran = subprocess.run([python, "-c", ASK + "; print(earliest.__file__)"], cwd=plain.EXAMPLES, capture_output=True, text=True, env=clean)
-        self.assertEqual((ran.stdout, ran.stderr), (f"{earliest.__version__} [2, 3, 4]\n{sources}/earliest/__init__.py\n", ""))
+        self.assertEqual(run("-c", ASK)[1], "9.8.7 [2, 3, 4]\n")
 
     def test_source_distribution(self):
         """It has all but the library. A wheel is built of it where EARLIEST_LIBRARY names one, and else it says what is missing."""
@@ -207,7 +185,7 @@ class Wheel(Case):
         self.assertEqual([it for it in names if it.endswith(".so") or not it.startswith(top + "/")], [])
         own = backend(os.path.join(self.room.name, top))
         self.assertIn("earliest-", own.build_wheel(self.room.name))
-        run, pip, site = self.environment()
+        run, pip = self.environment()
         status, _, said = pip(os.path.join(self.room.name, name))
         self.assertTrue(status)
         self.assertIn("is not there: the wheel takes the library that the repository proves and builds with `make lib`; or set EARLIEST_LIBRARY", said)
