@@ -58,7 +58,7 @@ def search_one(gr, ss):
     road, sources, never = road_of(gr, ss)
     for _ in range(TIMES):
         begun = time.perf_counter()
-        arrivals = road.search(sources[:1], walks=False).arrivals
+        arrivals = road.search(sources[0], walks=False).arrivals
         took = time.perf_counter() - begun
         print(f"us {int(1e6 * took)} sum {sum_of(arrivals, never)}")
 

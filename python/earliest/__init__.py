@@ -16,3 +16,8 @@ from ._names import Names
 from ._version import VERSION as __version__
 
 __all__ = ["HORIZON", "NEVER", "Answer", "Answers", "Busy", "Failure", "InputFailure", "Names", "Road", "Search", "__version__"]
+
+# What is shown of these, in a traceback and in a pickle, is the name that users know.
+for _kind in (Answer, Answers, Busy, Failure, InputFailure, Names, Road, Search):
+    _kind.__module__ = __name__
+del _kind

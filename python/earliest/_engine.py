@@ -265,7 +265,7 @@ class Road:
         if not self._core.handle.at:
             return "<earliest.Road, closed>"
         again = self._core.again
-        made = f" of {again.paths[0]}" if again.paths else " of lists" if again.lists else ""
+        made = f" of {again.files[0]}" if again.paths else " of lists" if again.lists else ""
         return f"<earliest.Road{made}: {self.nodes} nodes{' with names' if self._names else ''}, {self.arcs} arcs>"
 
     def __copy__(self):
@@ -342,7 +342,8 @@ class Road:
         `Answer`. With `joint` all sources are one problem, in which a node is reached from whichever source gets there first: the result is
         its `Answer`.
 
-        With `walks` the answers tell walks, too. `threads` is how many threads search (the processors, if it is not given). `unit`,
+        The arrivals of n sources take 8 bytes for each source and node. With `walks` the answers tell walks, too; those of a list of sources
+        are found by a further search when they are asked for. `threads` is how many threads search (the processors, if it is not given). `unit`,
         `origin`, `masked` and `as_float` say how times are written: see `arrivals`.
         """
         times = Times(unit, origin, masked, as_float)

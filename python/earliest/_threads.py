@@ -2,7 +2,6 @@
 from __future__ import annotations
 
 import ctypes
-import itertools
 import os
 import threading
 from typing import Any, Callable, Optional
@@ -39,13 +38,15 @@ def by_threads(parts: int, threads: Optional[int], worker: Callable[[], Callable
     takes. The first exception of a thread ends all of them and is raised."""
     if parts == 0:
         return
-    count, taken, stop, raised = counted(threads, parts), itertools.count(), threading.Event(), []
+    count, untaken, alone, stop, raised = counted(threads, parts), iter(range(parts)), threading.Lock(), threading.Event(), []
 
     def run():
         try:
             do = worker()
-            for part in taken:
-                if part >= parts or stop.is_set():
+            while not stop.is_set():
+                with alone:
+                    part = next(untaken, None)
+                if part is None:
                     return
                 do(part)
         except BaseException as error:  # It is raised by the thread that called.

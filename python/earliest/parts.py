@@ -45,6 +45,8 @@ def cut(head, lines, count, folder, depart, gap):
     """Writes the parts."""
     if not 1 <= count <= max(len(lines), 1):
         raise Refused(f"{len(lines)} lines can't be cut into {count} parts")
+    if depart < 0 or gap < 0:
+        raise Refused("--depart and --gap are at least 0")
     if depart + max(len(lines) - 1, 0) * gap > HORIZON:
         raise Refused(f"the last departure is above {HORIZON}")
     os.makedirs(folder, exist_ok=True)
@@ -69,7 +71,7 @@ def main(words=None):
     asked = parser.parse_args(words)
     try:
         cut(*read(asked.file), asked.count, asked.folder, asked.depart, asked.gap)
-    except Refused as fault:
+    except (Refused, OSError) as fault:
         print(f"parts: {fault}", file=sys.stderr)
         return 1
     return 0

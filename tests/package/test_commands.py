@@ -124,5 +124,9 @@ class Parts(Case):
 
     def test_refusals(self):
         for text, words, told in (("p aux sp ss 1\ns 1\n", ["2"], "parts: 1 lines can't be cut into 2 parts\n"), ("p aux sp ss 1\ns 1\n", ["0"], "parts: 1 lines can't be cut into 0 parts\n"), ("p sp 1 0\n", ["1"], "parts: x, line 1: the first line is to be `p aux sp ss N` or `p aux sp p2p N`\n"),
-                                  ("", ["1"], "parts: x: there is no problem line\n"), ("p aux sp ss 2\ns 1\ns 2\n", ["1", "--depart", str(plain.HORIZON), "--gap", "1"], f"parts: the last departure is above {plain.HORIZON}\n")):
+                                  ("", ["1"], "parts: x: there is no problem line\n"), ("p aux sp ss 2\ns 1\ns 2\n", ["1", "--depart", str(plain.HORIZON), "--gap", "1"], f"parts: the last departure is above {plain.HORIZON}\n"),
+                                  ("p aux sp ss 0\n", ["1", "--gap", "-1"], "parts: --depart and --gap are at least 0\n")):
             self.assertEqual(self.cut("x", text, *words), (1, told))
+        with contextlib.redirect_stderr(io.StringIO()) as said:
+            self.assertEqual(parts.main([os.path.join(plain.EXAMPLES, "road.ss"), "2", os.path.join(plain.EXAMPLES, "road.ss", "parts")]), 1)
+        self.assertTrue(said.getvalue().startswith("parts: ") and said.getvalue().count("\n") == 1)

@@ -172,9 +172,13 @@ class Answers(Case):
     def test_an_array_stays_as_it_is(self):
         road = earliest.Road(plain.FOUR)
         search = road.searcher()
-        first = search.find(1).arrivals
-        search.find(3)
-        self.assertEqual(flat(first), [0, 5, 2, 6])
+        first, second = search.find(1).arrivals, search.find(3).arrivals
+        search.pair(1, 0, 4)
+        self.assertEqual((flat(first), flat(second)), ([0, 5, 2, 6], [NEVER, 3, 0, 4]))
+        answer = search.find(1)
+        first, second = answer.arrivals, answer.arrivals
+        first[0] = 9
+        self.assertEqual((flat(second), flat(answer.arrivals)), ([0, 5, 2, 6],) * 2)
         found = road.search([1, 3])
         rows = [one.arrivals for one in found]
         road.search([4, 2])

@@ -122,3 +122,21 @@ class ManySources(Case):
         walk = [int(it) for it in lines[5].removeprefix("to it from 4: ").split()]
         self.assertEqual(town.walked(4, 1000, walk), (node, time))
         self.assertEqual(example("many_sources.py")[1].splitlines()[0], "2025 nodes, 5000 arcs")
+
+
+class Guide(Case):
+    @needs("numpy", "networkx")
+    def test_guide(self):
+        """What docs/guide/python.md shows is what comes."""
+        import doctest
+        import io
+        from contextlib import redirect_stdout
+
+        before = os.getcwd()
+        os.chdir(plain.EXAMPLES)
+        try:
+            with redirect_stdout(io.StringIO()) as told:
+                failed, tried = doctest.testfile(os.path.join(plain.ROOT, "docs", "guide", "python.md"), module_relative=False)
+        finally:
+            os.chdir(before)
+        self.assertEqual((failed, tried > 30), (0, True), told.getvalue())
