@@ -9,9 +9,10 @@ import weakref
 import zlib
 from typing import Any, Callable, Dict, Hashable, Iterable, List, Optional, Sequence, Tuple
 
-from . import _names, _numbers, _texts, _threads
+from . import _numbers, _texts, _threads
 from ._failures import Busy, Failure, InputFailure, test
 from ._library import HORIZON, NEVER, Fault, Handle, Starts, library
+from ._names import Names
 from ._numbers import numpy
 from ._times import PLAIN, Times
 
@@ -110,7 +111,7 @@ def _made_again(cls, parts: Dict[str, Any], names: Any, edges: Any) -> "Road":
             texts.append(text)
         core = _of_texts(texts[0], texts[1], again.files, again.paths)  # type: ignore[arg-type]
     elif again.texts:
-        core = _of_texts(*again.texts, again.files)
+        core = _of_texts(again.texts[0], again.texts[1], again.files)
     else:
         core = _of_lists(again.nodes, again.lists, again.tp)
     return cls._over(core, names, edges)
@@ -124,7 +125,7 @@ class Road:
     """
 
     _core: _Core
-    _names: Optional[_names.Names]
+    _names: Optional[Names]
     _edges: Optional[Sequence[Any]]
 
     def __init__(self, gr: bytes, tp: Optional[bytes] = None, files: Sequence[str] = ("gr", "tp")):
@@ -136,7 +137,7 @@ class Road:
         self._core, self._names, self._edges = _of_texts(texts[0], texts[1], files), None, None  # type: ignore[arg-type]
 
     @classmethod
-    def _over(cls, core: _Core, names: Optional[_names.Names], edges: Optional[Sequence[Any]]) -> "Road":
+    def _over(cls, core: _Core, names: Optional[Names], edges: Optional[Sequence[Any]]) -> "Road":
         road = cls.__new__(cls)
         road._core, road._names, road._edges = core, names, edges
         return road
@@ -215,7 +216,7 @@ class Road:
 
     def named(self, names: Iterable[Hashable]) -> "Road":
         """This road with names for its nodes, one for each in the order of their numbers."""
-        named = _names.Names(names)
+        named = Names(names)
         if len(named) != self.nodes:
             raise Failure(23, f"there are {len(named)} names, and {self.nodes} nodes", (len(named), self.nodes))
         return self._over(self._core, named, self._edges)
@@ -238,7 +239,7 @@ class Road:
         return self._core.arcs
 
     @property
-    def names(self) -> Optional[_names.Names]:
+    def names(self) -> Optional[Names]:
         """The names of its nodes, the first that of node 1; None if it has none."""
         return self._names
 
@@ -431,12 +432,13 @@ class Road:
         """Checks a report of searches from these nodes: the first departs at `depart`, each next one later by `gap`, each in a problem of its
         own, or with `joint` all in one. The report is bytes, a path or an open file. One that isn't right is an InputFailure with the
         line of its first fault."""
+        depart, gap = _numbers.whole(depart, "depart"), _numbers.whole(gap, "gap")
         for value, what in ((depart, "depart"), (gap, "gap")):
-            if not 0 <= _numbers.whole(value, what) <= HORIZON:
+            if not 0 <= value <= HORIZON:
                 raise Failure(19, f"{what} is a time from 0 to {HORIZON}, not {value}", value)
         numbers = self._list(nodes)
         text, name, _ = _texts.text_of(report, "report")
-        starts, fault = Starts(_numbers.whole(depart, "depart"), _numbers.whole(gap, "gap"), 1 if joint else 0), Fault()
+        starts, fault = Starts(depart, gap, 1 if joint else 0), Fault()
         with self._core.lock:
             number = library().earliest_check(self._core.handle, _numbers.address(numbers), len(numbers), starts, text, len(text), fault)
         if number and number != 13 and fault.text:

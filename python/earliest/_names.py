@@ -80,6 +80,8 @@ class Names(collections.abc.Sequence):
 
     def numbers(self, names: Iterable[Hashable]) -> Any:
         """The numbers of the nodes with these names, as an array of uint32 (array.array("I") without NumPy)."""
+        if isinstance(names, (set, frozenset)):
+            raise TypeError("nodes have to be in an order, and a set has none: pass a list")
         if hasattr(names, "to_numpy"):
             names = names.to_numpy()
         if hasattr(names, "tolist"):

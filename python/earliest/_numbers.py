@@ -9,7 +9,7 @@ from typing import Any, Iterable, Tuple
 try:
     import numpy
 except ImportError:
-    numpy = None
+    numpy = None  # type: ignore[assignment]
 
 TYPES = {"I": "uint32", "Q": "uint64"}
 _NOTHING = ctypes.c_uint64()

@@ -144,6 +144,7 @@ def problems(source: _texts.Source, walks: bool = True, totals: Optional[Dict[st
 
 def _opened(source, stack) -> Tuple[Any, str]:
     """A file of bytes, without its packing, and its name."""
+    file: Any
     if isinstance(source, (bytes, bytearray, memoryview)):
         file, name = io.BytesIO(bytes(source)), "report"
     elif isinstance(source, (str, os.PathLike)):
@@ -187,12 +188,15 @@ class _Parser:
 
     def _begin(self, pair: Optional[bool], turned: bool):
         """A problem of which nothing is known yet but its kind."""
-        self.pair, self.turned, self.starts, self.times = pair, turned, [], []
+        self.pair, self.turned = pair, turned
+        self.starts: List[int] = []
+        self.times: List[int] = []
         self.nodes: List[Any] = []
         self.values: List[Any] = []
         self.lone_nodes: List[int] = []
         self.lone_values: List[int] = []
-        self.count, self.walks, self.after_d = 0, [], False
+        self.count, self.after_d = 0, False
+        self.walks: List[Any] = []
 
     def wrong(self, line: bytes):
         shown = line.rstrip(b"\r\n")[:100].decode("utf-8", "backslashreplace")
@@ -381,7 +385,7 @@ def of_answers(answers: Any, walks: bool = False) -> Report:
     road, rows = answers.road, [it._found.arrivals() for it in many]
     joint = not hasattr(answers, "__getitem__") and len(answers._sources) != 1
     starts = [(node, when) for it in many for node, when in zip(it._sources, it._departures)]
-    of_walks = None
+    of_walks: Optional[List[Optional[List[Any]]]] = None
     if walks:
         of_walks = [[None if time == NEVER else _array("I", it._found.walk(node)) for node, time in enumerate(row, 1)] for it, row in zip(many, rows)]
     nodes = _array("I", range(1, road.nodes + 1))

@@ -454,6 +454,7 @@ class Values(Case):
         for call in (lambda: road.search("x"), lambda: road.search(["home", "x"]), lambda: found.arrival("x"), lambda: road.pairs("home", "x"), lambda: road.number("x")):
             self.assertIn("no node is called 'x'", str(self.refused(18, call, "x")))
         self.refused(18, lambda: road.search(1), 1)
+        self.told(TypeError, "a set has none", lambda: road.arrivals({"home", "work"}))
         self.refused(23, lambda: earliest.Road(plain.FOUR).named(["a"]), (1, 4))
         self.told(ValueError, "nodes 1 and 3 are both called 'a'", lambda: earliest.Road(plain.FOUR).named(["a", "b", "a", "c"]))
         self.told(TypeError, "hashable", lambda: earliest.Road(plain.FOUR).named([[1], [2], [3], [4]]))
