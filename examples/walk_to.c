@@ -1,4 +1,4 @@
-/* The earliest arrival at a node, and the walk to it: walk_to GR SOURCE DEPARTURE TARGET
+/* The earliest arrival at a node, and the walk to it: walk_to GR SOURCE DEPARTURE TARGET [TP]
  * cc -Iinclude examples/walk_to.c lib/libearliest.a -o walk_to */
 #include <inttypes.h>
 #include <stdio.h>
@@ -27,15 +27,16 @@ int main(int count, char **words) {
     earliest_road road = EARLIEST_NOTHING;
     earliest_search search = EARLIEST_NOTHING;
     earliest_fault fault;
-    if (count != 5) return fprintf(stderr, "walk_to GR SOURCE DEPARTURE TARGET\n"), 2;
+    if (count != 5 && count != 6) return fprintf(stderr, "walk_to GR SOURCE DEPARTURE TARGET [TP]\n"), 2;
     uint32_t source = (uint32_t)strtoul(words[2], NULL, 10), target = (uint32_t)strtoul(words[4], NULL, 10);
     uint64_t departure = strtoull(words[3], NULL, 10), arrival = 0, arcs = 0;
 
-    size_t length;
-    char *text = text_of(words[1], &length);
-    uint32_t number = earliest_road_read(text, length, "", 0, &road, &fault);
+    size_t length, tp_length = 0;
+    char *text = text_of(words[1], &length), *tp = count == 6 ? text_of(words[5], &tp_length) : NULL;
+    uint32_t number = earliest_road_read(text, length, tp ? tp : "", tp_length, &road, &fault);
     free(text);
-    if (number && fault.text) fprintf(stderr, "line %" PRIu64 ": ", fault.line);
+    free(tp);
+    if (number && fault.text) fprintf(stderr, "%sline %" PRIu64 ": ", fault.text == 2 ? "timetables, " : "", fault.line);
     if (!number) number = earliest_search_new(&road, 1, &search);
     if (!number) number = earliest_search_pair(&search, source, departure, target);
     if (!number) number = earliest_search_arrival(&search, target, &arrival);

@@ -17,7 +17,8 @@ import gzip
 import io
 import os
 import re
-import tempfile
+import stat
+import zlib
 from typing import Any, Dict, Iterator, List, NamedTuple, Optional, Tuple
 
 from . import _numbers, _texts
@@ -363,7 +364,7 @@ def _blocks(file, name) -> Iterator[bytes]:
     while True:
         try:
             block = file.read(BLOCK)
-        except (EOFError, gzip.BadGzipFile) as error:
+        except (EOFError, gzip.BadGzipFile, zlib.error) as error:
             raise OSError(f"{name} is packed by gzip, and can't be unpacked: {error}") from error
         if not block:
             break
@@ -408,14 +409,20 @@ def write(to: Any, report: Any, walks: bool = False) -> None:
             to.write(text_of(problem))
         return
     path = os.fspath(to)
-    folder = os.path.dirname(os.path.abspath(path))
-    with tempfile.NamedTemporaryFile("wb", dir=folder, prefix=os.path.basename(path) + ".", suffix=".part", delete=False) as part:
+    if _is_stream(path):
+        # What is there already, as the log that standard output goes to, stays.
+        with open(path, "ab") as file:
+            for problem in found:
+                file.write(text_of(problem))
+        return
+    path = os.path.realpath(path)
+    with _part_beside(path) as part:
         try:
             for problem in found:
                 part.write(text_of(problem))
             part.close()
-            mode = os.stat(path).st_mode & 0o777 if os.path.exists(path) else 0o666 & ~_umask()
-            os.chmod(part.name, mode)
+            if os.path.exists(path):
+                os.chmod(part.name, stat.S_IMODE(os.stat(path).st_mode))
             os.replace(part.name, path)
         except BaseException:
             with contextlib.suppress(OSError):
@@ -423,10 +430,19 @@ def write(to: Any, report: Any, walks: bool = False) -> None:
             raise
 
 
-def _umask() -> int:
-    mask = os.umask(0o022)
-    os.umask(mask)
-    return mask
+def _is_stream(path: str) -> bool:
+    """Whether a path names a device, a pipe or a descriptor, which is written to and never replaced."""
+    return os.path.abspath(path).startswith(("/dev/", "/proc/")) or (os.path.exists(path) and not os.path.isfile(path) and not os.path.isdir(path))
+
+
+def _part_beside(path: str):
+    """A new file in the folder of a path, which takes its place when it is whole."""
+    at = 0
+    while True:
+        try:
+            return open(os.path.join(os.path.dirname(path), f".report-{os.getpid()}-{at}.part"), "xb")
+        except FileExistsError:
+            at += 1
 
 
 def text_of(problem: Problem) -> bytes:

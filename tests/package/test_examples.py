@@ -3,9 +3,10 @@ import os
 import re
 import subprocess
 import sys
+import tempfile
 
 import plain
-from optional import needs, without
+from optional import needs, needs_program, without
 from test_engine import Case
 
 
@@ -140,3 +141,51 @@ class Guide(Case):
         finally:
             os.chdir(before)
         self.assertEqual((failed, tried > 30), (0, True), told.getvalue())
+
+
+class InC(Case):
+    """The examples in C and C++, with timetables and a departure."""
+
+    def setUp(self):
+        self.room = tempfile.TemporaryDirectory()
+
+    def tearDown(self):
+        self.room.cleanup()
+
+    def built(self, compiler, name, *flags):
+        """An example, compiled without a word: a way to run it."""
+        folder, library = os.path.split(os.environ["EARLIEST_LIBRARY"])
+        program = os.path.join(self.room.name, "example")
+        words = [compiler, *flags, "-Wall", "-Wextra", "-Wpedantic", "-I" + os.path.join(plain.ROOT, "include"), name, f"-L{folder}", f"-l:{library}", f"-Wl,-rpath,{folder}", "-o", program]
+        ran = subprocess.run(words, cwd=plain.EXAMPLES, capture_output=True, text=True)
+        self.assertEqual((ran.returncode, ran.stderr), (0, ""))
+
+        def run(*words):
+            ran = subprocess.run([program, *map(str, words)], cwd=plain.EXAMPLES, capture_output=True, text=True, timeout=60)
+            return ran.returncode, ran.stdout, ran.stderr
+
+        return run
+
+    @needs_program("cc")
+    def test_walk_to(self):
+        run, town = self.built("cc", "walk_to.c", "-std=c99"), network_of("commuter")
+        for departure in (10000, 29722, 29723):
+            status, out, said = run("commuter.gr", 225, departure, 236, "commuter.tp")
+            arrival, *walk = map(int, re.findall(r"\d+", out.removeprefix("node 236")))
+            self.assertEqual((status, said, town.walked(225, departure, walk)), (0, "", (236, arrival)))
+            self.assertEqual(arrival, town.least([(225, departure)])[235])
+        self.assertEqual(run("four-nodes.gr", 1, 0, 4)[1], "node 4 at 6, over 2 3 4\n")
+        self.assertEqual(run("four-nodes.gr", 1, 0, 4, "four-nodes.gr"), (1, "", "timetables, line 1: a kind word is not the one expected here (9 BadKind)\n"))
+        self.assertEqual(run("four-nodes.gr", 1, 0)[::2], (2, "walk_to GR SOURCE DEPARTURE TARGET [TP]\n"))
+
+    @needs_program("c++")
+    def test_matrix(self):
+        run, town = self.built("c++", "matrix.cpp", "-std=c++17", "-pthread"), network_of("commuter")
+        nodes = [225, 1, 100, 236, 225]
+        lines = []
+        for source in nodes:
+            least = town.least([(source, 29400)])
+            lines.append(" ".join([f"{source}:", *(str(least[node - 1]) for node in nodes)]) + "\n")
+        self.assertEqual(run("commuter.gr", "commuter.tp", 29400, *nodes), (0, "".join(lines), ""))
+        self.assertEqual(run("commuter.gr", "commuter.tp", 29400, 301), (1, "", "matrix: a number is not that of a node (18 NoSuchNode)\n"))
+        self.assertEqual(run("commuter.gr", "commuter.gr", 29400, 1)[::2], (1, "matrix: tp 2: a kind word is not the one expected here (9 BadKind)\n"))

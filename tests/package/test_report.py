@@ -215,6 +215,31 @@ class Writes(Case):
             with self.assertRaises(FileNotFoundError):
                 report.write(os.path.join(room, "nothing", "report"), self.road.search([9]))
 
+    def test_links_devices_and_descriptors(self):
+        """A link stays a link, and a device or a descriptor is written to: what a log has already stays there."""
+        with tempfile.TemporaryDirectory() as room:
+            path, link, log, long = (os.path.join(room, name) for name in ("report", "link", "log", "x" * 255))
+            os.symlink(path, link)
+            report.write(link, self.road.search([3], 10))
+            report.write(long, self.road.search([3], 10))
+            for name in (path, long):
+                with open(name, "rb") as file:
+                    self.assertEqual(file.read(), self.wanted([(3, 10)]))
+            self.assertTrue(os.path.islink(link))
+            report.write("/dev/null", self.road.search([3], 10))
+            self.assertFalse(os.path.isfile("/dev/null"))
+            text = "import sys\nfrom earliest import report\nreport.write(sys.argv[1], report.read(sys.argv[2]))\n"
+            for to in ("/dev/stdout", "/dev/fd/1", "/proc/self/fd/1"):
+                with open(log, "wb") as out:
+                    out.write(b"c a log\n")
+                with open(log, "ab") as out:
+                    subprocess.run([sys.executable, "-c", text, to, path], stdout=out, check=True)
+                with open(log, "rb") as file:
+                    self.assertEqual(file.read(), b"c a log\n" + self.wanted([(3, 10)]))
+            with self.assertRaises(OSError):
+                report.write(room, self.road.search([3]))
+            self.assertEqual(sorted(os.listdir(room)), ["link", "log", "report", "x" * 255])
+
     @needs("numpy")
     def test_arrays(self):
         made = report.Report(sources=numpy.array([1]), departures=numpy.array([7]), nodes=numpy.array([1, 2]), arrivals=numpy.array([[7, NEVER]], dtype="uint64"))
