@@ -9,10 +9,12 @@
 Nodes and arcs are numbered from 1. Times are whole numbers from 0 to HORIZON, in the unit of the travel times. A call of the engine
 releases the interpreter's lock, so several threads search on one road at the same time. `python -m earliest` has commands for files.
 """
-from ._engine import Answer, Answers, Road, Search
+from ._answers import Answer, Answers
+from ._engine import Road
 from ._failures import Busy, Failure, InputFailure
 from ._library import HORIZON, NEVER
 from ._names import Names
+from ._searches import Search
 from ._version import VERSION as __version__
 
 __all__ = ["HORIZON", "NEVER", "Answer", "Answers", "Busy", "Failure", "InputFailure", "Names", "Road", "Search", "__version__"]

@@ -1,120 +1,18 @@
-"""Roads, searches and answers, over the calls of include/earliest.h."""
+"""Roads, over the calls of include/earliest.h."""
 from __future__ import annotations
 
 import array
-import ctypes
-import os
-import threading
-import weakref
-import zlib
-from typing import Any, Callable, Dict, Hashable, Iterable, List, Optional, Sequence, Tuple
+from typing import Any, Hashable, Iterable, Optional, Sequence, Tuple
 
 from . import _numbers, _texts, _threads
-from ._failures import Busy, Failure, InputFailure, test
-from ._library import HORIZON, NEVER, Fault, Handle, Starts, library
+from ._answers import Answers
+from ._cores import Core, made_again, of_lists, of_texts
+from ._failures import Failure, InputFailure, test
+from ._library import HORIZON, Fault, Starts, library
 from ._names import Names
 from ._numbers import numpy
-from ._times import PLAIN, Times
-
-_cores: "weakref.WeakSet[_Core]" = weakref.WeakSet()
-
-
-def _forked():
-    """A lock that another thread held at a fork is nobody's in the child."""
-    for core in list(_cores):
-        core.lock = threading.Lock()
-
-
-if hasattr(os, "register_at_fork"):
-    os.register_at_fork(after_in_child=_forked)
-
-
-class _Core:
-    """A road of the library: its handle, the lock under which one thread at a time calls with it, and how it is made again."""
-
-    def __init__(self, again: "_Again", fill: Callable[[Any, Any], int], refused: Callable[[Any], Exception]):
-        self.handle, self.lock, self.again, fault = Handle(), threading.Lock(), again, Fault()
-        number = fill(self.handle, fault)
-        if number and number != 13 and fault.text:
-            raise refused(fault)
-        test(number)
-        self.nodes: int = library().earliest_road_nodes(self.handle)
-        self.arcs: int = library().earliest_road_arcs(self.handle)
-        self.ends: Any = None
-        _cores.add(self)
-
-    def close(self):
-        with self.lock:
-            library().earliest_road_free(self.handle)
-
-    def __del__(self):
-        if getattr(self, "handle", None) is not None and self.handle.at:
-            library().earliest_road_free(self.handle)
-
-
-class _Again:
-    """What a road was made of: paths of files with the checksums of what was read, or texts, or lists."""
-
-    def __init__(self, **parts: Any):
-        self.parts = parts
-
-    def __getattr__(self, name):
-        if name.startswith("__") or name == "parts":
-            raise AttributeError(name)
-        return self.parts.get(name)
-
-
-def _checksum(text: Optional[bytes]) -> Optional[Tuple[int, int]]:
-    return None if text is None else (len(text), zlib.crc32(text))
-
-
-def _of_texts(gr: bytes, tp: Optional[bytes], files: Sequence[str], paths: Optional[Sequence[Optional[str]]] = None) -> _Core:
-    """The road of two texts. It is made again of the files where both have paths, else of the texts, which are kept."""
-    if paths and paths[0] and (tp is None or paths[1]):
-        again = _Again(paths=tuple(paths), files=tuple(files), sums=(_checksum(gr), _checksum(tp)))
-    else:
-        again = _Again(texts=(gr, tp), files=tuple(files))
-    # To the library an empty text means that there is none: a line without fields has the fault that an empty file has.
-    times = b"" if tp is None else tp or b"\n"
-
-    def refused(fault):
-        return InputFailure(files[fault.text - 1], fault.line, fault.number, _texts.line_of((gr, times)[fault.text - 1], fault.line))
-
-    return _Core(again, lambda handle, fault: library().earliest_road_read(gr, len(gr), times, len(times), handle, fault), refused)
-
-
-def _of_lists(nodes: int, lists: Sequence[Any], tp: Optional[bytes]) -> _Core:
-    """The road of arrays of tails, heads, weights and classes, which are kept."""
-    times = b"" if tp is None else tp or b"\n"
-    words = [word for it in lists for word in (_numbers.address(it), len(it))]
-
-    def refused(fault):
-        value: Any = _texts.line_of(times, fault.line)
-        if fault.text == 1:
-            at = fault.line - 2
-            value = tuple(int(it[at]) for it in lists if len(it) > at) if at >= 0 else f"{nodes} nodes"
-        return InputFailure(("gr", "tp")[fault.text - 1], fault.line, fault.number, value)
-
-    again = _Again(nodes=nodes, lists=tuple(lists), tp=tp)
-    return _Core(again, lambda handle, fault: library().earliest_road_of_lists(nodes, *words, times, len(times), handle, fault), refused)
-
-
-def _made_again(cls, parts: Dict[str, Any], names: Any, edges: Any) -> "Road":
-    """The road that a pickle is of."""
-    again = _Again(**parts)
-    if again.paths:
-        texts: List[Optional[bytes]] = []
-        for path, name, told in zip(again.paths, again.files, again.sums):
-            text = None if told is None else _texts.text_of(path, name)[0]
-            if _checksum(text) != told:
-                raise OSError(f"{path} has changed since the road that was pickled was read from it")
-            texts.append(text)
-        core = _of_texts(texts[0], texts[1], again.files, again.paths)  # type: ignore[arg-type]
-    elif again.texts:
-        core = _of_texts(again.texts[0], again.texts[1], again.files)
-    else:
-        core = _of_lists(again.nodes, again.lists, again.tp)
-    return cls._over(core, names, edges)
+from ._searches import Search
+from ._times import Times, is_one_time
 
 
 class Road:
@@ -124,7 +22,7 @@ class Road:
     A copy is the road itself. A pickle has the paths of the files that the road was read from, or else the texts or lists it was made of.
     """
 
-    _core: _Core
+    _core: Core
     _names: Optional[Names]
     _edges: Optional[Sequence[Any]]
 
@@ -134,10 +32,10 @@ class Road:
             if (text is not None or word == "gr") and not isinstance(text, (bytes, bytearray, memoryview)):
                 raise TypeError(f"the text {word} has to be bytes, not {type(text).__name__}; Road.read takes paths and files")
         texts = [None if text is None else _texts.unpacked(bytes(text), name) for text, name in zip((gr, tp), files)]
-        self._core, self._names, self._edges = _of_texts(texts[0], texts[1], files), None, None  # type: ignore[arg-type]
+        self._core, self._names, self._edges = of_texts(texts[0], texts[1], files), None, None  # type: ignore[arg-type]
 
     @classmethod
-    def _over(cls, core: _Core, names: Optional[Names], edges: Optional[Sequence[Any]]) -> "Road":
+    def _over(cls, core: Core, names: Optional[Names], edges: Optional[Sequence[Any]]) -> "Road":
         road = cls.__new__(cls)
         road._core, road._names, road._edges = core, names, edges
         return road
@@ -152,7 +50,7 @@ class Road:
         """
         text, name, path = _texts.text_of(gr, "gr")
         times, of_times, path_of_times = (None, "tp", None) if tp is None else _texts.text_of(tp, "tp")
-        return cls._over(_of_texts(text, times, (name, of_times), (path, path_of_times)), None, None)
+        return cls._over(of_texts(text, times, (name, of_times), (path, path_of_times)), None, None)
 
     @classmethod
     def of_arcs(cls, nodes: int, tails: Iterable[int], heads: Iterable[int], weights: Iterable[int], classes: Optional[Iterable[int]] = None,
@@ -174,7 +72,7 @@ class Road:
         if len({len(it) for it in lists[: 3 if classes is None else 4]}) > 1:
             lengths = tuple(len(it) for it in lists[: 3 if classes is None else 4])
             raise Failure(23, f"tails, heads, weights and classes have different lengths, {lengths}", lengths)
-        return cls._over(_of_lists(nodes, lists, None if tp is None else bytes(tp)), None, None)
+        return cls._over(of_lists(nodes, lists, None if tp is None else bytes(tp)), None, None)
 
     @classmethod
     def from_networkx(cls, graph: Any, weight: Any = "weight", classes: Any = None, tp: Optional[bytes] = None) -> "Road":
@@ -251,16 +149,7 @@ class Road:
     def ends(self) -> Tuple[Any, Any]:
         """The tails and the heads of all arcs: two arrays of uint32 with the shape (arcs,), the first place that of arc 1. Nodes are told by
         their numbers. A road of texts reads its text once more when this is first asked for."""
-        if self._core.ends is None:
-            again = self._core.again
-            if again.lists:
-                self._core.ends = (again.lists[0], again.lists[1])
-            else:
-                text = again.texts[0] if again.texts else _texts.text_of(again.paths[0], "gr")[0]
-                if again.paths and _checksum(text) != again.sums[0]:
-                    raise OSError(f"{again.paths[0]} has changed since the road was read from it")
-                self._core.ends = _ends_of(text)
-        return self._core.ends
+        return self._core.ends()
 
     def __repr__(self):
         if not self._core.handle.at:
@@ -276,7 +165,7 @@ class Road:
         return self
 
     def __reduce__(self):
-        return _made_again, (type(self), self._core.again.parts, self._names, self._edges)
+        return made_again, (type(self), self._core.again.parts, self._names, self._edges)
 
     def __enter__(self):
         return self
@@ -386,9 +275,9 @@ class Road:
         """
         times = Times(unit, origin, masked, as_float)
         starts, ends, when = self._spread(self._list(sources), self._list(targets), times.departures(departures, None if departures is not None else 1),
-                                          ones=(self._is_one(sources), self._is_one(targets), departures is None or _is_one_time(departures)))
+                                          ones=(self._is_one(sources), self._is_one(targets), departures is None or is_one_time(departures)))
         found = times.told(_threads.pairs(self, starts, ends, when, threads))
-        one = self._is_one(sources) and self._is_one(targets) and (departures is None or _is_one_time(departures))
+        one = self._is_one(sources) and self._is_one(targets) and (departures is None or is_one_time(departures))
         return found[0] if one else found
 
     def profile(self, source: Any, target: Any, departures: Any, threads: Optional[int] = None, *, unit: Optional[str] = None,
@@ -398,7 +287,7 @@ class Road:
         for node, word in ((source, "source"), (target, "target")):
             if not self._is_one(node):
                 raise TypeError(f"a profile has one {word}, not {node!r}")
-        if departures is None or _is_one_time(departures):
+        if departures is None or is_one_time(departures):
             raise TypeError(f"a profile takes a list of departures, not {departures!r}")
         return self.pairs(source, target, departures, threads, unit=unit, origin=origin, masked=masked, as_float=as_float)
 
@@ -412,7 +301,7 @@ class Road:
         times = Times(unit, origin, masked, as_float)
         if arrivals is None:
             raise TypeError("latest takes the times by which the targets have to be reached")
-        ones = (self._is_one(sources), self._is_one(targets), _is_one_time(arrivals))
+        ones = (self._is_one(sources), self._is_one(targets), is_one_time(arrivals))
         starts, ends, by = self._spread(self._list(sources), self._list(targets), times.departures(arrivals, None, "a time to arrive by"), ones=ones)
         found = times.told(_threads.latest(self, starts, ends, by, threads))
         return found[0] if all(ones) else found
@@ -452,356 +341,8 @@ def _no_node(number: Any, road: Road) -> Failure:
     return Failure(18, f"{number} is no node of the road, whose nodes are 1 to {road.nodes}", number)
 
 
-def _is_one_time(values: Any) -> bool:
-    """Whether this is one time and no list of them."""
-    if hasattr(values, "to_numpy") and not hasattr(values, "__len__"):
-        return True
-    return not (hasattr(values, "__len__") or hasattr(values, "__iter__")) or (numpy is not None and getattr(values, "ndim", 1) == 0)
-
-
 def _same(when, count: int, first: str, second: str):
     """Lists that belong together have one length."""
     if len(when) != count:
         raise Failure(23, f"there are {count} {first} and {len(when)} {second}", (count, len(when)))
     return when
-
-
-def _ends_of(text: bytes):
-    """The tails and the heads of a network's text, which the engine has read without fault."""
-    tails, heads = array.array("I"), array.array("I")
-    for line in text.split(b"\n"):
-        fields = line.split()
-        if fields and fields[0] == b"a":
-            tails.append(int(fields[1]))
-            heads.append(int(fields[2]))
-    if numpy is not None:
-        return numpy.array(tails, dtype=numpy.uint32), numpy.array(heads, dtype=numpy.uint32)
-    return tails, heads
-
-
-class _Alone:
-    """Lets one thread in. Another one waits, or is refused at once (`Busy`)."""
-
-    def __init__(self, waits: bool):
-        self.lock, self.waits = threading.Lock(), waits
-
-    def __enter__(self):
-        if not self.lock.acquire(self.waits):
-            raise Busy()
-
-    def __exit__(self, *_):
-        self.lock.release()
-
-
-class Search:
-    """The arrays of a search on a road, used query after query. It is for one thread at a time: a call by a second thread, while a first
-    one is in a call, is refused with `Busy` and does nothing. It has a share of its road, which may be closed before it."""
-
-    def __init__(self, road: Road, walks: bool = True, *, waits: bool = False):
-        """A search on a road, with room for walks or without. With `waits` a second thread waits for its turn in place of being refused."""
-        self._handle, self._road, self._turn, self._alone, self._walks = Handle(), road, 0, _Alone(waits), bool(walks)
-        with road._core.lock:
-            number = library().earliest_search_new(road._core.handle, 1 if walks else 0, self._handle)
-        test(number)
-
-    @property
-    def road(self) -> Road:
-        """The road that it searches on."""
-        return self._road
-
-    def __repr__(self):
-        if not self._handle.at:
-            return "<earliest.Search, closed or in a call>"
-        return f"<earliest.Search {'with' if self._walks else 'without'} walks on {self._road!r}>"
-
-    def __copy__(self):
-        raise TypeError("a search can't be copied: make another one by road.searcher()")
-
-    def __deepcopy__(self, memo):
-        return self.__copy__()
-
-    def __reduce__(self):
-        raise TypeError("a search can't be pickled: pass its road, and make a search there by road.searcher()")
-
-    def __enter__(self):
-        return self
-
-    def __exit__(self, *_):
-        self.close()
-
-    def close(self) -> None:
-        """Lets the search go; every later call is a Failure (17 NoSearch)."""
-        with self._alone:
-            library().earliest_search_free(self._handle)
-
-    def __del__(self):
-        if getattr(self, "_handle", None) is not None and self._handle.at:
-            library().earliest_search_free(self._handle)
-
-    def find(self, sources: Any, departures: Any = None, *, joint: bool = False, unit: Optional[str] = None, origin: Any = None,
-             masked: bool = False, as_float: bool = False) -> "Answer":
-        """The earliest arrivals at all nodes from one source, or with `joint` from the sources of a list as one problem. The answer is good
-        until the next query of this search, and a RuntimeError after it. Departures and how times are written as in `Road.arrivals`."""
-        times = Times(unit, origin, masked, as_float)
-        nodes, when = self._road._starts(sources, departures, times)
-        if len(nodes) != 1 and not joint:
-            raise ValueError(f"one query has one source, not {len(nodes)}: say joint=True for one problem with all of them, or use road.search for a problem each")
-        return self._found(nodes, when, times)
-
-    def _found(self, nodes, when, times: Times) -> "Answer":
-        with self._alone:
-            number = library().earliest_search_from(self._handle, _numbers.address(nodes), len(nodes), _numbers.address(when), len(when))
-            test(number)
-            self._turn += 1
-            return Answer(self._road, nodes, when, times, _Latest(self, self._turn))
-
-    def pair(self, source: Any, departure: Any, target: Any, *, unit: Optional[str] = None, origin: Any = None, as_float: bool = False) -> Any:
-        """The earliest arrival at a target from a source that is left at a departure; None if no walk reaches it within the horizon."""
-        times = Times(unit, origin, False, as_float)
-        if departure is None or not _is_one_time(departure):
-            raise TypeError(f"a pair has one departure, not {departure!r}")
-        start, end = self._road.number(source), self._road.number(target)
-        when, found = int(times.departures(departure, 1)[0]), ctypes.c_uint64()
-        with self._alone:
-            test(library().earliest_search_pair(self._handle, start, when, end))
-            self._turn += 1
-            test(library().earliest_search_arrival(self._handle, end, found))
-        return times.told_one(found.value)
-
-    # What answers ask for, each under the lock and of the query that they are about.
-
-    def _of(self, turn: int):
-        if self._turn != turn:
-            raise RuntimeError("the search has answered a later query")
-
-    def _arrivals(self, turn: int):
-        with self._alone:
-            self._of(turn)
-            out = _numbers.room((self._road.nodes,))
-            test(library().earliest_search_arrivals(self._handle, _numbers.address(out), len(out)))
-            return out
-
-    def _arrival(self, turn: int, node: int) -> int:
-        found = ctypes.c_uint64()
-        with self._alone:
-            self._of(turn)
-            test(library().earliest_search_arrival(self._handle, node, found))
-        return found.value
-
-    def _walk(self, turn: int, node: int) -> Optional[List[int]]:
-        room, count = 256, ctypes.c_uint64()
-        with self._alone:
-            self._of(turn)
-            while True:
-                out = (ctypes.c_uint32 * room)()
-                number = library().earliest_search_walk(self._handle, node, out, room, count)
-                if number != 24:
-                    break
-                room = count.value
-        if number == 22:
-            return None
-        test(number)
-        return out[: count.value]
-
-
-class _Latest:
-    """What a search's query found, until its next one."""
-
-    def __init__(self, search: Search, turn: int):
-        self.search, self.turn = search, turn
-
-    def arrivals(self):
-        return self.search._arrivals(self.turn)
-
-    def arrival(self, node: int) -> int:
-        return self.search._arrival(self.turn, node)
-
-    def walk(self, node: int) -> Optional[List[int]]:
-        return self.search._walk(self.turn, node)
-
-
-class _Row:
-    """One problem of several: its row is there, and its walks are found by another search when one is asked for."""
-
-    def __init__(self, answers: "Answers", at: int):
-        self.answers, self.at = answers, at
-
-    def arrivals(self):
-        return self.answers._raw[self.at]
-
-    def arrival(self, node: int) -> int:
-        return int(self.answers._raw[self.at][node - 1])
-
-    def walk(self, node: int) -> Optional[List[int]]:
-        return self.answers._walk(self.at, node)
-
-
-class Answer:
-    """What one problem came to: arrivals at all nodes, and walks. Nodes are told by their names if the road has names."""
-
-    def __init__(self, road: Road, sources, departures, times: Times, found: Any):
-        self._road, self._sources, self._departures, self._times, self._found = road, sources, departures, times, found
-
-    @property
-    def road(self) -> Road:
-        """The road that was searched."""
-        return self._road
-
-    @property
-    def sources(self) -> List[Hashable]:
-        """The nodes that were started from: one, or with `joint` those of the list."""
-        return [self._road.name(int(it)) for it in self._sources]
-
-    @property
-    def departures(self) -> List[int]:
-        """When each source was left, in the road's own times."""
-        return [int(it) for it in self._departures]
-
-    @property
-    def arrivals(self) -> Any:
-        """The earliest arrivals with the shape (nodes,), the first that of node 1: uint64 with NEVER where a node is not reached within the
-        horizon, or as `unit`, `origin`, `masked` and `as_float` of the search say. Without NumPy an array.array("Q")."""
-        return self._times.told(self._found.arrivals())
-
-    def arrival(self, node: Any) -> Any:
-        """The earliest arrival at a node; None if no walk reaches it within the horizon."""
-        return self._times.told_one(self._found.arrival(self._road.number(node)))
-
-    def walk(self, node: Any) -> Optional[List[int]]:
-        """The numbers of the arcs of a node's canonical walk, first arc first, [] at a source; None if no walk reaches the node within the
-        horizon."""
-        return self._found.walk(self._road.number(node))
-
-    def path(self, node: Any) -> Optional[List[Hashable]]:
-        """The nodes of a node's walk, from a source to the node itself; None if it is not reached."""
-        walk = self.walk(node)
-        if walk is None:
-            return None
-        tails, _ = self._road.ends()
-        return [*(self._road.name(int(tails[arc - 1])) for arc in walk), node]
-
-    def edges(self, node: Any) -> Optional[List[Any]]:
-        """The arcs of a node's walk as they are called where the road came from (`road.edges`), else their numbers; None if the node is not
-        reached."""
-        walk = self.walk(node)
-        if walk is None or self._road.edges is None:
-            return walk
-        return [self._road.edges[arc - 1] for arc in walk]
-
-    def reached(self) -> Dict[Hashable, Any]:
-        """The arrival at each node that is reached, by name or number."""
-        raw = self._found.arrivals()
-        names = self._road.names or range(1, self._road.nodes + 1)
-        return {name: self._times.told_one(int(time)) for name, time in zip(names, raw) if time != NEVER}
-
-    def series(self, name: str = "arrival") -> Any:
-        """The arrivals as a pandas Series whose index has the names or numbers of the nodes, missing where a node is not reached: UInt64,
-        timedelta64[ns] with `unit`, datetime64[ns] with `origin`, float64 with `as_float`."""
-        return series_of(self._road, self._found.arrivals(), self._times, name)
-
-    def __repr__(self):
-        shown = ", ".join(f"{source!r} at {time}" for source, time in zip(self.sources[:3], self.departures))
-        return f"<earliest.Answer from {shown or 'no source'}{', ..' if len(self._sources) > 3 else ''}>"
-
-    def __reduce__(self):
-        kept = Answers(self._road, self._sources[:1], self._departures[:1], [self._found.arrivals()], True, self._times)
-        kept._starts = [(self._sources, self._departures)]
-        return _row_of, (kept,)
-
-
-def _row_of(answers: "Answers") -> Answer:
-    return answers[0]
-
-
-class Answers(Sequence[Answer]):
-    """What several problems came to, in the order of their sources: `answers[i]` is the Answer of source i, counted from 0."""
-
-    def __init__(self, road: Road, sources, departures, raw, walks: bool, times: Times):
-        self._road, self._raw, self._walks, self._times = road, raw, walks, times
-        self._starts: List[Tuple[Any, Any]] = [(sources[at : at + 1], departures[at : at + 1]) for at in range(len(sources))]
-        self._reset()
-
-    def _reset(self):
-        if numpy is not None and isinstance(self._raw, numpy.ndarray):
-            self._raw.flags.writeable = False
-        self._lock, self._search, self._searched = threading.Lock(), None, -1
-
-    @property
-    def road(self) -> Road:
-        """The road that was searched."""
-        return self._road
-
-    @property
-    def sources(self) -> List[Hashable]:
-        """The source of each problem."""
-        return [self._road.name(int(it)) for nodes, _ in self._starts for it in nodes]
-
-    @property
-    def departures(self) -> List[int]:
-        """When each source was left, in the road's own times."""
-        return [int(it) for _, when in self._starts for it in when]
-
-    @property
-    def arrivals(self) -> Any:
-        """The earliest arrivals with the shape (problems, nodes), as `Road.arrivals` gives them; not to be written to."""
-        return self._times.told(self._raw)
-
-    def __len__(self):
-        return len(self._starts)
-
-    def __getitem__(self, at):
-        if isinstance(at, slice):
-            return [self[it] for it in range(*at.indices(len(self)))]
-        place = _numbers.whole(at, "the place of an answer")
-        if not -len(self) <= place < len(self):
-            raise IndexError(f"there are {len(self)} answers, from 0 on, and none at {place}")
-        place %= len(self)
-        return Answer(self._road, *self._starts[place], self._times, _Row(self, place))
-
-    def __getattr__(self, name):
-        if name in ("arrival", "walk", "path", "edges", "reached", "series"):
-            raise AttributeError(f"a list of sources has an answer for each of them: take one, as found[0].{name}, or pass one node in place of a list")
-        raise AttributeError(f"'Answers' object has no attribute {name!r}")
-
-    def _walk(self, at: int, node: int) -> Optional[List[int]]:
-        """A walk of one problem, by a search that goes from problem to problem."""
-        if not self._walks:
-            raise Failure(21)
-        with self._lock:
-            if self._search is None:
-                self._search = Search(self._road, True, waits=True)
-            if self._searched != at:
-                self._searched = -1
-                self._search._found(*self._starts[at], PLAIN)
-                self._searched = at
-            return self._search._walk(self._search._turn, node)
-
-    def __repr__(self):
-        return f"<earliest.Answers of {len(self)} problems on {self._road!r}>"
-
-    def __getstate__(self):
-        return {name: value for name, value in self.__dict__.items() if name not in ("_lock", "_search", "_searched")}
-
-    def __setstate__(self, state):
-        self.__dict__.update(state)
-        self._reset()
-
-
-def series_of(road: Road, raw, times: Times, name: str):
-    """Arrivals at all nodes as a pandas Series by name."""
-    try:
-        import pandas
-    except ImportError as error:
-        raise ImportError("a series needs pandas: install it by `pip install pandas` or `apt-get install python3-pandas`") from error
-    index = pandas.Index(list(road.names) if road.names is not None else range(1, road.nodes + 1), name="node", tupleize_cols=False)
-    told = Times(times.unit, times.origin, False, times.as_float) if times.unit or times.as_float else PLAIN
-    values = told.told(raw)
-    if times.unit and not times.as_float:
-        kind = "datetime64[ns]" if times.origin is not None else "timedelta64[ns]"
-        exact = values.astype(kind)
-        if ((exact.astype(values.dtype) != values) & (raw != NEVER)).any():
-            raise OverflowError("a time is beyond what pandas can hold: ask for as_float=True")
-        return pandas.Series(exact, index=index, name=name)
-    if times.as_float:
-        return pandas.Series(values, index=index, name=name)
-    return pandas.Series(pandas.arrays.IntegerArray(raw.copy(), raw == NEVER), index=index, name=name)

@@ -43,7 +43,7 @@ def of_networkx(cls, graph: Any, weight: Any, classes: Any, tp: Optional[bytes])
             kinds.append(kind)
             edges.append((one, other, *edge[2:]))
     road = cls.of_arcs(len(names), tails, heads, weights, None if classes is None else kinds, tp)
-    return cls._over(road._core, names, edges)
+    return cls._over(road._core, names, tuple(edges))
 
 
 def _attribute(asked, tail, head, data, what, where, default):
@@ -128,7 +128,7 @@ def of_frame(cls, edges: Any, nodes: Any, tail: Optional[str], head: Optional[st
             of_class.append(kinds[place])
             called.append(labels[place])
     road = cls.of_arcs(len(names), tails, heads, weights, None if classes is None else of_class, tp)
-    return cls._over(road._core, names, called)
+    return cls._over(road._core, names, tuple(called))
 
 
 def _ends(edges, name, usual):

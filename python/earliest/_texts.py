@@ -6,7 +6,7 @@ import os
 import zlib
 from typing import IO, Any, Optional, Tuple, Union
 
-Source = Union[str, "os.PathLike[str]", bytes, bytearray, memoryview, IO[Any]]
+Source = Union[str, os.PathLike, bytes, bytearray, memoryview, IO[Any]]
 """A path, the contents of a file, or a file that is open for reading."""
 
 

@@ -78,7 +78,7 @@ def by_threads(parts: int, threads: Optional[int], worker: Callable[[], Callable
 
 def rows(road: Any, sources: Any, departures: Any, picks: Any, threads: Optional[int]):
     """The arrivals at all nodes, or at those of `picks`, one row for each source."""
-    from ._engine import Search
+    from ._searches import Search
 
     counted(threads, 1)
     out = _numbers.room((len(sources), road.nodes if picks is None else len(picks)))
@@ -143,7 +143,7 @@ def latest(road: Any, sources: Any, targets: Any, arrivals: Any, threads: Option
 
 
 def _each_pair(road, count, threads, ask):
-    from ._engine import Search
+    from ._searches import Search
 
     counted(threads, 1)
     out = _numbers.room((count,))

@@ -162,6 +162,13 @@ def _of_python(value, what):
     return numpy.datetime64(value) if isinstance(value, datetime.datetime) else numpy.timedelta64(value)
 
 
+def is_one_time(values: Any) -> bool:
+    """Whether this is one time and no list of them."""
+    if hasattr(values, "to_numpy") and not hasattr(values, "__len__"):
+        return True
+    return not (hasattr(values, "__len__") or hasattr(values, "__iter__")) or (_numbers.numpy is not None and getattr(values, "ndim", 1) == 0)
+
+
 def _above_horizon(found) -> Optional[int]:
     """The first time above the horizon, if there is one."""
     if isinstance(found, array.array):

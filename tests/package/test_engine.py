@@ -87,10 +87,12 @@ class Answers(Case):
     def test_walks_of_several_problems_in_any_order(self):
         net = self.networks[1]
         found = earliest.Road(net.gr(), net.tp()).search(list(range(1, 11)), 50)
+        want = [net.least([(source, 50)]) for source in range(1, 11)]
         asked = [(at, node) for at in range(10) for node in range(1, net.nodes + 1)]
-        first = {both: found[both[0]].walk(both[1]) for both in asked}
-        for both in sorted(asked, key=lambda it: (it[1], it[0])):
-            self.assertEqual(found[both[0]].walk(both[1]), first[both])
+        for order in (asked, sorted(asked, key=lambda it: (it[1], it[0]))):
+            for at, node in order:
+                walk = found[at].walk(node)
+                self.assertEqual(None if walk is None else net.walked(at + 1, 50, walk), None if want[at][node - 1] == NEVER else (node, want[at][node - 1]))
 
     def test_a_road_of_lists_is_that_of_its_text(self):
         for net in self.networks:
@@ -195,6 +197,12 @@ class Answers(Case):
         tails[0] = heads[1] = weights[2] = 0
         self.assertEqual(flat(pickle.loads(pickle.dumps(road)).search(1).arrivals), [0, 5, 2, 6])
         self.assertEqual(flat(road.ends()[1]), [2, 3, 2, 4, 4])
+        for made in (road, earliest.Road(plain.FOUR)):
+            try:
+                made.ends()[1][0] = 4
+            except ValueError:
+                pass  # NumPy's are not to be written to.
+            self.assertEqual((flat(made.ends()[1]), flat(pickle.loads(pickle.dumps(made)).ends()[1])), ([2, 3, 2, 4, 4],) * 2)
 
     def test_long_walks(self):
         """Walks longer than any first room, in a process of its own, since a loop that never ends would be one here."""
@@ -491,7 +499,7 @@ class Values(Case):
                 if name.startswith("_") or not inspect.isfunction(call):
                     continue
                 self.assertTrue(call.__doc__, f"{kind.__name__}.{name}")
-                hints = typing.get_type_hints(call)
+                hints = typing.get_type_hints(call, None, vars(earliest))
                 wanted = [word for word in inspect.signature(call).parameters if word not in ("self", "cls")]
                 self.assertEqual([word for word in [*wanted, "return"] if word not in hints], [], f"{kind.__name__}.{name}")
 
@@ -558,9 +566,9 @@ class Arrays(Case):
         self.assertEqual(road.search(numpy.array(1), numpy.array(7)).arrivals.tolist(), want[0])
         self.assertEqual(road.search(numpy.array([])).arrivals.shape, (0, 4))
         self.told(ValueError, "the array has to have one dimension", lambda: road.search(both))
-        for array in (numpy.array([1.0]), numpy.array([True]), numpy.array(["1"]), numpy.array([1 + 0j])):
-            self.told(TypeError, "the array has to be one of whole numbers", lambda: road.search(array))
-            self.told(TypeError, "the array has to be one of whole numbers", lambda: road.search([1], array))
+        for ill in (numpy.array([1.0]), numpy.array([True]), numpy.array(["1"]), numpy.array([1 + 0j])):
+            self.told(TypeError, "the array has to be one of whole numbers", lambda: road.search(ill))
+            self.told(TypeError, "the array has to be one of whole numbers", lambda: road.search([1], ill))
         for value in (-1, 5, 2**32 + 1):
             self.refused(18, lambda: road.search(numpy.array([1, value])), value)
         for value in (-1, 2**48):

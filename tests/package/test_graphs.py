@@ -70,7 +70,7 @@ class Networkx(Case):
         graph = networkx.path_graph(["a", "b", "c"])
         networkx.set_edge_attributes(graph, 5, "weight")
         road = pickle.loads(pickle.dumps(earliest.Road.from_networkx(graph)))
-        self.assertEqual((road.search("a").reached(), road.search("c").edges("a"), road.edges), ({"a": 0, "b": 5, "c": 10}, [("c", "b"), ("b", "a")], [("a", "b"), ("b", "a"), ("b", "c"), ("c", "b")]))
+        self.assertEqual((road.search("a").reached(), road.search("c").edges("a"), road.edges), ({"a": 0, "b": 5, "c": 10}, [("c", "b"), ("b", "a")], (("a", "b"), ("b", "a"), ("b", "c"), ("c", "b"))))
         if numpy:
             networkx.set_edge_attributes(graph, numpy.int32(7), "weight")
             self.assertEqual(earliest.Road.from_networkx(graph).search("a").arrival("c"), 14)

@@ -12,7 +12,7 @@ import unittest
 
 import earliest
 import plain
-from optional import joblib, needs, numpy
+from optional import joblib, needs
 from test_engine import Case, flat
 
 NETWORK = plain.network(11, 60, 200)

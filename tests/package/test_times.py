@@ -4,7 +4,7 @@ import datetime
 import earliest
 import plain
 from optional import needs, numpy, pandas
-from test_engine import Case, flat
+from test_engine import Case
 
 NEVER = plain.NEVER
 NET = plain.network(21)
