@@ -296,7 +296,7 @@ class _Parser:
         if len(found) != 2 * lines:
             return False
         nodes, values = found[0::2], found[1::2].copy()
-        if int(nodes.max()) >= 2**32 or int((values > HORIZON).sum()) != nevers or int((values == NEVER).sum()) != nevers:
+        if int(nodes.max()) >= 2**32 or int((values > HORIZON).sum()) != nevers:
             return False
         if self.first is not None:
             want = self.first.nodes[self.count : self.count + lines]

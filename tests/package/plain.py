@@ -129,6 +129,12 @@ def grid(side, seed=1):
     return side * side, tails, heads, weights
 
 
+def peak():
+    """The most memory that this process has had so far, in KB. (What getrusage tells begins with the parent's.)"""
+    with open("/proc/self/status", encoding="ascii") as file:
+        return next(int(line.split()[1]) for line in file if line.startswith("VmHWM"))
+
+
 def read_example(name):
     with open(os.path.join(EXAMPLES, name), "rb") as file:
         return file.read()

@@ -520,7 +520,7 @@ class Values(Case):
 
     def test_memory_goes_back(self):
         """Roads and searches, ten thousand each: what they take is given back."""
-        text = "import resource, earliest, plain\n" \
+        text = "import earliest, plain\n" \
                "gr = plain.network(1, 100, 300).gr()\n" \
                "def use(count):\n" \
                "    for _ in range(count):\n" \
@@ -528,10 +528,9 @@ class Values(Case):
                "        road.searcher().find(1).arrivals\n" \
                "        road.search(1).walk(3)\n" \
                "use(500)\n" \
-               "before = resource.getrusage(resource.RUSAGE_SELF).ru_maxrss\n" \
+               "before = plain.peak()\n" \
                "use(10000)\n" \
-               "after = resource.getrusage(resource.RUSAGE_SELF).ru_maxrss\n" \
-               "print(after - before)\n"
+               "print(plain.peak() - before)\n"
         environment = {**os.environ, "PYTHONPATH": os.pathsep.join((os.environ["PYTHONPATH"], plain.HERE))}
         ran = subprocess.run([sys.executable, "-c", text], env=environment, capture_output=True, text=True, timeout=80)
         self.assertEqual((ran.returncode, ran.stderr), (0, ""))
