@@ -12,7 +12,7 @@ def main():
     road = earliest.Road.read(*files)
     print(f"{road.nodes} nodes, {road.arcs} arcs")
 
-    # A row for each source: an array of NumPy where it is there.
+    # A row for each source: an array of NumPy if it is installed.
     sources = range(1, 5)
     matrix = road.arrivals(sources, departures=1000)
     for source, row in zip(sources, matrix):

@@ -1,13 +1,13 @@
-// The engine of `earliest` in a C++ program: classes over the calls of earliest.h, which says what a caller owes. C++17 serves; where there is
-// std::span (C++20) it is taken and given.
+// The engine of `earliest` in a C++ program: classes over the calls of earliest.h, which says what a caller owes. C++17 is enough; with C++20
+// calls also take std::span.
 //
 // A road never changes, and any number of threads may ask it and make searches on it at the same time. A search is for one thread at a time;
 // searches on one road run on different threads. Both are moved and never copied. What was moved from holds nothing: a call on it is
 // refused (EARLIEST_NO_ROAD, EARLIEST_NO_SEARCH).
 //
-// A call that is refused throws `failure`, or `input_failure` where a text has a fault. If EARLIEST_EXPECTED is defined before this file is
+// A call that is refused throws `failure`, or `input_failure` if a text has a fault. If EARLIEST_EXPECTED is defined before this file is
 // included, nothing is thrown: calls return `expected<T>` with a value or an `error`, and the factories road::read, road::of_arcs and search::on
-// stand in for constructors. It is std::expected where there is one (C++23).
+// stand in for constructors. It is std::expected with C++23.
 #ifndef EARLIEST_HPP
 #define EARLIEST_HPP
 
@@ -84,7 +84,7 @@ public:
     expected(error_type why) : it_(std::in_place_index<1>, why) {}
     bool has_value() const noexcept { return it_.index() == 0; }
     explicit operator bool() const noexcept { return has_value(); }
-    /// The value; a call where there is none ends the program.
+    /// The value; undefined if there is none.
     held &operator*() & noexcept { return *std::get_if<0>(&it_); }
     const held &operator*() const & noexcept { return *std::get_if<0>(&it_); }
     held &&operator*() && noexcept { return std::move(*std::get_if<0>(&it_)); }
@@ -213,7 +213,7 @@ public:
         EARLIEST_TEST_(earliest_road_read(at(gr), gr.size(), at(tp), tp.size(), &made.core_->handle, &fault), fault);
         return made.counted();
     }
-    /// The road of so many nodes and of arcs with these tails, heads, weights and classes, where no classes make all arcs plain; the text of
+    /// The road of `nodes` nodes and of arcs with these tails, heads, weights and classes; without classes all arcs are plain. The text of
     /// timetables has kinds and assigns no arcs.
     static detail::returned<road> of_arcs(std::uint32_t nodes, list<std::uint32_t> tails, list<std::uint32_t> heads, list<std::uint32_t> weights,
                                           list<std::uint32_t> classes = {}, std::string_view tp = {}) {
@@ -315,7 +315,7 @@ public:
         return *this;
 #endif
     }
-    /// Searches from one start to one target: the earliest arrival, none where no walk reaches it within the horizon.
+    /// Searches from one start to one target: the earliest arrival, none if no walk reaches it within the horizon.
     detail::returned<std::optional<std::uint64_t>> to(start source, std::uint32_t target) {
         EARLIEST_TEST_(earliest_search_pair(&handle_, source.node, source.departure, target), earliest_fault{});
         return arrival(target);
@@ -326,7 +326,7 @@ public:
         EARLIEST_TEST_(earliest_search_arrival(&handle_, node, &time), earliest_fault{});
         return time == never ? std::optional<std::uint64_t>() : std::optional<std::uint64_t>(time);
     }
-    /// The earliest arrivals at all nodes, the first at node 1; `never` where no walk reaches a node.
+    /// The earliest arrivals at all nodes, the first at node 1; `never` for a node that no walk reaches.
     detail::returned<std::vector<std::uint64_t>> arrivals() {
         std::vector<std::uint64_t> out(nodes_ + std::size_t{1});
         EARLIEST_TEST_(earliest_search_arrivals(&handle_, out.data(), nodes_), earliest_fault{});
@@ -352,7 +352,7 @@ public:
         }
         EARLIEST_DONE_;
     }
-    /// The numbers of the arcs of a node's canonical walk; none where no walk reaches it within the horizon.
+    /// The numbers of the arcs of a node's canonical walk; none if no walk reaches it within the horizon.
     detail::returned<std::optional<std::vector<std::uint32_t>>> walk(std::uint32_t node) {
         std::vector<std::uint32_t> out(256);
         std::uint64_t count = 0;

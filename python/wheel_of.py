@@ -118,7 +118,7 @@ def needs(text):
 
 
 def tag_of(text):
-    """The tag of a wheel with this library: manylinux with the C library's version where that is true, else this system's own."""
+    """The tag of a wheel with this library: manylinux with the C library's version if the library needs no other than the system's, else this system's own."""
     machine, needed, (major, minor) = needs(text)
     if machine and all(COMMON.match(it) for it in needed):
         least = 5 if machine in ("x86_64", "i686") else 17
@@ -155,7 +155,7 @@ def build_editable(wheel_directory, config_settings=None, metadata_directory=Non
 
 
 def build_sdist(sdist_directory, config_settings=None):
-    """The sources of the package. They have no library: a wheel is built of them where EARLIEST_LIBRARY names one, or one lies at
+    """The sources of the package. They have no library: a wheel is built of them if EARLIEST_LIBRARY names one, or one lies at
     earliest/libearliest.so."""
     table = project()
     name = f"{PACKAGE}-{table['version']}"

@@ -64,13 +64,13 @@ def main(words: List[str]) -> int:
 
 
 def run() -> int:
-    """The command of the command line. Where standard output is a pipe that nobody reads any more, the status is 4 and nothing is told."""
+    """The command of the command line. If the reader of a pipe is gone (broken pipe), the exit status is 4 and no message is written."""
     try:
         status = main(sys.argv[1:])
         sys.stdout.flush()
         return status
     except BrokenPipeError:
-        # The null device takes what is left in the buffer at exit.
+        # At exit the interpreter flushes what is left in the buffer; send it to the null device.
         os.dup2(os.open(os.devnull, os.O_WRONLY), sys.stdout.fileno())
         return 4
 

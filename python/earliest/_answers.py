@@ -31,7 +31,7 @@ class Row:
 
 
 class Answer:
-    """What one problem came to: arrivals at all nodes, and walks. Nodes are told by their names if the road has names."""
+    """What one problem came to: arrivals at all nodes, and walks. Nodes are named by their names if the road has names, else by their numbers."""
 
     def __init__(self, road: Road, sources, departures, times: Times, found: Any):
         self._road, self._sources, self._departures, self._times, self._found = road, sources, departures, times, found
@@ -53,8 +53,8 @@ class Answer:
 
     @property
     def arrivals(self) -> Any:
-        """The earliest arrivals with the shape (nodes,), the first that of node 1: uint64 with NEVER where a node is not reached within the
-        horizon, or as `unit`, `origin`, `masked` and `as_float` of the search say. Without NumPy an array.array("Q")."""
+        """The earliest arrivals with the shape (nodes,), the first that of node 1: uint64 with NEVER for a node that is not reached within
+        the horizon, or as `unit`, `origin`, `masked` and `as_float` of the search say. Without NumPy an array.array("Q")."""
         return self._times.told(self._found.arrivals())
 
     def arrival(self, node: Any) -> Any:
@@ -75,8 +75,7 @@ class Answer:
         return [*(self._road.name(int(tails[arc - 1])) for arc in walk), node]
 
     def edges(self, node: Any) -> Optional[List[Any]]:
-        """The arcs of a node's walk as they are called where the road came from (`road.edges`), else their numbers; None if the node is not
-        reached."""
+        """The arcs of a node's walk as their source calls them (`road.edges`), else their numbers; None if the node is not reached."""
         walk = self.walk(node)
         if walk is None or self._road.edges is None:
             return walk
@@ -89,7 +88,7 @@ class Answer:
         return {name: self._times.told_one(int(time)) for name, time in zip(names, raw) if time != NEVER}
 
     def series(self, name: str = "arrival") -> Any:
-        """The arrivals as a pandas Series whose index has the names or numbers of the nodes, missing where a node is not reached: UInt64,
+        """The arrivals as a pandas Series whose index has the names or numbers of the nodes, missing for a node that is not reached: UInt64,
         timedelta64[ns] with `unit`, datetime64[ns] with `origin`, float64 with `as_float`."""
         return series_of(self._road, self._found.arrivals(), self._times, name)
 

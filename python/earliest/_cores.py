@@ -83,7 +83,7 @@ def checksum(text: Optional[bytes]) -> Optional[Tuple[int, int]]:
 
 
 def of_texts(gr: bytes, tp: Optional[bytes], files: Sequence[str], paths: Optional[Sequence[Optional[str]]] = None) -> Core:
-    """The road of two texts. It is made again of the files where both have paths, else of the texts, which are kept."""
+    """The road of two texts. To make it again, it keeps the paths of the files if both have one, else the texts."""
     if paths and paths[0] and (tp is None or paths[1]):
         again = Again(paths=tuple(paths), files=tuple(files), sums=(checksum(gr), checksum(tp)))
     else:

@@ -44,7 +44,7 @@ class Road:
 
     @classmethod
     def read(cls, gr: _texts.Source, tp: Optional[_texts.Source] = None) -> "Road":
-        """The road of a network (.gr) and, where there are some, of its timetables (.tp).
+        """The road of a network (.gr) and, if there are any, of its timetables (.tp).
 
         Each is a path, a file that is open for reading, or bytes, packed by gzip or not. A fault is an InputFailure with file and line.
         """
@@ -79,7 +79,7 @@ class Road:
         """The road of a networkx graph, whose nodes keep their names.
 
         `weight` is the name of the edges' attribute with a whole number from 0 to 2^32 - 1 in the unit of time, or a function of (u, v, attributes); an edge without
-        it is refused. `classes` names an attribute, or is a function, for the class of timetables, 0 where the attribute is missing; `tp` as in
+        it is refused. `classes` names an attribute, or is a function, for the class of timetables, 0 if the attribute is missing; `tp` as in
         `of_arcs`. An edge of an undirected graph is two arcs, one each way. `road.edges` has (u, v), or (u, v, key) of a multigraph, for
         each arc.
         """
@@ -143,11 +143,11 @@ class Road:
 
     @property
     def edges(self) -> Optional[Sequence[Any]]:
-        """What each arc is called where it came from, the first being arc 1: edges of networkx, rows of a frame; None if it has none."""
+        """What the source of the road calls each arc, the first being arc 1: edges of networkx, rows of a frame; None if it has no such names."""
         return self._edges
 
     def ends(self) -> Tuple[Any, Any]:
-        """The tails and the heads of all arcs: two arrays of uint32 with the shape (arcs,), the first place that of arc 1. Nodes are told by
+        """The tails and the heads of all arcs: two arrays of uint32 with the shape (arcs,), the first place that of arc 1. Nodes are given by
         their numbers. A road of texts reads its text once more when this is first asked for."""
         return self._core.ends()
 
@@ -180,7 +180,7 @@ class Road:
     # Numbers and names
 
     def number(self, node: Any) -> int:
-        """The number of a node from 1, of its name where the road has names. What is no node is a Failure (18 NoSuchNode)."""
+        """The number of a node from 1; the node is given by its name if the road has names. Raises Failure (18 NoSuchNode) for what is no node."""
         if self._names is not None:
             return self._names.number(node)
         number = _numbers.whole(node, "a node")
@@ -189,7 +189,7 @@ class Road:
         return number
 
     def name(self, number: int) -> Hashable:
-        """The name of the node with this number; the number itself where the road has no names."""
+        """The name of the node with this number; the number itself if the road has no names."""
         number = self.numbered.number(number)
         return number if self._names is None else self._names[number - 1]
 
@@ -245,7 +245,7 @@ class Road:
 
     def arrivals(self, sources: Any, departures: Any = None, nodes: Any = None, threads: Optional[int] = None, *, unit: Optional[str] = None,
                  origin: Any = None, masked: bool = False, as_float: bool = False) -> Any:
-        """The matrix of earliest arrivals: uint64 with the shape (sources, nodes), NEVER where a node is not reached within the horizon.
+        """The matrix of earliest arrivals: uint64 with the shape (sources, nodes), NEVER for a node that is not reached within the horizon.
 
         `sources` is a list of nodes, `departures` a list of as many times, or one time for all, 0 if it is not given. The columns are the
         nodes of the list `nodes`, or all nodes in the order of their numbers. One node in the place of a list takes its dimension away. The rows are
@@ -267,7 +267,7 @@ class Road:
 
     def pairs(self, sources: Any, targets: Any, departures: Any = None, threads: Optional[int] = None, *, unit: Optional[str] = None,
               origin: Any = None, masked: bool = False, as_float: bool = False) -> Any:
-        """The earliest arrivals of n pairs: uint64 with the shape (n,), NEVER where a target is not reached within the horizon.
+        """The earliest arrivals of n pairs: uint64 with the shape (n,), NEVER for a target that is not reached within the horizon.
 
         `sources`, `targets` and `departures` are lists of n members; one node or one time in the place of a list serves for all pairs, and
         departures are 0 if they are not given. Each pair is a search of its own that ends at its target. `threads` and how times are
@@ -308,7 +308,7 @@ class Road:
 
     @staticmethod
     def _spread(sources, targets, when, ones):
-        """Lists of one length: one member stands for as many as the others have where it was no list."""
+        """Lists of one length: what was given as one value is repeated."""
         lists = [sources, targets, when]
         lengths = {len(it) for it, one in zip(lists, ones) if not one}
         if len(lengths) > 1:

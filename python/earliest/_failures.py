@@ -43,7 +43,7 @@ MEANINGS = {
 class Failure(Exception):
     """A call was refused.
 
-    `number` and `name` are those of earliest.h, `value` is the number, the name of a node or the line that was refused, where there is one.
+    `number` and `name` are those of earliest.h, `value` is what was refused (a number, the name of a node, a line), or None.
     `file` and `line` are None but for an InputFailure. Two failures are equal if all of these are.
     """
 
@@ -75,8 +75,8 @@ class Failure(Exception):
 class InputFailure(Failure):
     """A text has a fault.
 
-    `file` is a path, or "gr", "tp" or "report" where the text came from memory; `line` counts from 1, and is 0 for a fault of the whole text;
-    `number` and `name` as in Failure; `value` is the text of the line, or the arc of lists, where there is one.
+    `file` is a path, or "gr", "tp" or "report" if the text came from memory; `line` counts from 1, and is 0 for a fault of the whole text;
+    `number` and `name` as in Failure; `value` is the text of the line, or the arc of lists, or None.
     """
 
     def __init__(self, file: str, line: int, number: int, value: Any = None):

@@ -11,7 +11,7 @@ Source = Union[str, os.PathLike, bytes, bytearray, memoryview, IO[Any]]
 
 
 def text_of(source: Source, word: str) -> Tuple[bytes, str, Optional[str]]:
-    """The bytes of a source, the name by which failures call it, and the absolute path where it has one. `word` names what has no name."""
+    """The bytes of a source, the name by which failures call it, and the absolute path if it has one. `word` is the name of what has none."""
     path = None
     if isinstance(source, (bytes, bytearray, memoryview)):
         text, name = bytes(source), word
@@ -29,7 +29,7 @@ def text_of(source: Source, word: str) -> Tuple[bytes, str, Optional[str]]:
         if isinstance(text, str):
             text = text.encode()
         if not isinstance(text, bytes):
-            raise TypeError(f"{source!r} gives no bytes where it is read")
+            raise TypeError(f"{source!r} gives no bytes when it is read")
         name = getattr(source, "name", word)
         name = name if isinstance(name, str) else word
     else:

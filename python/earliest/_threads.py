@@ -1,4 +1,4 @@
-"""Many searches by several threads, each with arrays of its own, straight into the memory of the result."""
+"""Many searches by several threads, each with its own arrays, straight into the memory of the result."""
 from __future__ import annotations
 
 import ctypes
@@ -12,7 +12,7 @@ from ._library import NEVER, library
 from ._numbers import numpy
 
 MOST = 16
-"""How many threads search where nobody says how many."""
+"""The most threads that search by default."""
 CHUNK = 64
 """How many pairs a thread takes at once."""
 
@@ -25,7 +25,7 @@ def processors() -> int:
 
 
 def counted(threads: Optional[int], parts: int) -> int:
-    """How many threads search so many parts."""
+    """The number of threads for a number of parts."""
     if threads is None:
         threads = min(processors(), MOST)
     elif _numbers.whole(threads, "threads") < 1:

@@ -18,9 +18,9 @@ class Times:
     """What a call was told of its times.
 
     `unit` is the unit of the road's times as NumPy writes it: "s", "ms", "m", "10ms". With it departures may be timedelta64 or
-    datetime.timedelta, and results are timedelta64 of that unit, NaT where a node is not reached. With `origin` as well, the moment of
+    datetime.timedelta, and results are timedelta64 of that unit, NaT for a node that is not reached. With `origin` as well, the moment of
     time 0, departures may be datetime64, datetime.datetime or pandas' Timestamp, and results are datetime64. `as_float` makes results
-    float64, inf where a node is not reached: seconds if there is a unit, else as they are. `masked` makes masked arrays.
+    float64, inf for a node that is not reached: seconds if there is a unit, else as they are. `masked` makes masked arrays.
     """
 
     def __init__(self, unit: Optional[str] = None, origin: Any = None, masked: bool = False, as_float: bool = False):
@@ -48,7 +48,7 @@ class Times:
     # In
 
     def departures(self, values: Any, count: Optional[int], what: str = "a departure"):
-        """Departures as an array of 64 bits: of `count` members where one value is given or none, else as many as are given."""
+        """Departures as an array of 64 bits: `count` members if one value is given or none, else those given."""
         if values is None:
             return _numbers.filled("Q", 0, count or 0)
         values = self._timeless(values, what)

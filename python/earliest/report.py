@@ -49,7 +49,7 @@ class Problem(NamedTuple):
     values: Any
     """Their arrivals, uint64, or latest departures of a turned problem; NEVER for `inf` and `none`."""
     walks: Optional[List[Any]]
-    """The arcs of the line `w` behind each line `d`, uint32, or None where there is no such line; None if the problem has no line `w`."""
+    """The arcs of the line `w` behind each line `d`, uint32, or None if there is no such line; None if the problem has no line `w`."""
 
 
 class Report:
@@ -73,7 +73,7 @@ class Report:
         return len(self.departures if self.turned else self.arrivals)
 
     def walk(self, problem: int, place: int = 0) -> Optional[Any]:
-        """The arcs of the line `w` behind line `d` number `place` of a problem, both from 0; None where there is none."""
+        """The arcs of the line `w` behind line `d` number `place` of a problem, both counted from 0; None if there is none."""
         of_problem = self.walks[problem] if self.walks else None
         return of_problem[place] if of_problem else None
 
@@ -381,7 +381,7 @@ def _blocks(file, name) -> Iterator[bytes]:
 # Writing
 
 def of_answers(answers: Any, walks: bool = False) -> Report:
-    """The report of an `Answer` or of `Answers`, as `earliest run` writes it, with walks or without. Nodes are told by their numbers."""
+    """The report of an `Answer` or of `Answers`, as `earliest run` writes it, with walks or without. Nodes are written by their numbers."""
     many = answers if hasattr(answers, "__getitem__") else [answers]
     road, rows = answers.road, [it._found.arrivals() for it in many]
     joint = not hasattr(answers, "__getitem__") and len(answers._sources) != 1

@@ -1,5 +1,5 @@
 // The classes of include/earliest.hpp with exceptions: happy paths, refusals, what moves leave behind, long walks, rows by threads. Exits with 1
-// where a test fails, whose line it tells.
+// if a test fails, after its line.
 #include <array>
 #include <cstdio>
 #include <numeric>

@@ -1,4 +1,4 @@
-// The classes of include/earliest.hpp without exceptions: each call tells a value or an error. Exits with 1 where a test fails.
+// The classes of include/earliest.hpp without exceptions: each call returns a value or an error. Exits with 1 if a test fails.
 #define EARLIEST_EXPECTED
 #include <cstdio>
 

@@ -35,7 +35,7 @@ def needs_program(*names):
 
 
 def without(*names):
-    """A decorator of tests of what happens where these libraries are missing."""
+    """A decorator of tests of what happens if these libraries are missing."""
     there = [name for name in names if FOUND.get(name) is not None]
     return unittest.skipIf(there, f"{', '.join(there)} is there, and this tests what happens without it")
 

@@ -72,7 +72,7 @@ class Network:
         return "\n".join([f"p tp {len(self.kinds) - 1} 0", *self.kinds_text(), ""]).encode()
 
     def least(self, starts):
-        """The least arrival at each node from (source, departure) pairs: a list of arrivals, NEVER where there is none."""
+        """The least arrival at each node from (source, departure) pairs: a list of arrivals, NEVER if there is none."""
         found, waiting = {}, []
         for source, departure in starts:
             if departure < found.get(source, NEVER):
@@ -113,7 +113,7 @@ def network(seed, nodes=40, arcs=120, kinds=KINDS):
 
 
 def path_of(count, weight=1):
-    """A path of so many arcs from node 1, numbered in its order."""
+    """A path of `count` arcs from node 1, numbered in its order."""
     return Network(count + 1, [(node, node + 1, weight, 0) for node in range(1, count + 1)])
 
 

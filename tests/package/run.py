@@ -1,7 +1,7 @@
 """Tests of the Python package, the C++ classes and their packaging: python3 tests/package/run.py [--library PATH] [NAME ..]
 
 The library is that of PATH, python/earliest/libearliest.so if none is named. NAMEs are those of unittest, as `test_times` or
-`test_times.Units.test_seconds`. Which libraries of Python and which programs are missing is told, and what was left out for want of them.
+`test_times.Units.test_seconds`. It prints which libraries of Python and which programs are missing, and which tests were left out because of that.
 """
 import argparse
 import os

@@ -40,7 +40,7 @@ class Cpp(Case):
 
     @needs_program("c++")
     def test_expected(self):
-        """By the header's own kind of result, and by std::expected where the compiler has it."""
+        """By the header's own kind of result, and by std::expected of C++23."""
         self.tried("expected.cpp", "-std=c++17", "-fno-exceptions")
         self.tried("expected.cpp", "-std=c++23", "-fno-exceptions")
 
@@ -50,7 +50,7 @@ class Cpp(Case):
 
     @needs_program("cmake", "c++")
     def test_cmake(self):
-        """A project finds the package where it is installed, and links with what is there; where it isn't, or is another version, it says so."""
+        """A project finds the installed package and links with the libraries in it; if there is none, or another version, it says so."""
         prefix, built = (os.path.join(self.room.name, name) for name in ("prefix", "built"))
         place = os.path.join(prefix, "lib", "cmake", "earliest")
         for folder in (place, os.path.join(prefix, "include")):

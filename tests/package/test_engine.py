@@ -126,7 +126,7 @@ class Answers(Case):
     def test_pairs_at_their_own_departures(self):
         for net in self.networks[:4]:
             road = earliest.Road(net.gr(), net.tp())
-            # Times a period of all kinds apart differ where a kind has none, so no departure stands for another one.
+            # Times a period of all kinds apart differ if a kind has none, so no departure stands for another one.
             departures = [at * plain.DAY + part for at in (0, 1, 3) for part in (0, 20, 250)]
             pairs = [(source, target, departure) for source in (1, 4) for target in range(1, 41, 3) for departure in departures]
             want = [net.least([(source, departure)])[target - 1] for source, target, departure in pairs]
@@ -205,7 +205,7 @@ class Answers(Case):
             self.assertEqual((flat(made.ends()[1]), flat(pickle.loads(pickle.dumps(made)).ends()[1])), ([2, 3, 2, 4, 4],) * 2)
 
     def test_long_walks(self):
-        """Walks longer than any first room, in a process of its own, since a loop that never ends would be one here."""
+        """Walks longer than any first room, in their own process, since a loop that never ends would be one here."""
         text = "import sys, plain, earliest\n" \
                "for count in (255, 256, 257, 511, 512, 513, 5000, 100000):\n" \
                "    road = earliest.Road(plain.path_of(count).gr())\n" \

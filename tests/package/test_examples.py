@@ -39,7 +39,7 @@ def network_of(name):
 
 class Notebook(Case):
     def near(self, shown, want, digits=1):
-        """What is shown is a number rounded to so many digits."""
+        """What is shown is a number rounded to `digits` digits."""
         self.assertEqual(len(shown.split(".")[1]), digits)
         self.assertLessEqual(abs(float(shown) - want), 0.5000001 * 10**-digits)
 
@@ -90,7 +90,7 @@ class Notebook(Case):
         for one, other in zip(numbers, numbers[1:]):
             time = min(plain.arrive(town.kinds[kind], weight, time) for tail, head, weight, kind in town.arcs if (tail, head) == (one, other))
         self.assertEqual((numbers[0], time), (home, max(least)))
-        # The areas, where GeoPandas is there.
+        # The areas, if GeoPandas is installed.
         from optional import FOUND
 
         if FOUND["geopandas"]:

@@ -143,7 +143,7 @@ class Scipy(Case):
 
 @needs("numpy", "pandas")
 class Frames(Case):
-    """Frames of edges: with GeoPandas where it is there, and of pandas alone."""
+    """Frames of edges: of pandas, and of GeoPandas if it is installed."""
 
     def frame(self, **more):
         return pandas.DataFrame({"u": ["a", "a", "c", "b", "c"], "v": ["b", "c", "b", "d", "d"], "weight": [7, 2, 3, 1, 9], **more}, index=[10, 11, 12, 13, 14])

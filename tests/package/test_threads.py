@@ -133,7 +133,7 @@ class OneRoad(Case):
     """A road that several threads use."""
 
     def test_searches_made_by_many_threads(self):
-        """Eight threads make searches and check reports on one road, in a process of its own: without a lock the library refuses them."""
+        """Eight threads make searches and check reports on one road, in their own process: without a lock the library refuses them."""
         text = "import threading, earliest, plain\n" \
                "road, failed = earliest.Road(plain.FOUR), []\n" \
                "def make():\n" \
@@ -220,8 +220,8 @@ class Interpreter(Case):
     """Calls of the library let other threads of Python run."""
 
     def runs_beside(self, call):
-        """Whether another thread runs while one is in the call. The interpreter is told to take its lock from no thread, so that another one runs only
-        where the call itself gives the lock back."""
+        """Whether another thread runs while one is in the call. With so long a switch interval another thread runs only if the call itself
+        releases the interpreter's lock."""
         interval = sys.getswitchinterval()
         sys.setswitchinterval(1000)
         try:

@@ -1,4 +1,4 @@
-"""The wheel, its editable form and the source distribution: what is in them, that pip installs them, and what is said where the library is missing."""
+"""The wheel, its editable form and the source distribution: what is in them, that pip installs them, and the message if the library is missing."""
 import email
 import importlib.util
 import os
@@ -42,7 +42,7 @@ class Wheel(Case):
         self.room.cleanup()
 
     def environment(self):
-        """An environment of its own: ways to run its Python among the examples, where nothing says where package and library are, and to
+        """A fresh environment: ways to run its Python among the examples, with no variable that names package or library, and to
         install there with no network."""
         place = os.path.join(self.room.name, "environment")
         subprocess.run([sys.executable, "-m", "venv", "--without-pip", place], check=True)
@@ -146,7 +146,7 @@ class Wheel(Case):
         return place
 
     def test_install(self):
-        """`pip install ./python`, with the library beside the package; and without, where it says what is missing."""
+        """`pip install ./python`, with the library beside the package; and without it, with a message that says what is missing."""
         run, pip = self.environment()
         place = self.copy()
         os.environ.pop("EARLIEST_LIBRARY")
@@ -173,7 +173,7 @@ class Wheel(Case):
         self.assertEqual(run("-c", ASK)[1], "9.8.7 [2, 3, 4]\n")
 
     def test_source_distribution(self):
-        """It has all but the library. A wheel is built of it where EARLIEST_LIBRARY names one, and else it says what is missing."""
+        """It has all but the library. A wheel is built of it if EARLIEST_LIBRARY names one; else a message says what is missing."""
         name = backend().build_sdist(self.room.name)
         self.assertEqual(name, f"earliest-{earliest.__version__}.tar.gz")
         with tarfile.open(os.path.join(self.room.name, name)) as file:
