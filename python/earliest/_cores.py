@@ -38,6 +38,7 @@ class Core:
         self.nodes: int = library().earliest_road_nodes(self.handle)
         self.arcs: int = library().earliest_road_arcs(self.handle)
         self.found_ends: Any = None
+        self.closed = False
         _all.add(self)
 
     def ends(self) -> Tuple[Any, Any]:
@@ -60,6 +61,7 @@ class Core:
     def close(self):
         with self.lock:
             library().earliest_road_free(self.handle)
+            self.closed = True
 
     def __del__(self):
         if getattr(self, "handle", None) is not None and self.handle.at:

@@ -78,10 +78,10 @@ class Road:
     def from_networkx(cls, graph: Any, weight: Any = "weight", classes: Any = None, tp: Optional[bytes] = None) -> "Road":
         """The road of a networkx graph, whose nodes keep their names.
 
-        `weight` is the name of the edges' attribute with a whole number from 0 to 2^32 - 1 in the unit of time, or a function of (u, v, attributes); an edge without
-        it is refused. `classes` names an attribute, or is a function, for the class of timetables, 0 if the attribute is missing; `tp` as in
-        `of_arcs`. An edge of an undirected graph is two arcs, one each way. `road.edges` has (u, v), or (u, v, key) of a multigraph, for
-        each arc.
+        `weight` is the name of the edges' attribute with a whole number from 0 to 2^32 - 1 in the unit of time, or a function of (u, v,
+        attributes); an edge without it is refused. `classes` names an attribute, or is a function, for the class of timetables, 0 if the
+        attribute is missing; `tp` as in `of_arcs`. An edge of an undirected graph is two arcs, one each way. `road.edges` has (u, v), or
+        (u, v, key) of a multigraph, for each arc.
         """
         from . import _graphs
 
@@ -103,10 +103,11 @@ class Road:
                        classes: Optional[str] = None, both_ways: Any = False, tp: Optional[bytes] = None) -> "Road":
         """The road of a frame of edges of GeoPandas or pandas, one row for each edge.
 
-        `tail` and `head` name columns or levels of the index with the names of nodes ("u" and "v" if they are not given and the frame has them). Without such
-        columns a node is an end of a line of the geometry, and its name is the pair of its coordinates. `weight` and `classes` name columns of whole numbers. `both_ways` is True, False or the name of
-        a column of truth values: such an edge is an arc each way, the way back right after the other. `nodes` is a frame whose index has
-        the names of all nodes, in whose order they are numbered. `road.edges` has the label of the row for each arc.
+        `tail` and `head` name columns or levels of the index with the names of nodes, "u" and "v" by default. Without such columns a node is
+        an end of a line of the geometry, and its name is the pair of its coordinates. `weight` and `classes` name columns of whole numbers.
+        `both_ways` is True, False or the name of a column of truth values: such an edge is an arc each way, the way back right after the
+        other. `nodes` is a frame whose index has the names of all nodes, in whose order they are numbered. `road.edges` has the label of
+        the row for each arc.
         """
         from . import _graphs
 
@@ -143,7 +144,7 @@ class Road:
 
     @property
     def edges(self) -> Optional[Sequence[Any]]:
-        """What the source of the road calls each arc, the first being arc 1: edges of networkx, rows of a frame; None if it has no such names."""
+        """What the data that the road was made of call each arc, the first being arc 1: edges of networkx, rows of a frame; else None."""
         return self._edges
 
     def ends(self) -> Tuple[Any, Any]:
@@ -152,7 +153,7 @@ class Road:
         return self._core.ends()
 
     def __repr__(self):
-        if not self._core.handle.at:
+        if self._core.closed:
             return "<earliest.Road, closed>"
         again = self._core.again
         made = f" of {again.files[0]}" if again.paths else " of lists" if again.lists else ""
@@ -180,7 +181,7 @@ class Road:
     # Numbers and names
 
     def number(self, node: Any) -> int:
-        """The number of a node from 1; the node is given by its name if the road has names. Raises Failure (18 NoSuchNode) for what is no node."""
+        """The number of a node from 1; the node is given by its name if the road has names. What is no node is a Failure (18 NoSuchNode)."""
         if self._names is not None:
             return self._names.number(node)
         number = _numbers.whole(node, "a node")
@@ -232,9 +233,9 @@ class Road:
         `Answer`. With `joint` all sources are one problem, in which a node is reached from whichever source gets there first: the result is
         its `Answer`.
 
-        The arrivals of n sources take 8 bytes for each source and node. With `walks` the answers tell walks, too; those of a list of sources
-        are found by a further search when they are asked for. `threads` is how many threads search (the processors, if it is not given). `unit`,
-        `origin`, `masked` and `as_float` say how times are written: see `arrivals`.
+        The arrivals of n sources take 8 bytes for each source and node. With `walks` the answers have walks, too; those of a list of sources
+        are found by a further search when they are asked for. `threads` is how many threads search, by default as many as there are
+        processors. `unit`, `origin`, `masked` and `as_float` say how times are written: see `arrivals`.
         """
         times = Times(unit, origin, masked, as_float)
         nodes, when = self._starts(sources, departures, times)
@@ -248,13 +249,14 @@ class Road:
         """The matrix of earliest arrivals: uint64 with the shape (sources, nodes), NEVER for a node that is not reached within the horizon.
 
         `sources` is a list of nodes, `departures` a list of as many times, or one time for all, 0 if it is not given. The columns are the
-        nodes of the list `nodes`, or all nodes in the order of their numbers. One node in the place of a list takes its dimension away. The rows are
-        searched by `threads` threads (the processors, if it is not given), straight into NumPy's memory; without NumPy the result is a list
-        of array.array("Q").
+        nodes of the list `nodes`, or all nodes in the order of their numbers. One node in the place of a list takes its dimension away. The
+        rows are searched by `threads` threads, by default as many as there are processors, straight into NumPy's memory; without NumPy the
+        result is a list of array.array("Q").
 
-        `unit` is the unit of the road's times as NumPy writes it, as "s" or "10ms": then departures may be timedelta64, and the result is timedelta64 with
-        NaT in place of NEVER. With `origin` too, the moment of time 0, departures may be datetime64, and the result is datetime64. `as_float`
-        gives float64 with inf in place of NEVER: seconds if there is a unit, else the road's own times. `masked` gives a masked array.
+        `unit` is the unit of the road's times as NumPy writes it, as "s" or "10ms": then departures may be timedelta64, and the result is
+        timedelta64 with NaT in place of NEVER. With `origin` too, the moment of time 0, departures may be datetime64, and the result is
+        datetime64. `as_float` gives float64 with inf in place of NEVER: seconds if there is a unit, else the road's own times. `masked`
+        gives a masked array.
         """
         times = Times(unit, origin, masked, as_float)
         starts, when = self._starts(sources, departures, times)
@@ -274,11 +276,10 @@ class Road:
         written as in `arrivals`.
         """
         times = Times(unit, origin, masked, as_float)
-        starts, ends, when = self._spread(self._list(sources), self._list(targets), times.departures(departures, None if departures is not None else 1),
-                                          ones=(self._is_one(sources), self._is_one(targets), departures is None or is_one_time(departures)))
+        ones = self._is_one(sources), self._is_one(targets), departures is None or is_one_time(departures)
+        starts, ends, when = self._spread(self._list(sources), self._list(targets), times.departures(departures, 1 if ones[2] else None), ones)
         found = times.told(_threads.pairs(self, starts, ends, when, threads))
-        one = self._is_one(sources) and self._is_one(targets) and (departures is None or is_one_time(departures))
-        return found[0] if one else found
+        return found[0] if all(ones) else found
 
     def profile(self, source: Any, target: Any, departures: Any, threads: Optional[int] = None, *, unit: Optional[str] = None,
                 origin: Any = None, masked: bool = False, as_float: bool = False) -> Any:
@@ -301,8 +302,8 @@ class Road:
         times = Times(unit, origin, masked, as_float)
         if arrivals is None:
             raise TypeError("latest takes the times by which the targets have to be reached")
-        ones = (self._is_one(sources), self._is_one(targets), is_one_time(arrivals))
-        starts, ends, by = self._spread(self._list(sources), self._list(targets), times.departures(arrivals, None, "a time to arrive by"), ones=ones)
+        ones = self._is_one(sources), self._is_one(targets), is_one_time(arrivals)
+        starts, ends, by = self._spread(self._list(sources), self._list(targets), times.departures(arrivals, None, "a time to arrive by"), ones)
         found = times.told(_threads.latest(self, starts, ends, by, threads))
         return found[0] if all(ones) else found
 

@@ -36,6 +36,7 @@ class Search:
     def __init__(self, road: Road, walks: bool = True, *, waits: bool = False):
         """A search on a road, with room for walks or without. With `waits` a second thread waits for its turn in place of being refused."""
         self._handle, self._road, self._turn, self._alone, self._walks = Handle(), road, 0, Alone(waits), bool(walks)
+        self._closed = False
         with road._core.lock:
             number = library().earliest_search_new(road._core.handle, 1 if walks else 0, self._handle)
         test(number)
@@ -46,8 +47,8 @@ class Search:
         return self._road
 
     def __repr__(self):
-        if not self._handle.at:
-            return "<earliest.Search, closed or in a call>"
+        if self._closed:
+            return "<earliest.Search, closed>"
         return f"<earliest.Search {'with' if self._walks else 'without'} walks on {self._road!r}>"
 
     def __copy__(self):
@@ -69,6 +70,7 @@ class Search:
         """Lets the search go; every later call is a Failure (17 NoSearch)."""
         with self._alone:
             library().earliest_search_free(self._handle)
+            self._closed = True
 
     def __del__(self):
         if getattr(self, "_handle", None) is not None and self._handle.at:

@@ -331,6 +331,7 @@ class Refusals(Case):
         for call in (lambda: search.find(1), lambda: search.pair(1, 0, 4)):
             self.refused(17, call)
         search.close()
+        self.assertEqual(repr(search), "<earliest.Search, closed>")
 
 
 class Checks(Case):
