@@ -4,6 +4,7 @@ network. A wheel has the modules and beside them the shared library that `make l
 What pyproject.toml says becomes the metadata; the version is that of earliest/_version.py. The tag of a wheel says which C library the
 shared library asks for (PEP 600), as the versions of its symbols tell.
 """
+import ast
 import base64
 import hashlib
 import io
@@ -25,15 +26,24 @@ COMMON = re.compile(r"(libc|libm|libdl|librt|libpthread|libgcc_s|libstdc\+\+|ld-
 
 def project():
     """The table `project` of pyproject.toml, with the version."""
-    try:
-        import tomllib
-    except ImportError:
-        import tomli as tomllib
-    with open(os.path.join(HERE, "pyproject.toml"), "rb") as file:
-        table = tomllib.load(file)["project"]
+    with open(os.path.join(HERE, "pyproject.toml"), encoding="utf-8") as file:
+        table = tables(file.read())["project"]
     with open(os.path.join(HERE, PACKAGE, "_version.py"), encoding="utf-8") as file:
         table["version"] = re.search(r'^VERSION = "(.*)"$', file.read(), re.M)[1]
     return table
+
+
+def tables(text):
+    """The tables of a TOML text, by the part of TOML that pyproject.toml uses: Python before 3.11 reads none of it, and this asks no network."""
+    top, table = {}, {}
+    for header, key, value in re.findall(r'(?ms)^(?:\[([^\]\n]+)\]|("[^"\n]*"|[\w-]+) = (\[\n.*?^\]|[^\n]*))$', text):
+        if header:
+            table = top
+            for name in header.split("."):
+                table = table.setdefault(name, {})
+        else:
+            table[key.strip('"')] = ast.literal_eval(re.sub(r"([{,] )([\w-]+) = ", r'\1"\2": ', value))
+    return top
 
 
 def metadata(table):

@@ -41,7 +41,7 @@ class Table(Case):
         self.assertEqual((status, out, said.startswith("earliest: there is no command nothing; there are parts")), (2, "", True))
 
     def test_names(self):
-        self.assertEqual(set(commands.COMMANDS), {"parts", "osm", "gtfs", "sumo", "functions", "nearest", "isochrones"})
+        self.assertLessEqual({"parts", "osm", "gtfs", "sumo", "functions", "nearest", "isochrones"}, set(commands.COMMANDS))
         for name, module in commands.COMMANDS.items():
             self.assertEqual(module, f"earliest.{name}")
 

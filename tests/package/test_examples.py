@@ -120,7 +120,7 @@ class ManySources(Case):
             least = town.least([(source, 1000)])
             time, node = max((time, node) for node, time in enumerate(least, 1))
             self.assertEqual(line, f"from {source}: node {node} is reached last, at {time}")
-        walk = [int(it) for it in lines[5].removeprefix("to it from 4: ").split()]
+        walk = [int(it) for it in lines[5].replace("to it from 4: ", "").split()]
         self.assertEqual(town.walked(4, 1000, walk), (node, time))
         self.assertEqual(example("many_sources.py")[1].splitlines()[0], "2025 nodes, 5000 arcs")
 
@@ -171,7 +171,7 @@ class InC(Case):
         run, town = self.built("cc", "walk_to.c", "-std=c99"), network_of("commuter")
         for departure in (10000, 29722, 29723):
             status, out, said = run("commuter.gr", 225, departure, 236, "commuter.tp")
-            arrival, *walk = map(int, re.findall(r"\d+", out.removeprefix("node 236")))
+            arrival, *walk = map(int, re.findall(r"\d+", out.replace("node 236", "")))
             self.assertEqual((status, said, town.walked(225, departure, walk)), (0, "", (236, arrival)))
             self.assertEqual(arrival, town.least([(225, departure)])[235])
         self.assertEqual(run("four-nodes.gr", 1, 0, 4)[1], "node 4 at 6, over 2 3 4\n")

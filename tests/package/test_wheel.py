@@ -92,6 +92,17 @@ class Wheel(Case):
             if path != f"{info}/RECORD":
                 self.assertEqual((digest, int(length)), ("sha256=" + base64.urlsafe_b64encode(hashlib.sha256(texts[path]).digest()).rstrip(b"=").decode(), len(texts[path])))
 
+    def test_pyproject(self):
+        """The backend reads pyproject.toml as Python's own reader does."""
+        try:
+            import tomllib
+        except ImportError:
+            self.skipTest("this Python has no tomllib (3.11 has)")
+        with open(os.path.join(PYTHON, "pyproject.toml"), encoding="utf-8") as file:
+            text = file.read()
+        self.assertEqual(backend().tables(text), tomllib.loads(text))
+        self.assertEqual({**tomllib.loads(text)["project"], "version": earliest.__version__}, backend().project())
+
     def test_the_version_stands_once(self):
         found = []
         for folder, _, files in os.walk(PYTHON):
