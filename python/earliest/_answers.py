@@ -18,7 +18,7 @@ class Row:
     """One problem of several: its row is there, and its walks are found by another search when one is asked for."""
 
     def __init__(self, answers: "Answers", at: int):
-        self.answers, self.at = answers, at
+        self.answers, self.at, self.walks = answers, at, answers._walks
 
     def arrivals(self):
         return self.answers._raw[self.at]
@@ -97,7 +97,7 @@ class Answer:
         return f"<earliest.Answer from {shown or 'no source'}{', ..' if len(self._sources) > 3 else ''}>"
 
     def __reduce__(self):
-        kept = Answers(self._road, self._sources[:1], self._departures[:1], [self._found.arrivals()], True, self._times)
+        kept = Answers(self._road, self._sources[:1], self._departures[:1], [self._found.arrivals()], self._found.walks, self._times)
         kept._starts = [(self._sources, self._departures)]
         return _row_of, (kept,)
 

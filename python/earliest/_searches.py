@@ -146,7 +146,7 @@ class Latest:
     """What a search's query found, until its next one."""
 
     def __init__(self, search: Search, turn: int):
-        self.search, self.turn = search, turn
+        self.search, self.turn, self.walks = search, turn, search._walks
 
     def arrivals(self):
         return self.search._arrivals(self.turn)

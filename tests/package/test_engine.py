@@ -431,6 +431,17 @@ class Values(Case):
             other = pickle.loads(pickle.dumps(answer))
             self.assertEqual((flat(other.arrivals), other.sources, other.departures), (flat(answer.arrivals), answer.sources, answer.departures))
             self.assertEqual([other.walk(node) for node in range(1, 41)], [answer.walk(node) for node in range(1, 41)])
+        for answer in (road.search(2, 31, walks=False), road.search([2], 31, walks=False)[0]):
+            self.refused(21, lambda: pickle.loads(pickle.dumps(answer)).walk(2))
+        search = road.searcher()
+        old = search.find(1)
+        search.find(2)
+        self.told(RuntimeError, "a later query", lambda: pickle.dumps(old))
+        # A query that is refused leaves the last answer as it is.
+        last = search.find(3, 9)
+        self.refused(18, lambda: search.find(99), 99)
+        self.refused(18, lambda: search.pair(1, 0, 99), 99)
+        self.assertEqual(flat(last.arrivals), net.least([(3, 9)]))
 
     def test_failures(self):
         road = earliest.Road(plain.FOUR)

@@ -127,6 +127,10 @@ class OneSearch(Case):
 
         with concurrent.futures.ThreadPoolExecutor(8) as pool:
             self.assertEqual(list(pool.map(ask, range(16))), [True] * 16)
+            search = earliest.Search(road, waits=True)
+            want = {source: NETWORK.least([(source, 5)])[7] for source in range(1, 61)}
+            found = pool.map(lambda source: search.pair(source, 5, 8), list(want) * 20)
+            self.assertEqual([plain.NEVER if it is None else it for it in found], list(want.values()) * 20)
 
 
 class OneRoad(Case):
