@@ -3,6 +3,7 @@ import gzip
 import io
 import os
 import random
+import stat
 import subprocess
 import sys
 import tempfile
@@ -227,16 +228,37 @@ class Writes(Case):
                 with open(name, "rb") as file:
                     self.assertEqual(file.read(), self.wanted([(3, 10)]))
             self.assertTrue(os.path.islink(link))
-            report.write("/dev/null", self.road.search([3], 10))
-            self.assertFalse(os.path.isfile("/dev/null"))
-            text = "import sys\nfrom earliest import report\nreport.write(sys.argv[1], report.read(sys.argv[2]))\n"
+            # A wrong body must not harm the system that the tests run on, as root perhaps: nothing in /dev or /proc is replaced.
+            text = "import os, sys\n" \
+                   "from earliest import report\n" \
+                   "def guarded(call):\n" \
+                   "    def guard(part, to, *more, **words):\n" \
+                   "        if os.path.abspath(to).startswith(('/dev/', '/proc/')):\n" \
+                   "            raise SystemExit(f'{to} would be replaced')\n" \
+                   "        return call(part, to, *more, **words)\n" \
+                   "    return guard\n" \
+                   "os.replace, os.rename = guarded(os.replace), guarded(os.rename)\n" \
+                   "report.write(sys.argv[1], report.read(sys.argv[2]))\n"
+            wrote = lambda to, **more: subprocess.run([sys.executable, "-c", text, to, path], stderr=subprocess.PIPE, text=True, timeout=30, **more)
             for to in ("/dev/stdout", "/dev/fd/1", "/proc/self/fd/1"):
                 with open(log, "wb") as out:
                     out.write(b"c a log\n")
                 with open(log, "ab") as out:
-                    subprocess.run([sys.executable, "-c", text, to, path], stdout=out, check=True)
+                    self.assertEqual(wrote(to, stdout=out).stderr, "")
                 with open(log, "rb") as file:
                     self.assertEqual(file.read(), b"c a log\n" + self.wanted([(3, 10)]))
+            self.assertEqual(wrote("/dev/null").stderr, "")
+            pipe = os.path.join(room, "pipe")
+            os.mkfifo(pipe)
+            reader = subprocess.Popen(["cat", pipe], stdout=subprocess.PIPE)
+            try:
+                self.assertEqual(wrote(pipe).stderr, "")
+                self.assertTrue(stat.S_ISFIFO(os.stat(pipe).st_mode))
+                self.assertEqual(reader.communicate(timeout=30)[0], self.wanted([(3, 10)]))
+            finally:
+                reader.kill()
+                reader.wait()
+                os.unlink(pipe)
             with self.assertRaises(OSError):
                 report.write(room, self.road.search([3]))
             self.assertEqual(sorted(os.listdir(room)), ["link", "log", "report", "x" * 255])
