@@ -2,7 +2,7 @@
 
 Makes a grid of about N nodes, searches S sources by the package (`road.arrivals`, T threads) and by the program (`run --at-once T` into the null
 device, with reading and writing, and once more without sources, whose time is that of reading), in turns. It prints the median of each in seconds,
-and says where the arrivals of the two differ. Run it on a machine that does nothing else.
+and the nodes whose arrivals differ between the two. Run it on a machine that does nothing else.
 """
 import argparse
 import os

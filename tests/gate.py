@@ -13,6 +13,8 @@ import time
 HERE = os.path.dirname(os.path.abspath(__file__))
 ROOT = os.path.join(HERE, "..")
 PROGRAM = os.path.join(ROOT, "crates", "earliest_program", "out", "earliest_program")
+# Debian's Python sees the libraries that its packages install.
+PYTHON = "/usr/bin/python3" if os.path.exists("/usr/bin/python3") else sys.executable
 COUNTS = re.compile(r"(\d+) passed, (\d+) failed\b.*\n?")
 
 
@@ -49,7 +51,7 @@ def main(words):
     passed, failed = (0, 0) if words else proved()
     program = os.path.abspath(words[0]) if words else PROGRAM
     for name in [] if failed else suites():
-        well, ill = counted(f"tests/{name}", [sys.executable, os.path.join(HERE, name, "run.py"), program])
+        well, ill = counted(f"tests/{name}", [PYTHON, os.path.join(HERE, name, "run.py"), program])
         passed, failed = passed + well, failed + ill
     print(f"{passed} passed, {failed} failed")
     return 1 if failed else 0

@@ -5,6 +5,7 @@ is proved and built in a copy of the repository in which `rt ci` has just proved
 these. With `--install PREFIX FOLDER` what was built is copied to a folder, which programs find as PREFIX.
 """
 import os
+import re
 import shutil
 import subprocess
 import sys
@@ -21,10 +22,16 @@ includedir=${prefix}/include
 
 Name: earliest
 Description: Earliest arrivals in road networks whose travel times depend on the departure
-Version: 0.1.0
+Version: VERSION
 Libs: -L${libdir} -learliest
 Cflags: -I${includedir}
 """
+
+
+def version():
+    """The version, which the Python package has alone."""
+    with open(os.path.join(ROOT, "python", "earliest", "_version.py"), encoding="utf-8") as file:
+        return re.search(r'^VERSION = "(.*)"$', file.read(), re.M)[1]
 
 
 def memory():
@@ -81,14 +88,21 @@ def built(room=None):
 
 
 def installed(prefix, folder):
-    """Copies library, headers and a pkg-config file to a folder."""
-    text = PACKAGE.replace("PREFIX", os.path.abspath(prefix))
+    """Copies library, headers, a pkg-config file and the package for CMake to a folder."""
+    text = PACKAGE.replace("VERSION", version()).replace("PREFIX", os.path.abspath(prefix))
     for part, names in (("lib", ("libearliest.a", "libearliest.so")), ("include", ("earliest.h", "earliest.hpp"))):
         os.makedirs(os.path.join(folder, part), exist_ok=True)
         for name in names:
             shutil.copy(os.path.join(ROOT, part, name), os.path.join(folder, part, name))
     os.makedirs(os.path.join(folder, "lib", "pkgconfig"), exist_ok=True)
     with open(os.path.join(folder, "lib", "pkgconfig", "earliest.pc"), "w", encoding="ascii") as file:
+        file.write(text)
+    place = os.path.join(folder, "lib", "cmake", "earliest")
+    os.makedirs(place, exist_ok=True)
+    shutil.copy(os.path.join(ROOT, "cmake", "earliest-config.cmake"), place)
+    with open(os.path.join(ROOT, "cmake", "earliest-config-version.cmake.in"), encoding="ascii") as file:
+        text = file.read().replace("@VERSION@", version())
+    with open(os.path.join(place, "earliest-config-version.cmake"), "w", encoding="ascii") as file:
         file.write(text)
     return 0
 

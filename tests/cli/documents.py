@@ -1,6 +1,6 @@
 """The commands in the documents: each block of README.md, docs/, docs/guide/ and docs/design/ whose first
-line begins with `$ ` is run in a folder that has bin/earliest, examples/ and tools/ like the repository, and
-must give what the block shows.
+line begins with `$ ` is run in a folder that has bin/earliest, examples/, python/ and tools/ like the
+repository, and must give what the block shows.
 
 A line that begins with `$ ` is a command; a `\\` at its end continues it in the next line. What follows is
 its whole output, standard output first, then standard error; `..` matches any lines. A command ends with
@@ -55,7 +55,7 @@ def results(program):
         with tempfile.TemporaryDirectory(prefix="document-") as room:
             os.mkdir(os.path.join(room, "bin"))
             os.symlink(os.path.abspath(program), os.path.join(room, "bin", "earliest"))
-            for folder in ("examples", "tools"):
+            for folder in ("examples", "python", "tools"):
                 shutil.copytree(os.path.join(ROOT, folder), os.path.join(room, folder))
             found += run_in(room, name)
     return [("commands in documents", len(found) >= 15, True), *found]

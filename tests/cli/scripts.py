@@ -23,16 +23,21 @@ def script(name, *words):
     return said([sys.executable, os.path.join(TOOLS, name), *words])
 
 
+def command(name, *words):
+    """A command of the Python package."""
+    return said([sys.executable, os.path.join(HERE, "..", "..", "python", "earliest", name + ".py"), *words])
+
+
 def parts(program, room):
     """Seven parts of a hundred sources."""
-    cut = script("parts.py", "road.ss", "7", room, "--depart", "1000", "--gap", "60")
+    cut = command("parts", "road.ss", "7", room, "--depart", "1000", "--gap", "60")
     with open(os.path.join(room, "parts.txt"), encoding="ascii") as lines:
         named = [line.split() for line in lines]
     reports = [said([program, "run", "road.gr", name, *ROAD, "--depart", depart, "--gap", gap]).stdout for name, depart, gap in named]
     whole = said([program, "run", "road.gr", "road.ss", *ROAD, "--depart", "1000", "--gap", "60"]).stdout
     sources = [report.count(b"\ns ") + report.startswith(b"s ") for report in reports]
     yield "seven parts of a hundred sources", (cut.returncode, cut.stderr, b"".join(reports) == whole, sources), (0, b"", True, [14, 14, 14, 15, 14, 14, 15])
-    many = script("parts.py", "road.ss", "101", room)
+    many = command("parts", "road.ss", "101", room)
     yield "more parts than sources", (many.returncode, many.stderr), (1, b"parts: 100 lines can't be cut into 101 parts\n")
 
 

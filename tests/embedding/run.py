@@ -1,10 +1,10 @@
-"""The engine in other people's programs: the calls of C, the C++ classes and the Python package, compared
-with the program's reports: python3 tests/embedding/run.py PROGRAM, after the library was built.
+"""The engine in other people's programs: the calls of C, roads of vectors in C++, and reports by the Python
+package, compared with the program's: python3 tests/embedding/run.py PROGRAM, after the library was built.
+What is Python's alone is tested in tests/package/.
 
 What can't run, since a compiler or a checker of memory is missing, is reported and left out.
 """
 import os
-import random
 import re
 import shutil
 import subprocess
@@ -89,7 +89,7 @@ def in_cpp(room):
 
 def report(road, source, departure, earliest):
     """The lines of a problem's report, by the package."""
-    found = road.search([source], [departure])
+    found = road.search(source, departure)
     lines = [f"s {source} {departure}\n"]
     for node, time in enumerate(found.arrivals, 1):
         lines.append(f"d {node} inf\n" if time == earliest.NEVER else f"d {node} {time}\n")
@@ -99,56 +99,12 @@ def report(road, source, departure, earliest):
     return "".join(lines)
 
 
-def failure_of(call):
-    """The exception of a call: its type and message."""
-    try:
-        call()
-    except Exception as refused:
-        return type(refused).__name__, str(refused)
-    return None
-
-
-def of_arcs(earliest):
-    """Roads of lists and of NumPy's arrays equal those of texts, and so do their failures."""
-    words = random.Random(26)
-    kinds = "k 1 every 10 3\nk 2 closed 4 9\n"
-    shapes = [("lists", list)]
-    if earliest._engine.numpy:
-        shapes += [("arrays of 64 bits", lambda it: earliest._engine.numpy.array(it, dtype="int64")), ("arrays of 32 bits", lambda it: earliest._engine.numpy.array(it, dtype="uint32"))]
-    for name, shape in shapes:
-        for timed in (False, True):
-            alike = []
-            for _ in range(20):
-                nodes, count = words.randint(1, 30), words.randint(0, 90)
-                arcs = [(words.randint(1, nodes), words.randint(1, nodes), words.randint(0, 20), words.randint(0, 2)) for _ in range(count)]
-                gr = f"p sp {nodes} {count}\n" + "".join(f"a {u} {v} {w}\n" for u, v, w, _ in arcs)
-                tp = f"p tp 2 {count}\n{kinds}" + "".join(f"t {at} {it[3]}\n" for at, it in enumerate(arcs, 1))
-                read = earliest.Road(gr.encode(), tp.encode() if timed else None)
-                lists = [shape([it[at] for it in arcs]) for at in range(4 if timed else 3)]
-                made = earliest.Road.of_arcs(nodes, *lists, tp=f"p tp 2 0\n{kinds}".encode() if timed else None)
-                alike.append((made.nodes, made.arcs) == (nodes, count) and all(report(road, 1, 0, earliest) == report(read, 1, 0, earliest) for road in (made,)))
-            yield f"roads of {name}, {'timed' if timed else 'plain'}", alike, [True] * 20
-    make = earliest.Road.of_arcs
-    for name, call, told in (
-        ("0 nodes", lambda: make(0, [], [], []), ("InputFailure", "gr 1: 6 OutOfRange")),
-        ("too many nodes", lambda: make(2**40, [], [], []), ("InputFailure", "gr 1: 6 OutOfRange")),
-        ("a head that isn't there", lambda: make(2, [1, 2], [2, 3], [1, 1]), ("InputFailure", "gr 3: 6 OutOfRange")),
-        ("two lengths", lambda: make(2, [1, 2], [2], [1, 1]), ("Failure", "23 LengthsDiffer")),
-        ("a class without timetables", lambda: make(2, [1], [2], [1], [1]), ("InputFailure", "tp 0: 6 OutOfRange")),
-        ("timetables that assign", lambda: make(2, [1], [2], [1], [1], b"p tp 1 1\nk 1 plain\nt 1 1\n"), ("InputFailure", "tp 3: 6 OutOfRange")),
-        ("timetables without a line", lambda: make(2, [1], [2], [1], [0], b""), ("InputFailure", "tp 0: 1 NoProblemLine")),
-    ):
-        yield f"a road of lists: {name}", failure_of(call), told
-    yield "a road of lists: a weight of 33 bits", failure_of(lambda: make(2, [1], [2], [2**32]))[0], "OverflowError"
-
-
 def in_python(program):
-    """The same reports as the program's, by four threads on one road; exceptions; the example."""
+    """The same reports as the program's, by four threads of Python on one road, and that they are right."""
     os.environ["EARLIEST_LIBRARY"] = SHARED
     sys.path.insert(0, os.path.join(ROOT, "python"))
     import earliest
 
-    print("the package runs " + ("with NumPy" if earliest._engine.numpy else "without NumPy, which isn't there"))
     at = lambda name: os.path.join(EXAMPLES, name)
     for gr, ss, tp, depart in (("four-nodes.gr", "four-nodes.ss", None, 0), ("road.gr", "road.ss", "road.tp", 1000)):
         road = earliest.Road.read(at(gr), tp and at(tp))
@@ -159,67 +115,7 @@ def in_python(program):
         with ThreadPoolExecutor(4) as pool:
             texts = list(pool.map(lambda source: report(road, source, depart, earliest), sources))
         yield f"{gr} by four threads of Python", "".join(texts).encode() == want and len(want) > 0, True
-        yield f"{gr}, checked", failure_of(lambda: road.check(sources, want, depart)), None
-        longer = failure_of(lambda: road.check(sources, want + b"x\n", depart))
-        yield f"{gr}, with a line too many", longer, ("InputFailure", f"report {want.count(10) + 1}: 31 BadLine")
-    four = earliest.Road.read(at("four-nodes.gr"))
-    search = four.searcher()
-    first = search.find([1])
-    yield "counts", (four.nodes, four.arcs), (4, 5)
-    yield "a pair", search.pair(1, 0, 4), 6
-    yield "a pair that isn't reached", search.pair(4, 0, 1), None
-    yield "an answer whose search went on", failure_of(lambda: first.arrivals), ("RuntimeError", "the search has answered a later query")
-    yield "no sources", list(four.search([]).arrivals), [earliest.NEVER] * 4
-    yield "no such node", failure_of(lambda: four.search([5])), ("Failure", "18 NoSuchNode")
-    yield "a target of 0", failure_of(lambda: search.pair(1, 0, 0)), ("Failure", "18 NoSuchNode")
-    yield "beyond the horizon", failure_of(lambda: four.search([1], [2**48])), ("Failure", "19 BeyondHorizon")
-    yield "too few departures", failure_of(lambda: four.search([1, 2], [0])), ("Failure", "23 LengthsDiffer")
-    yield "no walks", failure_of(lambda: four.search([1], walks=False).walk(4)), ("Failure", "21 NoWalks")
-    yield "a text's fault", failure_of(lambda: earliest.Road(b"p sp 2 1\na 1 3 1\n")), ("InputFailure", "gr 2: 6 OutOfRange")
-    yield "no timetables in their text", failure_of(lambda: earliest.Road(b"p sp 1 0\n", b"")), ("InputFailure", "tp 0: 1 NoProblemLine")
-    yield from with_numpy(four, earliest)
-    yield from of_arcs(earliest)
-    run = ran([sys.executable, "many_sources.py"], env={**os.environ, "PYTHONPATH": os.path.join(ROOT, "python")})
-    yield "many_sources.py", (run[0], run[1].splitlines()[0], run[2]), (0, b"2025 nodes, 5000 arcs", b"")
-
-
-def with_numpy(road, earliest):
-    """Arrays in and out, on the network of four nodes, if NumPy is installed."""
-    numpy = earliest._engine.numpy
-    if not numpy:
-        return
-    out = road.search([1]).arrivals
-    yield "arrivals as an array", (type(out), out.dtype, out.shape, out.tolist()), (numpy.ndarray, numpy.uint64, (4,), [0, 5, 2, 6])
-    both = numpy.array([[1, 7], [4, 3]], dtype=numpy.int64)
-    for name, nodes, departures in (
-        ("of 64 bits, not in one piece", both[:, 0], both[:, 1]),
-        ("of 8 and 16 bits", both[:, 0].astype(numpy.uint8), both[:, 1].astype(numpy.int16)),
-        ("of bytes in the other order", both[:, 0].astype(">u4"), both[:, 1].astype(">i8")),
-        ("of nodes beside a list", both[:, 0], [7, 3]),
-    ):
-        yield f"arrays {name}", road.search(nodes, departures).arrivals.tolist(), [7, 12, 9, 3]
-    yield "an array of no sources", road.search(numpy.array([], dtype=int)).arrivals.tolist(), [earliest.NEVER] * 4
-    for name, nodes, why in (
-        ("of two dimensions", both, ("ValueError", "the array has to have one dimension")),
-        ("of fractions", numpy.array([1.0]), ("TypeError", "the array has to be one of whole numbers")),
-        ("of truth values", numpy.array([True]), ("TypeError", "the array has to be one of whole numbers")),
-        ("below 0", numpy.array([-1]), ("OverflowError", "a number is not within 0 to 4294967295")),
-        ("above 32 bits", numpy.array([2**32]), ("OverflowError", "a number is not within 0 to 4294967295")),
-        ("of no such node", numpy.array([5]), ("Failure", "18 NoSuchNode")),
-    ):
-        yield f"an array {name}", failure_of(lambda: road.search(nodes)), why
-
-
-def installed(room):
-    """The package, installed without a network, in a separate environment."""
-    place = os.path.join(room, "environment")
-    subprocess.run([sys.executable, "-m", "venv", place], check=True)
-    python = os.path.join(place, "bin", "python")
-    run = subprocess.run([python, "-m", "pip", "install", "-q", "--no-index", "--disable-pip-version-check", os.path.join(ROOT, "python")], capture_output=True, text=True)
-    yield "pip install ./python", (run.returncode, run.stderr), (0, "")
-    text = "import earliest; print(earliest.Road.read('four-nodes.gr').search([1]).walk(4))"
-    environment = {name: value for name, value in os.environ.items() if name != "EARLIEST_LIBRARY"}
-    yield "the installed package", ran([python, "-c", text], env=environment), (0, b"[2, 3, 4]\n", b"")
+        yield f"{gr}, checked", road.check(sources, want, depart), None
 
 
 def results(program):
@@ -231,7 +127,6 @@ def results(program):
                 yield from cases(room)
             else:
                 print(f"left out: the programs that take {compiler}, which isn't there")
-        yield from installed(room)
     yield from in_python(os.path.abspath(program))
 
 

@@ -56,7 +56,7 @@ static void moves() {
     one = std::move(same);
     TEST(one.nodes() == 4);
 
-    // A search goes on without its road, and moves with its last answer.
+    // A search works without its road, and moves with its last answer.
     of_two = std::move(of_one);
     TEST(of_two.arrivals() == FROM_1 && of_two.walk(4) == (std::vector<std::uint32_t>{2, 3, 4}));
     std::uint64_t out[4];

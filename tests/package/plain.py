@@ -91,7 +91,7 @@ class Network:
         return [found.get(node, NEVER) for node in range(1, self.nodes + 1)]
 
     def walked(self, source, departure, walk):
-        """Where a walk of arcs from a source ends, and when; None if its arcs don't join."""
+        """The node at which a walk of arcs from a source ends, and when; None if its arcs don't join."""
         node, time = source, departure
         for number in walk:
             tail, head, weight, kind = self.arcs[number - 1]
@@ -130,7 +130,7 @@ def grid(side, seed=1):
 
 
 def peak():
-    """The most memory that this process has had so far, in KB. (What getrusage tells begins with the parent's.)"""
+    """The most memory that this process has had so far, in KB. (The figure of getrusage begins with the parent's.)"""
     with open("/proc/self/status", encoding="ascii") as file:
         return next(int(line.split()[1]) for line in file if line.startswith("VmHWM"))
 

@@ -1,7 +1,7 @@
-"""Tests of the Python package, the C++ classes and their packaging: python3 tests/package/run.py [--library PATH] [NAME ..]
+"""Tests of the Python package, the C++ classes and their packaging: python3 tests/package/run.py [PROGRAM] [--library PATH] [--only NAME ..]
 
 The library is that of PATH, python/earliest/libearliest.so if none is named. NAMEs are those of unittest, as `test_times` or
-`test_times.Units.test_seconds`. It prints which libraries of Python and which programs are missing, and which tests were left out because of that.
+`test_times.Units.test_seconds`. PROGRAM is what each suite of the gate gets; these tests don't run it. It prints which libraries of Python and which programs are missing, and which tests were left out because of that.
 """
 import argparse
 import os
@@ -17,7 +17,8 @@ MODULES = ("test_engine", "test_threads", "test_times", "test_texts", "test_grap
 def main():
     words = argparse.ArgumentParser(description=__doc__.split("\n")[0])
     words.add_argument("--library", default=os.path.join(ROOT, "python", "earliest", "libearliest.so"))
-    words.add_argument("names", nargs="*", default=list(MODULES))
+    words.add_argument("program", nargs="?")
+    words.add_argument("--only", metavar="NAME", nargs="+", default=list(MODULES))
     asked = words.parse_args()
     library = os.path.abspath(asked.library)
     if not os.path.isfile(library):
@@ -31,7 +32,7 @@ def main():
     import optional
 
     print(optional.told())
-    suite = unittest.defaultTestLoader.loadTestsFromNames(asked.names)
+    suite = unittest.defaultTestLoader.loadTestsFromNames(asked.only)
     ran = unittest.TextTestRunner(stream=sys.stdout, verbosity=1).run(suite)
     for test, why in ran.skipped:
         print(f"left out: {test.id()}: {why}")

@@ -1,4 +1,4 @@
-"""Roads, searches and answers beside a plain Dijkstra, and each call with each refusal."""
+"""Roads, searches and their results beside a plain Dijkstra, and each call with each refusal."""
 import array
 import copy
 import gc
@@ -126,7 +126,7 @@ class Answers(Case):
     def test_pairs_at_their_own_departures(self):
         for net in self.networks[:4]:
             road = earliest.Road(net.gr(), net.tp())
-            # Times a period of all kinds apart differ if a kind has none, so no departure stands for another one.
+            # Times a period of all kinds apart differ if a kind has none, so no departure can be taken for another one.
             departures = [at * plain.DAY + part for at in (0, 1, 3) for part in (0, 20, 250)]
             pairs = [(source, target, departure) for source in (1, 4) for target in range(1, 41, 3) for departure in departures]
             want = [net.least([(source, departure)])[target - 1] for source, target, departure in pairs]
@@ -364,7 +364,7 @@ class Checks(Case):
         self.assertIsNone(twice.check([1], b"s 1 0\nd 1 0\nw 1 0\nd 2 3\n\nw 2 1 1\n"))
 
     def test_depart_gap_and_joint(self):
-        """A report of three sources, each later by the gap, as problems of their own and as one: each of the three words matters."""
+        """A report of three sources, each later by the gap, as three problems and as one: each of the three words matters."""
         net = plain.network(3)
         road, sources, depart, gap = earliest.Road(net.gr(), net.tp()), [3, 1, 7], 40, 33
         starts = [(source, depart + at * gap) for at, source in enumerate(sources)]
@@ -516,7 +516,7 @@ class Values(Case):
                 self.assertEqual([word for word in [*wanted, "return"] if word not in hints], [], f"{kind.__name__}.{name}")
 
     def test_numbers_of_the_header(self):
-        """The numbers and names of refusals are those of the header, and so are the last time and the one that stands for none."""
+        """The numbers and names of refusals are those of the header, and so are the last time and the one that means none."""
         import re
 
         with open(os.path.join(plain.ROOT, "include", "earliest.h"), encoding="utf-8") as file:

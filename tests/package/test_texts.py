@@ -56,7 +56,7 @@ class Reads(Case):
         self.assertEqual(caught.exception.file, path)
 
     def test_nul_bytes(self):
-        """A text goes on behind a NUL byte: an arc there is an arc, and a fault there is one."""
+        """A text continues behind a NUL byte: an arc there is an arc, and a fault there is one."""
         self.assertEqual(flat(earliest.Road(b"p sp 2 1\nc \0 a comment\na 1 2 3\n").search(1).arrivals), [0, 3])
         self.assertEqual(flat(earliest.Road(b"p sp 2 1\na 1 2 3\n", b"p tp 1 1\nc\0\nk 1 every 10 4\nt 1 1\n").search(1).arrivals), [0, 7])
         for text, line, number in ((b"p sp 2 1\na 1 2 3\n\0\n", 3, 3), (b"p sp 2 1\na 1 2 3\0\n", 2, 5), (b"p sp 2 1\n\0a 1 2 3\n", 2, 3)):

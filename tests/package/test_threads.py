@@ -156,7 +156,7 @@ class OneRoad(Case):
         self.assertEqual((ran.returncode, ran.stdout), (0, "[]\n"), ran.stderr)
 
     def test_the_lock_of_a_road(self):
-        """No search is made, and nothing is checked or let go, while another thread is in a call with the road."""
+        """No search is made, and nothing is checked or freed, while another thread is in a call with the road."""
         road = earliest.Road(plain.FOUR)
         for call in (road.searcher, lambda: road.search(1), lambda: road.arrivals([1]), lambda: road.pairs([1], [2]), lambda: road.check([], b""), road.close):
             done = threading.Event()
@@ -354,7 +354,7 @@ class Processes(Case):
             os.rename(path + ".away", path)
 
     def test_failures_of_other_processes(self):
-        """A pool tells the failure itself, with its numbers."""
+        """A pool raises the failure itself, with its numbers."""
         with concurrent.futures.ProcessPoolExecutor(1, multiprocessing.get_context("fork")) as pool:
             self.refused(18, lambda: pool.submit(row_of, (earliest.Road(plain.FOUR), 9)).result(), 9)
             with self.assertRaises(earliest.InputFailure) as caught:

@@ -116,7 +116,7 @@ class Wheel(Case):
         self.assertEqual(found, [os.path.join("earliest", "_version.py")])
 
     def test_tag(self):
-        """The tag names the C library that the library's symbols ask for, as binutils tell it, and no library beside the system's own."""
+        """The tag names the C library that the library's symbols ask for, as binutils show it, and no library beside the system's own."""
         own = backend()
         with open(self.library, "rb") as file:
             text = file.read()
@@ -133,7 +133,7 @@ class Wheel(Case):
             self.told(ValueError, "isn't one of a Linux of 64 bits", lambda: own.tag_of(ill))
 
     def test_tag_of_other_libraries(self):
-        """A library of one's own among those that are needed makes a tag of this system alone; newer symbols make a later one."""
+        """A private library among those that are needed makes a tag of this system alone; newer symbols make a later one."""
         if not shutil.which("cc"):
             self.skipTest("cc is not there")
         own, room = backend(), self.room.name
