@@ -11,6 +11,7 @@ CLASSES = 65_535
 STEPS = 65_536
 STEPPED_CLASSES = 16
 MANY = 100_000
+FAR_NODES = 5_000_000
 
 
 def write(folder, name, parts):
@@ -61,6 +62,18 @@ def write_most(folder):
     write(folder, "most.gr", [f"p sp {MOST_NODES} 2\na 1 {MOST_NODES} 5\na {MOST_NODES} 2 7\n"])
     write(folder, "most.p2p", ["p aux sp p2p 1\nq 1 2\n"])
     write(folder, "over.gr", [f"p sp {MOST_NODES + 1} 0\n"])
+
+
+def write_far(folder):
+    """More nodes than 2^22, most without arcs: from the last to the first and to the one in the middle."""
+    write(folder, "far.gr", [f"p sp {FAR_NODES} 2\na {FAR_NODES} 1 5\na 1 {FAR_NODES // 2} 7\n"])
+    write(folder, "far.ss", [f"p aux sp ss 1\ns {FAR_NODES}\n"])
+
+
+def far_report():
+    """Three nodes are reached, with the walks of 0, 1 and 2 arcs."""
+    reached = {1: "d 1 5\nw 1 1 1\n", FAR_NODES // 2: f"d {FAR_NODES // 2} 12\nw {FAR_NODES // 2} 2 1 2\n", FAR_NODES: f"d {FAR_NODES} 0\nw {FAR_NODES} 0\n"}
+    return f"s {FAR_NODES} 0\n" + "".join(reached.get(node) or f"d {node} inf\n" for node in range(1, FAR_NODES + 1))
 
 
 def write_sources(folder):
@@ -122,6 +135,12 @@ def results(program, examples):
         write_most(folder)
         yield ran("pairs most.gr most.p2p", "q 1 2 0\nd 2 12\n")
         yield ran("pairs over.gr most.p2p", "", 1, b"earliest: gr 1: 6 OutOfRange\n")
+        write_far(folder)
+        far = far_report()
+        yield ran("run far.gr far.ss --walks", far)
+        yield ran("run far.gr far.ss --walks --workers 4", far)
+        write(folder, "far.report", [far])
+        yield ran("check far.gr far.ss far.report", "ok\n")
         write_sources(folder)
         yield ran("run one.gr million.ss --joint", "s 1 0\n" * 1_000_000 + "d 1 0\n")
         four_nodes = os.path.join(examples, "four-nodes.gr")
