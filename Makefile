@@ -1,12 +1,13 @@
 # `make` builds the program, `make run` runs its main job, `make test` runs the whole gate (`rt ci`, then the suites of tests/ with the
 # program that it has built), and `make cases` runs the suites alone.
+# `make large` tries sizes of gigabytes, for minutes.
 # `make try ARGS="run examples/commuter.gr examples/commuter.ss"` runs a command with no proof, within a minute.
 # `make part CRATES="ea_input"` proves some crates and those that they stand on, with their edits and tests.
 # `make lib` builds the library for C, C++ and Python (lib/), and puts it beside the Python package. `make install PREFIX=..` installs
 # the program, its man page, the completions of bash, zsh and fish, the library, its headers and its pkg-config file.
 # `make bench` measures the program in bin/ beside its peers on networks of up to 10^6 nodes, with SIZE=large up to 10^7, and writes
 # bench/results/ and docs/performance.md.
-.PHONY: all lib run try test part cases bench install clean
+.PHONY: all lib run try test part cases large bench install clean
 
 PREFIX ?= /usr/local
 
@@ -30,6 +31,9 @@ part:
 
 cases: all lib
 	python3 tests/gate.py bin/earliest
+
+large: all
+	python3 tests/cli/nightly.py bin/earliest
 
 bench:
 	@test -x bin/earliest || $(MAKE) all
