@@ -90,7 +90,7 @@ static int four_nodes(const char *gr, size_t length) {
     TEST(earliest_search_walk(&plain, 4, walk, 3, &count) == EARLIEST_NO_WALKS);
     TEST(earliest_search_arrival(&plain, 4, &arrival) == 0 && arrival == 6);
 
-    /* A search goes on when its road was let go, and a handle that is filled anew lets its former value go. */
+    /* A search works when its road was freed, and a handle that is filled anew frees its former value. */
     earliest_road_free(&road);
     earliest_road_free(&road);
     TEST(road.at == NULL);

@@ -1,4 +1,4 @@
-// Roads of vectors by include/earliest.hpp: the example four-nodes, with timetables and without, and refusals. Exits with 1 where a test fails.
+// Roads of vectors by include/earliest.hpp: the example four-nodes, with timetables and without, and refusals. Exits with 1 if a test fails.
 #include <cstdio>
 
 #include "earliest.hpp"

@@ -38,32 +38,18 @@ PHRASES = (
 OF_COMMENTS = ("tells", "stands", "nobody", "want of", "borne")
 
 # Why a phrase may stay.
-LATER = "to be swept"
 PLACE = "a place, no condition"
 LISTED = "the crate's line in crates.txt"
 WRITTEN = "written by the bench, whose tables name the programs in plain Rust so"
 
 # Phrases that may stay: the files, a phrase or all, and the reason.
 ALLOWED = (
-    ("crates/ea_base/*", None, LATER),
-    ("crates/ea_cli/*", None, LATER),
-    ("crates/ea_input/*", None, LATER),
-    ("crates/ea_load/proofs/*", None, LATER),
     ("crates/ea_messages/src/lib.rt", "is told", LISTED),
-    ("crates/ea_travel_times/*", None, LATER),
     ("crates/test_no_memory/src/lib.rt", "where", LISTED),
-    ("docs/claims.md", "is told", LATER),
-    ("docs/decisions/*", None, LATER),
-    ("docs/design/*", "goes on", LATER),
-    ("docs/design/*", "of its own", LATER),
     ("docs/design/*", "where", PLACE),
-    ("docs/guide/*", "goes on", LATER),
-    ("docs/guide/*", "of its own", LATER),
     ("docs/guide/questions.md", "by hand", "by a person"),
-    ("docs/lab-notes.md", "goes on", LATER),
     ("docs/performance.md", None, WRITTEN),
     ("tests/cli/commuter.py", "where", PLACE),
-    ("tests/embedding/*", None, LATER),
 )
 
 

@@ -1,4 +1,4 @@
-//! The limits of everything, the plain records of parsed texts, and who is told how far a call is.
+//! The limits of everything, the plain records of parsed texts, and reports of progress.
 #![tactic(auto)]
 
 mod graph;

@@ -1,17 +1,17 @@
-//! Who is told how far a call is.
+//! Reports of how far a call is.
 ghost use Rattle.std.specs.Prelude.{◌≤◌};
 
-/// Who is told how far a call is, between problems and never within a search. Nothing that a call gives depends on it.
+/// Learns how far a call is, between problems and never within a search. No result of a call depends on it.
 pub trait Watch {
-    /// So many of the call's problems are done.
+    /// This many of the call's problems are done.
     fn did(&mut self, done: usize, of: usize)
         requires { done ≤ of };
 
-    /// The report of one more problem was checked: so many nodes, and so many walks to them.
+    /// The report of one more problem was checked, with these numbers of nodes and of walks to them.
     fn checked(&mut self, nodes: usize, walks: usize);
 }
 
-/// Nobody is told.
+/// Reports nothing.
 #[derive(Clone, Copy, Debug)]
 pub struct Silent;
 

@@ -30,14 +30,14 @@ pub enum RawKind {
         count: usize,
     },
     /// At the next trip: `count` steps from the one at `first` on, each the time at which a trip leaves in each period, or once
-    /// where the period is 0, and what its ride takes beside the weight.
+    /// if the period is 0, and what its ride takes beside the weight.
     Trips {
         period: u64,
         first: usize,
         count: usize,
     },
     /// At once, and it takes the value of a function of the departure beside the weight: `count` points from the one at `first` on, each a
-    /// time of each period, or a time where the period is 0, and the value then; between two points the straight line, rounded down.
+    /// time of each period, or a time if the period is 0, and the value then; between two points the straight line, rounded down.
     Points {
         period: u64,
         first: usize,

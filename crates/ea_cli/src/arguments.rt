@@ -3,7 +3,7 @@ use ea_options::CommandFault;
 use std::env;
 use std::io::{self, ErrorKind};
 
-/// What is told of a word that is no text.
+/// The message about a word that is no text.
 const NO_TEXT: &str =
     "error: invalid UTF-8 was detected in one or more arguments\n\nFor more information, try '--help'.\n";
 

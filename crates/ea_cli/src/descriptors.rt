@@ -14,7 +14,7 @@ pub struct Held {
     _errors: Option<File>,
 }
 
-/// Opens the null device once; none where its descriptor comes after the standard ones.
+/// Opens the null device once; none if its descriptor comes after the standard ones.
 fn null_device(rt: &HostRuntime) -> Option<File> {
     let file = File::options()
         .read(true)

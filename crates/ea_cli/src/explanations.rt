@@ -63,7 +63,7 @@ fn shown(rt: &HostRuntime, line: &[u8]) -> Option<String> {
     Some(text)
 }
 
-/// Shows a line of a file, and answers it where it can be read again.
+/// Shows a line of a file, and returns it if it can be read again.
 fn show_line(rt: &HostRuntime, source: &mut Source<'_>, number: u64) -> Option<Vec<u8>> {
     let name = shown_word(rt, source.name)?;
     let line = source.line(rt.alloc(), number)?;

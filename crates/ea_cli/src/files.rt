@@ -22,7 +22,7 @@ pub struct Unopened<'a> {
 #[derive(Clone, Copy)]
 pub struct Names<'a> {
     gr: &'a str,
-    /// Which file says where searches start.
+    /// Which file names the sources or pairs.
     word: FileWord,
     starts: &'a str,
     tp: Option<&'a str>,
@@ -32,7 +32,7 @@ pub struct Names<'a> {
     output: Option<&'a str>,
 }
 
-/// The names of a command's files; none where it names no files.
+/// The names of a command's files; none if it names no files.
 pub fn names_of<'a>(command: &Command<'a>) -> Option<Names<'a>>
     ensures { MatchOption result (Rattle.std.specs.Prelude.⊤)
         (λ names. HasFiles command.now names.report) }
@@ -101,7 +101,7 @@ pub struct Sources<'a> {
     report: Option<Source<'a>>,
 }
 
-/// Opens a file; where that can't be done, the error tells which it is and why.
+/// Opens a file. If that fails, the error has the file and the reason.
 fn open<'a>(rt: &HostRuntime, word: FileWord, name: &'a str) -> Result<Source<'a>, Unopened<'a>> {
     match Source::open(rt, name) {
         Ok(source) => Ok(source),
@@ -143,7 +143,7 @@ pub fn open_all<'a>(rt: &HostRuntime, names: &Names<'a>) -> Result<Sources<'a>, 
     })
 }
 
-/// Opens what the report goes to; where that can't be done, the error tells why.
+/// Opens what the report goes to. If that fails, the error has the reason.
 pub fn open_output<'a>(rt: &HostRuntime, names: &Names<'a>) -> Result<Output, Unopened<'a>> {
     match Output::open(rt, names.output) {
         Ok(output) => Ok(output),
@@ -178,7 +178,7 @@ impl<'a> Sources<'a> {
         }
     }
 
-    /// The file of a word, where the command has it.
+    /// The file of a word, if the command has it.
     pub(crate) fn named(&mut self, word: FileWord) -> Option<&mut Source<'a>> {
         match word {
             FileWord::Gr => Some(&mut self.gr),

@@ -11,7 +11,7 @@ fn is_harmful(character: char) -> bool {
     }
 }
 
-/// A text with `?` in place of what may do harm; line feeds stay where they are the text's own.
+/// A text with `?` in place of what may do harm; line feeds that belong to the text stay.
 fn replaced(rt: &HostRuntime, text: &str, keeps_lines: bool) -> Option<String> {
     let mut shown = String::new(rt.alloc());
     for character in text.chars() {

@@ -1,4 +1,4 @@
-//! The program's surroundings: its words, the files that they name, where its report goes, what it tells people.
+//! The program's surroundings: its words, the files that they name, the output of its report, its messages.
 #![tactic(auto)]
 
 mod arguments;

@@ -1,4 +1,4 @@
-//! How it is told what a command came to, and with which status.
+//! The line about a command's outcome, and its exit status.
 use crate::explanations::{explain_outcome, explain_unopened, explain_words, explain_write};
 use crate::files::{Sources, Unopened};
 use crate::harmless::{shown_lines, shown_word};
@@ -9,10 +9,10 @@ use ea_load::AnswerFault;
 use ea_messages::{Outcome, say};
 use ea_options::CommandFault;
 
-/// The status where the output can't be written and nobody is there to read the line that says so.
+/// The status if the output can't be written and no reader is left for the line that says so.
 const LEFT: u8 = 4;
 
-/// Tells an outcome, and answers the status: what was asked for goes to standard output, the rest to standard error.
+/// Writes an outcome, and returns the status: what was asked for goes to standard output, the rest to standard error.
 pub fn tell(rt: &HostRuntime, outcome: &Outcome) -> u8 {
     match outcome.asked_text() {
         Some(text) => show_text(rt, text),
@@ -37,7 +37,7 @@ fn shown_fault(rt: &HostRuntime, outcome: &Outcome) -> Option<Outcome> {
     }
 }
 
-/// Tells why words ask for nothing, and answers the status. Where faults are explained, a bad value is.
+/// Writes why words ask for nothing, and returns the status. A bad value is explained if faults are.
 pub fn refuse(rt: &HostRuntime, words: &[String], fault: CommandFault, explains: bool) -> u8 {
     let explains = explains && matches!(fault, CommandFault::BadOption);
     let status = tell(rt, &Outcome::Command(fault));
@@ -47,7 +47,7 @@ pub fn refuse(rt: &HostRuntime, words: &[String], fault: CommandFault, explains:
     status
 }
 
-/// Tells that a file can't be opened, and answers the status.
+/// Writes that a file can't be opened, and returns the status.
 pub fn tell_unopened(rt: &HostRuntime, unopened: &Unopened<'_>, explains: bool) -> u8 {
     let status = tell(rt, &Outcome::Unopened(unopened.word));
     if explains {
@@ -56,8 +56,8 @@ pub fn tell_unopened(rt: &HostRuntime, unopened: &Unopened<'_>, explains: bool) 
     status
 }
 
-/// Tells what a command came to that had files, and answers the status; where nothing is to be told, a whole report is put in its
-/// place.
+/// Writes the outcome of a command that had files, and returns the status. If there is nothing to write, a whole report is put in
+/// its place.
 pub fn tell_end(
     rt: &HostRuntime,
     outcome: Option<Outcome>,
@@ -81,7 +81,7 @@ pub fn tell_end(
     status
 }
 
-/// Puts a whole report in its place, and tells where that can't be done.
+/// Puts a whole report in its place, or writes why that can't be done.
 fn tell_put(rt: &HostRuntime, output: &mut Output, explains: bool) -> u8 {
     let written = output.written;
     match output.put_in_place(rt) {

@@ -1,4 +1,4 @@
-//! Where a report goes: a stream, or a file that is put in its place when it is whole.
+//! What a report is written to: a stream, or a file that is put in its place when it is whole.
 use crate::target::{Goal, goal_of};
 use std::fs::{self, File};
 use std::io::{self, ErrorKind, Write};
@@ -35,7 +35,7 @@ impl Output {
         Output::to(Goal::Output(rt.stdout()))
     }
 
-    /// The file of a name, or standard output where none is named or the name is `-`.
+    /// The file of a name, or standard output if none is named or the name is `-`.
     pub(crate) fn open(rt: &HostRuntime, name: Option<&str>) -> Result<Output, ErrorKind> {
         match name {
             None | Some("-") => Ok(Output::standard(rt)),
@@ -43,12 +43,12 @@ impl Output {
         }
     }
 
-    /// Whether nobody reads any more what is written.
+    /// Whether the reader of the output has gone.
     pub fn is_left(&self) -> bool {
         self.refusal == Some(ErrorKind::BrokenPipe)
     }
 
-    /// Puts a whole report in its place. Where that can't be done, the part file stays, and the error names it.
+    /// Puts a whole report in its place. If that fails, the part file stays, and the error names it.
     pub(crate) fn put_in_place(&mut self, rt: &HostRuntime) -> Result<(), Unplaced<'_>> {
         match &mut self.goal {
             Goal::Part { file, part, name } => match put(rt, file, part, name) {
@@ -103,7 +103,7 @@ fn emptied(file: &File, begun: &mut bool) -> io::Result<()> {
     Ok(())
 }
 
-/// Writes bytes where they go.
+/// Writes bytes to their stream or file.
 fn write_to(goal: &mut Goal, buf: &[u8]) -> io::Result<usize> {
     match goal {
         Goal::Output(out) => out.write(buf),

@@ -5,8 +5,8 @@ use ea_messages::{FAULTS, Fault, Outcome, fault_named, say, show};
 use ea_options::CommandFault;
 use std::alloc::{AllocError, Global};
 
-/// Writes a text to standard output, and answers the status. Where it can't be written, the line says so, but where nobody
-/// reads it any more.
+/// Writes a text to standard output, and returns the status. If it can't be written, a line says so, unless the reader has
+/// gone.
 pub fn show_text(rt: &HostRuntime, text: &str) -> u8 {
     let mut output = Output::standard(rt);
     match show(text, &mut StdOut::new(&mut output)) {
@@ -16,7 +16,7 @@ pub fn show_text(rt: &HostRuntime, text: &str) -> u8 {
     }
 }
 
-/// Tells a fault of the words, and answers the status.
+/// Writes a fault of the words, and returns the status.
 fn refuse(rt: &HostRuntime, fault: CommandFault) -> u8 {
     say(&Outcome::Command(fault), &mut StdOut::new(rt.stderr()))
 }
@@ -54,7 +54,7 @@ fn list_of_faults(alloc: Global) -> Result<String, AllocError> {
     Ok(text)
 }
 
-/// What is said where a fault isn't known.
+/// The message if a fault isn't known.
 fn no_such_fault(alloc: Global, word: &str) -> CommandFault {
     let text = format!(in alloc;
         "error: no fault has the number or name '{word}'\n\nFor a list of all, try 'earliest explain'.\n"

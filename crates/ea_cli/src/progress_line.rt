@@ -1,4 +1,4 @@
-//! The line that tells how far a command is.
+//! The line that shows how far a command is.
 use ea_base::Watch;
 use ea_options::Command;
 use std::io::IsTerminal;
@@ -7,7 +7,7 @@ use std::time::Instant;
 /// How many seconds are between two lines, at least.
 const PAUSE: u64 = 1;
 
-/// Whether a command is to tell how far it is.
+/// Whether a command shows how far it is.
 pub fn tells_progress(command: &Command<'_>) -> bool {
     match command {
         Command::Run { options, .. }
@@ -25,15 +25,15 @@ struct Times {
     told: Instant,
 }
 
-/// Tells on standard error how many problems are done: a line, at most one in a second. On a terminal each is written over the
-/// one before. What can't be told is left out.
+/// Writes to standard error how many problems are done: a line, at most one in a second. On a terminal each is written over the
+/// one before. A line that can't be written is left out.
 #[derive(Drop)]
 pub struct Line<'a> {
     rt: &'a HostRuntime,
-    /// None where nothing is to be told, or the clock can't be read.
+    /// None if nothing is shown, or the clock can't be read.
     times: Option<Times>,
     is_terminal: bool,
-    /// Whether a line stands on the terminal.
+    /// Whether a line is on the terminal.
     is_shown: bool,
     problems: usize,
     nodes: usize,
@@ -41,7 +41,7 @@ pub struct Line<'a> {
 }
 
 impl<'a> Line<'a> {
-    /// Begins where a command does; it tells nothing where that isn't asked for.
+    /// Begins with a command; it shows nothing if that isn't asked for.
     pub fn begin(rt: &'a HostRuntime, is_asked: bool) -> Line<'a> {
         let times = match Instant::now(rt) {
             Ok(now) if is_asked => Some(Times {
@@ -61,7 +61,7 @@ impl<'a> Line<'a> {
         }
     }
 
-    /// Tells so many problems of so many.
+    /// Shows how many of all problems are done.
     fn tell(&mut self, done: usize, of: usize, seconds: u64) {
         let rt = self.rt;
         let _ = if self.is_terminal {
@@ -80,7 +80,7 @@ impl<'a> Line<'a> {
         }
     }
 
-    /// Tells what was checked.
+    /// Shows what was checked.
     pub fn tell_checked(&self) {
         let (problems, nodes, walks) = (self.problems, self.nodes, self.walks);
         let _ = eprintln!(self.rt;

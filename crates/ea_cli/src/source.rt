@@ -8,7 +8,7 @@ const FRONT: usize = 512;
 /// How many bytes of a line are shown.
 pub(crate) const SHOWN: usize = 120;
 
-/// Where the bytes come from.
+/// What the bytes come from.
 #[derive(Drop)]
 enum Origin {
     File(File),
@@ -56,7 +56,7 @@ impl<'a> Source<'a> {
         }
     }
 
-    /// Keeps bytes that it gave, where there is room.
+    /// Keeps bytes that it gave, if there is room.
     fn keep(&mut self, bytes: &[u8]) {
         for byte in bytes {
             match self.front.get_mut(self.kept) {
@@ -67,7 +67,7 @@ impl<'a> Source<'a> {
         }
     }
 
-    /// The front of a line, counted from 1, read again; none where it can't be read again.
+    /// The front of a line, counted from 1, read again; none if it can't be read again.
     pub(crate) fn line(&mut self, alloc: std::alloc::Global, line: u64) -> Option<Vec<u8>> {
         let Origin::File(file) = &mut self.origin else {
             return None;
@@ -88,8 +88,8 @@ impl<'a> Source<'a> {
     }
 }
 
-/// Goes on through bytes: past so many line ends, and then takes up to a line's end or a little more than is shown. Whether more
-/// is to come.
+/// Reads further through bytes: past this many line ends, then up to a line's end or a little more than is shown. Returns whether
+/// more is to come.
 fn pass(bytes: &[u8], left: &mut u64, shown: &mut Vec<u8>) -> bool {
     for byte in bytes {
         if *left > 0 {

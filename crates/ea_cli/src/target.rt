@@ -6,7 +6,7 @@ use std::os::unix::fs::{MetadataExt, fchown};
 /// How many symbolic links are followed, as many as Linux follows.
 const MOST_LINKS: u32 = 40;
 
-/// How many names are tried for a part file: so many runs may write the same file at once.
+/// How many names are tried for a part file, so how many runs may write the same file at once.
 const MOST_PARTS: u32 = 1000;
 
 /// How many bytes of a file's name a part file's name begins with. Names have at most 255 bytes.
@@ -18,7 +18,7 @@ const NOT_PERMITTED: i32 = 1;
 /// The bit of a folder's mode by which only a file's owner may replace it there.
 const STICKY: u32 = 0o1000;
 
-/// Where the bytes of a report go.
+/// What the bytes of a report go to.
 #[derive(Drop)]
 pub(crate) enum Goal {
     /// Standard output.
@@ -76,7 +76,7 @@ fn folder_and_name(path: &str) -> (&str, &str) {
     }
 }
 
-/// The process whose descriptors lie in a folder; none where it is another folder.
+/// The process whose descriptors lie in a folder; none if it is another folder.
 fn process_of(folder: &str) -> Option<&str> {
     let rest = folder.strip_prefix("/proc/")?;
     let (process, below) = rest.split_once('/')?;
@@ -84,7 +84,7 @@ fn process_of(folder: &str) -> Option<&str> {
     if is_descriptors { Some(process) } else { None }
 }
 
-/// The number of a descriptor of this process; none where it is another's.
+/// The number of a descriptor of this process; none if it is another's.
 fn number_of(rt: &HostRuntime, process: &str, name: &str) -> Option<u32> {
     match fs::read_link(rt, "/proc/self") {
         Ok(mine) if mine.as_str() == process => name.parse::<u32>().ok(),
@@ -159,7 +159,7 @@ fn stream_of(rt: &HostRuntime, path: &str) -> Result<Goal, ErrorKind> {
     }
 }
 
-/// A file that is there: replaced when the report is whole, or written in place where nothing may be put beside it.
+/// An existing file: replaced when the report is whole, or written in place if nothing may be put beside it.
 fn file_of(rt: &HostRuntime, path: String, old: &Metadata) -> Result<Goal, ErrorKind> {
     let kept = owned(rt, &path)?;
     match part_of(rt, path, Some(old)) {
@@ -246,7 +246,7 @@ fn left_over(rt: &HostRuntime, part: &str) -> Option<File> {
     Some(file)
 }
 
-/// Whether a file may be replaced in its folder, as far as that can be seen: it is no mount of its own, no immutable file, and no other
+/// Whether a file may be replaced in its folder, as far as that can be seen: it is no mount, no immutable file, and no other
 /// user's file in a sticky folder.
 fn can_replace(rt: &HostRuntime, name: &str, old: &Metadata, part: &File) -> bool {
     let (folder, _) = folder_and_name(name);

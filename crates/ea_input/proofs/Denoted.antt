@@ -1,4 +1,4 @@
--- A text denotes a graph exactly where it is read so.
+-- A text denotes a graph exactly if it is read as one.
 use Rattle.std.proofs.Common.{◌≡◌, ◌⊎◌, inl, inr, ℕ, ◌+◌, ◌<◌, ◌≤◌, ◌^◌, Bool, true, false, cond, refl, ap, sym, ◌∙◌, subst, arith, List, [], ◌∷◌, ◌++◌, length, ltb, append-nil, append_assoc, length-append}
 use Rattle.std.specs.Prelude.{Option, Some, None, Result, Ok, Err, not}
 use Rattle.std.proofs.lemmas.Bool.{ltb-false, le-ltb}

@@ -1,4 +1,4 @@
--- What reading a text line by line comes to is what its checks say.
+-- The result of reading a text line by line is what its checks say.
 use Rattle.std.proofs.Common.{◌≡◌, ◌⊎◌, inl, inr, ℕ, ◌+◌, refl, ap, ap₂, sym, ◌∙◌, subst, arith, List, [], ◌∷◌, ◌++◌, length, append-nil, append_assoc, length-append}
 use Rattle.std.specs.Prelude.{Option, Some, None, Result, Ok, Err, MatchResult}
 use Rattle.ea_blocks.specs.Fault.{◌>>=◌, in_line}
@@ -13,7 +13,7 @@ abbrev pub Matches : {X : Type 0} → Option FaultKind → Result X FaultKind �
 Matches None r x = r ≡ Ok x
 Matches (Some kind) r x = r ≡ Err kind
 
--- A reader's states stand for the lines read, and its steps follow a file's checks.
+-- A reader's states represent the lines read, and its steps follow a file's checks.
 pub record Follows {S X : Type 0} (format : Format) (step : S → Line → Result S FaultKind) (end : S → Result X FaultKind) (start : S) : Type 1 where
   pub Stands : S → List Line → Type 0
   pub starts : Stands start []
@@ -58,7 +58,7 @@ no_lines format before after line e = absurd (not_shorter before line after e)
 
 -- ---- reading on from a state
 
--- What a text comes to: lines without a fault, or a fault.
+-- The result of a text: lines without a fault, or a fault.
 abbrev pub Outcome : {X : Type 0} → Format → List Line → Result X InputFault → Type 0
 Outcome format lines r = MatchResult r (λ x. NoLineHasFault format lines × (end_fault format (before_of lines) ≡ None)) (λ fault. IsFaultOf format lines fault)
 
@@ -93,7 +93,7 @@ outcome format step end start follows (line ∷ lines) n s before count stands s
     at_line format step end n s one.0 before line lines _ count refl one.1 sound
     (λ said fine. outcome format step end start follows lines (n + 1) one.0 (before ++ line ∷ []) (ap (λ k. k + 1) count ∙ sym (length-append before (line ∷ []))) (follows.goes_on s one.0 before line stands said) (sound_more format before line sound fine))
 
--- What a whole text comes to.
+-- The result of a whole text.
 pub text_outcome : {S X : Type 0} (format : Format) (step : S → Line → Result S FaultKind) (end : S → Result X FaultKind) (start : S) → Follows format step end start → (lines : List Line) → Outcome format lines (text_after step end start lines)
 unfolding text_after
 text_outcome format step end start follows lines = outcome format step end start follows lines 0 start [] refl follows.starts (no_lines format)

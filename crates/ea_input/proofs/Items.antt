@@ -1,4 +1,4 @@
--- Texts of items denote them exactly where they are read so.
+-- Texts of items denote them exactly if they are read as such.
 use Rattle.std.proofs.Common.{◌≡◌, inl, inr, ℕ, ◌+◌, ◌<◌, ◌≤◌, ◌^◌, true, false, cond, refl, ap, ap₂, sym, ◌∙◌, subst, arith, List, [], ◌∷◌, ◌++◌, length, ltb, lit<, append-nil, append_assoc, length-append}
 use Rattle.std.specs.Prelude.{Option, Some, None, Result, Ok, Err, IfOk, MatchResult, codes}
 use Rattle.std.specs.Str.{bytes_eq}
@@ -71,7 +71,7 @@ unfolding announced
 announced_of kind aux sp third n count a s t is =
     rw (a, s, t) (ap (λ r. r >>= λ numbers. only_number 0 1000000 numbers) (after_kinds_of (codes "aux" ∷ codes "sp" ∷ kind ∷ []) (n ∷ [])) ∙ only_number_of 0 1000000 n count (lit< tt) is)
 
--- What a line says, by the grammar, after a problem line or none, and so many items.
+-- What a line says, by the grammar, after a problem line or none, and this many items.
 abbrev pub Says : {A : Type 0} → Sort A → Option ℕ → ℕ → List (List ℕ) → ListLine A → Type 0
 Says f size count fields Silent = is_silent fields ≡ true
 Says f size count fields (Problem new) = (is_silent fields ≡ false) × (size ≡ None) × IsCountLine f.kind fields new

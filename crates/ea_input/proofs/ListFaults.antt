@@ -28,7 +28,7 @@ abbrev pub item_checks : ℕ → ℕ → Line → ℕ → ℕ → List (Bool × 
 item_checks fields nodes others size count =
     (not (length ([] ∷ others) == 1 + fields), FieldCount) ∷ (not (list_all is_number others), BadNumber) ∷ (not (list_all (λ fits. fits) (map (lies_in 1 nodes) others)), OutOfRange) ∷ (leb size count, TooManyLines) ∷ []
 
--- A sort of lines whose items are so many numbers of nodes.
+-- A sort of lines whose items are this many numbers of nodes.
 pub record Checked {A : Type 0} (f : Sort A) (fields : ℕ) : Type 0 where
   pub item : (others : Line) (size count : ℕ) → (a : A) × Matches (first_failing (item_checks fields f.nodes others size count)) (f.item_of f.nodes others >>= λ a. cond (ltb count size) (Ok (Item a)) (Err TooManyLines)) (Item a)
 

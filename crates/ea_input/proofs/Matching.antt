@@ -37,7 +37,7 @@ numbers_match true true r x g e = ap (λ q. q >>= λ y. Ok (g y)) e
 numbers_match true false r x g e = ap (λ q. q >>= λ y. Ok (g y)) e
 numbers_match false ranges r x g e = ap (λ q. q >>= λ y. Ok (g y)) e
 
--- No room is left exactly where so many aren't fewer than that.
+-- No room is left exactly if the count is at least the limit.
 pub full : (count size : ℕ) → leb size count ≡ not (ltb count size)
 full count size = grind (arith, tests)
 
@@ -52,7 +52,7 @@ tested_matches true true size count x g = room_matches (leb size count) (ltb cou
 tested_matches true false size count x g = refl
 tested_matches false ranges size count x g = refl
 
--- The numbers of a line of a sort of which so many came before and so many were announced.
+-- The numbers of a line of a sort, by how many came before and how many were announced.
 pub item_matches : {X Y : Type 0} (numbers ranges : Bool) (size count : ℕ) (r : Result X FaultKind) (x : X) (g : X → Y) → r ≡ tested numbers ranges x
     → Matches (first_failing ((not numbers, BadNumber) ∷ (not ranges, OutOfRange) ∷ (leb size count, TooManyLines) ∷ [])) (r >>= λ y. cond (ltb count size) (Ok (g y)) (Err TooManyLines)) (g x)
 item_matches numbers ranges size count r x g e =

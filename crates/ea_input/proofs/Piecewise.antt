@@ -89,7 +89,7 @@ arc_more line lines n size arcs (arc ∷ more) small fits lists rest =
     ∙ rest (arcs ++ arc ∷ []) more (omega (arith, fits, length-append arcs (arc ∷ []))) lists.1
     ∙ ap (λ (known : List RawArc). Ok (reader size known)) (append_assoc arcs (arc ∷ []) more)
 
--- The arcs of a piece come behind those before it, where no more are announced.
+-- The arcs of a piece come behind those before it, if no more are announced.
 pub read_behind : (lines : List (List (List ℕ))) (n : ℕ) (size : GraphSize) (arcs more : List RawArc) → size.nodes < 2 ^ 64 → length arcs + length more ≤ size.arcs → AreArcLines size.nodes (speaking lines) more
     → lines_after graph_step n (reader size arcs) lines ≡ Ok (reader size (arcs ++ more))
 read_behind [] n size arcs more small fits lists = none_more n size arcs more lists
@@ -102,7 +102,7 @@ read_behind (line ∷ lines) n size arcs more small fits lists =
 
 -- ---- both pieces
 
--- What a reader aside read is read behind what stands before it.
+-- What a reader aside read is read behind what comes before it.
 pub taken_up : {T : Type 0} (view : T → GraphRead) (old beside new : T) (result : Bool) → IsAppended (view old) (view beside) (view new) result
     → IsTakenUp graph_step view (λ reader. BeginsAside (view reader)) old beside new result
 taken_up view old beside new false is = is

@@ -119,7 +119,7 @@ problem_of_ok word (kind ∷ fields) size e h = elim (choice_ok (bytes_eq kind (
   | inr p ↦ cc (p.1)
 ]
 
--- What a line says, by the grammar, after a problem line or none, and so many arcs.
+-- What a line says, by the grammar, after a problem line or none, and this many arcs.
 abbrev pub Says : Option GraphSize → ℕ → List (List ℕ) → GraphLine → Type 0
 Says size count fields Silent = is_silent fields ≡ true
 Says size count fields (Problem new) = (is_silent fields ≡ false) × (size ≡ None) × IsProblemLine fields new.nodes new.arcs

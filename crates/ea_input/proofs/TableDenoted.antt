@@ -1,4 +1,4 @@
--- A text denotes a timetable exactly where it is read so.
+-- A text denotes a timetable exactly if it is read as one.
 use Rattle.std.proofs.Common.{◌≡◌, inl, inr, ℕ, ◌+◌, ◌<◌, ◌≤◌, ◌^◌, Bool, true, false, cond, refl, ap, ap₂, sym, ◌∙◌, subst, arith, List, [], ◌∷◌, length, ltb, length-append}
 use Rattle.std.specs.Prelude.{Option, Some, None, Result, Ok, Err, IfOk, MatchResult}
 use Rattle.std.proofs.lemmas.Bool.{ltb-false, le-ltb}

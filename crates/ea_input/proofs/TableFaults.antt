@@ -43,7 +43,7 @@ reader arcs size table = record { arcs = arcs; size = size; table = table }
 abbrev from_kind : ℕ → Before → Line → Option FaultKind
 from_kind arcs before line = first_failing (drop 5 (line_checks (table_format arcs) before line))
 
--- A line that comes where steps are due.
+-- A line that comes while steps are due.
 late_matches : {X : Type 0} (late : Bool) (rest : Option FaultKind) (r : Result X FaultKind) (x : X) → Matches rest r x → Matches (cond late (Some TooFewLines) rest) (cond late (Err TooFewLines) r) x
 late_matches true rest r x h = refl
 late_matches false rest r x h = h
@@ -52,7 +52,7 @@ late_matches false rest r x h = h
 idle_matches : {X : Type 0} (due : ℕ) (rest : Option FaultKind) (r : Result X FaultKind) (x : X) → due ≡ 0 → Matches rest r x → Matches (cond (ltb 0 due) (Some TooFewLines) rest) r x
 idle_matches due rest r x none h = subst (λ b. Matches (cond b (Some TooFewLines) rest) r x) (sym (le-ltb 0 due (omega (arith, none)))) h
 
--- A step that comes where none is due.
+-- A step that comes while none is due.
 undue_matches : {X : Type 0} (undue some : Bool) (rest : Option FaultKind) (r : Result X FaultKind) (x : X) → undue ≡ not some → Matches rest r x → Matches (cond undue (Some TooManyLines) rest) (cond some r (Err TooManyLines)) x
 undue_matches true true rest r x e h = cc
 undue_matches true false rest r x e h = refl
@@ -257,20 +257,20 @@ unfolding line_fault table_line
 silent_matches arcs before read [] e = refl
 silent_matches arcs before read (word ∷ fields) e = rw e refl
 
--- ---- the class whose steps are told
+-- ---- the class whose steps are read
 
 run_more : (run : Run) (lines : List Line) (line : Line) → run_of_lines run (lines ++ line ∷ []) ≡ run_after (run_of_lines run lines) line
 run_more run [] line = refl
 run_more run (first ∷ lines) line = run_more (run_after run first) lines line
 
--- Where a kind's steps begin.
+-- The place at which a kind's steps begin.
 abbrev first_of : RawKind → ℕ
 first_of (Speeds period first count) = first
 first_of (Trips period first count) = first
 first_of (Points period first count) = first
 first_of kind = 0
 
--- What a kind is told by, where steps were told.
+-- What determines a kind, if steps were read.
 abbrev kind_run : RawKind → List (ℕ × ℕ) → Run
 kind_run kind steps = record { class = class_of kind; steps = steps_from kind steps }
 
@@ -280,7 +280,7 @@ begun trips period count steps = record { class = record { trips = trips; period
 same_begun : (trips : Bool) (p q m n first : ℕ) (steps : List (ℕ × ℕ)) → p ≡ q → m ≡ n → length steps ≤ first → begun trips p m [] ≡ begun trips q n (drop first steps)
 same_begun trips p q m n first steps e f past = ap₂ (λ a b. begun trips a b []) e f ∙ ap (λ s. begun trips q n s) (sym (drop_all first steps past))
 
--- What a kind's line begins is what the kind is told by.
+-- What a kind's line begins is what determines the kind.
 abbrev Begins : Line → RawKind → List (ℕ × ℕ) → Type 0
 Begins line kind steps = (run_begun line ≡ record { class = class_of kind; steps = steps_from kind steps }) × (first_of kind ≤ length steps)
 

@@ -59,7 +59,7 @@ abbrev pub run_told : Run → Line → Run
 run_told run (v ∷ t ∷ x ∷ []) = with_step run (value_of t, value_of x)
 run_told run _ = run
 
--- The class whose steps are told last, after one more line, and after some lines.
+-- The class whose steps were read last, after one more line, and after some lines.
 abbrev pub run_after : Run → Line → Run
 run_after run line = if begins_with (codes "k") line then run_begun line else (if begins_with (codes "v") line then run_told run line else run)
 
@@ -67,7 +67,7 @@ abbrev pub run_of_lines : Run → List Line → Run
 run_of_lines run [] = run
 run_of_lines run (line ∷ lines) = run_of_lines (run_after run line) lines
 
--- The problem line, how many lines begin with a word, and the class whose steps were told last.
+-- The problem line, how many lines begin with a word, and the class whose steps were read last.
 pub record Before : Type 0 where
   pub problem : Option Line
   pub count : List ℕ → ℕ
@@ -84,7 +84,7 @@ before_of lines = record {
 
 -- What a file asks of its lines: the words that lines other than the problem line begin with; which
 -- of them are lines of steps, and how many of these are due before any other line; that the kind
--- words that are there are those asked; how many fields there are; which of them are numbers;
+-- words in it are those asked; how many fields there are; which of them are numbers;
 -- whether each of these is in its range; and how many lines of a word the problem line announces.
 pub record Format : Type 0 where
   pub words : List (List ℕ)
@@ -163,6 +163,6 @@ pub record IsEndFault (format : Format) (lines : List Line) (fault : InputFault)
 abbrev pub IsFaultOf : Format → List Line → InputFault → Type 0
 IsFaultOf format lines fault = IsLineFault format lines fault ⊎ IsEndFault format lines fault
 
--- A fault that is told: the text's, or want of memory.
+-- A fault that is reported: the text's, or refused memory.
 abbrev pub IsFaultTold : Format → List Line → InputFault → Type 0
 IsFaultTold format lines fault = (fault ≡ out_of_memory) ⊎ IsFaultOf format lines fault

@@ -39,7 +39,7 @@ graph_format = record {
   announced = λ problem word. graph_arcs problem;
 }
 
--- ---- sources and pairs: `p aux sp KIND N`, and N lines of a word and so many nodes
+-- ---- sources and pairs: `p aux sp KIND N`, and N lines of a word and as many nodes as the kind has
 
 abbrev pub list_count : Line → ℕ
 list_count (p ∷ aux ∷ sp ∷ kind ∷ n ∷ []) = value_of n
@@ -81,7 +81,7 @@ abbrev pub table_assigned : Line → ℕ
 table_assigned (p ∷ tp ∷ k ∷ t ∷ []) = value_of t
 table_assigned _ = 0
 
--- The third field of a line `k J ..` is a kind's name, where there is one.
+-- The third field of a line `k J ..` is a kind's name, if there is one.
 abbrev pub kind_name_fits : Line → Bool
 kind_name_fits (k ∷ j ∷ name ∷ fields) = list_any (bytes_eq name) (codes "plain" ∷ codes "every" ∷ codes "closed" ∷ codes "rush" ∷ codes "speeds" ∷ codes "trips" ∷ codes "points" ∷ [])
 kind_name_fits _ = true
@@ -119,7 +119,7 @@ abbrev pub size_ranges : Line → List Bool
 size_ranges (p ∷ tp ∷ k ∷ t ∷ []) = lies_in 0 MOST_CLASSES k ∷ lies_in 0 MOST_ARCS t ∷ []
 size_ranges _ = []
 
--- The numbers of a line `t E J` of a graph with so many arcs and a file of so many kinds.
+-- The numbers of a line `t E J` of a graph with this many arcs and a file of this many kinds.
 abbrev pub assigned_ranges : ℕ → ℕ → Line → List Bool
 assigned_ranges arcs kinds (t ∷ e ∷ j ∷ []) = lies_in 1 arcs e ∷ lies_in 0 kinds j ∷ []
 assigned_ranges arcs kinds _ = []

@@ -15,14 +15,14 @@ use Rattle.ea_input.specs.declared.graph.GraphSize.{GraphSize}
 use Rattle.ea_input.specs.declared.graph.GraphLine.{GraphLine}
 use Rattle.ea_input.specs.declared.graph.GraphLine.TheVariants.{Silent, Problem, Arc}
 
--- A graph without where it lies in memory.
+-- A graph without its place in memory.
 pub record Graph : Type 0 where
   pub nodes : ℕ
   pub arcs : List RawArc
 
 -- WHAT A TEXT DENOTES
 
--- A line `p sp N M` of a graph of these nodes and so many arcs.
+-- A line `p sp N M` of a graph of these nodes and this many arcs.
 abbrev pub IsProblemLine : List (List ℕ) → ℕ → ℕ → Type 0
 IsProblemLine (word ∷ kind ∷ n ∷ m ∷ []) nodes arcs =
     (word ≡ codes "p") × (kind ≡ codes "sp") × IsNumberIn 1 MOST_NODES n nodes × IsNumberIn 0 MOST_ARCS m arcs
@@ -70,7 +70,7 @@ unfoldable pub problem_of : List (List ℕ) → Result GraphSize FaultKind
 problem_of [] = Err FieldCount
 problem_of (kind ∷ numbers) = if bytes_eq kind (codes "sp") then size_of numbers else Err BadKind
 
--- An arc of these numbers, where each is in its range.
+-- An arc of these numbers, if each is in its range.
 unfoldable pub arc_within : ℕ → ℕ → ℕ → ℕ → Result RawArc FaultKind
 arc_within nodes tail head weight = do
   tail ← within 1 nodes tail
@@ -91,17 +91,17 @@ unfoldable pub arc_of : ℕ → List (List ℕ) → Result RawArc FaultKind
 arc_of nodes (u ∷ v ∷ w ∷ []) = arc_read nodes u v w
 arc_of nodes _ = Err FieldCount
 
--- The fields behind `p`, where no problem line came before.
+-- The fields behind `p`, if no problem line came before.
 unfoldable pub problem_line : Option GraphSize → List (List ℕ) → Result GraphLine FaultKind
 problem_line (Some size) fields = Err SecondProblemLine
 problem_line None fields = problem_of fields >>= λ size. Ok (Problem size)
 
--- The fields behind `a`, after so many arcs.
+-- The fields behind `a`, after this many arcs.
 unfoldable pub arc_line : Option GraphSize → ℕ → List (List ℕ) → Result GraphLine FaultKind
 arc_line None count fields = Err NoProblemLine
 arc_line (Some size) count fields = arc_of size.nodes fields >>= λ arc. if nat_lt count size.arcs then Ok (Arc arc) else Err TooManyLines
 
--- What a line says after a problem line or none, and so many arcs; or its first fault.
+-- What a line says after a problem line or none, and this many arcs; or its first fault.
 unfoldable pub graph_line : Option GraphSize → ℕ → List (List ℕ) → Result GraphLine FaultKind
 graph_line size count [] = Ok Silent
 graph_line size count (word ∷ fields) =

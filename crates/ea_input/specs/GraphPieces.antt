@@ -12,7 +12,7 @@ pub record BeginsAside (read : GraphRead) : Type 0 where
   pub small : size.nodes < 2 ^ 64
   pub none : read.arcs ≡ []
 
--- The arcs of a reader aside are put behind those of another where they fit: as many nodes, and no more arcs than are announced. Else
+-- The arcs of a reader aside are put behind those of another if they fit: as many nodes, and no more arcs than are announced. Else
 -- all is as it was.
 abbrev pub IsAppended : GraphRead → GraphRead → GraphRead → Bool → Type 0
 IsAppended before aside after true =

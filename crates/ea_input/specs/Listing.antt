@@ -1,4 +1,4 @@
--- Texts of a problem line that tells a number, and so many other lines of one sort.
+-- Texts of a problem line with a number, and that many other lines of one sort.
 use Rattle.std.specs.Prelude.{◌≡◌, ℕ, List, [], ◌∷◌, ◌++◌, length, codes, nat_lt, if◌then◌else◌, Option, Some, None, Result, Ok, Err}
 use Rattle.std.specs.Str.{bytes_eq}
 use Rattle.std.specs.Option.{ok_or}
@@ -13,7 +13,7 @@ use Rattle.ea_input.specs.declared.problem_line.ListLine.TheVariants.{Silent, Pr
 
 -- WHAT A TEXT DENOTES
 
--- A line `p aux sp KIND N` that announces so many lines.
+-- A line `p aux sp KIND N` that announces this many lines.
 abbrev pub IsCountLine : List ℕ → List (List ℕ) → ℕ → Type 0
 IsCountLine kind (word ∷ aux ∷ sp ∷ third ∷ n ∷ []) count =
     (word ≡ codes "p") × (aux ≡ codes "aux") × (sp ≡ codes "sp") × (third ≡ kind) × IsNumberIn 0 MOST_STARTS n count
@@ -41,7 +41,7 @@ pub record DenotesItems {A : Type 0} (kind word : List ℕ) (IsItem : List (List
 
 -- HOW A READER GOES, STEP BY STEP (no public clause names it: what a text denotes is above, and its fault is `IsFaultOf` in Checks)
 
--- The fields after the words that stand between `p` and the numbers.
+-- The fields after the words between `p` and the numbers.
 unfoldable pub after_kinds : List (List ℕ) → List (List ℕ) → Result (List (List ℕ)) FaultKind
 after_kinds [] fields = Ok fields
 after_kinds (kind ∷ kinds) [] = Err FieldCount
@@ -56,17 +56,17 @@ only_number low high _ = Err FieldCount
 unfoldable pub announced : List ℕ → List (List ℕ) → Result ℕ FaultKind
 announced kind fields = after_kinds (codes "aux" ∷ codes "sp" ∷ kind ∷ []) fields >>= λ numbers. only_number 0 MOST_STARTS numbers
 
--- The fields behind `p`, where no problem line came before.
+-- The fields behind `p`, if no problem line came before.
 unfoldable pub problem_line : {A : Type 0} → List ℕ → Option ℕ → List (List ℕ) → Result (ListLine A) FaultKind
 problem_line kind (Some size) fields = Err SecondProblemLine
 problem_line kind None fields = announced kind fields >>= λ size. Ok (Problem size)
 
--- The fields behind an item's word, after so many items.
+-- The fields behind an item's word, after this many items.
 unfoldable pub item_line : {A : Type 0} → (List (List ℕ) → Result A FaultKind) → Option ℕ → ℕ → List (List ℕ) → Result (ListLine A) FaultKind
 item_line item_of None count fields = Err NoProblemLine
 item_line item_of (Some size) count fields = item_of fields >>= λ item. if nat_lt count size then Ok (Item item) else Err TooManyLines
 
--- What a line says after a problem line or none, and so many items; or its first fault.
+-- What a line says after a problem line or none, and this many items; or its first fault.
 unfoldable pub list_line : {A : Type 0} → List ℕ → List ℕ → (List (List ℕ) → Result A FaultKind) → Option ℕ → ℕ → List (List ℕ) → Result (ListLine A) FaultKind
 list_line kind word item_of size count [] = Ok Silent
 list_line kind word item_of size count (first ∷ fields) =

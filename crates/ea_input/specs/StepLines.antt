@@ -8,7 +8,7 @@ use Rattle.ea_blocks.specs.declared.fault.FaultKind.{FaultKind}
 use Rattle.ea_blocks.specs.declared.fault.FaultKind.TheVariants.{FieldCount}
 use Rattle.ea_input.specs.declared.step_lines.StepClass.{StepClass}
 
--- A class whose steps are told line by line, and those that were told so far: each a time and a value.
+-- A class whose steps are read line by line, and those that were read so far: each a time and a value.
 pub record Run : Type 0 where
   pub class : StepClass
   pub steps : List (ℕ × ℕ)
@@ -57,7 +57,7 @@ most_time run =
     if run.class.trips then (if run.class.period == 0 then HORIZON else min (run.class.period - 1) HORIZON)
     else (if has_steps run then min (run.class.period - 1) HORIZON else 0)
 
--- The last speed is above 0 where all before it are 0; no trip arrives before the one before it.
+-- The last speed is above 0 if all before it are 0; no trip arrives before the one before it.
 unfoldable pub least_value : Run → ℕ → ℕ
 least_value run time =
     if run.class.trips then arrives (step_before run) - time
@@ -70,7 +70,7 @@ most_value run time =
     (if is_last run && has_steps run && nat_lt 0 run.class.period then min (run.class.period + arrives (first_step run) - time) MOST_PERIOD else MOST_PERIOD)
     else MOST_SPEED
 
--- A line `v T X` that tells the next step.
+-- A line `v T X` that gives the next step.
 abbrev pub IsStepLine : Run → List (List ℕ) → ℕ × ℕ → Type 0
 IsStepLine run (word ∷ t ∷ x ∷ []) step =
     (word ≡ codes "v") × IsNumberIn (least_time run) (most_time run) t step.0 × IsNumberIn (least_value run step.0) (most_value run step.0) x step.1

@@ -19,7 +19,7 @@ use Rattle.ea_input.specs.declared.timetable.TableSize.{TableSize}
 use Rattle.ea_input.specs.declared.timetable.TableLine.{TableLine}
 use Rattle.ea_input.specs.declared.timetable.TableLine.TheVariants.{Silent, Problem, Kind, Assigned, Step}
 
--- A timetable without where it lies in memory: its kinds, numbered from 1 on, which arcs have which, in the order of the lines,
+-- A timetable without its place in memory: its kinds, numbered from 1 on, which arcs have which, in the order of the lines,
 -- and the steps of all kinds that have some, in one list.
 pub record Table : Type 0 where
   pub kinds : List RawKind
@@ -40,7 +40,7 @@ with_step table step = record table { steps = table.steps ++ step ∷ [] }
 
 -- ---- the steps of a kind
 
--- The class whose steps are told behind a kind's line.
+-- The class whose steps follow a kind's line.
 abbrev pub class_of : RawKind → StepClass
 class_of (Speeds period first count) = record { trips = false; period = period; count = count }
 class_of (Trips period first count) = record { trips = true; period = period; count = count }
@@ -59,7 +59,7 @@ last_kind [] = Plain
 last_kind (kind ∷ []) = kind
 last_kind (kind ∷ other ∷ kinds) = last_kind (other ∷ kinds)
 
--- The last kind's class, and those of its steps that were told so far.
+-- The last kind's class, and those of its steps that were read so far.
 abbrev pub run_of : List RawKind → List (ℕ × ℕ) → Run
 run_of kinds steps = record { class = class_of (last_kind kinds); steps = steps_from (last_kind kinds) steps }
 
@@ -68,13 +68,13 @@ run_in table = run_of table.kinds table.steps
 
 -- WHAT A TEXT DENOTES
 
--- A line `p tp K T` that announces so many kinds and assignments.
+-- A line `p tp K T` that announces this many kinds and assignments.
 abbrev pub IsTableProblem : List (List ℕ) → ℕ → ℕ → Type 0
 IsTableProblem (word ∷ tp ∷ k ∷ t ∷ []) kinds assigned =
     (word ≡ codes "p") × (tp ≡ codes "tp") × IsNumberIn 0 MOST_CLASSES k kinds × IsNumberIn 0 MOST_ARCS t assigned
 IsTableProblem _ kinds assigned = ⊥
 
--- The fields from a kind's word on are this kind, whose steps begin behind so many others.
+-- The fields from a kind's word on are this kind, whose steps begin behind this many others.
 abbrev pub IsKind : ℕ → List (List ℕ) → RawKind → Type 0
 IsKind before (name ∷ []) Plain = name ≡ codes "plain"
 IsKind before (name ∷ p ∷ o ∷ []) (Every period offset) = (name ≡ codes "every") × IsNumberIn 1 MOST_PERIOD p period × IsNumberIn 0 (period - 1) o offset
@@ -89,17 +89,17 @@ IsKind before (name ∷ p ∷ n ∷ []) (Points period first count) =
     (name ≡ codes "points") × IsNumberIn 0 MOST_PERIOD p period × IsNumberIn 1 MOST_STEPS n count × (first ≡ before)
 IsKind before _ kind = ⊥
 
--- A line `k J ..` of the kind with this number, behind so many steps.
+-- A line `k J ..` of the kind with this number, behind this many steps.
 abbrev pub IsKindLine : ℕ → ℕ → List (List ℕ) → RawKind → Type 0
 IsKindLine number before (word ∷ j ∷ fields) kind = (word ≡ codes "k") × IsNumberIn number number j number × IsKind before fields kind
 IsKindLine number before _ kind = ⊥
 
--- A line `t E J` that gives an arc, one of so many, a class, 0 or one of so many.
+-- A line `t E J` that gives an arc and a class, each within its count, the class also 0.
 abbrev pub IsAssignedLine : ℕ → ℕ → List (List ℕ) → ℕ × ℕ → Type 0
 IsAssignedLine arcs classes (word ∷ e ∷ j ∷ []) entry = (word ≡ codes "t") × IsNumberIn 1 arcs e entry.0 × IsNumberIn 0 classes j entry.1
 IsAssignedLine arcs classes _ entry = ⊥
 
--- What one more line makes of a timetable: where no step of the last kind is due, one more kind or one more assignment; where
+-- What one more line makes of a timetable: if no step of the last kind is due, one more kind or one more assignment; if
 -- one is due, that step.
 abbrev pub IsTableAfter : ℕ → ℕ → Table → List (List ℕ) → Table → Type 0
 IsTableAfter arcs classes table line next =
@@ -113,7 +113,7 @@ AreTableLines arcs classes table [] whole = (table ≡ whole) × (due (run_in ta
 AreTableLines arcs classes table (line ∷ lines) whole =
     (next : Table) × IsTableAfter arcs classes table line next × AreTableLines arcs classes next lines whole
 
--- Lines denote a timetable of a graph with so many arcs: but for those that say nothing they are one problem line and then the lines of its kinds, their
+-- Lines denote a timetable of a graph with this many arcs: but for those that say nothing they are one problem line and then the lines of its kinds, their
 -- steps and its assignments.
 pub record DenotesTable (arcs : ℕ) (lines : List (List (List ℕ))) (table : Table) : Type 0 where
   pub problem : List (List ℕ)
@@ -136,7 +136,7 @@ unfoldable pub size_of : List (List ℕ) → Result TableSize FaultKind
 size_of (k ∷ t ∷ []) = size_read k t
 size_of _ = Err FieldCount
 
--- The fields behind `p`, where no problem line came before.
+-- The fields behind `p`, if no problem line came before.
 unfoldable pub problem_line : Option TableSize → List (List ℕ) → Result TableLine FaultKind
 problem_line (Some size) fields = Err SecondProblemLine
 problem_line None fields = do
@@ -217,7 +217,7 @@ unfoldable pub rush_of : ℕ → List ℕ → List (List ℕ) → Result RawKind
 rush_of number j (b ∷ e ∷ x ∷ []) = rush_read number j b e x
 rush_of number j _ = Err FieldCount
 
--- A kind with steps, by its numbers; its steps begin behind so many others.
+-- A kind with steps, by its numbers; its steps begin behind this many others.
 unfoldable pub speeds_within : ℕ → ℕ → ℕ → ℕ → ℕ → Result RawKind FaultKind
 speeds_within number before j p n = do
   j ← within number number j
@@ -269,7 +269,7 @@ unfoldable pub points_of : ℕ → ℕ → List ℕ → List (List ℕ) → Resu
 points_of number before j (p ∷ n ∷ []) = points_read number before j p n
 points_of number before j _ = Err FieldCount
 
--- The fields behind `k`, behind so many steps.
+-- The fields behind `k`, behind this many steps.
 unfoldable pub kind_of : ℕ → ℕ → List (List ℕ) → Result RawKind FaultKind
 kind_of number before [] = Err FieldCount
 kind_of number before (j ∷ []) = Err FieldCount
@@ -282,7 +282,7 @@ kind_of number before (j ∷ name ∷ fields) =
     (if bytes_eq name (codes "trips") then trips_of number before j fields else
     (if bytes_eq name (codes "points") then points_of number before j fields else Err BadKind))))))
 
--- The fields behind `k`, after so many kinds and so many steps, where so many steps are due.
+-- The fields behind `k`, after this many kinds and steps, while this many steps are due.
 unfoldable pub kind_line : Option TableSize → ℕ → ℕ → ℕ → List (List ℕ) → Result TableLine FaultKind
 kind_line None due count before fields = Err NoProblemLine
 kind_line (Some size) due count before fields =
@@ -299,7 +299,7 @@ unfoldable pub assigned_of : ℕ → ℕ → List (List ℕ) → Result (ℕ × 
 assigned_of arcs classes (e ∷ j ∷ []) = two_read e j >>= λ numbers. assigned_within arcs classes numbers.0 numbers.1
 assigned_of arcs classes _ = Err FieldCount
 
--- The fields behind `t`, after so many assignments, where so many steps are due.
+-- The fields behind `t`, after this many assignments, while this many steps are due.
 unfoldable pub assigned_line : ℕ → Option TableSize → ℕ → ℕ → List (List ℕ) → Result TableLine FaultKind
 assigned_line arcs None due count fields = Err NoProblemLine
 assigned_line arcs (Some size) due count fields =

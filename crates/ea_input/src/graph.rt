@@ -180,7 +180,7 @@ pub(crate) struct GraphReader {
     pub arcs: Vec<RawArc>,
     /// Room for the arcs of a piece that another thread reads.
     pub spare: Vec<RawArc>,
-    /// The same of a piece of what this reader goes on with meanwhile.
+    /// The same of a piece of what this reader reads next.
     pub spare_here: Vec<RawArc>,
     /// The same of a piece of what the other thread reads.
     pub spare_there: Vec<RawArc>,
@@ -269,7 +269,7 @@ pub(crate) fn start(alloc: Global) -> GraphReader
     }
 }
 
-/// What a text is read to, with one clause, which says what the lines come to step by step.
+/// The result of reading a text, with one clause, which says the result of the lines step by step.
 fn read_graph(alloc: Global, text: &[u8]) -> Result<RawGraph, InputFault>
     ensures exact { Gives graph result (graph_of (field_lines text.now)) }
 {
@@ -307,8 +307,8 @@ fn read_graph_from<H: Threads + Sync, D: ByteIn>(
     read_device(rt, way, limit, start, device)
 }
 
-/// The graph of a device's text, or why it gave none, as `read_gr` reads a text; at most so many
-/// bytes, by at most so many threads. The text is read block by block as its bytes come, so it lies nowhere in memory whole. After
+/// The graph of a device's text, or why it gave none, as `read_gr` reads a text; at most `limit`
+/// bytes, by at most `threads` threads. The text is read block by block as its bytes come, so it is never in memory whole. After
 /// the text's first fault the device is read to its end. `OutOfMemory` says nothing of the text.
 pub fn read_gr_from<H: Threads + Sync, D: ByteIn>(
     alloc: Global,

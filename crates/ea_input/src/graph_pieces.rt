@@ -8,8 +8,8 @@ use ea_blocks::BlockReader;
 use std::alloc::Global;
 use std::mem;
 
-/// Puts the arcs of a reader aside behind those of another, where both have as many nodes and no more arcs come together than are
-/// announced: whether they are put there.
+/// Puts the arcs of a reader aside behind those of another, if both have as many nodes and no more arcs come together than are
+/// announced. Returns whether they are put there.
 fn append(reader: &mut GraphReader, aside: GraphReader) -> bool
     ensures { IsAppended (read_of reader.old) (read_of aside) (read_of reader.new) result }
 {

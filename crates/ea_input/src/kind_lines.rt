@@ -297,7 +297,7 @@ fn points_of(
     }
 }
 
-/// The kind of a class's number, a kind's name and the fields behind it, after so many steps.
+/// The kind of a class's number, a kind's name and the fields behind it, after this many steps.
 #[tactic(auto, unfolding(crate::specs::Table::kind_of))]
 fn kind_named(
     number: u64,
@@ -327,7 +327,7 @@ fn kind_named(
     }
 }
 
-/// The kind of the fields behind `k`, after so many steps.
+/// The kind of the fields behind `k`, after this many steps.
 #[tactic(auto, unfolding(crate::specs::Table::kind_of))]
 pub(crate) fn kind_of(number: u64, before: usize, fields: &[&[u8]]) -> Result<RawKind, FaultKind>
     ensures { result ≡ spec.kind_of number before (texts_now fields.now) }

@@ -13,7 +13,7 @@ pub(crate) fn numeral(field: &[u8]) -> Result<u128, FaultKind>
     text::number(field).ok_or(FaultKind::BadNumber)
 }
 
-/// A number, where it is in its range.
+/// A number, if it is in its range.
 #[tactic(auto, unfolding(ea_blocks::specs::Fault::within))]
 pub(crate) fn within(low: u32, high: u32, n: u128) -> Result<u32, FaultKind>
     ensures { result ≡ spec.within low high n }

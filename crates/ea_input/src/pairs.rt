@@ -192,8 +192,8 @@ fn read_pairs_from<H: Threads + Sync, D: ByteIn>(
     read_device(rt, way_of(alloc, threads), limit, start, device)
 }
 
-/// The pairs of a device's text, or why it gave none, as `read_p2p` reads a text; at most so many
-/// bytes, by at most so many threads. The text is read block by block as its bytes come, so it lies nowhere in memory whole. After
+/// The pairs of a device's text, or why it gave none, as `read_p2p` reads a text; at most `limit`
+/// bytes, by at most `threads` threads. The text is read block by block as its bytes come, so it is never in memory whole. After
 /// the text's first fault the device is read to its end. `OutOfMemory` says nothing of the text.
 pub fn read_p2p_from<H: Threads + Sync, D: ByteIn>(
     alloc: Global,

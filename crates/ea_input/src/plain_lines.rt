@@ -12,7 +12,7 @@ const AT_ONCE: usize = 8;
 /// A number of fewer digits than this is less than 2^64.
 const MOST_DIGITS: usize = 19;
 
-/// As `leading_digits`, where more than eight digits may stand.
+/// As `leading_digits`, for more than eight digits.
 #[cold]
 fn many_digits(text: &[u8]) -> (usize, u64)
     ensures { AreLeading text.now result.0 result.1 }
@@ -37,7 +37,7 @@ fn leading_digits(text: &[u8]) -> (usize, u64)
     }
 }
 
-/// The number at the front of a text, where it ends in `stop` and has less than 19 digits, and the
+/// The number at the front of a text, if it ends in `stop` and has less than 19 digits, and the
 /// bytes after that.
 #[inline(always)]
 fn leading_number(text: &[u8], stop: u8) -> Option<(u64, &[u8])>
@@ -63,7 +63,7 @@ pub(crate) struct ArcNumbers {
     pub weight: u64,
 }
 
-/// The numbers of the line `a U V W` at the front of a text, where it is written with single
+/// The numbers of the line `a U V W` at the front of a text, if it is written with single
 /// blanks and nothing else, and the bytes after it.
 pub(crate) fn leading_arc(text: &[u8]) -> Option<(ArcNumbers, &[u8])>
     ensures { IfSome result (λ x. ArcThen text.now x.0.tail x.0.head x.0.weight x.1.now) }
@@ -97,7 +97,7 @@ fn leading_two(text: &[u8]) -> Option<((u64, u64), &[u8])>
     Some(((first, second), rest))
 }
 
-/// The numbers of the line `t E J` at the front of a text, where it is written with single blanks
+/// The numbers of the line `t E J` at the front of a text, if it is written with single blanks
 /// and nothing else, and the bytes after it.
 pub(crate) fn leading_entry(text: &[u8]) -> Option<((u64, u64), &[u8])>
     ensures { IfSome result (λ x. PairThen (codes "t") text.now x.0.0 x.0.1 x.1.now) }

@@ -1,4 +1,4 @@
-//! Texts of a problem line that tells a number, and so many other lines of one sort.
+//! Texts of a problem line with a number, and that many other lines of one sort.
 ghost use Rattle.std.specs.Prelude.{◌≡◌, ◌∷◌, [], map, codes};
 ghost use Rattle.ea_input.specs.Listing as spec;
 ghost use Rattle.ea_blocks.specs.Borrowed.{result_now, texts_now};

@@ -31,7 +31,7 @@ fn within_from(low: u128, high: u64, n: u128) -> Result<u64, FaultKind>
     }
 }
 
-/// The step at a place, and (0, 0) where there is none.
+/// The step at a place, and (0, 0) if there is none.
 fn step_at(steps: &[(u64, u64)], place: usize) -> (u64, u64)
     ensures { result ≡ slice_index_or steps.now place (0, 0) }
 {

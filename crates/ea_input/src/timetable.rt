@@ -217,7 +217,7 @@ fn step_numbers_line(
     Ok(TableLine::Step(step_within(class, steps, time, value)?))
 }
 
-/// The class whose steps are told behind a kind's line.
+/// The class whose steps follow a kind's line.
 fn class_of(kind: RawKind) -> StepClass
     ensures { result ≡ spec.class_of kind }
 {
@@ -245,7 +245,7 @@ fn class_of(kind: RawKind) -> StepClass
     }
 }
 
-/// The steps behind so many.
+/// The steps behind this many.
 fn steps_behind(steps: &[(u64, u64)], first: usize) -> &[(u64, u64)]
     ensures { result.now ≡ drop first steps.now }
 {
@@ -264,7 +264,7 @@ fn steps_from(kind: RawKind, steps: &[(u64, u64)]) -> &[(u64, u64)]
     }
 }
 
-/// The last kind, which is plain where there is none.
+/// The last kind, which is plain if there is none.
 #[tactic(auto, using(crate::proofs::LastKind::last_read))]
 fn last_kind(kinds: &[RawKind]) -> RawKind
     ensures { result ≡ spec.last_kind kinds.now }
@@ -285,14 +285,14 @@ struct TableReader {
 }
 
 impl TableReader {
-    /// The class whose steps were told last.
+    /// The class whose steps were read last.
     fn class(&self) -> StepClass
         ensures { result ≡ (run_in (table (self.now).table)).class }
     {
         class_of(last_kind(&self.table.kinds))
     }
 
-    /// Those of its steps that were told so far.
+    /// Those of its steps that were read so far.
     fn steps(&self) -> &[(u64, u64)]
         ensures { result.now ≡ (run_in (table (self.now).table)).steps }
     {
@@ -500,8 +500,8 @@ fn read_table_from<H: Threads + Sync, D: ByteIn>(
     read_device(rt, way_of(alloc, threads), limit, start, device)
 }
 
-/// The timetables of a device's text, or why it gave none, as `read_tp` reads a text; at most so many
-/// bytes, by at most so many threads. The text is read block by block as its bytes come, so it lies nowhere in memory whole. After
+/// The timetables of a device's text, or why it gave none, as `read_tp` reads a text; at most `limit`
+/// bytes, by at most `threads` threads. The text is read block by block as its bytes come, so it is never in memory whole. After
 /// the text's first fault the device is read to its end. `OutOfMemory` says nothing of the text.
 pub fn read_tp_from<H: Threads + Sync, D: ByteIn>(
     alloc: Global,

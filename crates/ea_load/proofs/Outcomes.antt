@@ -1,4 +1,4 @@
--- What a command comes to.
+-- The outcomes of commands.
 use Rattle.std.proofs.Common.{◌≡◌, ℕ, List, refl, ap, subst, inl, inr}
 use Rattle.std.specs.Prelude.{Option, Some, None, Result, Ok, Err, IfOk, IfErr, option_map}
 use Rattle.ea_input.specs.Checks.{Format}
@@ -35,7 +35,7 @@ module _ {R : Type 0} (seen : R → Seen) where
   had_there None = refl
   had_there (Some tp) = refl
 
-  -- Its reads were borne.
+  -- Its interrupted reads were retried.
   pub borne_there : (old new : Option R) → IsBorneIfThere seen old new → IsBorneIfThere (λ (s : Seen). s) (option_map seen old) (option_map seen new)
   borne_there None None borne = borne
   borne_there None (Some new) borne = absurd borne
@@ -65,7 +65,7 @@ sound_there asks seen gr starts old new given found read of_gr of_starts of_tp =
   read = record { gr = of_gr; starts = of_starts; tp = borne_there seen old new of_tp };
 }
 
--- ---- what a command comes to
+-- ---- outcomes
 
 -- A fault that cuts short what goes out.
 abbrev pub IsCutting : AnswerFault → Type 0

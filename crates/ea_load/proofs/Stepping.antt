@@ -44,7 +44,7 @@ record PartTrips (period count : ℕ) (steps : List (ℕ × ℕ)) : Type 0 where
 abbrev and_one : List (ℕ × ℕ) → ℕ × ℕ → List (ℕ × ℕ)
 and_one steps step = steps ++ step ∷ []
 
--- Before the new step the steps are as they were; the new one stands behind them.
+-- Before the new step the steps are as they were; the new one is behind them.
 kept_time : (steps : List (ℕ × ℕ)) (step : ℕ × ℕ) (place : ℕ) → place < length steps → time_at (and_one steps step) place ≡ time_at steps place
 kept_time steps step place inside = ap (λ (s : ℕ × ℕ). s.0) (get_or_append_left steps (step ∷ []) (0, 0) place inside)
 
@@ -339,7 +339,7 @@ line_begins number [] kind steps h = absurd h
 line_begins number (word ∷ []) kind steps h = absurd h
 line_begins number (word ∷ j ∷ fields) kind steps h = kind_begins fields kind steps h.2
 
--- A kind all of whose steps were told.
+-- A kind all of whose steps were read.
 speeds_whole : (period count : ℕ) (steps : List (ℕ × ℕ)) → PartSpeeds period count steps → length steps ≡ count → AreSpeeds period steps
 speeds_whole period count steps part full = record {
   period_from = part.period_from;
@@ -364,7 +364,7 @@ trips_whole period count steps part full = record {
   turn = part.turn full;
 }
 
--- All steps of a class are told where none is due.
+-- All steps of a class are read if none is due.
 all_told : (first count : ℕ) (steps : List (ℕ × ℕ)) → first ≤ length steps → length (drop first steps) ≤ count → count - length (drop first steps) ≡ 0 → (first + count ≤ length steps) × (length (drop first steps) ≡ count) × (take count (drop first steps) ≡ drop first steps)
 all_told first count steps low few none =
     let same : length (drop first steps) ≡ count = omega (arith, few, none) in
@@ -421,7 +421,7 @@ part_more (Points period first count) steps step part some ranges =
 
 -- ---- all kinds
 
--- The kinds so far: the last one's steps may not all be told.
+-- The kinds so far: the last one's steps may not all be read.
 record Sofar (table : Table) : Type 0 where
   earlier : (place : ℕ) (kind : RawKind) → place + 1 < length table.kinds → slice_get table.kinds place ≡ Some kind → IsClass table.steps kind
   last : IsPart table.steps (last_kind table.kinds)
@@ -433,7 +433,7 @@ last_at (first ∷ []) (suc place) kind at e = absurd (omega (arith, e))
 last_at (first ∷ other ∷ kinds) zero kind at e = absurd (omega (arith, e))
 last_at (first ∷ other ∷ kinds) (suc place) kind at e = last_at (other ∷ kinds) place kind at (omega (arith, e))
 
--- Where no step is due each kind is whole.
+-- If no step is due each kind is whole.
 each_whole : (table : Table) → Sofar table → due (run_in table) ≡ 0 → (place : ℕ) (kind : RawKind) → place < length table.kinds → slice_get table.kinds place ≡ Some kind → IsClass table.steps kind
 each_whole table sofar none place kind inside at = elim (leb_tells (length table.kinds) (place + 1)) [
   | inl late ↦

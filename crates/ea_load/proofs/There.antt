@@ -9,7 +9,7 @@ use Rattle.ea_load.specs.Files.{bytes_there, IsAllIfThere, IsBorneIfThere, IsTex
 use Rattle.ea_load.specs.Given.{IsTableOf}
 
 module _ {R : Type 0} (seen : R → Seen) where
-  -- The text of a file that is there.
+  -- The text of an existing file.
   pub table_there : (device after : Option R) (old new : R) (arcs : ℕ) (r : Result RawTable FileFault) → device ≡ Some old → after ≡ Some new
       → IfOk r (λ found. (text : List ℕ) × IsFileText (reading seen old new) text × IsTableOf arcs (Some text) (table found))
       → IfOk r (λ found. (text : Option (List ℕ)) × IsTextIfThere seen device after text × IsTableOf arcs text (table found))

@@ -1,4 +1,4 @@
--- A box has the fact of a profile where the closure in it has. A caller's answer at `Profile::new` cites this with the
+-- A box has the fact of a profile if the closure in it has. A caller's proof at `Profile::new` cites this with the
 -- entry of its closure in the function's own table, and then proves the fact of the closure's own clauses.
 use Rattle.std.proofs.Common.{ℕ, ◌≡◌, refl, sym, subst}
 use mir.Syntax.{Dict}

@@ -44,7 +44,7 @@ module _ (period : ℕ) (steps : List (ℕ × ℕ)) (are : AreSpeeds period step
       go zero is = absurd (omega (arith, is, more))
       go (suc speed) is = omega arith
 
-  -- so many times of a step at its speed, rounded up, are the first with so large a sum
+  -- the count of times of a step at its speed, rounded up, is the first with that large a sum
   pub time_in_step : (place from need count : ℕ) → place < length steps → time_at steps place ≤ from → from ≤ end_at period steps place → 0 < need → sum_to steps from + need ≤ sum_to steps (end_at period steps place)
       → need ≤ count * value_at steps place → count * value_at steps place < need + value_at steps place
       → IsTimeOfSum steps (sum_to steps from + need) (from + count) × (from + count ≤ end_at period steps place)

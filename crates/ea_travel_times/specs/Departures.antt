@@ -14,7 +14,7 @@ pub record IsDepartureBy (answers : ℕ → ℕ → ℕ → ℕ → Type 0) (cla
   pub in_time : IsInTime answers class weight arrival departure
   pub latest : (later : ℕ) → IsInTime answers class weight arrival later → later ≤ departure
 
--- The latest departure that is in time, or none where none is.
+-- The latest departure that is in time, or none if none is.
 abbrev pub IsLatest : (ℕ → ℕ → ℕ → ℕ → Type 0) → ℕ → ℕ → ℕ → Option ℕ → Type 0
 IsLatest answers class weight arrival (Some departure) = IsDepartureBy answers class weight arrival departure
 IsLatest answers class weight arrival None = (departure : ℕ) → IsInTime answers class weight arrival departure → ⊥

@@ -8,7 +8,7 @@ use Rattle.ea_travel_times.specs.Trips.{AreTrips}
 use Rattle.ea_travel_times.specs.TripLaws.{later_arrives, later_leaves}
 use Rattle.ea_travel_times.specs.Points.{line, IsBetween, IsAfterLast, IsBeforeFirst, IsValue, IsArrivalByPoints, ArePoints}
 
--- what grows by at most so many whole divisors has a quotient that grows by at most so many
+-- what grows by at most n whole divisors has a quotient that grows by at most n
 pub quotient_grows : (n m d b : ℕ) → 0 < d → n ≤ m + d * b → n / d ≤ m / d + b
 quotient_grows n m d b some few = elim (leb_tells (n / d) (m / d + b)) [
   | inl low ↦ low.1
@@ -67,7 +67,7 @@ module _ (period : ℕ) (points : List (ℕ × ℕ)) (are : ArePoints period poi
   has_last : length points - 1 < length points
   has_last = let some = are.some in omega arith
 
-  -- a time between two points, with what stands at them
+  -- a time between two points, with their values
   between_from : (at value : ℕ) (is : IsBetween points at value) → time_at points is.place + value_at points is.place ≤ at + value
   between_from at value is =
       let kept = line_from (time_at points is.place) (value_at points is.place) (time_at points (is.place + 1)) (value_at points (is.place + 1)) at (are.ascend is.place is.found) (are.in_order is.place is.found) is.not_before (omega (arith, is.below)) in
@@ -185,7 +185,7 @@ module _ (period : ℕ) (points : List (ℕ × ℕ)) (are : ArePoints period poi
       omega (arith, up, rest, turn)
   spot_to some at value (inr is) = let up = turn_to some at value is in omega (arith, up)
 
-  -- a departure, seen a period later, is so many periods and a time from the first point on, before that of the next period
+  -- a departure, seen a period later, is a number of periods and a time from the first point on, before that of the next period
   record IsPlaced (departure value : ℕ) : Type 0 where
     turns : ℕ
     spot : ℕ

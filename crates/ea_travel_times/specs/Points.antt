@@ -1,6 +1,6 @@
 -- Travel times by points, the travel time functions of Batz, Geisberger, Sanders and Vetter (ACM Journal of Experimental Algorithmics 18,
 -- 2013) in whole numbers: a point has a departure and what an arc takes then beside its weight, and between two points the function is the
--- straight line through them, rounded down. A period of 0 stands for none: `n % 0` is n.
+-- straight line through them, rounded down. A period of 0 means none: `n % 0` is n.
 use Rattle.std.specs.Prelude.{◌≡◌, ◌⊎◌, ℕ, ◌+◌, ◌-◌, ◌*◌, ◌/◌, ◌%◌, ◌<◌, ◌≤◌, List, length}
 use Rattle.ea_travel_times.specs.Speeds.{time_at, value_at}
 use Rattle.ea_travel_times.specs.Trips.{AreTrips}
@@ -23,7 +23,7 @@ pub record IsAfterLast (period : ℕ) (points : List (ℕ × ℕ)) (at value : �
   pub stays : period ≡ 0 → value ≡ value_at points (length points - 1)
   pub goes_on : 0 < period → value ≡ line (time_at points (length points - 1)) (value_at points (length points - 1)) (time_at points 0 + period) (value_at points 0) at
 
--- A time is before the first point. With a period the last point stands before the first one, a period earlier: both are seen a period
+-- A time is before the first point. With a period the last point is before the first one, a period earlier: both are seen a period
 -- later here. Else the value is the first one's.
 pub record IsBeforeFirst (period : ℕ) (points : List (ℕ × ℕ)) (at value : ℕ) : Type 0 where
   pub below : at < time_at points 0

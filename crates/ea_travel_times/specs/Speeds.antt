@@ -14,16 +14,16 @@ time_at steps place = (slice_index_or steps place (0, 0)).0
 abbrev pub value_at : List (ℕ × ℕ) → ℕ → ℕ
 value_at steps place = (slice_index_or steps place (0, 0)).1
 
--- The value of the last step that is not after a time, and the value given where there is none.
+-- The value of the last step that is not after a time, and the value given if there is none.
 abbrev pub last_value : ℕ → List (ℕ × ℕ) → ℕ → ℕ
 last_value value [] time = value
 last_value value (step ∷ steps) time = last_value (if nat_le step.0 time then step.1 else value) steps time
 
--- The speed of a time, where the steps are those of one period.
+-- The speed of a time, if the steps are those of one period.
 abbrev pub speed_at : List (ℕ × ℕ) → ℕ → ℕ → ℕ
 speed_at steps period time = last_value 0 steps (time % period)
 
--- The sum of the speeds of so many times from one on.
+-- The sum of the speeds of this many times from one on.
 abbrev pub speed_sum : (ℕ → ℕ) → ℕ → ℕ → ℕ
 speed_sum speed from zero = 0
 speed_sum speed from (suc count) = speed_sum speed from count + speed (from + count)
@@ -83,7 +83,7 @@ pub record AreRunSums (steps : List (ℕ × ℕ)) (sums : List ℕ) : Type 0 whe
   pub each : (place : ℕ) → place < length steps → slice_index sums place ≡ sum_to steps (time_at steps place)
 
 -- Sums beside the first steps of several classes: they begin anew at each step at time 0, and otherwise add what the step before
--- moves up to this step's time, where that is below 2^64.
+-- moves up to this step's time, if that is below 2^64.
 pub record AreFirstSums (steps : List (ℕ × ℕ)) (sums : List ℕ) : Type 0 where
   pub anew : (place : ℕ) → place < length sums → time_at steps place ≡ 0 → slice_index sums place ≡ 0
   pub on : (place : ℕ) → place + 1 < length sums → 0 < time_at steps (place + 1)

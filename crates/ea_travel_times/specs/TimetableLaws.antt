@@ -35,7 +35,7 @@ points_are_fifo period steps classes are = record {
   in_order = λ class weight departure later arrival next question other answer that order. points_in_order period steps are weight departure later arrival next answer that order;
 }
 
--- a class by itself, whose kind stands at a place or is plain
+-- a class by itself, whose kind is at a place or is plain
 abbrev FitsAt : List RawKind → RawKind → Type 0
 FitsAt kinds kind = ((place : ℕ) × (slice_get kinds place ≡ Some kind)) ⊎ (kind ≡ Plain)
 

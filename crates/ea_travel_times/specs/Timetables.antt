@@ -43,7 +43,7 @@ has_run (Trips period first count) = true
 has_run (Points period first count) = true
 has_run kind = false
 
--- The steps of a class: so many from one of them on.
+-- The steps of a class: this many from one of them on.
 abbrev pub run_of : List (ℕ × ℕ) → ℕ → ℕ → List (ℕ × ℕ)
 run_of steps first count = take count (drop first steps)
 

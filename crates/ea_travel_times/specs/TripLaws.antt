@@ -1,4 +1,4 @@
--- Travel times by trips are first in, first out, where no trip overtakes another.
+-- Travel times by trips are first in, first out, if no trip overtakes another.
 use Rattle.std.proofs.Common.{◌≡◌, ℕ, zero, suc, ◌+◌, ◌-◌, ◌*◌, ◌/◌, ◌%◌, ◌<◌, ◌≤◌, ◌⊎◌, inl, inr, Bool, true, false, cond, min, refl, ap, sym, ◌∙◌, arith, leb, List, [], ◌∷◌, length}
 use Rattle.std.proofs.Math.Nat.{div-add-mod, mul-le-mul_left, mod-zero}
 use Rattle.std.proofs.lemmas.Bool.Decides.{leb_tells, nat_tests}
@@ -105,7 +105,7 @@ trips_not_before period steps weight departure arrival within (inr this) = omega
 
 -- ---- each departure has an arrival
 
--- 1 where a step has this time, else 0
+-- 1 if a step has this time, else 0
 leaving_at : List (ℕ × ℕ) → ℕ → ℕ
 leaving_at [] time = 0
 leaving_at (step ∷ steps) time = cond (nat_eq step.0 time) 1 (leaving_at steps time)

@@ -1,5 +1,5 @@
 -- Travel times by trips, the departures of a line: a step has the time at which its trip leaves, in each period of the line, and
--- what its ride takes beside the weight. A period of 0 stands for none: `n % 0` is n, so each trip leaves once.
+-- what its ride takes beside the weight. A period of 0 means none: `n % 0` is n, so each trip leaves once.
 use Rattle.std.specs.Prelude.{◌≡◌, ◌⊎◌, ℕ, ◌+◌, ◌-◌, ◌%◌, ◌^◌, ◌<◌, ◌≤◌, List, length, min}
 use Rattle.ea_base.specs.declared.limits.TheConstants.{HORIZON}
 use Rattle.ea_travel_times.specs.Speeds.{never, time_at, value_at}
@@ -27,7 +27,7 @@ IsArrivalByTrips period steps weight departure arrival =
     ((time : ℕ) × (extra : ℕ) × IsNextTrip period steps departure time extra × (arrival ≡ min (time + weight + extra) never))
     ⊎ (IsAfterLastTrip period steps departure × (arrival ≡ never))
 
--- The trips of a line: they ascend and stay below the period where there is one, and none arrives before an earlier one, also
+-- The trips of a line: they ascend and stay below the period if there is one, and none arrives before an earlier one, also
 -- from one period to the next.
 pub record AreTrips (period : ℕ) (steps : List (ℕ × ℕ)) : Type 0 where
   pub period_to : period ≤ 2 ^ 32

@@ -1,4 +1,4 @@
--- What is first in, first out stays so where an answer is known to be there, and not which proof of it.
+-- What is first in, first out stays so if an answer is known to be there, and not which proof of it.
 use Rattle.std.specs.Prelude.{ℕ, ◌≤◌}
 use Rattle.std.proofs.Math.Bridge.{le_prop}
 use Rattle.std.proofs.Math.Nat.{le_antisymm, le_refl}

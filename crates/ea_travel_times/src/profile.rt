@@ -7,8 +7,8 @@ use crate::travel_times::TravelTimes;
 pub type Arrival = Box<dyn Fn(u64, u64) -> u64 + Send + Sync>;
 
 /// A box from weight and departure to the arrival, kept with its fact: it may be called at each weight and each
-/// departure within the horizon, has an answer there, answers nothing before the departure, and answers a later
-/// departure no earlier.
+/// departure within the horizon, has an arrival there, none before the departure, and none for a later
+/// departure that is earlier.
 #[derive(Drop)]
 pub struct Profile {
     pub arrival: Arrival,

@@ -23,7 +23,7 @@ impl ProfileList {
         }
     }
 
-    /// Puts a profile at the end. Where memory is refused it comes back, and the list is as before; that is only where the list
+    /// Puts a profile at the end. If memory is refused it comes back, and the list is as before; that is only if the list
     /// has to grow.
     pub fn push(&mut self, profile: Profile) -> Result<(), (Profile, AllocError)>
         ensures pushed { MatchResult result

@@ -116,7 +116,7 @@ fn last_time(period: u64) -> u64
     if period == 0 { HORIZON } else { period - 1 }
 }
 
-/// Whether steps are the trips of a period, or of none where it is 0.
+/// Whether steps are the trips of a period, or of none if it is 0.
 fn are_trips(period: u64, steps: &[(u64, u64)]) -> bool
     ensures { result ≡ true → AreTrips period steps.now }
 {
@@ -138,7 +138,7 @@ fn are_trips(period: u64, steps: &[(u64, u64)]) -> bool
     turn(period, steps)
 }
 
-/// Whether a kind's numbers are in their ranges, and its steps, where it has some.
+/// Whether a kind's numbers are in their ranges, and its steps, if it has some.
 fn fits_one(kind: RawKind, steps: &[(u64, u64)]) -> bool
     ensures { result ≡ true → IsClass steps.now kind }
 {

@@ -19,7 +19,7 @@ pub struct StepTable {
 }
 
 impl StepTable {
-    /// A table of these steps. An error comes only where memory for the sums was refused.
+    /// A table of these steps. An error comes only if memory for the sums was refused.
     pub(crate) fn of(alloc: Global, list: Vec<(u64, u64)>) -> Result<StepTable, AllocError>
         ensures { IfOk result (λ table. table.list.items ≡ list.items) }
     {

@@ -10,7 +10,7 @@ use std::alloc::{AllocError, Global};
 /// The arrival of what does not arrive within the horizon.
 const NEVER: u64 = HORIZON + 1;
 
-/// So many steps from one of them on.
+/// This many steps from one of them on.
 pub(crate) fn steps_from(list: &[(u64, u64)], first: usize, count: usize) -> &[(u64, u64)]
     requires { first + count ≤ length list.now }
     ensures { result.now ≡ take count (drop first list.now) }
@@ -40,7 +40,7 @@ fn next_sum(sum: u64, before: (u64, u64), step: (u64, u64)) -> u64
     }
 }
 
-/// The sums beside steps. An error comes only where memory for them was refused.
+/// The sums beside steps. An error comes only if memory for them was refused.
 pub(crate) fn sums_of(alloc: Global, steps: &[(u64, u64)]) -> Result<Vec<u64>, AllocError>
     ensures { IfOk result (λ sums. AreSums steps.now sums.items) }
 {
@@ -152,7 +152,7 @@ fn time_of_sum(steps: &[(u64, u64)], sums: &[u64], period: u64, sum: u64) -> u64
     steps[place].0 + (sum - sums[place]).div_ceil(steps[place].1)
 }
 
-/// Where the time lies after so many periods, at most `NEVER`.
+/// The time after this many periods, at most `NEVER`.
 fn after_periods(begin: u64, count: u64, period: u64, time: u64) -> u64
     requires begin { begin ≤ HORIZON }
     requires period { period ≤ 2 ^ 32 }
@@ -217,7 +217,7 @@ fn ride(begin: u64, step: (u64, u64), weight: u64) -> u64
     (begin + step.0 + weight + step.1).min(NEVER)
 }
 
-/// How far a departure is in its period, all of it where there is none.
+/// How far a departure is in its period, all of it if there is none.
 pub(crate) fn phase_of(period: u64, departure: u64) -> u64
     ensures { result ≡ departure % period }
 {

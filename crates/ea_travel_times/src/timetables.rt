@@ -36,7 +36,7 @@ impl Timetables {
         }
     }
 
-    /// The same of a slice. An error comes only where memory for the list was refused.
+    /// The same of a slice. An error comes only if memory for the list was refused.
     pub fn of(alloc: Global, kinds: &[RawKind]) -> Result<Timetables, AllocError>
         requires { (kind : RawKind) → IsAmong kinds.now kind → IsTrue (is_kind kind) }
         ensures { IfOk result (λ times. (times.list.items ≡ kinds.now)
@@ -49,7 +49,7 @@ impl Timetables {
         Ok(Timetables::new(list))
     }
 
-    /// Travel times by kinds of timetable, whose steps are among these. An error comes only where memory for the sums beside the
+    /// Travel times by kinds of timetable, whose steps are among these. An error comes only if memory for the sums beside the
     /// steps was refused.
     pub fn with_steps(
         alloc: Global,
@@ -102,7 +102,7 @@ impl Timetables {
     }
 }
 
-/// The arrival of a class above 0. Kinds stay where they lie: each has four words, of which a search needs three at most.
+/// The arrival of a class above 0. Kinds stay in place: each has four words, of which a search needs three at most.
 #[inline(never)]
 fn arrive_in(
     list: &[RawKind],
@@ -147,7 +147,7 @@ fn arrive_of(steps: &Option<StepTable>, kind: RawKind, weight: u64, departure: u
     }
 }
 
-/// The arrival of a kind that has steps, which stands apart so that the others are found in few registers.
+/// The arrival of a kind that has steps, which is apart so that the others are found in few registers.
 #[inline(never)]
 fn arrive_by_steps(steps: &Option<StepTable>, kind: RawKind, weight: u64, departure: u64) -> u64
     requires class { IsClass (steps_in steps.now) kind }

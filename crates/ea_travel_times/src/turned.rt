@@ -3,8 +3,8 @@ ghost use Rattle.std.specs.Prelude.{◌≡◌};
 use crate::HORIZON;
 use crate::travel_times::TravelTimes;
 
-/// Travel times turned round, for the question when to leave: an arc that is left at `HORIZON - a` arrives at `HORIZON - d`, where d is
-/// the latest departure that arrives by a, and above the horizon where there is none.
+/// Travel times turned round, for the question when to leave: an arc that is left at `HORIZON - a` arrives at `HORIZON - d`, with d being
+/// the latest departure that arrives by a, and above the horizon if there is none.
 #[derive(Clone, Copy)]
 pub struct Turned<'a, T: TravelTimes> {
     pub times: &'a T,
