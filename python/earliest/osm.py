@@ -13,6 +13,7 @@ from array import array
 from bisect import bisect_left
 
 from .importing import geography, osm_reading, writing
+from .importing.grouping import grouped
 from .importing.profile import Profile, names as profile_names
 from .importing.telling import Refused, Summary, ended
 
@@ -229,20 +230,6 @@ class Arcs:
         return range(start, end + 1) if start <= end else range(start, end - 1, -1)
 
 
-def by_node(ends, count):
-    """Arcs grouped by a node of theirs: firsts and arcs."""
-    firsts = array("q", bytes(8 * (count + 1)))
-    for node in ends:
-        firsts[node + 1] += 1
-    for node in range(count):
-        firsts[node + 1] += firsts[node]
-    spots, grouped = array("q", firsts), array("i", bytes(4 * len(ends)))
-    for arc, node in enumerate(ends):
-        grouped[spots[node]] = arc
-        spots[node] += 1
-    return firsts, grouped
-
-
 class Network:
     """Crossings and arcs between them, cut out of an extract."""
 
@@ -368,7 +355,7 @@ def strong_parts(tails, heads, nodes):
         return connected_components(matrix, connection="strong")[1].tolist()
     except ImportError:
         pass
-    firsts, grouped = by_node(tails, nodes)
+    firsts, leaving = grouped(tails, nodes)
     order, low, part = array("q", bytes(8 * nodes)), array("q", bytes(8 * nodes)), array("q", b"\xff" * (8 * nodes))
     spots, stack, count, parts = array("q", firsts), [], 0, 0
     for root in range(nodes):
@@ -383,7 +370,7 @@ def strong_parts(tails, heads, nodes):
                 stack.append(node)
             deeper = False
             while spots[node] < firsts[node + 1]:
-                head = heads[grouped[spots[node]]]
+                head = heads[leaving[spots[node]]]
                 if not order[head]:
                     path.append(head)
                     deeper = True
@@ -411,7 +398,7 @@ class Turns:
         if not self.extract.restrictions:
             return
         self.way_place = {number: place for place, number in enumerate(self.extract.way_ids)}
-        self.firsts, self.leaving = by_node(self.arcs.tail, network.nodes)
+        self.firsts, self.leaving = grouped(self.arcs.tail, network.nodes)
         for restriction in self.extract.restrictions:
             why = self._add(restriction)
             if why:
@@ -528,8 +515,8 @@ class Joined:
         arcs, nodes = network.arcs, network.nodes
         self.rows, self.first = array("i"), array("q", [0])
         self.of_arc = array("i", b"\xff" * (4 * len(arcs)))
-        firsts, leaving = by_node(arcs.tail, nodes)
-        in_firsts, entering = by_node(arcs.head, nodes)
+        firsts, leaving = grouped(arcs.tail, nodes)
+        in_firsts, entering = grouped(arcs.head, nodes)
         self.passed = bytearray(nodes)
         if join:
             for node in range(nodes):
@@ -624,7 +611,7 @@ class Split:
         self.number = {node: place for place, node in enumerate(base, 1)}
         tails = array("i", (self.number[joined.tail(arc)] for arc in range(len(joined))))
         self.heads = array("i", (self.number[joined.head(arc)] for arc in range(len(joined))))
-        self.firsts, self.leaving = by_node(tails, len(base) + 1)
+        self.firsts, self.leaving = grouped(tails, len(base) + 1)
         states = {run[:length] for run in self.forbidden for length in range(1, len(run))}
         if costs:
             states |= {(arc,) for arc in range(len(joined)) if any(costs.of(arc, out) for out in self._out(self.heads[arc]))}

@@ -1,0 +1,262 @@
+"""GTFS feeds: tables of a folder or a zip, services, trips with their calls."""
+import csv
+import datetime
+import io
+import os
+import re
+import zipfile
+from array import array
+
+from .grouping import grouped
+from .telling import Refused
+
+WEEKDAYS = ("monday", "tuesday", "wednesday", "thursday", "friday", "saturday", "sunday")
+DAY = 86_400
+
+
+class Feed:
+    """The tables of a feed, row by row."""
+
+    def __init__(self, path, summary):
+        self.path, self.summary, self.folder = path, summary, ""
+        if not os.path.exists(path):
+            raise Refused(f"{path} isn't there")
+        self.zip = None
+        if os.path.isdir(path):
+            self.files = {name for name in os.listdir(path) if name.endswith(".txt")}
+        else:
+            try:
+                self.zip = zipfile.ZipFile(path)
+            except (zipfile.BadZipFile, OSError):
+                raise Refused(f"{path} is neither a folder nor a zip") from None
+            found = [name for name in self.zip.namelist() if name.endswith("stop_times.txt")]
+            if found and "stop_times.txt" not in found:
+                self.folder = found[0][:-len("stop_times.txt")]
+                summary.note(f"the feed's files are in the folder {self.folder} of the zip")
+            self.files = {name[len(self.folder):] for name in self.zip.namelist() if name.startswith(self.folder) and name.endswith(".txt")}
+        for name in ("stops.txt", "routes.txt", "trips.txt", "stop_times.txt"):
+            if name not in self.files:
+                raise Refused(f"{path} is no GTFS feed: it has no {name}")
+        if not self.files & {"calendar.txt", "calendar_dates.txt"}:
+            raise Refused(f"{path} is no GTFS feed: it has neither calendar.txt nor calendar_dates.txt")
+
+    def rows(self, name, wanted, optional=()):
+        """(line, values of the wanted and the optional columns) of each row; a missing optional value is ''."""
+        if name not in self.files:
+            return
+        try:
+            binary = self.zip.open(self.folder + name) if self.zip else open(os.path.join(self.path, name), "rb")
+            with binary, io.TextIOWrapper(binary, encoding="utf-8-sig", newline="") as text:
+                table = csv.reader(text)
+                head = [column.strip() for column in next(table, [])]
+                if not head:
+                    raise Refused(f"{self.path}: {name} is empty")
+                for column in wanted:
+                    if column not in head:
+                        raise Refused(f"{self.path}: {name} has no column {column}")
+                places = [head.index(column) if column in head else -1 for column in (*wanted, *optional)]
+                for row in table:
+                    if row:
+                        yield table.line_num, [row[place].strip() if 0 <= place < len(row) else "" for place in places]
+        except UnicodeDecodeError:
+            raise Refused(f"{self.path}: {name} isn't UTF-8") from None
+        except csv.Error as fault:
+            raise Refused(f"{self.path}: {name} isn't a table: {fault}") from None
+        except (zipfile.BadZipFile, EOFError, NotImplementedError, RuntimeError) as fault:
+            if isinstance(fault, Refused):
+                raise
+            raise Refused(f"{self.path}: {name} can't be unpacked: {fault}") from None
+
+    def fault(self, name, line, sentence):
+        return Refused(f"{self.path}: {name}, line {line}: {sentence}")
+
+    def number(self, name, line, column, text, usual=None, least=0):
+        """A whole number of a column."""
+        if not text and usual is not None:
+            return usual
+        try:
+            value = int(text)
+        except ValueError:
+            raise self.fault(name, line, f"{column} is {text!r}, and a whole number is wanted") from None
+        if value < least:
+            raise self.fault(name, line, f"{column} is {value}, and at least {least} is wanted")
+        return value
+
+    def seconds(self, name, line, column, text):
+        """A time as 7:05:00 or 25:10:00, in seconds of its day; -1 if it is blank."""
+        if not text:
+            return -1
+        found = re.fullmatch(r"(\d+):(\d\d?):(\d\d?)", text)
+        if not found:
+            raise self.fault(name, line, f"{column} is {text!r}, and a time as 7:05:00 is wanted")
+        hours, minutes, rest = map(int, found.groups())
+        if minutes > 59 or rest > 59 or hours > 100_000:
+            raise self.fault(name, line, f"{column} {text!r} is no time")
+        return 3600 * hours + 60 * minutes + rest
+
+
+def date_of(text):
+    """A day as 20261123."""
+    if not re.fullmatch(r"\d{8}", text):
+        raise ValueError(f"{text!r} is no day: YYYYMMDD is wanted, as 20261123")
+    try:
+        return datetime.date(int(text[:4]), int(text[4:6]), int(text[6:]))
+    except ValueError:
+        raise ValueError(f"{text} is no day of the calendar") from None
+
+
+def _day(feed, name, line, text):
+    try:
+        date_of(text)
+    except ValueError as fault:
+        raise feed.fault(name, line, str(fault)) from None
+
+
+def services(feed, first, days, back):
+    """For each service the days that it runs on, from -back to days - 1 counted from the first; and the days that the calendar spans."""
+    asked = [(number, first + datetime.timedelta(days=number)) for number in range(-back, days)]
+    names = [(number, date.strftime("%Y%m%d"), WEEKDAYS[date.weekday()]) for number, date in asked]
+    runs, spans = {}, []
+    for line, row in feed.rows("calendar.txt", ("service_id", "start_date", "end_date"), WEEKDAYS):
+        service, start, end, week = row[0], row[1], row[2], dict(zip(WEEKDAYS, row[3:]))
+        _day(feed, "calendar.txt", line, start)
+        _day(feed, "calendar.txt", line, end)
+        spans += [start, end]
+        for number, date, weekday in names:
+            if start <= date <= end and week[weekday] == "1":
+                runs.setdefault(service, set()).add(number)
+    for line, (service, date, kind) in feed.rows("calendar_dates.txt", ("service_id", "date", "exception_type")):
+        if kind not in ("1", "2"):
+            raise feed.fault("calendar_dates.txt", line, f"exception_type is {kind!r}, and 1 or 2 is wanted")
+        _day(feed, "calendar_dates.txt", line, date)
+        spans.append(date)
+        for number, name, _ in names:
+            if name == date:
+                (runs.setdefault(service, set()).add if kind == "1" else runs.setdefault(service, set()).discard)(number)
+    return {service: sorted(on) for service, on in runs.items() if on}, (min(spans), max(spans)) if spans else None
+
+
+class Stops:
+    """The stops of a feed: ids, names, coordinates, the stations that they belong to."""
+
+    def __init__(self, feed, box, summary):
+        self.ids, self.names, self.places, self.station = [], [], [], []
+        self.number, self.children, self.by_name = {}, {}, {}
+        self.outside = set()
+        kinds = {"": "0"}
+        for line, (stop, name, latitude, longitude, kind, parent) in feed.rows("stops.txt", ("stop_id",), ("stop_name", "stop_lat", "stop_lon", "location_type", "parent_station")):
+            if kinds.get(kind, kind) == "1":
+                self.children.setdefault(stop, [])
+                self.by_name.setdefault(name, []).append(stop)
+                continue
+            if kinds.get(kind, kind) != "0":
+                continue
+            if stop in self.number:
+                raise feed.fault("stops.txt", line, f"the stop {stop!r} was there before")
+            place = self._place(feed, line, latitude, longitude)
+            self.number[stop] = len(self.ids)
+            self.ids.append(stop)
+            self.names.append(name or stop)
+            self.places.append(place)
+            self.station.append(parent)
+            self.by_name.setdefault(name, []).append(stop)
+            if parent:
+                self.children.setdefault(parent, []).append(len(self.ids) - 1)
+            if box and (place is None or not (box[0] <= place[0] <= box[2] and box[1] <= place[1] <= box[3])):
+                self.outside.add(len(self.ids) - 1)
+        if not self.ids:
+            raise Refused(f"{feed.path}: stops.txt has no stop")
+        if box:
+            summary.leave("stops outside the box; trips are cut there", count=len(self.outside))
+
+    @staticmethod
+    def _place(feed, line, latitude, longitude):
+        if not latitude or not longitude:
+            return None
+        try:
+            place = float(longitude), float(latitude)
+        except ValueError:
+            raise feed.fault("stops.txt", line, f"{longitude!r}, {latitude!r} are no coordinates") from None
+        if not (-180 <= place[0] <= 180 and -90 <= place[1] <= 90):
+            raise feed.fault("stops.txt", line, f"{longitude}, {latitude} is no place: longitude is -180 to 180, and latitude -90 to 90")
+        return None if place == (0.0, 0.0) else place
+
+    def of(self, stop):
+        """The stops that an id of transfers.txt names: one, or those of a station."""
+        return [self.number[stop]] if stop in self.number else self.children.get(stop, [])
+
+
+class Calls:
+    """The calls of trips that run: by trip, in the order of their sequence, with times filled in."""
+
+    def __init__(self, feed, trips, stops, summary):
+        self.feed, self.trips, self.stops, self.summary = feed, trips, stops, summary
+        self.trip, self.sequence, self.stop = array("i"), array("q"), array("i")
+        self.arrival, self.departure, self.bans, self.distance = array("i"), array("i"), bytearray(), array("d")
+        unknown = set()
+        columns = ("trip_id", "stop_id", "stop_sequence"), ("arrival_time", "departure_time", "pickup_type", "drop_off_type", "shape_dist_traveled", "continuous_pickup", "continuous_drop_off")
+        for line, (trip, stop, sequence, arrival, departure, pickup, drop, distance, on, off) in feed.rows("stop_times.txt", *columns):
+            number = trips.get(trip)
+            if number is None:
+                continue
+            if stop not in stops.number:
+                unknown.add(number)
+                continue
+            if pickup in ("2", "3") or drop in ("2", "3"):
+                summary.take("calls on demand (by phone or by telling the driver), taken as regular")
+            if on in ("0", "2", "3") or off in ("0", "2", "3"):
+                summary.leave("calls after which passengers may board or leave anywhere, taken at stops only", trip)
+            self.trip.append(number)
+            self.sequence.append(feed.number("stop_times.txt", line, "stop_sequence", sequence))
+            self.stop.append(stops.number[stop])
+            self.arrival.append(feed.seconds("stop_times.txt", line, "arrival_time", arrival))
+            self.departure.append(feed.seconds("stop_times.txt", line, "departure_time", departure))
+            self.bans.append((pickup == "1") + 2 * (drop == "1"))
+            self.distance.append(_float(distance))
+        self.unknown = unknown
+        self.firsts, self.places = grouped(self.trip, len(trips))
+
+    def of(self, trip, name):
+        """The calls of a trip as (stop, arrival, departure, bans), bit 0 of bans: nobody boards, bit 1: nobody leaves; or None."""
+        if trip in self.unknown:
+            return self._left("trips with a call at a place that isn't a stop of stops.txt", name)
+        rows = sorted(self.places[self.firsts[trip]:self.firsts[trip + 1]], key=lambda row: self.sequence[row])
+        if len(rows) < 2:
+            return self._left("trips with fewer than two calls", name)
+        if any(self.sequence[here] == self.sequence[there] for here, there in zip(rows, rows[1:])):
+            return self._left("trips with two calls of one stop_sequence", name)
+        arrivals = [self.arrival[row] if self.arrival[row] >= 0 else self.departure[row] for row in rows]
+        departures = [self.departure[row] if self.departure[row] >= 0 else self.arrival[row] for row in rows]
+        if arrivals[0] < 0 or arrivals[-1] < 0:
+            return self._left("trips without a time at their first or last call", name)
+        self._fill(rows, arrivals, departures)
+        if any(arrival > departure for arrival, departure in zip(arrivals, departures)) or any(departure > arrival for departure, arrival in zip(departures, arrivals[1:])):
+            return self._left("trips whose times go back", name)
+        return [(self.stop[row], arrival, departure, self.bans[row]) for row, arrival, departure in zip(rows, arrivals, departures)]
+
+    def _left(self, why, name):
+        self.summary.leave(why, name)
+        return None
+
+    def _fill(self, rows, arrivals, departures):
+        """Fills blank times between two times: by shape_dist_traveled where it rises all along, else in equal shares."""
+        start = 0
+        for end in range(1, len(rows)):
+            if arrivals[end] < 0:
+                continue
+            if end > start + 1:
+                distances = [self.distance[row] for row in rows[start:end + 1]]
+                whole = distances[-1] - distances[0]
+                by_distance = whole > 0 and all(here <= there for here, there in zip(distances, distances[1:]))
+                for step in range(1, end - start):
+                    share = (distances[step] - distances[0]) / whole if by_distance else step / (end - start)
+                    arrivals[start + step] = departures[start + step] = departures[start] + int(share * (arrivals[end] - departures[start]))
+                self.summary.take("blank times filled in" + (" by the distance along the trip" if by_distance else " in equal shares"), count=end - start - 1)
+            start = end
+
+
+def _float(text):
+    try:
+        return float(text)
+    except ValueError:
+        return float("nan")
