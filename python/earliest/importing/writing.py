@@ -42,8 +42,8 @@ def cleaned(name):
 class Outputs:
     """Files NAME.end that get their names only when all of them are whole: `with Outputs(name) as out: out.file(".gr").write(..)`."""
 
-    def __init__(self, name):
-        self.name, self.open_files, self.notes = os.fspath(name), {}, []
+    def __init__(self, name, network=True):
+        self.name, self.open_files, self.notes, self.network = os.fspath(name), {}, [], network
         folder = os.path.dirname(self.name) or "."
         if not os.path.isdir(folder):
             raise Refused(f"the folder {folder} isn't there")
@@ -74,7 +74,8 @@ class Outputs:
             if kind is None:
                 for path, (whole, _) in self.open_files.items():
                     os.replace(whole, path)
-                self._forget(".tp")
+                if self.network:
+                    self._forget(".tp")
         finally:
             for whole, file in self.open_files.values():
                 file.close()

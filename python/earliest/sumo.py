@@ -1,0 +1,330 @@
+"""A network of a SUMO network (.net.xml), with the speeds of edge data by intervals.
+
+    python3 -m earliest.sumo town.net.xml town --data edgedata.xml --from edge1 --to edge9
+
+writes town.gr, town.tp (with --data), town.co, town.nodes.csv and town.arcs.csv, and with --from and --to town.ss and town.p2p. Each edge
+has two nodes, one at its start and one at its end: an arc leads along the edge, and one from its end to the start of each edge
+that its connections allow to turn to. So a walk keeps to the turns of the network. Who starts on an edge starts at its start, and who goes
+to an edge goes to its end.
+"""
+import gzip
+import math
+import os
+import sys
+import xml.etree.ElementTree as trees
+
+from .importing import writing
+from .importing.telling import Refused, Summary, ended
+
+
+def elements(path, root_tag, tags):
+    """The elements of an XML file at the first level or below, when they end; what has been gone through is let go."""
+    if not os.path.exists(path):
+        raise Refused(f"{path} isn't there")
+    opened = gzip.open if path.endswith(".gz") else open
+    try:
+        with opened(path, "rb") as file:
+            root = None
+            for event, element in trees.iterparse(file, events=("start", "end")):
+                if root is None:
+                    root = element
+                    if root.tag not in root_tag:
+                        raise Refused(f"{path} is XML of another kind: it begins with <{root.tag}>, and <{root_tag[0]}> is wanted")
+                elif event == "end" and element.tag in tags:
+                    yield element
+                    root.clear()
+    except trees.ParseError as fault:
+        raise Refused(f"{path} is cut off or isn't XML: {fault}") from None
+    except (EOFError, gzip.BadGzipFile) as fault:
+        raise Refused(f"{path} is cut off or compressed otherwise: {fault}") from None
+
+
+def number_of(element, key, path, least=0.0):
+    text = element.get(key)
+    try:
+        value = float(text)
+    except (TypeError, ValueError):
+        raise Refused(f"{path}: a number is wanted for {key} of a <{element.tag}>, not {text!r}") from None
+    if not (value >= least and math.isfinite(value)):
+        raise Refused(f"{path}: {key} of a <{element.tag}> is {text}, out of range")
+    return value
+
+
+class Lane:
+    __slots__ = ("speed", "length", "open", "shape")
+
+    def __init__(self, element, vehicle, path):
+        self.speed, self.length = number_of(element, "speed", path), number_of(element, "length", path)
+        allow, disallow = element.get("allow"), element.get("disallow")
+        self.open = (allow is None and disallow is None) or (allow is not None and (vehicle in allow.split() or allow == "all")) or (allow is None and disallow is not None and vehicle not in disallow.split() and disallow != "all")
+        self.shape = element.get("shape", "")
+
+
+class Town:
+    """The edges and turns of a network that a class of vehicle may use."""
+
+    def __init__(self, path, vehicle, most, summary):
+        self.path, self.most, self.summary = path, most, summary
+        self.edges, self.lanes, self.inner = {}, {}, {}  # id: lanes; (edge, lane): Lane; lane id: Lane
+        self.turns, self.onward = {}, {}
+        self.projection = None
+        connections = []
+        for element in elements(path, ("net",), ("location", "edge", "connection")):
+            if element.tag == "location":
+                self.projection = element.get("netOffset", "0,0"), element.get("projParameter", "!")
+            elif element.tag == "edge":
+                self._edge(element, vehicle)
+            else:
+                connections.append(tuple(element.get(key) for key in ("from", "to", "fromLane", "toLane", "via")))
+        if not self.edges:
+            raise Refused(f"{path} has no edge that a {vehicle} may use")
+        for start, end, lane, onto, via in connections:
+            self._connection(start, end, lane, onto, via)
+        self._inside()
+
+    def _edge(self, element, vehicle):
+        number, function = element.get("id"), element.get("function", "normal")
+        if number is None:
+            raise Refused(f"{self.path}: an <edge> has no id")
+        lanes = [(it.get("index", str(place)), it.get("id"), Lane(it, vehicle, self.path)) for place, it in enumerate(element.iter("lane"))]
+        if function == "internal":
+            for index, name, lane in lanes:
+                self.inner[name] = (number, index, lane)
+            return
+        if function not in ("normal", "connector"):
+            self.summary.leave(f"edges of the function {function}", number)
+            return
+        usable = [(index, lane) for index, _, lane in lanes if lane.open and lane.speed > 0]
+        if not usable:
+            self.summary.leave("edges without a lane that the vehicle may use" if lanes else "edges without lanes", number)
+            return
+        if number in self.edges:
+            raise Refused(f"{self.path}: the edge {number!r} is there twice")
+        best = max((lane for _, lane in usable), key=lambda it: it.speed)
+        self.edges[number] = (best.length, min(best.speed, self.most), element.get("shape") or best.shape)
+        for index, lane in usable:
+            self.lanes[number, index] = lane
+
+    def _connection(self, start, end, lane, onto, via):
+        if start is None or end is None:
+            raise Refused(f"{self.path}: a <connection> has no from or no to")
+        if start.startswith(":"):
+            self.onward[start, lane, end] = via
+            return
+        if start not in self.edges or end not in self.edges:
+            self.summary.leave("connections from or to edges that aren't taken")
+            return
+        if (start, lane) not in self.lanes or (end, onto) not in self.lanes:
+            self.summary.leave("connections from or to lanes that the vehicle may not use", f"{start} to {end}")
+            return
+        self.turns.setdefault((start, end), []).append(via)
+
+    def _inside(self):
+        """The seconds and metres of each turn: over the lanes inside the junction, by the quickest connection."""
+        for (start, end), ways in self.turns.items():
+            self.turns[start, end] = min(self._crossed(end, via) for via in ways)
+
+    def _crossed(self, end, via):
+        seconds = metres = 0.0
+        seen = set()
+        while via and via not in seen:
+            seen.add(via)
+            if via not in self.inner:
+                self.summary.leave("lanes inside junctions that the file doesn't have, taken as no way", via)
+                break
+            edge, index, lane = self.inner[via]
+            if lane.speed > 0:
+                seconds += lane.length / min(lane.speed, self.most)
+            metres += lane.length
+            via = self.onward.get((edge, index, end))
+        return seconds, metres
+
+    def places(self):
+        """For each edge its two ends, in degrees if the projection is known and pyproj is there, else in metres; and whether in degrees."""
+        offset, told = self.projection or ("0,0", "!")
+        change = None
+        if told not in ("!", "-"):
+            try:
+                import pyproj
+                change = pyproj.Transformer.from_crs(pyproj.CRS.from_proj4(told), "EPSG:4326", always_xy=True).transform
+            except ImportError:
+                self.summary.note("pyproj isn't there, so coordinates are in metres of the network; `pip install pyproj` or `apt-get install python3-pyproj` gives degrees")
+            except Exception as fault:  # pyproj has errors of its own for each way a text may be wrong
+                self.summary.note(f"the projection {told!r} can't be used ({fault}), so coordinates are in metres of the network")
+        else:
+            self.summary.note("the network has no projection, so coordinates are in metres")
+        try:
+            east, north = (float(part) for part in offset.split(","))
+        except ValueError:
+            raise Refused(f"{self.path}: netOffset is {offset!r}, and two numbers are wanted") from None
+        found = {}
+        for number, (_, _, shape) in self.edges.items():
+            points = []
+            for text in (shape.split()[:1] + shape.split()[-1:]) if shape else ():
+                try:
+                    x, y = (float(part) for part in text.split(",")[:2])
+                except ValueError:
+                    raise Refused(f"{self.path}: the shape of edge {number!r} has {text!r}, and x,y is wanted") from None
+                points.append(change(x - east, y - north) if change else (x, y))
+            found[number] = points if points and all(math.isfinite(part) for point in points for part in point) else [(None, None)] * 2
+        return found, change is not None
+
+
+class Speeds:
+    """Speeds by intervals, of edge data with `traveltime` or `speed`."""
+
+    def __init__(self, paths, town, summary):
+        self.intervals, self.speeds = [], {}
+        for path in paths:
+            begin = end = None
+            for element in elements(path, ("meandata", "edgedata", "data", "netstate"), ("interval",)):
+                begin, end = number_of(element, "begin", path), number_of(element, "end", path)
+                if end <= begin:
+                    raise Refused(f"{path}: an interval begins at {begin:g} and ends at {end:g}")
+                self._interval(path, element, begin, end, town, summary)
+            if begin is None:
+                raise Refused(f"{path} has no <interval>")
+        if not self.speeds:
+            raise Refused(f"{', '.join(paths)} has no speed of an edge of the network")
+
+    def _interval(self, path, element, begin, end, town, summary):
+        summary.take("intervals of edge data")
+        self.intervals.append((begin, end))
+        for edge in element.iter("edge"):
+            number = edge.get("id")
+            if number not in town.edges:
+                summary.leave("values of edge data for edges that aren't taken", number)
+                continue
+            length = town.edges[number][0]
+            if edge.get("traveltime") is not None:
+                seconds = number_of(edge, "traveltime", path)
+                speed = length / seconds if seconds > 0 else 0.0
+            elif edge.get("speed") is not None:
+                speed = number_of(edge, "speed", path)
+            else:
+                summary.leave("values of edge data without traveltime and speed: the edge is free then", number)
+                continue
+            if speed <= 0:
+                summary.leave("values of edge data that are 0: the edge is free then", number)
+                continue
+            summary.take("speeds of edges in intervals")
+            self.speeds.setdefault(number, []).append((begin, end, speed))
+
+    def steps(self, number, free, period):
+        """(time in seconds, speed) of an edge from 0 on: its data in their intervals, free speed outside them."""
+        marks = {0.0: free}
+        found = sorted(self.speeds.get(number, ()))
+        for place, (begin, end, speed) in enumerate(found):
+            if place and begin < found[place - 1][1]:
+                raise Refused(f"the edge data have two intervals at {begin:g} for edge {number!r}")
+            if end > period:
+                raise Refused(f"the edge data go on until {end:g}, beyond the period of {period:g} seconds; give a longer --period")
+            marks[begin] = speed
+            if end < period:
+                marks.setdefault(end, free)
+        steps = sorted(marks.items())
+        return [step for place, step in enumerate(steps) if not place or step[1] != steps[place - 1][1]]
+
+
+def pattern(steps, per_second, rounding):
+    """Steps in units of time and thousandths of the least speed, and that speed. A weight is the time at the least speed, so the
+    thousandths have at least four digits."""
+    if rounding:
+        grid = math.log1p(rounding / 100)
+        steps = [(time, math.exp(round(math.log(speed) / grid) * grid)) for time, speed in steps]
+    least = max(min(speed for _, speed in steps), max(speed for _, speed in steps) / 1000)
+    found = {}
+    for time, speed in steps:
+        found[int(time * per_second + 0.5)] = max(1, round(1000 * speed / least))
+    rows = sorted(found.items())
+    return [row for place, row in enumerate(rows) if not place or row[1] != rows[place - 1][1]], least
+
+
+def convert(path, name, data=(), vehicle="passenger", most=math.inf, unit="hundredths", period=86_400, rounding=0.0, starts=(), goals=()):
+    """Writes the network of a SUMO network and returns its summary."""
+    summary, per_second = Summary(), writing.UNITS[unit]
+    with writing.Outputs(name) as out:
+        town = Town(path, vehicle, most, summary)
+        speeds = Speeds(data, town, summary) if data else None
+        numbers = {edge: place for place, edge in enumerate(sorted(town.edges), 1)}
+        count = len(numbers)
+        writing.limits_kept(2 * count, count + len(town.turns))
+        places, degrees = town.places()
+        rows = out.table(".nodes.csv", ("node", "id", "longitude", "latitude", "use") if degrees else ("node", "id", "x", "y", "use"))
+        ends = []
+        for shift, use in ((0, "start"), (count, "end")):
+            for edge, number in numbers.items():
+                place = places[edge][0 if use == "start" else 1]
+                ends.append(place)
+                rows.writerow((number + shift, edge, *("" if part is None else f"{part:.7f}" if degrees else f"{part:.2f}" for part in place), use))
+        classes, class_of = writing.Classes(), {}
+        graph, arcs = out.file(".gr"), out.table(".arcs.csv", ("arc", "way", "from", "to", "length"))
+        graph.write(writing.unit_comment(per_second, path) + f"p sp {2 * count} {count + len(town.turns)}\n")
+        for edge, number in numbers.items():
+            length, free, _ = town.edges[edge]
+            base = free
+            if speeds and edge in speeds.speeds:
+                steps = speeds.steps(edge, free, period)
+                steps, base = pattern(steps, per_second, rounding)
+                if len(steps) == 1:
+                    base = base * steps[0][1] / 1000
+                else:
+                    class_of[number] = classes.number("speeds", int(period * per_second), steps)
+            graph.write(f"a {number} {number + count} {writing.weight_of(length / base, per_second, f'edge {edge}')}\n")
+            arcs.writerow((number, edge, edge, edge, f"{length:.2f}"))
+        for place, ((start, end), (seconds, metres)) in enumerate(sorted(town.turns.items()), count + 1):
+            graph.write(f"a {numbers[start] + count} {numbers[end]} {writing.weight_of(seconds, per_second, 'a turn')}\n")
+            arcs.writerow((place, "", start, end, f"{metres:.2f}"))
+        if speeds:
+            classes.checked("round the speeds with --rounding, or take longer intervals")
+            classes.write(out.file(".tp"), lambda: sorted(class_of.items()), path)
+            summary.take("classes of speeds", len(classes))
+            summary.note(f"outside the intervals, and where the data have no value, edges are free; the day repeats after {period:g} seconds")
+            if rounding:
+                summary.note(f"speeds are rounded to steps of {rounding:g} per cent")
+        writing.write_coordinates(out.file(".co"), ((node, *place) for node, place in enumerate(ends, 1)), degrees, path)
+        for which, texts in (("--from", starts), ("--to", goals)):
+            for edge in texts:
+                if edge not in numbers:
+                    raise Refused(f"{which} {edge}: there is no such edge that a {vehicle} may use")
+        writing.write_starts(out, [numbers[edge] for edge in starts], [numbers[edge] + count for edge in goals])
+        summary.take("edges", count)
+        summary.take("turns", len(town.turns))
+        summary.take("nodes", 2 * count)
+        summary.take("arcs", count + len(town.turns))
+        alone = len(set(numbers) - {start for start, _ in town.turns})
+        summary.leave("edges that no turn leads out of", count=alone)
+        summary.note("traffic lights, priority and queues at junctions take no time, but what the edge data have of them")
+    summary.notes += out.notes
+    return summary, out.names()
+
+
+def command(words):
+    asked = writing.Words(__doc__, "sumo")
+    asked.add_argument("net", help="the network: .net.xml or .net.xml.gz")
+    asked.add_argument("name", help="NAME of the files that are written")
+    asked.add_argument("--data", action="append", default=[], metavar="FILE", help="edge data by intervals (meandata), with `traveltime` or `speed`; may be given several times")
+    asked.add_argument("--vehicle", default="passenger", help="the class of vehicle (default: passenger)")
+    asked.add_argument("--max-speed", type=float, default=math.inf, metavar="M/S", help="the most that the vehicle goes (default: no limit)")
+    asked.add_argument("--period", type=int, default=86_400, metavar="SECONDS", help="after how many seconds the edge data repeat (default: 86400)")
+    asked.add_argument("--rounding", type=float, default=0.0, metavar="PERCENT", help="round speeds to steps of so many per cent, so that more edges share a class (default: 0)")
+    writing.add_unit(asked)
+    asked.add_argument("--from", dest="starts", metavar="EDGE", action="append", default=[], help="an edge to start from, for NAME.ss; may be given several times")
+    asked.add_argument("--to", dest="goals", metavar="EDGE", action="append", default=[], help="an edge to go to, for NAME.p2p with --from")
+    given = asked.parse_args(words)
+    if given.goals and not given.starts:
+        asked.error("--to needs --from")
+    if not given.max_speed > 0 or not 0 <= given.rounding <= 100 or not 1 <= given.period * writing.UNITS[given.unit] <= writing.MOST_PERIOD:
+        asked.error("--max-speed is above 0, --rounding 0 to 100, and --period at least 1 and within the format's limit")
+    summary, files = convert(given.net, given.name, given.data, given.vehicle, given.max_speed, given.unit, given.period, given.rounding, given.starts, given.goals)
+    summary.tell()
+    print("written: " + ", ".join(files))
+    return 0
+
+
+def main(words):
+    return ended("sumo", command, words)
+
+
+if __name__ == "__main__":
+    sys.exit(main(sys.argv[1:]))
