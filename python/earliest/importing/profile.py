@@ -31,6 +31,26 @@ def minutes_of(text):
     return 60 * parts[0] + parts[1] + (parts[2] / 60 if len(parts) == 3 else 0)
 
 
+class Once:
+    """A summary in which a way counts each reason once, though both its directions have it."""
+
+    def __init__(self, summary):
+        self.summary, self.told = summary, set()
+
+    def take(self, what):
+        if what not in self.told:
+            self.told.add(what)
+            self.summary.take(what)
+
+    def leave(self, why, which=None):
+        if why not in self.told:
+            self.told.add(why)
+            self.summary.leave(why, which)
+
+    def note(self, sentence):
+        self.summary.note(sentence)
+
+
 class Profile:
     """A profile of an INI file: `judge` of a way's tags, `passes` of a node's."""
 
@@ -111,7 +131,7 @@ class Profile:
                     continue
                 if value in self.yes:
                     if value in self.not_through and summary is not None:
-                        summary.take(f"directions of ways that are open for {value} only, taken as open to through traffic")
+                        summary.take(f"ways that are open for {value} only, taken as open to through traffic")
                     return True
                 if value in self.no:
                     return False
@@ -132,7 +152,7 @@ class Profile:
 
     def judge(self, way, tags, summary):
         """Speeds forward and backward in km/h (0: closed) and the seconds of the whole way, if they are told; or None."""
-        ferry = False
+        ferry, summary = False, Once(summary)
         kind = tags.get("highway")
         speed = self.speeds.get(kind)
         asked = False
