@@ -6,6 +6,7 @@ import importlib
 import io
 import math
 import os
+import shutil
 import subprocess
 import sys
 import types
@@ -85,10 +86,11 @@ def text(room, name):
 
 
 def put(room, name, contents):
-    """Writes a file, or a folder of files of a dict."""
+    """Writes a file, or a folder of the files of a dict and no others."""
     path = os.path.join(room, name)
     if isinstance(contents, dict):
-        os.makedirs(path, exist_ok=True)
+        shutil.rmtree(path, ignore_errors=True)
+        os.makedirs(path)
         for inner, it in contents.items():
             put(path, inner, it)
         return path
