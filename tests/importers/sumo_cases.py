@@ -1,0 +1,197 @@
+"""SUMO: edges, turns, permissions, speeds by intervals, each beside a search over edges that drives by the second."""
+import gzip
+import os
+import random
+
+from support import ROOT, arcs, arrivals, engine, good, least, put, refused, summary_has, table, text, there
+
+HEAD = '<?xml version="1.0" encoding="UTF-8"?>\n<net version="1.16">\n<location netOffset="0.00,0.00" convBoundary="0,0,1,1" origBoundary="0,0,1,1" projParameter="!"/>\n'
+
+
+def net(edges, turns):
+    """A network of edges {id: (length, speed, attributes of its lane)} and turns [(from, to)]."""
+    lines = [f'<edge id="{name}" from="x" to="y"><lane id="{name}_0" index="0" speed="{speed}" length="{length}" {more} shape="0,0 {length},0"/></edge>' for name, (length, speed, more) in edges.items()]
+    lines += [f'<connection from="{start}" to="{end}" fromLane="0" toLane="0" dir="s" state="M"/>' for start, end in turns]
+    return HEAD + "\n".join(lines) + "\n</net>\n"
+
+
+def data(intervals):
+    """Edge data of [(begin, end, {edge: attributes})]."""
+    return "<meandata>\n" + "".join(f'<interval begin="{begin}" end="{end}" id="x">' + "".join(f'<edge id="{edge}" {told}/>' for edge, told in edges.items()) + "</interval>\n" for begin, end, edges in intervals) + "</meandata>\n"
+
+
+def driven(length, start, speed_at, marks):
+    """When somebody who begins an edge at a time is at its end: from mark to mark at the speed that holds there."""
+    time, left = start, length
+    while True:
+        after = min((mark for mark in marks if mark > time + 1e-9), default=float("inf"))
+        speed = speed_at(time)
+        if left <= speed * (after - time) + 1e-9:
+            return time + left / speed
+        left -= speed * (after - time)
+        time = after
+
+
+def searched(edges, turns, start, departure, speeds=None, period=86400.0, inside=None):
+    """The time at the end of each edge: from the start of one, over turns that are allowed. `speeds` is {edge: [(begin, end, speed)]}."""
+    speeds, inside = speeds or {}, inside or {}
+
+    def speed_at(edge):
+        def of(time):
+            at = (time + 1e-9) % period
+            return next((speed for begin, end, speed in speeds.get(edge, ()) if begin <= at < end), edges[edge][1])
+        return of
+
+    def end_of(edge, time):
+        marks = sorted({day * period + mark for day in range(4) for begin, end, _ in speeds.get(edge, ()) for mark in (begin, end)} | {day * period for day in range(1, 5)})
+        return driven(edges[edge][0], time, speed_at(edge), marks)
+
+    return least([(start, end_of(start, departure))], lambda edge, time: [(after, end_of(after, time + inside.get((edge, after), 0.0))) for before, after in turns if before == edge])
+
+
+def ends(room, name):
+    start, end = {}, {}
+    for row in table(room, name + ".nodes.csv"):
+        (start if row["use"] == "start" else end)[row["id"]] = int(row["node"])
+    return start, end
+
+
+def agree(room, name, edges, wanted_of, starts, times, slack=2.5):
+    start, end = ends(room, name)
+    for edge in starts:
+        for time in times:
+            got, wanted = arrivals(room, name, start[edge], round(100 * time)), wanted_of(edge, time)
+            for other, node in end.items():
+                mine = got[node - 1]
+                if (mine is None) != (other not in wanted) or (mine is not None and abs(mine - 100 * wanted[other]) > slack + 0.0006 * 100 * (wanted[other] - time)):
+                    return f"from {edge} at {time} to {other}: {mine} and {wanted.get(other)}"
+    return "all"
+
+
+EDGES = {"a": (100.0, 10.0, ""), "b": (200.0, 10.0, ""), "c": (50.0, 5.0, 'disallow="bicycle"'), "d": (400.0, 20.0, 'allow="passenger bus"'), "e": (30.0, 10.0, 'allow="bus"'), "f": (80.0, 8.0, 'disallow="all"')}
+TURNS = [("a", "b"), ("b", "c"), ("a", "d"), ("d", "c"), ("c", "a"), ("b", "e"), ("e", "c"), ("d", "f")]
+
+
+def turns_and_permissions(room):
+    """Only turns that there are are driven; edges and lanes for others are left out."""
+    path = put(room, "town.net.xml", net(EDGES, TURNS))
+    told = good("sumo", path, os.path.join(room, "town"), "--from", "a", "--to", "c")
+    cars = {edge: it for edge, it in EDGES.items() if edge not in "ef"}
+    turns = [(start, end) for start, end in TURNS if start in cars and end in cars]
+    yield "turns that are allowed", agree(room, "town", cars, lambda edge, time: searched(cars, turns, edge, time), cars, (0, 17.5)), "all"
+    yield "edges for others are told", summary_has(told, "2 edges without a lane that the vehicle may use", "e, f"), True
+    yield "connections to them are told", summary_has(told, "3 connections from or to edges that aren't taken"), True
+    pair = engine("pairs", os.path.join(room, "town.gr"), os.path.join(room, "town.p2p"))
+    yield "from the start of an edge to the end of another", pair.stdout.split()[-1], str(round(100 * searched(cars, turns, "a", 0)["c"])).encode()
+    good("sumo", path, os.path.join(room, "bus"), "--vehicle", "bus", "--max-speed", "8")
+    buses = {edge: (length, min(speed, 8.0), more) for edge, (length, speed, more) in EDGES.items() if edge != "f"}
+    turns = [(start, end) for start, end in TURNS if start in buses and end in buses]
+    yield "a bus of 8 m/s", agree(room, "bus", buses, lambda edge, time: searched(buses, turns, edge, time), buses, (0,)), "all"
+    with gzip.open(os.path.join(room, "town.net.xml.gz"), "wb") as packed:
+        packed.write(net(EDGES, TURNS).encode())
+    good("sumo", path + ".gz", os.path.join(room, "packed"))
+    yield "a packed network", arcs(room, "packed"), arcs(room, "town")
+
+
+def intervals(room):
+    """Speeds by intervals: travel times and speeds, gaps, edges without data, the end of the period, long edges over several intervals."""
+    edges = {"a": (300.0, 10.0, ""), "b": (200.0, 10.0, ""), "c": (50.0, 5.0, ""), "d": (2000.0, 20.0, "")}
+    turns = [("a", "b"), ("b", "c"), ("a", "d"), ("d", "c"), ("c", "a")]
+    put(room, "town.net.xml", net(edges, turns))
+    put(room, "one.xml", data([(0, 60, {"a": 'speed="5"', "b": 'traveltime="40"'}), (60, 120, {"a": 'speed="2.5"', "d": 'speed="4"'}), (300, 360, {"b": 'traveltime="1000"', "d": 'speed="0.5"'})]))
+    put(room, "two.xml", data([(360, 400, {"a": 'speed="1.234"', "c": 'speed="0"', "x": 'speed="1"', "b": 'entered="3"'})]))
+    speeds = {"a": [(0, 60, 5.0), (60, 120, 2.5), (360, 400, 1.234)], "b": [(0, 60, 5.0), (300, 360, 0.2)], "d": [(60, 120, 4.0), (300, 360, 0.5)]}
+    for period in (86400, 400):
+        told = good("sumo", os.path.join(room, "town.net.xml"), os.path.join(room, "town"), "--data", os.path.join(room, "one.xml"), "--data", os.path.join(room, "two.xml"), "--period", period)
+        yield f"speeds by intervals, period {period}", agree(room, "town", edges, lambda edge, time: searched(edges, turns, edge, time, speeds, float(period)), edges, (0, 10, 59, 61, 200, 299, 350, 399)), "all"
+    yield "what data leave out is told", [summary_has(told, part) for part in ("1 values of edge data that are 0", "1 values of edge data for edges that aren't taken (x)", "1 values of edge data without traveltime and speed")], [True] * 3
+    yield "nobody overtakes", all(first <= second for first, second in zip(_ends(room, "b"), _ends(room, "b")[1:])), True
+    good("sumo", os.path.join(room, "town.net.xml"), os.path.join(room, "round"), "--data", os.path.join(room, "one.xml"), "--rounding", 10)
+    yield "rounded speeds are near", max(abs(mine - other) / (mine + 1) for mine, other in zip(_ends(room, "b", "round"), _ends(room, "b"))) < 0.2, True
+
+
+def _ends(room, edge, name="town"):
+    start, end = ends(room, name)
+    return [arrivals(room, name, start[edge], 100 * time)[end[edge] - 1] for time in range(0, 400, 13)]
+
+
+def classes_are_shared(room):
+    """Edges with the same pattern of speeds share a class, whatever their lengths and limits."""
+    edges = {f"e{number}": (100.0 + number, 10.0 if number % 2 else 20.0, "") for number in range(50)}
+    put(room, "town.net.xml", net(edges, []))
+    put(room, "data.xml", data([(0, 600, {edge: f'speed="{speed / 4}"' for edge, (_, speed, _) in edges.items()})]))
+    told = good("sumo", os.path.join(room, "town.net.xml"), os.path.join(room, "town"), "--data", os.path.join(room, "data.xml"))
+    yield "one class for all", summary_has(told, "1 classes of speeds"), True
+    yield "edges that lead nowhere are told", summary_has(told, "50 edges that no turn leads out of"), True
+
+
+def random_networks(room):
+    for seed in range(6):
+        draw = random.Random(seed)
+        edges = {f"e{number}": (float(draw.randint(20, 900)), float(draw.choice([5, 8, 10, 20])), "") for number in range(12)}
+        turns = sorted({(draw.choice(list(edges)), draw.choice(list(edges))) for _ in range(24)})
+        speeds = {}
+        told = []
+        for begin in range(0, 600, 120):
+            values = {}
+            for edge in edges:
+                if draw.random() < 0.5:
+                    speed = draw.choice([3.0, 4.0, 7.5, 12.0])
+                    values[edge] = f'speed="{speed}"'
+                    speeds.setdefault(edge, []).append((begin, begin + 120, speed))
+            told.append((begin, begin + 120, values))
+        put(room, "town.net.xml", net(edges, turns))
+        put(room, "data.xml", data(told))
+        good("sumo", os.path.join(room, "town.net.xml"), os.path.join(room, "town"), "--data", os.path.join(room, "data.xml"), "--period", 700)
+        yield f"random network {seed}", agree(room, "town", edges, lambda edge, time: searched(edges, turns, edge, time, speeds, 700.0), list(edges)[:5], (0, 100, 555, 699), 8), "all"
+
+
+def example(room):
+    """The example: lanes inside the junction, a bus lane, two commands to an answer."""
+    folder = os.path.join(ROOT, "examples", "sumo")
+    told = good("sumo", os.path.join(folder, "town.net.xml"), os.path.join(room, "town"), "--data", os.path.join(folder, "edgedata.xml"), "--from", "in", "--to", "out", "--to", "back")
+    edges = {"in": (200.0, 10.0, ""), "out": (180.0, 20.0, ""), "side": (160.0, 8.0, ""), "back": (320.0, 16.0, "")}
+    turns = [("in", "out"), ("in", "side"), ("side", "back")]
+    inside = {("in", "out"): 2.0, ("in", "side"): 10 / 5 + 6 / 5}
+    speeds = {"in": [(0, 60, 5.0), (60, 120, 2.5)], "out": [(0, 60, 2.0)], "back": [(60, 120, 4.0)]}
+    yield "the example", agree(room, "town", edges, lambda edge, time: searched(edges, turns, edge, time, speeds, inside=inside), edges, (0, 30, 50, 100, 400)), "all"
+    pairs = engine("pairs", os.path.join(room, "town.gr"), os.path.join(room, "town.p2p"), "--tp", os.path.join(room, "town.tp"))
+    yield "the example is answered", (pairs.returncode, pairs.stdout.count(b"d "), b"inf" in pairs.stdout), (0, 2, False)
+    yield "lanes for others are told", summary_has(told, "1 connections from or to lanes that the vehicle may not use"), True
+    rows = table(room, "town.nodes.csv")
+    if there("pyproj"):
+        row = next(row for row in rows if row["id"] == "in" and row["use"] == "start")
+        yield "degrees", (abs(float(row["longitude"]) - 9.0) < 1e-4, 49.6 < float(row["latitude"]) < 49.7), (True, True)
+    else:
+        yield "metres without pyproj, and what to install", ("x" in rows[0], summary_has(told, "pip install pyproj")), (True, True)
+
+
+def hostile(room):
+    whole = net(EDGES, TURNS)
+    path = put(room, "town.net.xml", whole)
+    for name, file, words, part in (
+        ("XML cut in the middle", put(room, "cut.net.xml", whole[:len(whole) // 2]), [], "cut off"),
+        ("an empty file", put(room, "empty.net.xml", ""), [], "cut off"),
+        ("another kind of XML", put(room, "other.net.xml", "<osm/>"), [], "<osm>"),
+        ("no edges", put(room, "none.net.xml", HEAD + "</net>"), [], "no edge"),
+        ("a speed that is no number", put(room, "speed.net.xml", whole.replace('speed="20.0"', 'speed="quick"')), [], "'quick'"),
+        ("a length below 0", put(room, "length.net.xml", whole.replace('length="100.0"', 'length="-5"')), [], "out of range"),
+        ("an edge twice", put(room, "twice.net.xml", net({"a": EDGES["a"]}, []).replace("</net>", net({"a": EDGES["a"]}, []).split("/>\n", 1)[1])), [], "twice"),
+        ("bytes that aren't gzip", put(room, "x.net.xml.gz", "hello"), [], "x.net.xml.gz"),
+        ("a file that isn't there", os.path.join(room, "nowhere.net.xml"), [], "isn't there"),
+        ("an edge to start from that isn't there", path, ["--from", "z"], "no such edge"),
+        ("data of another kind", path, ["--data", put(room, "d1.xml", "<routes/>")], "<routes>"),
+        ("data without intervals", path, ["--data", put(room, "d2.xml", "<meandata/>")], "no <interval>"),
+        ("data of other edges", path, ["--data", put(room, "d3.xml", data([(0, 60, {"q": 'speed="1"'})]))], "no speed of an edge"),
+        ("data beyond the period", path, ["--data", put(room, "d4.xml", data([(0, 90000, {"a": 'speed="1"'})]))], "longer --period"),
+        ("intervals that overlap", path, ["--data", put(room, "d5.xml", data([(0, 60, {"a": 'speed="1"'}), (30, 90, {"a": 'speed="2"'})]))], "two intervals"),
+        ("an interval that ends before it begins", path, ["--data", put(room, "d6.xml", data([(60, 0, {"a": 'speed="1"'})]))], "begins at"),
+        ("a vehicle that nobody knows", put(room, "bus.net.xml", net({"e": EDGES["e"]}, [])), ["--vehicle", "tram"], "no edge that a tram"),
+        ("a period of nothing", path, ["--period", "0"], "--period"),
+    ):
+        *told, reason = refused("sumo", room, file, os.path.join(room, "out"), *words)
+        yield f"refused: {name}", (*told, part in reason), (True, True, [], True)
+    yield "nothing was written", text(room, "town.net.xml"), whole
+
+
+CASES = (turns_and_permissions, intervals, classes_are_shared, random_networks, example, hostile)
