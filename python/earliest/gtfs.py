@@ -236,6 +236,8 @@ class Timetable:
         for (here, there), seconds in sorted(self.transfers.ways.items()):
             if here in used and there in used:
                 self.plain.append((self.end(here), self.start(there), seconds, WALK))
+            else:
+                self.summary.leave("walks and transfers from or to stops without a trip on the days asked", f"{self.stops.ids[here]} to {self.stops.ids[there]}")
         return used
 
 

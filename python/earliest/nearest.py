@@ -38,7 +38,7 @@ def command(words):
     asked.add_argument("--ss", metavar="FILE", help="write the nodes as sources")
     # Places may begin with a minus sign.
     places = [word for word in words if re.fullmatch(r"-\.?\d[^=]*,.*", word)]
-    given = asked.parse_args([word for word in words if word not in places])
+    given = asked.parse_intermixed_args([word for word in words if word not in places])
     order = [word for word in words if word in given.place or word in places]
     if not order:
         asked.error("a place is wanted, as 11.34,44.49")

@@ -377,8 +377,12 @@ def random_feeds(room):
             words = ["--change", "90"]
             change = {**dict.fromkeys(STOPS, 90), **change}
         feed = Feed(trips, transfers=entries, frequencies=frequencies)
-        put(room, "feed", feed.files())
-        good("gtfs", os.path.join(room, "feed"), "20261123", os.path.join(room, "net"), *words)
+        told = imported(room, feed, *words)
+        # Nobody walks over stops that no trip serves, and the summary counts such walks.
+        known = set(places(room, "net")[1])
+        gone = {pair for pair in walks if not set(pair) <= known}
+        yield f"walks at stops without trips in the random feed {seed}", summary_has(told, f"{len(gone)} walks and transfers from or to stops without a trip"), bool(gone)
+        walks = {pair: seconds for pair, seconds in walks.items() if pair not in gone}
         times = (0, 600, 6 * 3600 + 60 * draw.randint(0, 30), 7 * 3600, 23 * 3600 + 60 * draw.randint(0, 30))
         yield f"random feed {seed}", compared(room, "net", feed, "20261123", stops, times, change, walks), "all"
         for start in stops[:3]:
