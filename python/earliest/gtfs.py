@@ -17,6 +17,7 @@ import argparse
 import csv
 import math
 import os
+import re
 import sys
 from array import array
 
@@ -421,7 +422,7 @@ def _write(out, path, table, trips, names, asked, summary):
         rows.writerow((number[node], stops.ids[stop], *("" if part is None else f"{part:.7f}" for part in place), use, stops.names[stop]))
     for place, (street, longitude, latitude, use) in enumerate(streets.nodes if streets else (), len(order) + 1):
         places.append((longitude, latitude))
-        rows.writerow((place, street, f"{longitude:.7f}", f"{latitude:.7f}", "street" if use in ("both", "start") else use, ""))
+        rows.writerow((place, street, f"{longitude:.7f}", f"{latitude:.7f}", use, ""))
 
     graph, arcs = out.file(".gr"), out.table(".arcs.csv", ("arc", "way", "from", "to", "length", "kind"))
     told = out.table(".rides.csv", ("arc", "departs", "arrives", "run", "trip"))
@@ -459,8 +460,8 @@ def _write(out, path, table, trips, names, asked, summary):
     named = out.table(".trips.csv", ("trip", "id", "line", "towards"))
     for place, (trip, route, sign, _) in enumerate(trips, 1):
         named.writerow((place, trip, names[route], sign))
-    sources = [number[table.start(_stop(text, stops, used))] for text in asked.starts]
-    targets = [number[table.end(_stop(text, stops, used))] for text in asked.goals]
+    sources = [_street(text, streets, len(order), "start", summary) or number[table.start(_stop(text, stops, used))] for text in asked.starts]
+    targets = [_street(text, streets, len(order), "end", summary) or number[table.end(_stop(text, stops, used))] for text in asked.goals]
     writing.write_starts(out, sources, targets)
 
     summary.take("stops", len(used))
@@ -505,6 +506,20 @@ def _linked(streets, table, number, by_id, asked, summary):
         links.append((number[table.end(stop)], len(number) + 1 + start, metres, (stops.ids[stop], streets.nodes[start][0])))
         links.append((len(number) + 1 + end, number[table.start(stop)], metres, (streets.nodes[end][0], stops.ids[stop])))
     return links
+
+
+def _street(text, streets, shift, use, summary):
+    """The node of the streets that is nearest to a place as 11.34,44.49; None without streets, or if the text is none."""
+    found = re.fullmatch(r"(-?\d+(?:\.\d+)?),(-?\d+(?:\.\d+)?)", text)
+    if not streets or not found:
+        return None
+    longitude, latitude = float(found.group(1)), float(found.group(2))
+    if not (-180 <= longitude <= 180 and -90 <= latitude <= 90):
+        raise Refused(f"{text} is no place: longitude is -180 to 180, and latitude -90 to 90")
+    nodes = [node for node, it in enumerate(streets.nodes) if it[3] in ("both", use)]
+    node = nodes[geography.Tree([geography.on_sphere(*streets.nodes[it][1:3]) for it in nodes]).nearest(geography.on_sphere(longitude, latitude))[0]]
+    summary.note(f"{text}: node {shift + node + 1} of the streets, {geography.metres(longitude, latitude, *streets.nodes[node][1:3]):.0f} m away")
+    return shift + node + 1
 
 
 def _stop(text, stops, used):
@@ -739,7 +754,7 @@ def command(words):
     asked.add_argument("--routes", action="append", metavar="ROUTE", help="only this route, by its id or name; may be given several times")
     asked.add_argument("--types", action="append", metavar="TYPE", help="only routes of this route_type; may be given several times")
     asked.add_argument("--box", type=_checked(box_of), metavar="W,S,E,N", help="only rides between stops in this box, in degrees")
-    asked.add_argument("--from", dest="starts", metavar="STOP", action="append", default=[], help="a stop to start from, by its id or name, for NAME.ss")
+    asked.add_argument("--from", dest="starts", metavar="STOP", action="append", default=[], help="a stop to start from, by its id or name, or with --streets a place as 11.34,44.49, for NAME.ss")
     asked.add_argument("--to", dest="goals", metavar="STOP", action="append", default=[], help="a stop to go to, for NAME.p2p with --from")
     given = asked.parse_args(words)
     if given.goals and not given.starts:

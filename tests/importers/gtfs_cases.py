@@ -323,6 +323,12 @@ def walking(room):
     got = arrivals(room, "net", begin["A"], 0)
     wanted = scanned(connections, "A", 0, {}, walks)
     yield "over streets", all(abs(got[end[stop] - 1] - 100 * wanted[stop]) <= 4 for stop in "ABCDEF"), True
+    imported(room, feed, "--streets", os.path.join(room, "streets"), "--walk", "60", "--from", "8.0301,47.0011", "--to", "D", name="door")
+    source, goal = map(int, text(room, "door.p2p").split()[-2:])
+    path = distance(crossing["3"], crossing["2"]) / (5 / 3.6) + distance(crossing["2"], stops["C"]) / 1.2
+    begin, end = places(room, "door")
+    wanted = scanned(connections, "C", path)["D"]
+    yield "from a place on a street", (source == begin["3"], goal == end["D"], abs(arrivals(room, "door", source, 0)[goal - 1] - 100 * wanted) <= 4), (True, True, True)
     yield "stops far from streets are told", summary_has(told, "3 stops farther than 60 m"), True
 
 
