@@ -49,7 +49,8 @@ class Feed:
         return days[date.weekday()] == "1" and first <= date.strftime("%Y%m%d") <= last
 
     def connections(self, day, days=1, back=3):
-        """(departure, arrival, from, to, run, pickup allowed, drop-off allowed) of all runs that reach the days, in seconds from the first midnight."""
+        """(departure, arrival, from, to, run, pickup allowed, drop-off allowed, place in the run) of all runs that reach the days, in seconds from
+        the first midnight."""
         first = datetime.date(int(day[:4]), int(day[4:6]), int(day[6:]))
         found = []
         for trip, (_, service, calls) in self.trips.items():
@@ -59,10 +60,10 @@ class Feed:
                     continue
                 starts = [start for named, begin, end, headway in self.frequencies if named == trip for start in range(begin, end, headway)]
                 for shift in ([start - calls[0][3] for start in starts] if starts else [0]):
-                    for (_, here, _, leaves, pickup, _), (_, onto, arrives, _, _, drop) in zip(calls, calls[1:]):
+                    for place, ((_, here, _, leaves, pickup, _), (_, onto, arrives, _, _, drop)) in enumerate(zip(calls, calls[1:])):
                         at = DAY * number + shift
                         if leaves + at >= 0:
-                            found.append((leaves + at, arrives + at, here, onto, (trip, number, shift), pickup != 1, drop != 1))
+                            found.append((leaves + at, arrives + at, here, onto, (trip, number, shift), pickup != 1, drop != 1, place))
         return found
 
 
@@ -115,17 +116,15 @@ def scanned(connections, start, departure, change=None, walks=None):
     again = True
     while again:
         again = False
-        for leaves, arrives, here, onto, run, pickup, drop in ordered:
-            if (run, leaves) not in aboard and not (pickup and ready.get(here, 1e18) <= leaves):
-                continue
-            if (run, leaves) not in aboard:
-                aboard.add((run, leaves))
+        for leaves, arrives, here, onto, run, pickup, drop, place in ordered:
+            if (run, place) not in aboard:
+                if not (pickup and ready.get(here, 1e18) <= leaves):
+                    continue
+                aboard.add((run, place))
                 again = True
-            for later in ordered:
-                if later[4] == run and later[0] >= arrives and later[2] == onto and (run, later[0]) not in aboard:
-                    aboard.add((run, later[0]))
-                    again = True
-                    break
+            if (run, place + 1) not in aboard:
+                aboard.add((run, place + 1))
+                again = True
             if drop and reach(onto, arrives, False):
                 again = True
     return there
@@ -312,7 +311,7 @@ def walking(room):
         yield f"walks with {' '.join(words)} are told", summary_has(told, f"{len(walks)} walks and transfers"), True
     streets = "".join(f'<node id="{number}" lat="{y}" lon="{x}"/>' for number, (x, y) in {1: (8.0301, 47.0001), 2: (8.0331, 47.0011), 3: (8.0301, 47.0011)}.items())
     put(room, "streets.osm", f'<osm>{streets}<way id="1"><nd ref="1"/><nd ref="3"/><nd ref="2"/><tag k="highway" v="footway"/></way></osm>')
-    good("osm", os.path.join(room, "streets.osm"), os.path.join(room, "streets"), "--profile", "foot")
+    good("osm", os.path.join(room, "streets.osm"), os.path.join(room, "streets"), "--profile", "foot", "--keep-nodes")
     told = imported(room, feed, "--streets", os.path.join(room, "streets"), "--walk", "60")
     crossing = {"1": (8.0301, 47.0001), "2": (8.0331, 47.0011), "3": (8.0301, 47.0011)}
     way = (distance(crossing["1"], crossing["3"]) + distance(crossing["3"], crossing["2"])) / (5 / 3.6)
@@ -410,7 +409,7 @@ def legs_hold(room, feed, start, departure, change, walks):
         return told.stderr
     stop_of = {f"Stop {stop}": stop for stop in feed.stops}
     runs = {}
-    for leaves, arrives, here, onto, run, pickup, drop in feed.connections("20261123"):
+    for leaves, arrives, here, onto, run, pickup, drop, _ in feed.connections("20261123"):
         runs.setdefault(run[0], {}).setdefault(run, []).append((leaves, arrives, here, onto, pickup, drop))
     arrival = {}
     with open(os.path.join(room, "report"), encoding="ascii") as report:
