@@ -136,8 +136,8 @@ def _first_at(stops, places, longitude):
 class Timetable:
     """The network: nodes, rides between them, and arcs that take the same time always."""
 
-    def __init__(self, feed, stops, transfers, summary):
-        self.feed, self.stops, self.transfers, self.summary = feed, stops, transfers, summary
+    def __init__(self, trip_names, stops, transfers, summary):
+        self.trip_names, self.stops, self.transfers, self.summary = trip_names, stops, transfers, summary
         self.rides = [array("i"), array("q"), array("q"), array("i"), array("i")]  # arc, departure, arrival, run, call
         self.hop_number, self.hops = {}, []  # (tail, head) of each ride arc; keys are nodes or (chain, call)
         self.runs = []  # trip, day
@@ -162,7 +162,7 @@ class Timetable:
         while calls and calls[-1][3] & 2:
             calls = calls[:-1]
         if len(calls) < 2:
-            self.summary.leave("trips that nobody may board and leave", trip)
+            self.summary.leave("trips that nobody may board and leave", self.trip_names[trip])
             return
         shape = tuple((stop, bans) for stop, _, _, bans in calls)
         aboard = [0 < place < len(calls) - 1 and bool(bans or self.slow(stop)) for place, (stop, bans) in enumerate(shape)]
@@ -185,7 +185,7 @@ class Timetable:
             for calls, shift, trip, day in runs:
                 times = tuple((arrival + shift, departure + shift) for _, arrival, departure, _ in calls)
                 if times in seen:
-                    self.summary.leave("runs at the same times as another one of the same line and stops", trip)
+                    self.summary.leave("runs at the same times as another one of the same line and stops", self.trip_names[trip])
                     continue
                 seen.add(times)
                 for chain in chains:
@@ -334,7 +334,7 @@ def convert(path, day, name, asked):
         headways = frequencies_of(feed, numbers, summary)
         transfers = Transfers(feed, stops, asked, summary)
         calls = Calls(feed, numbers, stops, summary)
-        table = Timetable(feed, stops, transfers, summary)
+        table = Timetable([trip for trip, _, _, _ in trips], stops, transfers, summary)
         for number, (trip, route, _, days) in enumerate(trips):
             found = calls.of(number, trip)
             if not found:
@@ -425,7 +425,8 @@ def _write(out, path, table, trips, names, asked, summary):
         rows.writerow((place, street, f"{longitude:.7f}", f"{latitude:.7f}", use, ""))
 
     graph, arcs = out.file(".gr"), out.table(".arcs.csv", ("arc", "way", "from", "to", "length", "kind"))
-    told = out.table(".rides.csv", ("arc", "departs", "arrives", "run", "trip"))
+    told = out.file(".rides.csv")
+    told.write("arc,departs,arrives,run,trip\n")
     graph.write(writing.unit_comment(per_second, path) + f"p sp {nodes} {count}\n")
 
     def length(here, there):
@@ -436,10 +437,10 @@ def _write(out, path, table, trips, names, asked, summary):
         tail, head, here, there = table.hops[hop]
         graph.write(f"a {number[tail]} {number[head]} {ride_weight[arc - 1]}\n")
         lines = set()
-        for ride in sorted(grouped_rides[firsts[hop]:firsts[hop + 1]], key=lambda it: (departures[it], arrivals[it], runs[it])):
-            trip, day = table.runs[runs[ride]]
+        for departs, arrives, run in sorted((departures[ride], arrivals[ride], runs[ride]) for ride in grouped_rides[firsts[hop]:firsts[hop + 1]]):
+            trip = table.runs[run][0]
             lines.add(names[trips[trip][1]])
-            told.writerow((arc, departures[ride] * per_second, arrivals[ride] * per_second, runs[ride], trip + 1))
+            told.write(f"{arc},{departs * per_second},{arrives * per_second},{run},{trip + 1}\n")
         arcs.writerow((arc, ";".join(sorted(lines)), stops.ids[here], stops.ids[there], length(here, there), RIDE))
     arc = len(hop_order)
     for tail, head, seconds, kind in table.plain:

@@ -626,6 +626,8 @@ class Split:
 
     def _onward(self, state, arc):
         """The node that an arc leads to after a run of arcs; None if the turn is forbidden."""
+        if not state:
+            return self.state_number.get((arc,)) or self.heads[arc]
         run = (*state, arc)[-max(self.longest, 1):]
         for length in range(2, len(run) + 1):
             if run[-length:] in self.forbidden:
@@ -649,6 +651,11 @@ class Split:
             yield node, end, None, 0.0
         for place, state in enumerate(self.states, 1):
             yield len(self.base) + place, self.end_number[self.heads[state[-1]]], None, 0.0
+
+    def count(self):
+        """How many arcs there are."""
+        turns = sum(1 for state in self.states for arc in self._out(self.heads[state[-1]]) if self._onward(state, arc) is not None)
+        return len(self.joined) + turns + len(self.end_number) + len(self.states)
 
     def described(self):
         """For each node its crossing and its use: both, start, turn or end."""
@@ -717,30 +724,38 @@ def _write(out, path, split, per_second, summary, starts, goals):
     joined, network = split.joined, split.joined.network
     extract, arcs = network.extract, network.arcs
     places, uses, ids = [], [], []
-    nodes = out.table(".nodes.csv", ("node", "id", "longitude", "latitude", "use"))
+    nodes = out.file(".nodes.csv")
+    nodes.write("node,id,longitude,latitude,use\n")
     for number, (node, use) in enumerate(split.described(), 1):
         longitude, latitude = network.place(node)
         ids.append(int(extract.ids.all[network.origin(node)]))
         places.append((longitude, latitude))
         uses.append(use)
-        nodes.writerow((number, ids[-1], f"{longitude:.7f}", f"{latitude:.7f}", use))
-    count = sum(1 for _ in split.arcs())
+        nodes.write(f"{number},{ids[-1]},{longitude:.7f},{latitude:.7f},{use}\n")
+    count = split.count()
     writing.limits_kept(split.nodes, count)
-    graph, table, shapes = out.file(".gr"), out.table(".arcs.csv", ("arc", "way", "from", "to", "length")), out.table(".shapes.csv", ("arc", "longitudes and latitudes"))
+    graph, table, shapes = out.file(".gr"), out.file(".arcs.csv"), out.file(".shapes.csv")
     graph.write(writing.unit_comment(per_second, path) + f"p sp {split.nodes} {count}\n")
+    table.write("arc,way,from,to,length\n")
+    shapes.write("arc,longitudes and latitudes\n")
     for number, (tail, head, arc, turning) in enumerate(split.arcs(), 1):
         if arc is None:
             graph.write(f"a {tail} {head} 0\n")
-            table.writerow((number, "", ids[tail - 1], ids[head - 1], 0))
+            table.write(f"{number},,{ids[tail - 1]},{ids[head - 1]},0\n")
             continue
         row = joined.row(arc)
-        ways = list(dict.fromkeys(extract.way_ids[arcs.way[it]] for it in row))
-        weight = writing.weight_of(sum(arcs.seconds[it] for it in row) + turning, per_second, f"way {ways[0]}")
-        graph.write(f"a {tail} {head} {weight}\n")
-        table.writerow((number, ";".join(map(str, ways)), ids[tail - 1], ids[head - 1], f"{sum(arcs.metres[it] for it in row):.2f}"))
-        between = joined.places(arc)
-        if len(between) > 2:
-            shapes.writerow((number, " ".join(f"{x:.7f} {y:.7f}" for x, y in map(extract.place, between))))
+        first = row[0]
+        if len(row) == 1:
+            ways, seconds, metres = extract.way_ids[arcs.way[first]], arcs.seconds[first], arcs.metres[first]
+        else:
+            ways = ";".join(map(str, dict.fromkeys(extract.way_ids[arcs.way[it]] for it in row)))
+            seconds, metres = sum(arcs.seconds[it] for it in row), sum(arcs.metres[it] for it in row)
+        graph.write(f"a {tail} {head} {writing.weight_of(seconds + turning, per_second, 'way ' + str(ways))}\n")
+        table.write(f"{number},{ways},{ids[tail - 1]},{ids[head - 1]},{metres:.2f}\n")
+        if len(row) > 1 or abs(arcs.end[first] - arcs.start[first]) > 1:
+            between = joined.places(arc)
+            if len(between) > 2:
+                shapes.write(f"{number}," + " ".join([f"{extract.x[it] / 1e7:.7f} {extract.y[it] / 1e7:.7f}" for it in between]) + "\n")
     writing.write_coordinates(out.file(".co"), ((number, *place) for number, place in enumerate(places, 1)), True, path)
     sources, targets = nearest_nodes(starts, "--from", places, uses, summary), nearest_nodes(goals, "--to", places, uses, summary)
     writing.write_starts(out, sources, targets)

@@ -310,7 +310,7 @@ def walking(room):
         yield f"walks with {' '.join(words)}", compared(room, "net", feed, "20261123", "AC", (0, 7 * 3600), {}, walks), "all"
         yield f"walks with {' '.join(words)} are told", summary_has(told, f"{len(walks)} walks and transfers"), True
     streets = "".join(f'<node id="{number}" lat="{y}" lon="{x}"/>' for number, (x, y) in {1: (8.0301, 47.0001), 2: (8.0331, 47.0011), 3: (8.0301, 47.0011)}.items())
-    put(room, "streets.osm", f'<osm>{streets}<way id="1"><nd ref="1"/><nd ref="3"/><nd ref="2"/><tag k="highway" v="footway"/></way></osm>')
+    put(room, "streets.osm", f'<osm version="0.6">{streets}<way id="1"><nd ref="1"/><nd ref="3"/><nd ref="2"/><tag k="highway" v="footway"/></way></osm>')
     good("osm", os.path.join(room, "streets.osm"), os.path.join(room, "streets"), "--profile", "foot", "--keep-nodes")
     told = imported(room, feed, "--streets", os.path.join(room, "streets"), "--walk", "60")
     crossing = {"1": (8.0301, 47.0001), "2": (8.0331, 47.0011), "3": (8.0301, 47.0011)}
@@ -540,7 +540,7 @@ def hostile(room):
     odd = Feed({"good": ("1", "all", line("A", "B", "C", start=7 * 3600)), "back": ("1", "all", [(1, "A", 9000, 9000, "", ""), (2, "B", 8000, 8000, "", "")]), "one": ("1", "all", [(1, "A", 9000, 9000, "", "")]), "blank": ("1", "all", [(1, "A", None, None, "", ""), (2, "B", 9000, 9000, "", "")]),
                 "none": ("1", "all", line("A", "Z", start=3600)), "closed": ("1", "all", line("A", "B", start=3600, bans={0: (1, 1), 1: (1, 1)})), "double": ("1", "all", [(1, "A", 9000, 9000, "", ""), (1, "B", 9100, 9100, "", "")])})
     told = imported(room, odd, name="odd")
-    yield "trips that can't be are told", [summary_has(told, part) for part in ("1 trips whose times go back (back)", "1 trips with fewer than two calls (one)", "1 trips without a time at their first or last call (blank)", "1 trips with a call at a place that isn't a stop of stops.txt (none)", "1 trips that nobody may board and leave", "1 trips with two calls of one stop_sequence (double)")], [True] * 6
+    yield "trips that can't be are told", [summary_has(told, part) for part in ("1 trips whose times go back (back)", "1 trips with fewer than two calls (one)", "1 trips without a time at their first or last call (blank)", "1 trips with a call at a place that isn't a stop of stops.txt (none)", "1 trips that nobody may board and leave (closed)", "1 trips with two calls of one stop_sequence (double)")], [True] * 6
     only = Feed({"good": odd.trips["good"]})
     yield "and the others are taken", compared(room, "odd", only, "20261123", "ABC", (0,)), "all"
     bare = feed.files()

@@ -19,6 +19,7 @@ class Feed:
 
     def __init__(self, path, summary):
         self.path, self.summary, self.folder = path, summary, ""
+        self.clock = {"": -1}
         if not os.path.exists(path):
             raise Refused(f"{path} isn't there")
         self.zip = None
@@ -84,15 +85,17 @@ class Feed:
 
     def seconds(self, name, line, column, text):
         """A time as 7:05:00 or 25:10:00, in seconds of its day; -1 if it is blank."""
-        if not text:
-            return -1
+        known = self.clock.get(text)
+        if known is not None:
+            return known
         found = re.fullmatch(r"(\d+):(\d\d?):(\d\d?)", text)
         if not found:
             raise self.fault(name, line, f"{column} is {text!r}, and a time as 7:05:00 is wanted")
         hours, minutes, rest = map(int, found.groups())
         if minutes > 59 or rest > 59 or hours > 100_000:
             raise self.fault(name, line, f"{column} {text!r} is no time")
-        return 3600 * hours + 60 * minutes + rest
+        self.clock[text] = 3600 * hours + 60 * minutes + rest
+        return self.clock[text]
 
 
 def date_of(text):

@@ -32,23 +32,29 @@ def minutes_of(text):
 
 
 class Once:
-    """A summary in which a way counts each reason once, though both its directions have it."""
+    """What judging a way tells a summary, each reason once though both directions have it; told for each way with the same tags."""
 
-    def __init__(self, summary):
-        self.summary, self.told = summary, set()
+    def __init__(self):
+        self.taken, self.left, self.notes = [], [], []
 
     def take(self, what):
-        if what not in self.told:
-            self.told.add(what)
-            self.summary.take(what)
+        if what not in self.taken:
+            self.taken.append(what)
 
-    def leave(self, why, which=None):
-        if why not in self.told:
-            self.told.add(why)
-            self.summary.leave(why, which)
+    def leave(self, why, _=None):
+        if why not in self.left:
+            self.left.append(why)
 
     def note(self, sentence):
-        self.summary.note(sentence)
+        self.notes.append(sentence)
+
+    def tell(self, summary, way):
+        for what in self.taken:
+            summary.take(what)
+        for why in self.left:
+            summary.leave(why, way)
+        for note in self.notes:
+            summary.note(note)
 
 
 class Profile:
@@ -119,6 +125,9 @@ class Profile:
             self.caps[tuple(words)] = value
         self.cap_keys = sorted({key for key, _ in self.caps})
         self.implicit = numbers("implicit", 0.1)
+        directed = [f"{key}:{direction}" for key in (*self.access, "maxspeed") for direction in ("forward", "backward")]
+        self.asked = {"highway", "route", "area", "junction", "duration", "cycleway", "cycleway:left", "cycleway:right", "cycleway:both", "maxspeed", "maxspeed:type", "source:maxspeed", "zone:maxspeed", *CONDITIONAL, *self.access, *directed, *self.oneway, *self.cap_keys}
+        self.judged = {}
         self.barriers = set(text.get("barriers", "pass", fallback="").split())
         self.turns = {"straight up to": 35.0, "sharp from": 120.0, "straight": 0.0, "right": 0.0, "left": 0.0, "sharp": 0.0, "u-turn": 0.0, "traffic signals": 0.0, **numbers("turns", 0.0)}
 
@@ -152,7 +161,16 @@ class Profile:
 
     def judge(self, way, tags, summary):
         """Speeds forward and backward in km/h (0: closed) and the seconds of the whole way, if they are told; or None."""
-        ferry, summary = False, Once(summary)
+        key = tuple(tag for tag in tags.items() if tag[0] in self.asked)
+        known = self.judged.get(key)
+        if known is None:
+            once = Once()
+            known = self.judged[key] = self._judge(way, tags, once), once
+        known[1].tell(summary, way)
+        return known[0]
+
+    def _judge(self, way, tags, summary):
+        ferry = False
         kind = tags.get("highway")
         speed = self.speeds.get(kind)
         asked = False
