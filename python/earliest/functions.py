@@ -173,7 +173,7 @@ def convert(path, name, unit="hundredths", input_units=None, period=None, starts
             places = list(zip(vector(path, "longitude", "f"), vector(path, "latitude", "f")))
             if len(places) != nodes:
                 raise Refused(f"{path}: there are {nodes} nodes, and coordinates of {len(places)}")
-            writing.write_coordinates(out.file(".co"), ((node, *place) for node, place in enumerate(places, 1)), True, path)
+            writing.write_coordinates(out.file(".co"), lambda: ((node, *place) for node, place in enumerate(places, 1)), True, path)
         for node in range(nodes):
             rows.writerow((node + 1, node, *(f"{part:.7f}" for part in places[node])) if places else (node + 1, node, "", ""))
         for which, texts in (("--from", starts), ("--to", goals)):

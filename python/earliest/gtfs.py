@@ -457,7 +457,7 @@ def _write(out, path, table, trips, names, asked, summary):
         graph.write(f"a {tail + len(order)} {head + len(order)} {weight}\n")
         arcs.writerow((arc, "", streets.nodes[tail - 1][0], streets.nodes[head - 1][0], "", STREET))
     classes.write(out.file(".tp"), lambda: enumerate(ride_class, 1), path)
-    writing.write_coordinates(out.file(".co"), ((place, *it) for place, it in enumerate(places, 1)), True, path)
+    writing.write_coordinates(out.file(".co"), lambda: ((place, *it) for place, it in enumerate(places, 1)), True, path)
     named = out.table(".trips.csv", ("trip", "id", "line", "towards"))
     for place, (trip, route, sign, _) in enumerate(trips, 1):
         named.writerow((place, trip, names[route], sign))

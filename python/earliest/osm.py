@@ -329,7 +329,7 @@ class Network:
             if used[node]:
                 sizes[part[node]] = sizes.get(part[node], 0) + 1
         most = max(sizes, key=sizes.get)  # of parts of one size that with the lowest node
-        kept = [arc for arc in range(len(self.arcs)) if part[self.arcs.tail[arc]] == most and part[self.arcs.head[arc]] == most]
+        kept = array("i", (arc for arc in range(len(self.arcs)) if part[self.arcs.tail[arc]] == most and part[self.arcs.head[arc]] == most))
         self.summary.leave("crossings and ends of ways outside the largest part", count=sum(sizes.values()) - sizes[most])
         self.summary.leave("arcs outside the largest part", count=len(self.arcs) - len(kept))
         arcs, self.arcs, old_first = self.arcs, Arcs(), self.way_arcs
@@ -352,7 +352,7 @@ def strong_parts(tails, heads, nodes):
         from scipy.sparse.csgraph import connected_components
         ends = [numpy.frombuffer(it, dtype=numpy.int32) for it in (tails, heads)]
         matrix = csr_matrix((numpy.ones(len(tails), dtype=numpy.int8), (ends[0], ends[1])), shape=(nodes, nodes))
-        return connected_components(matrix, connection="strong")[1].tolist()
+        return array("i", connected_components(matrix, connection="strong")[1].astype(numpy.int32).tobytes())
     except ImportError:
         pass
     firsts, leaving = grouped(tails, nodes)
@@ -397,7 +397,8 @@ class Turns:
         self.places = {}
         if not self.extract.restrictions:
             return
-        self.way_place = {number: place for place, number in enumerate(self.extract.way_ids)}
+        members = {number for it in self.extract.restrictions for number in (*it.starts, *it.ends, *it.via_ways)}
+        self.way_place = {number: place for place, number in enumerate(self.extract.way_ids) if number in members}
         self.firsts, self.leaving = grouped(self.arcs.tail, network.nodes)
         for restriction in self.extract.restrictions:
             why = self._add(restriction)
@@ -606,11 +607,16 @@ class Split:
         self.joined, self.costs = joined, costs
         self.forbidden = {tuple(joined.of_arc[arc] for arc in run) for run in forbidden}
         self.longest = max((len(run) for run in self.forbidden), default=0)
-        base = sorted({joined.tail(arc) for arc in range(len(joined))} | {joined.head(arc) for arc in range(len(joined))})
+        number, base = array("i", bytes(4 * joined.network.nodes)), array("i")
+        for arc in range(len(joined)):
+            number[joined.tail(arc)] = number[joined.head(arc)] = 1
+        for node in range(len(number)):
+            if number[node]:
+                base.append(node)
+                number[node] = len(base)
         self.base = base
-        self.number = {node: place for place, node in enumerate(base, 1)}
-        tails = array("i", (self.number[joined.tail(arc)] for arc in range(len(joined))))
-        self.heads = array("i", (self.number[joined.head(arc)] for arc in range(len(joined))))
+        tails = array("i", (number[joined.tail(arc)] for arc in range(len(joined))))
+        self.heads = array("i", (number[joined.head(arc)] for arc in range(len(joined))))
         self.firsts, self.leaving = grouped(tails, len(base) + 1)
         states = {run[:length] for run in self.forbidden for length in range(1, len(run))}
         if costs:
@@ -677,18 +683,14 @@ def place_of(text, which):
     return longitude, latitude
 
 
-def nearest_nodes(asked, which, places, uses, summary):
-    """The nodes that are nearest to places, of those with a use."""
-    if not asked:
-        return []
-    candidates = [node for node, use in enumerate(uses) if use in ("both", "start" if which == "--from" else "end")]
-    tree = geography.Tree([geography.on_sphere(*places[node]) for node in candidates])
-    found = []
+def nearest_nodes(asked, which, split, summary):
+    """The nodes that are nearest to places, of those to start from or to end at. Few are asked, so each looks at all nodes."""
+    found, wanted = [], ("both", "start" if which == "--from" else "end")
     for text in asked:
-        longitude, latitude = place_of(text, which)
-        node = candidates[tree.nearest(geography.on_sphere(longitude, latitude))[0]]
-        summary.note(f"{which} {text}: node {node + 1}, {geography.metres(longitude, latitude, *places[node]):.0f} m away")
-        found.append(node + 1)
+        place = place_of(text, which)
+        metres, number = min((geography.metres(*place, *split.joined.network.place(node)), number) for number, (node, use) in enumerate(split.described(), 1) if use in wanted)
+        summary.note(f"{which} {text}: node {number}, {metres:.0f} m away")
+        found.append(number)
     return found
 
 
@@ -723,14 +725,12 @@ def convert(path, name, profile="car", unit="hundredths", largest=False, keep_no
 def _write(out, path, split, per_second, summary, starts, goals):
     joined, network = split.joined, split.joined.network
     extract, arcs = network.extract, network.arcs
-    places, uses, ids = [], [], []
+    ids = array("q")
     nodes = out.file(".nodes.csv")
     nodes.write("node,id,longitude,latitude,use\n")
     for number, (node, use) in enumerate(split.described(), 1):
         longitude, latitude = network.place(node)
         ids.append(int(extract.ids.all[network.origin(node)]))
-        places.append((longitude, latitude))
-        uses.append(use)
         nodes.write(f"{number},{ids[-1]},{longitude:.7f},{latitude:.7f},{use}\n")
     count = split.count()
     writing.limits_kept(split.nodes, count)
@@ -756,9 +756,8 @@ def _write(out, path, split, per_second, summary, starts, goals):
             between = joined.places(arc)
             if len(between) > 2:
                 shapes.write(f"{number}," + " ".join([f"{extract.x[it] / 1e7:.7f} {extract.y[it] / 1e7:.7f}" for it in between]) + "\n")
-    writing.write_coordinates(out.file(".co"), ((number, *place) for number, place in enumerate(places, 1)), True, path)
-    sources, targets = nearest_nodes(starts, "--from", places, uses, summary), nearest_nodes(goals, "--to", places, uses, summary)
-    writing.write_starts(out, sources, targets)
+    writing.write_coordinates(out.file(".co"), lambda: ((number, *network.place(node)) for number, (node, _) in enumerate(split.described(), 1)), True, path)
+    writing.write_starts(out, nearest_nodes(starts, "--from", split, summary), nearest_nodes(goals, "--to", split, summary))
     summary.take("nodes", split.nodes)
     summary.take("arcs", count)
 

@@ -282,7 +282,7 @@ def convert(path, name, data=(), vehicle="passenger", most=math.inf, unit="hundr
             summary.note(f"outside the intervals, and where the data have no value, edges are free; the day repeats after {period:g} seconds")
             if rounding:
                 summary.note(f"speeds are rounded to steps of {rounding:g} per cent")
-        writing.write_coordinates(out.file(".co"), ((node, *place) for node, place in enumerate(ends, 1)), degrees, path)
+        writing.write_coordinates(out.file(".co"), lambda: ((node, *place) for node, place in enumerate(ends, 1)), degrees, path)
         for which, texts in (("--from", starts), ("--to", goals)):
             for edge in texts:
                 if edge not in numbers:

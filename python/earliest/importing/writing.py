@@ -143,12 +143,12 @@ class Classes:
 
 
 def write_coordinates(file, places, degrees, source):
-    """A `.co` of (node, x, y): degrees, or metres. Nodes without a place have None and are left out."""
+    """A `.co`: degrees, or metres. `places` gives (node, x, y) and is gone through twice; nodes without a place have None and are left out."""
     told = "1/1000000 degree (longitude, latitude)" if degrees else "1/100 metre"
     scale = 1_000_000 if degrees else 100
-    known = [(node, x, y) for node, x, y in places if x is not None and y is not None]
-    file.write(f"c coordinate unit: {told}; made of {cleaned(source)} {OURS}\np aux sp co {len(known)}\n")
-    file.writelines(f"v {node} {round(x * scale)} {round(y * scale)}\n" for node, x, y in known)
+    known = sum(1 for _, x, y in places() if x is not None and y is not None)
+    file.write(f"c coordinate unit: {told}; made of {cleaned(source)} {OURS}\np aux sp co {known}\n")
+    file.writelines(f"v {node} {round(x * scale)} {round(y * scale)}\n" for node, x, y in places() if x is not None and y is not None)
 
 
 def write_starts(out, sources, targets):
