@@ -30,9 +30,7 @@ def main():
         print("0 passed, 1 failed")
         return 1
     passed = failed = 0
-    for group in ("osm", "gtfs", "sumo", "functions", "maps"):
-        if not os.path.exists(os.path.join(support.HERE, group + "_cases.py")):
-            continue
+    for group in ("osm", "gtfs", "sumo", "functions", "maps", "guide"):
         cases = importlib.import_module(group + "_cases").CASES
         for case in cases:
             title = f"{group}.{case.__name__}"
