@@ -309,6 +309,10 @@ def walking(room):
         walks = {(here, there): detour * distance(stops[here], stops[there]) / pace for here in stops for there in stops if here != there and distance(stops[here], stops[there]) <= radius}
         yield f"walks with {' '.join(words)}", compared(room, "net", feed, "20261123", "AC", (0, 7 * 3600), {}, walks), "all"
         yield f"walks with {' '.join(words)} are told", summary_has(told, f"{len(walks)} walks and transfers"), True
+    barred = Feed(trips, stops=stops, transfers=[("B", "C", 3, ""), ("C", "B", 2, 500)])
+    imported(room, barred, "--walk", "400")
+    walks = {(here, there): 1.3 * distance(stops[here], stops[there]) / 1.2 for here in stops for there in stops if here != there and distance(stops[here], stops[there]) <= 400 and {here, there} != {"B", "C"}}
+    yield "transfers of the feed go before walks", compared(room, "net", barred, "20261123", "ABC", (0, 7 * 3600), {}, {**walks, ("C", "B"): 500}), "all"
     streets = "".join(f'<node id="{number}" lat="{y}" lon="{x}"/>' for number, (x, y) in {1: (8.0301, 47.0001), 2: (8.0331, 47.0011), 3: (8.0301, 47.0011)}.items())
     put(room, "streets.osm", f'<osm version="0.6">{streets}<way id="1"><nd ref="1"/><nd ref="3"/><nd ref="2"/><tag k="highway" v="footway"/></way></osm>')
     good("osm", os.path.join(room, "streets.osm"), os.path.join(room, "streets"), "--profile", "foot", "--keep-nodes")
@@ -477,6 +481,22 @@ def legs_of_example(room):
     yield "refused: legs of what is no report", (*told, "line 1" in reason), (True, True, [], True)
 
 
+def legs_stay(room):
+    """Who is in time by staying on a trip stays, though another leaves earlier or is quicker for a while."""
+    for title, others in (
+        ("an earlier one to the next stop", {"y": ("2", "all", [(1, "B", 7 * 3600 + 310, 7 * 3600 + 310, "", ""), (2, "C", 7 * 3600 + 700, 7 * 3600 + 700, "", "")])}),
+        ("a quicker one for a while", {"y": ("2", "all", [(1, "B", 7 * 3600 + 310, 7 * 3600 + 310, "", ""), (2, "C", 7 * 3600 + 400, 7 * 3600 + 400, "", "")])}),
+        ("equal ones on each hop", {"a": ("2", "all", line("A", "B", start=7 * 3600)), "b": ("3", "all", line("B", "C", start=7 * 3600 + 400)), "c": ("4", "all", line("C", "D", start=7 * 3600 + 800))}),
+    ):
+        trips = {"x": ("1", "all", line("A", "B", "C", "D", start=7 * 3600, dwell=100)), **others}
+        feed = Feed(trips)
+        imported(room, feed, "--from", "A", "--to", "D")
+        told = engine("pairs", os.path.join(room, "net.gr"), os.path.join(room, "net.p2p"), "--tp", os.path.join(room, "net.tp"), "--depart", 100 * (7 * 3600 - 60), "--walks")
+        put(room, "report", told.stdout)
+        legs = list(csv.DictReader(io.StringIO(good("gtfs", "legs", os.path.join(room, "net"), os.path.join(room, "report"), "--csv").out)))
+        yield f"one leg beside {title}", [(leg["trip"], leg["from"], leg["departs"], leg["to"], leg["arrives"]) for leg in legs], [("x", "Stop A", "7:00:00", "Stop D", "7:18:20")]
+
+
 def too_many_classes(room):
     """A feed that needs more classes than there are is told so with the number, and nothing is written."""
     count = 65_540
@@ -550,4 +570,4 @@ def hostile(room):
     yield "coordinates that are missing are told", (summary_has(told, "1 nodes without coordinates"), summary_has(told, "1 stops without coordinates"), compared(room, "noplace", feed, "20261123", "ABC", (0,))), (True, True, "all")
 
 
-CASES = (services_of_days, several_days, headways, blanks_and_order, bans, loops, overtaking, transfers, stations, walking, selection, random_feeds, legs_of_example, too_many_classes, seconds_as_unit, hostile)
+CASES = (services_of_days, several_days, headways, blanks_and_order, bans, loops, overtaking, transfers, stations, walking, selection, random_feeds, legs_of_example, legs_stay, too_many_classes, seconds_as_unit, hostile)
