@@ -89,54 +89,78 @@ def vector_arcs(folder, period):
             yield f"{folder}, arc {arc}", node + 1, heads[arc] + 1, list(zip(times[low:high], values[low:high]))
 
 
-def steps_of(where, points, period, scale, summary):
-    """A function in units: its least value, and (time, value less the least) where it isn't always that; times rise and nobody overtakes."""
-    whole = int(period * scale + 0.5)
+RAISED = "points raised by one or two units, as rounding let the later overtake"
+
+
+def checked(where, points, period):
+    """The points of a function in one period: their times rise, and a last one at its end is the first one once more."""
     last = -1.0
     for time, _ in points:
         if time <= last:
             raise Refused(f"{where}: the times of the points don't rise")
         last = time
-    if points[-1][0] > period or (points[-1][0] == period and len(points) > 1 and points[0][0] == 0 and points[-1][1] != points[0][1]):
+    if last < period or len(points) == 1 and last == period:
+        return points
+    if last > period or (points[0][0] == 0 and points[-1][1] != points[0][1]):
         raise Refused(f"{where}: a point is beyond the period of {period:g}, or differs from the first one a period before")
-    if points[-1][0] == period and len(points) > 1:
-        if points[0][0] == 0:
-            points = points[:-1]
-        else:
-            points = [(0.0, points[-1][1])] + points[:-1]
-    rounded = {}
-    for time, value in points:
-        at, took = int(time * scale + 0.5), int(value * scale + 0.5)
-        if at >= whole:
-            at = whole - 1
-        if at in rounded:
-            summary.leave("points that fall on the time of another by the unit, so that one of them is kept")
-            continue
-        rounded[at] = took
-    # Rounding moves a point by at most a unit each way: what is more is a function by which somebody overtakes.
+    return points[:-1] if points[0][0] == 0 else [(0.0, points[-1][1])] + points[:-1]
+
+
+def raised(where, steps, period, summary):
+    """Steps in units by which nobody overtakes: rounding moves a point by at most a unit each way, and what is more is refused."""
     found, latest = [], -1
-    for at, took in sorted(rounded.items()):
+    for at, took in steps:
         if at + took < latest:
             if latest - at - took > 2:
-                raise Refused(f"{where}: who leaves at {at / scale:g} arrives before who left earlier, which `points` doesn't allow")
-            summary.leave("points raised by one or two units, as rounding let the later overtake")
+                raise Refused(f"{where}: who leaves at {at} units arrives before who left earlier, which `points` doesn't allow")
+            summary.leave(RAISED)
             took = latest - at
         latest = at + took
         found.append((at, took))
-    bound = whole + found[0][0] + found[0][1]
-    if latest > bound:
-        if latest - bound > 2:
-            raise Refused(f"{where}: who leaves at the end of a period arrives after who leaves at the begin of the next, which `points` doesn't allow")
-        summary.leave("points raised by one or two units, as rounding let the later overtake")
-        at, took = found[0]
-        found[0] = at, took + latest - bound
+    over = latest - period - sum(found[0])
+    if over > 2:
+        raise Refused(f"{where}: who leaves at the end of a period arrives after who leaves at the begin of the next, which `points` doesn't allow")
+    if over > 0:
+        summary.leave(RAISED)
+        found[0] = found[0][0], found[0][1] + over
         for place in range(1, len(found)):
-            if found[place][0] + found[place][1] < sum(found[place - 1]):
-                found[place] = found[place][0], sum(found[place - 1]) - found[place][0]
+            found[place] = found[place][0], max(found[place][1], sum(found[place - 1]) - found[place][0])
+    return found
+
+
+def steps_of(where, points, period, scale, summary):
+    """A function in units: its least value, and (time, value less the least) where it isn't always that."""
+    whole, rounded = int(period * scale + 0.5), {}
+    for time, value in checked(where, points, period):
+        at = min(int(time * scale + 0.5), whole - 1)
+        if at in rounded:
+            summary.leave("points that fall on the time of another by the unit, so that one of them is kept")
+        else:
+            rounded[at] = int(value * scale + 0.5)
+    found = raised(where, sorted(rounded.items()), whole, summary)
     least = min(took for _, took in found)
     if all(took == least for _, took in found):
         return least, None
     return least, [(at, took - least) for at, took in found]
+
+
+def write_nodes(out, path, nodes, starts, goals, summary):
+    """The table of nodes, with coordinates if a folder has them, and the nodes to start from and to go to."""
+    rows, places = out.table(".nodes.csv", ("node", "id", "longitude", "latitude")), None
+    if os.path.isdir(path) and all(os.path.isfile(os.path.join(path, it)) for it in ("longitude", "latitude")):
+        places = list(zip(vector(path, "longitude", "f"), vector(path, "latitude", "f")))
+        if len(places) != nodes:
+            raise Refused(f"{path}: there are {nodes} nodes, and coordinates of {len(places)}")
+        writing.write_coordinates(out.file(".co"), lambda: ((node, *place) for node, place in enumerate(places, 1)), True, path)
+    else:
+        summary.note("there are no coordinates, so there is no NAME.co")
+    for node in range(nodes):
+        rows.writerow((node + 1, node, *(f"{part:.7f}" for part in places[node])) if places else (node + 1, node, "", ""))
+    for which, texts in (("--from", starts), ("--to", goals)):
+        for node in texts:
+            if not 0 <= node < nodes:
+                raise Refused(f"{which} {node}: nodes are 0 to {nodes - 1}, as in the input")
+    writing.write_starts(out, [node + 1 for node in starts], [node + 1 for node in goals])
 
 
 def convert(path, name, unit="hundredths", input_units=None, period=None, starts=(), goals=()):
@@ -146,48 +170,33 @@ def convert(path, name, unit="hundredths", input_units=None, period=None, starts
         raise Refused(f"{path} isn't there")
     folder = os.path.isdir(path)
     per_input = input_units or (1000 if folder else 1)
+    scale = per_second / per_input
     with writing.Outputs(name) as out:
         source = vector_arcs(path, period or 86_400 * per_input) if folder else text_arcs(path)
         nodes, cycle, announced = next(source)
         cycle = period or cycle
-        scale = per_second / per_input
         if not 1 <= cycle * scale <= writing.MOST_PERIOD:
             raise Refused(f"{path}: a period of {cycle:g} is out of range in this unit")
         writing.limits_kept(nodes, announced)
         classes, of_arc = writing.Classes(), array("i")
-        graph, arcs = out.file(".gr"), out.table(".arcs.csv", ("arc", "way", "from", "to", "length"))
+        graph, arcs = out.file(".gr"), out.file(".arcs.csv")
         graph.write(writing.unit_comment(per_second, path) + f"p sp {nodes} {announced}\n")
+        arcs.write("arc,way,from,to,length\n")
         for where, tail, head, points in source:
             least, steps = steps_of(where, points, cycle, scale, summary)
             if least > writing.MOST_WEIGHT:
                 raise Refused(f"{where}: a travel time is beyond the greatest weight; take a coarser --unit")
             graph.write(f"a {tail} {head} {least}\n")
             of_arc.append(classes.number("points", int(cycle * scale + 0.5), steps) if steps else 0)
-            arcs.writerow((len(of_arc), "", tail - 1, head - 1, ""))
-            summary.take("arcs with a function" if steps else "arcs that always take the same time")
+            arcs.write(f"{len(of_arc)},,{tail - 1},{head - 1},\n")
         classes.checked("take a part of the network, or a coarser --unit, so that more functions are equal")
         classes.write(out.file(".tp"), lambda: enumerate(of_arc, 1), path)
-        rows = out.table(".nodes.csv", ("node", "id", "longitude", "latitude"))
-        places = None
-        if folder and all(os.path.isfile(os.path.join(path, it)) for it in ("longitude", "latitude")):
-            places = list(zip(vector(path, "longitude", "f"), vector(path, "latitude", "f")))
-            if len(places) != nodes:
-                raise Refused(f"{path}: there are {nodes} nodes, and coordinates of {len(places)}")
-            writing.write_coordinates(out.file(".co"), lambda: ((node, *place) for node, place in enumerate(places, 1)), True, path)
-        for node in range(nodes):
-            rows.writerow((node + 1, node, *(f"{part:.7f}" for part in places[node])) if places else (node + 1, node, "", ""))
-        for which, texts in (("--from", starts), ("--to", goals)):
-            for node in texts:
-                if not 0 <= node < nodes:
-                    raise Refused(f"{which} {node}: nodes are 0 to {nodes - 1}, as in the input")
-        writing.write_starts(out, [node + 1 for node in starts], [node + 1 for node in goals])
-        summary.take("classes of points", len(classes))
-        summary.take("nodes", nodes)
-        summary.take("arcs", len(of_arc))
-        summary.note(f"the input is taken to have {per_input} units a second, and a period of {cycle:g} of them; node N of the input is node N + 1")
-        if not places:
-            summary.note("there are no coordinates, so there is no NAME.co")
-        summary.note("the kind `points` takes the straight line between two points, rounded down to the unit")
+        write_nodes(out, path, nodes, starts, goals, summary)
+    plain = sum(1 for number in of_arc if not number)
+    for what, count in (("arcs with a function", len(of_arc) - plain), ("arcs that always take the same time", plain), ("classes of points", len(classes)), ("nodes", nodes), ("arcs", len(of_arc))):
+        summary.take(what, count)
+    summary.note(f"the input is taken to have {per_input} units a second, and a period of {cycle:g} of them; node N of the input is node N + 1")
+    summary.note("the kind `points` takes the straight line between two points, rounded down to the unit")
     summary.notes += out.notes
     return summary, out.names()
 

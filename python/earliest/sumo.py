@@ -240,61 +240,83 @@ def pattern(steps, per_second, rounding):
     return [row for place, row in enumerate(rows) if not place or row[1] != rows[place - 1][1]], least
 
 
+class Files:
+    """Writes a town: node N is the start of edge N of those in order, and N plus their number its end."""
+
+    def __init__(self, out, path, town, per_second, summary):
+        self.out, self.path, self.town, self.per_second, self.summary = out, path, town, per_second, summary
+        self.numbers = {edge: place for place, edge in enumerate(sorted(town.edges), 1)}
+        self.edges, self.turns = len(self.numbers), len(town.turns)
+        writing.limits_kept(2 * self.edges, self.edges + self.turns)
+        self.classes, self.class_of = writing.Classes(), {}
+
+    def nodes(self):
+        places, degrees = self.town.places()
+        rows, ends = self.out.table(".nodes.csv", ("node", "id", *(("longitude", "latitude") if degrees else ("x", "y")), "use")), []
+        for place, use in enumerate(("start", "end")):
+            for edge, number in self.numbers.items():
+                ends.append(places[edge][place])
+                rows.writerow((number + place * self.edges, edge, *("" if part is None else f"{part:.7f}" if degrees else f"{part:.2f}" for part in ends[-1]), use))
+        writing.write_coordinates(self.out.file(".co"), lambda: ((node, *place) for node, place in enumerate(ends, 1)), degrees, self.path)
+
+    def arcs(self, speeds, period, rounding):
+        graph, table = self.out.file(".gr"), self.out.table(".arcs.csv", ("arc", "way", "from", "to", "length"))
+        graph.write(writing.unit_comment(self.per_second, self.path) + f"p sp {2 * self.edges} {self.edges + self.turns}\n")
+        for edge, number in self.numbers.items():
+            length, free, _ = self.town.edges[edge]
+            if speeds and edge in speeds.speeds:
+                free = self._class(number, speeds.steps(edge, free, period), period, rounding)
+            graph.write(f"a {number} {number + self.edges} {writing.weight_of(length / free, self.per_second, f'edge {edge}')}\n")
+            table.writerow((number, edge, edge, edge, f"{length:.2f}"))
+        for place, ((start, end), (seconds, metres)) in enumerate(sorted(self.town.turns.items()), self.edges + 1):
+            graph.write(f"a {self.numbers[start] + self.edges} {self.numbers[end]} {writing.weight_of(seconds, self.per_second, 'a turn')}\n")
+            table.writerow((place, "", start, end, f"{metres:.2f}"))
+
+    def _class(self, number, steps, period, rounding):
+        """Gives an edge its class of speeds, and returns the speed that its weight is for."""
+        steps, base = pattern(steps, self.per_second, rounding)
+        if len(steps) == 1:
+            return base * steps[0][1] / 1000
+        self.class_of[number] = self.classes.number("speeds", int(period * self.per_second), steps)
+        return base
+
+    def timetables(self, period, rounding):
+        self.classes.checked("round the speeds with --rounding, or take longer intervals")
+        self.classes.write(self.out.file(".tp"), lambda: sorted(self.class_of.items()), self.path)
+        self.summary.take("classes of speeds", len(self.classes))
+        self.summary.note(f"outside the intervals, and where the data have no value, edges are free; the day repeats after {period:g} seconds")
+        if rounding:
+            self.summary.note(f"speeds are rounded to steps of {rounding:g} per cent")
+
+    def starts(self, starts, goals, vehicle):
+        for which, texts in (("--from", starts), ("--to", goals)):
+            for edge in texts:
+                if edge not in self.numbers:
+                    raise Refused(f"{which} {edge}: there is no such edge that a {vehicle} may use")
+        writing.write_starts(self.out, [self.numbers[edge] for edge in starts], [self.numbers[edge] + self.edges for edge in goals])
+
+    def tell(self):
+        self.summary.take("edges", self.edges)
+        self.summary.take("turns", self.turns)
+        self.summary.take("nodes", 2 * self.edges)
+        self.summary.take("arcs", self.edges + self.turns)
+        self.summary.leave("edges that no turn leads out of", count=len(set(self.numbers) - {start for start, _ in self.town.turns}))
+        self.summary.note("traffic lights, priority and queues at junctions take no time, but what the edge data have of them")
+
+
 def convert(path, name, data=(), vehicle="passenger", most=math.inf, unit="hundredths", period=86_400, rounding=0.0, starts=(), goals=()):
     """Writes the network of a SUMO network and returns its summary."""
-    summary, per_second = Summary(), writing.UNITS[unit]
+    summary = Summary()
     with writing.Outputs(name) as out:
         town = Town(path, vehicle, most, summary)
         speeds = Speeds(data, town, summary) if data else None
-        numbers = {edge: place for place, edge in enumerate(sorted(town.edges), 1)}
-        count = len(numbers)
-        writing.limits_kept(2 * count, count + len(town.turns))
-        places, degrees = town.places()
-        rows = out.table(".nodes.csv", ("node", "id", "longitude", "latitude", "use") if degrees else ("node", "id", "x", "y", "use"))
-        ends = []
-        for shift, use in ((0, "start"), (count, "end")):
-            for edge, number in numbers.items():
-                place = places[edge][0 if use == "start" else 1]
-                ends.append(place)
-                rows.writerow((number + shift, edge, *("" if part is None else f"{part:.7f}" if degrees else f"{part:.2f}" for part in place), use))
-        classes, class_of = writing.Classes(), {}
-        graph, arcs = out.file(".gr"), out.table(".arcs.csv", ("arc", "way", "from", "to", "length"))
-        graph.write(writing.unit_comment(per_second, path) + f"p sp {2 * count} {count + len(town.turns)}\n")
-        for edge, number in numbers.items():
-            length, free, _ = town.edges[edge]
-            base = free
-            if speeds and edge in speeds.speeds:
-                steps = speeds.steps(edge, free, period)
-                steps, base = pattern(steps, per_second, rounding)
-                if len(steps) == 1:
-                    base = base * steps[0][1] / 1000
-                else:
-                    class_of[number] = classes.number("speeds", int(period * per_second), steps)
-            graph.write(f"a {number} {number + count} {writing.weight_of(length / base, per_second, f'edge {edge}')}\n")
-            arcs.writerow((number, edge, edge, edge, f"{length:.2f}"))
-        for place, ((start, end), (seconds, metres)) in enumerate(sorted(town.turns.items()), count + 1):
-            graph.write(f"a {numbers[start] + count} {numbers[end]} {writing.weight_of(seconds, per_second, 'a turn')}\n")
-            arcs.writerow((place, "", start, end, f"{metres:.2f}"))
+        files = Files(out, path, town, writing.UNITS[unit], summary)
+        files.nodes()
+        files.arcs(speeds, period, rounding)
         if speeds:
-            classes.checked("round the speeds with --rounding, or take longer intervals")
-            classes.write(out.file(".tp"), lambda: sorted(class_of.items()), path)
-            summary.take("classes of speeds", len(classes))
-            summary.note(f"outside the intervals, and where the data have no value, edges are free; the day repeats after {period:g} seconds")
-            if rounding:
-                summary.note(f"speeds are rounded to steps of {rounding:g} per cent")
-        writing.write_coordinates(out.file(".co"), lambda: ((node, *place) for node, place in enumerate(ends, 1)), degrees, path)
-        for which, texts in (("--from", starts), ("--to", goals)):
-            for edge in texts:
-                if edge not in numbers:
-                    raise Refused(f"{which} {edge}: there is no such edge that a {vehicle} may use")
-        writing.write_starts(out, [numbers[edge] for edge in starts], [numbers[edge] + count for edge in goals])
-        summary.take("edges", count)
-        summary.take("turns", len(town.turns))
-        summary.take("nodes", 2 * count)
-        summary.take("arcs", count + len(town.turns))
-        alone = len(set(numbers) - {start for start, _ in town.turns})
-        summary.leave("edges that no turn leads out of", count=alone)
-        summary.note("traffic lights, priority and queues at junctions take no time, but what the edge data have of them")
+            files.timetables(period, rounding)
+        files.starts(starts, goals, vehicle)
+        files.tell()
     summary.notes += out.notes
     return summary, out.names()
 

@@ -171,6 +171,18 @@ def edges_of_the_period(room):
     yield "points that fall together are told", summary_has(told, "1 points that fall on the time of another"), True
 
 
+def rounding(room):
+    """Where whole seconds would let the later overtake, in a period or over its end, points are raised and told."""
+    arcs = [(0, 1, [(0.6, 19.6), (10.4, 9.8)]), (1, 0, [(0.4, 10.4), (3590.5, 20.3)])]
+    put(room, "x.tpgr", tpgr(2, arcs, 3600))
+    told = good("functions", os.path.join(room, "x.tpgr"), os.path.join(room, "x"), "--unit", "seconds")
+    yield "rounded points don't overtake", near(room, "x", arcs, 3600, 1, range(0, 7200, 3)), "all"
+    yield "points that were raised are told", summary_has(told, "2 points raised by one or two units"), True
+    written = Written(room, "x")
+    for arc in (1, 2):
+        yield f"nobody overtakes on arc {arc}", all(written.arrive(arc, time) <= written.arrive(arc, time + 1) for time in range(7300)), True
+
+
 def hostile(room):
     whole = tpgr(3, [(0, 1, [(0.0, 60.0), (1800.0, 120.0)]), (1, 2, [(0.0, 5.0)])], 3600)
     for name, contents, part in (
@@ -195,4 +207,4 @@ def too_many_classes(room):
     yield "refused: too many classes", (*told, f"{count} different classes" in reason), (True, True, [], True)
 
 
-CASES = (example, random_functions, vectors, edges_of_the_period, hostile, too_many_classes)
+CASES = (example, random_functions, vectors, edges_of_the_period, rounding, hostile, too_many_classes)

@@ -8,8 +8,8 @@ from .telling import Refused
 
 UNITS = {"seconds": 1, "tenths": 10, "hundredths": 100, "milliseconds": 1000}
 UNIT_NAMES = {1: "seconds", 10: "tenths of a second", 100: "hundredths of a second", 1000: "milliseconds"}
-MOST_NODES, MOST_ARCS, MOST_CLASSES, MOST_STEPS, MOST_WEIGHT, HORIZON = 67_108_864, 268_435_456, 65_535, 65_536, 4_294_967_295, 2**48 - 1
-MOST_PERIOD = MOST_EXTRA = 4_294_967_296
+MOST_NODES, MOST_ARCS, MOST_CLASSES, MOST_STEPS, MOST_WEIGHT, MOST_PERIOD = 67_108_864, 268_435_456, 65_535, 65_536, 4_294_967_295, 4_294_967_296
+"""The limits of the formats."""
 OURS = "by python -m earliest"
 
 
