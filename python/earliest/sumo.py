@@ -139,6 +139,12 @@ class Town:
             via = self.onward.get((edge, index, end))
         return seconds, metres
 
+    def leave(self, number, why):
+        """Leaves out an edge with its turns."""
+        self.summary.leave(why, number)
+        del self.edges[number]
+        self.turns = {ends: it for ends, it in self.turns.items() if number not in ends}
+
     def places(self):
         """For each edge its two ends, in degrees if the projection is known and pyproj is there, else in metres; and whether in degrees."""
         offset, told = self.projection or ("0,0", "!")
@@ -197,18 +203,18 @@ class Speeds:
                 continue
             length = town.edges[number][0]
             if edge.get("traveltime") is not None:
-                seconds = number_of(edge, "traveltime", path)
-                speed = length / seconds if seconds > 0 else 0.0
+                speed = length / max(number_of(edge, "traveltime", path), 0.001)
             elif edge.get("speed") is not None:
                 speed = number_of(edge, "speed", path)
             else:
                 summary.leave("values of edge data without traveltime and speed: the edge is free then", number)
                 continue
-            if speed <= 0:
-                summary.leave("values of edge data that are 0: the edge is free then", number)
-                continue
-            summary.take("speeds of edges in intervals")
+            summary.take("speeds of edges in intervals" if speed > 0 else "intervals in which an edge stands still (speed 0)")
             self.speeds.setdefault(number, []).append((begin, end, speed))
+
+    def standing(self, town, period):
+        """The edges that stand still all day."""
+        return [number for number in self.speeds if not any(speed for _, speed in self.steps(number, town.edges[number][1], period))]
 
     def steps(self, number, free, period):
         """(time in seconds, speed) of an edge from 0 on: its data in their intervals, free speed outside them."""
@@ -227,15 +233,15 @@ class Speeds:
 
 
 def pattern(steps, per_second, rounding):
-    """Steps in units of time and thousandths of the least speed, and that speed. A weight is the time at the least speed, so the
+    """Steps in units of time and thousandths of the least speed above 0, and that speed. A weight is the time at the least speed, so the
     thousandths have at least four digits."""
     if rounding:
         grid = math.log1p(rounding / 100)
-        steps = [(time, math.exp(round(math.log(speed) / grid) * grid)) for time, speed in steps]
-    least = max(min(speed for _, speed in steps), max(speed for _, speed in steps) / 1000)
+        steps = [(time, math.exp(round(math.log(speed) / grid) * grid) if speed else 0.0) for time, speed in steps]
+    least = max(min(speed for _, speed in steps if speed), max(speed for _, speed in steps) / 1000)
     found = {}
     for time, speed in steps:
-        found[int(time * per_second + 0.5)] = max(1, round(1000 * speed / least))
+        found[int(time * per_second + 0.5)] = max(1, round(1000 * speed / least)) if speed else 0
     rows = sorted(found.items())
     return [row for place, row in enumerate(rows) if not place or row[1] != rows[place - 1][1]], least
 
@@ -301,7 +307,7 @@ class Files:
         self.summary.take("nodes", 2 * self.edges)
         self.summary.take("arcs", self.edges + self.turns)
         self.summary.leave("edges that no turn leads out of", count=len(set(self.numbers) - {start for start, _ in self.town.turns}))
-        self.summary.note("traffic lights, priority and queues at junctions take no time, but what the edge data have of them")
+        self.summary.note("traffic lights, priority and queues at junctions take no time, but what the edge data have of them; SUMO's router adds 1.5 seconds where one has to yield (--weights.minor-penalty)")
 
 
 def convert(path, name, data=(), vehicle="passenger", most=math.inf, unit="hundredths", period=86_400, rounding=0.0, starts=(), goals=()):
@@ -310,6 +316,8 @@ def convert(path, name, data=(), vehicle="passenger", most=math.inf, unit="hundr
     with writing.Outputs(name) as out:
         town = Town(path, vehicle, most, summary)
         speeds = Speeds(data, town, summary) if data else None
+        for edge in speeds.standing(town, period) if speeds else ():
+            town.leave(edge, "edges that stand still all day by the edge data")
         files = Files(out, path, town, writing.UNITS[unit], summary)
         files.nodes()
         files.arcs(speeds, period, rounding)

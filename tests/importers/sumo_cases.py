@@ -26,7 +26,7 @@ def driven(length, start, speed_at, marks):
     while True:
         after = min((mark for mark in marks if mark > time + 1e-9), default=float("inf"))
         speed = speed_at(time)
-        if left <= speed * (after - time) + 1e-9:
+        if speed and left <= speed * (after - time) + 1e-9:
             return time + left / speed
         left -= speed * (after - time)
         time = after
@@ -100,11 +100,11 @@ def intervals(room):
     put(room, "town.net.xml", net(edges, turns))
     put(room, "one.xml", data([(0, 60, {"a": 'speed="5"', "b": 'traveltime="40"'}), (60, 120, {"a": 'speed="2.5"', "d": 'speed="4"'}), (300, 360, {"b": 'traveltime="1000"', "d": 'speed="0.5"'})]))
     put(room, "two.xml", data([(360, 400, {"a": 'speed="1.234"', "c": 'speed="0"', "x": 'speed="1"', "b": 'entered="3"'})]))
-    speeds = {"a": [(0, 60, 5.0), (60, 120, 2.5), (360, 400, 1.234)], "b": [(0, 60, 5.0), (300, 360, 0.2)], "d": [(60, 120, 4.0), (300, 360, 0.5)]}
+    speeds = {"a": [(0, 60, 5.0), (60, 120, 2.5), (360, 400, 1.234)], "b": [(0, 60, 5.0), (300, 360, 0.2)], "d": [(60, 120, 4.0), (300, 360, 0.5)], "c": [(360, 400, 0.0)]}
     for period in (86400, 400):
         told = good("sumo", os.path.join(room, "town.net.xml"), os.path.join(room, "town"), "--data", os.path.join(room, "one.xml"), "--data", os.path.join(room, "two.xml"), "--period", period)
         yield f"speeds by intervals, period {period}", agree(room, "town", edges, lambda edge, time: searched(edges, turns, edge, time, speeds, float(period)), edges, (0, 10, 59, 61, 200, 299, 350, 399)), "all"
-    yield "what data leave out is told", [summary_has(told, part) for part in ("1 values of edge data that are 0", "1 values of edge data for edges that aren't taken (x)", "1 values of edge data without traveltime and speed")], [True] * 3
+    yield "what data leave out is told", [summary_has(told, part) for part in ("1 intervals in which an edge stands still", "1 values of edge data for edges that aren't taken (x)", "1 values of edge data without traveltime and speed")], [True] * 3
     yield "nobody overtakes", all(first <= second for first, second in zip(_ends(room, "b"), _ends(room, "b")[1:])), True
     good("sumo", os.path.join(room, "town.net.xml"), os.path.join(room, "round"), "--data", os.path.join(room, "one.xml"), "--rounding", 10)
     yield "rounded speeds are near", max(abs(mine - other) / (mine + 1) for mine, other in zip(_ends(room, "b", "round"), _ends(room, "b"))) < 0.2, True
@@ -113,6 +113,21 @@ def intervals(room):
 def _ends(room, edge, name="town"):
     start, end = ends(room, name)
     return [arrivals(room, name, start[edge], 100 * time)[end[edge] - 1] for time in range(0, 400, 13)]
+
+
+def standing_edges(room):
+    """An edge that stands still all day is left out with its turns; one that does in an interval waits."""
+    edges = {"a": (100.0, 10.0, ""), "b": (100.0, 10.0, ""), "c": (100.0, 10.0, "")}
+    turns = [("a", "b"), ("b", "c"), ("a", "c")]
+    put(room, "town.net.xml", net(edges, turns))
+    put(room, "data.xml", data([(0, 300, {"b": 'speed="0.00"', "c": 'speed="0"'}), (300, 600, {"b": 'speed="0"'})]))
+    told = good("sumo", os.path.join(room, "town.net.xml"), os.path.join(room, "town"), "--data", os.path.join(room, "data.xml"), "--period", 600)
+    kept = {edge: edges[edge] for edge in "ac"}
+    yield "an edge that stands still for a while", agree(room, "town", kept, lambda edge, time: searched(kept, [("a", "c")], edge, time, {"c": [(0, 300, 0.0)]}, 600.0), kept, (0, 100, 299, 300, 595)), "all"
+    yield "one that stands still all day is told", summary_has(told, "1 edges that stand still all day by the edge data (b)"), True
+    put(room, "data.xml", data([(0, 600, dict.fromkeys("abc", 'speed="0"'))]))
+    *told, reason = refused("sumo", room, os.path.join(room, "town.net.xml"), os.path.join(room, "none"), "--data", os.path.join(room, "data.xml"), "--period", 600)
+    yield "refused: all edges stand still", (*told, "nothing is left" in reason), (True, True, [], True)
 
 
 def classes_are_shared(room):
@@ -194,4 +209,4 @@ def hostile(room):
     yield "nothing was written", text(room, "town.net.xml"), whole
 
 
-CASES = (turns_and_permissions, intervals, classes_are_shared, random_networks, example, hostile)
+CASES = (turns_and_permissions, intervals, standing_edges, classes_are_shared, random_networks, example, hostile)
