@@ -287,14 +287,16 @@ def band_features(problem, known, arcs, shapes, band, reach, per_second):
     def local(points):
         return [(x * east, y * north) for x, y in points]
 
-    lines = []
+    ways = {}
     for number, (tail, head) in enumerate(arcs, 1):
         leaves, arrives = problem.arrivals.get(tail), problem.arrivals.get(head)
         if leaves is None or arrives is None or tail not in at or head not in at:
             continue
         line = local(line_of(number, tail, head, at, shapes))
         if line[0] != line[-1] or len(line) > 2:
-            lines.append((max(leaves, arrives) - sights.start, LineString(line)))
+            key = min(tuple(line), tuple(reversed(line)))  # the two directions of a road are one line
+            ways[key] = min(ways.get(key, math.inf), max(leaves, arrives) - sights.start)
+    lines = [(time, LineString(line)) for line, time in ways.items()]
     if reach is None:
         reach = max(20.0, statistics.median(line.length for _, line in lines) / 2) if lines else 150.0
     before = None
