@@ -96,10 +96,14 @@ def add_runs(table, number, trip, route, calls, shifts, asked, summary):
         summary.leave("trips that don't run on the days asked")
 
 
-def convert(path, day, name, asked):
-    """Writes the network of a feed and returns its summary."""
-    summary = Summary()
-    asked.day, asked.first = day, date_of(day)
+USUAL = {"days": 1, "back": 2, "unit": "hundredths", "change": 0, "stations": None, "walk": None, "pace": 1.2, "detour": 1.3, "streets": None, "routes": None, "types": None, "box": None, "starts": (), "goals": ()}
+"""What is asked if nobody says otherwise."""
+
+
+def convert(path, day, name, **options):
+    """Writes the network of a feed; returns its summary and the names of the files. `options` are those of USUAL."""
+    summary, asked = Summary(), argparse.Namespace(**{**USUAL, **options, "day": day})
+    asked.first = date_of(day)
     feed = Feed(path, summary)
     with writing.Outputs(name) as out:
         stops = Stops(feed, asked.box, summary)
@@ -159,14 +163,14 @@ def command(words):
     asked.add_argument("feed", help="a folder or a zip; `legs` is a command of its own")
     asked.add_argument("day", type=_checked(lambda text: date_of(text) and text), help="the first day, as 20261123")
     asked.add_argument("name", help="NAME of the files that are written")
-    asked.add_argument("--days", type=_least(1), default=1, help="how many days (default: 1)")
-    asked.add_argument("--back", type=_least(0), default=2, help="how many days before are looked at for trips that go on beyond midnight (default: 2)")
+    asked.add_argument("--days", type=_least(1), default=USUAL["days"], help="how many days (default: 1)")
+    asked.add_argument("--back", type=_least(0), default=USUAL["back"], help="how many days before are looked at for trips that go on beyond midnight (default: 2)")
     writing.add_unit(asked)
-    asked.add_argument("--change", type=_least(0), default=0, metavar="SECONDS", help="the least time of a change at a stop; transfers.txt may say otherwise for a stop (default: 0)")
+    asked.add_argument("--change", type=_least(0), default=USUAL["change"], metavar="SECONDS", help="the least time of a change at a stop; transfers.txt may say otherwise for a stop (default: 0)")
     asked.add_argument("--stations", type=_least(1), metavar="SECONDS", help="the time from any stop of a station to any other one of it, if transfers.txt doesn't tell one (default: none)")
     asked.add_argument("--walk", type=_least(1, float), metavar="METRES", help="walks between stops within this radius (default: none)")
-    asked.add_argument("--pace", type=_least(0.1, float), default=1.2, metavar="M/S", help="metres per second of a walk (default: 1.2)")
-    asked.add_argument("--detour", type=_least(1, float), default=1.3, help="how many times the beeline a walk is (default: 1.3)")
+    asked.add_argument("--pace", type=_least(0.1, float), default=USUAL["pace"], metavar="M/S", help="metres per second of a walk (default: 1.2)")
+    asked.add_argument("--detour", type=_least(1, float), default=USUAL["detour"], help="how many times the beeline a walk is (default: 1.3)")
     asked.add_argument("--streets", metavar="NAME", help="join in a network that `earliest osm --profile foot` has written; stops are linked to it within --walk metres (default: 500)")
     asked.add_argument("--routes", action="append", metavar="ROUTE", help="only this route, by its id or name; may be given several times")
     asked.add_argument("--types", action="append", metavar="TYPE", help="only routes of this route_type; may be given several times")
@@ -176,7 +180,7 @@ def command(words):
     given = asked.parse_args(words)
     if given.goals and not given.starts:
         asked.error("--to needs --from")
-    summary, files = convert(given.feed, given.day, given.name, given)
+    summary, files = convert(given.feed, given.day, given.name, **{key: value for key, value in vars(given).items() if key in USUAL})
     summary.tell()
     print("written: " + ", ".join(files))
     return 0

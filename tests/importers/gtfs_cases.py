@@ -513,6 +513,8 @@ def seconds_as_unit(room):
     told = engine("pairs", os.path.join(room, "monday.gr"), os.path.join(room, "monday.p2p"), "--tp", os.path.join(room, "monday.tp"), "--depart", 27800)
     yield "in seconds", told.stdout, b"q 4 3 27800\nd 3 30270\n"
     yield "its arcs", arcs(room, "monday"), [(1, 3, 480), (2, 1, 540), (4, 2, 540)]
+    for end in (".gr", ".tp", ".nodes.csv"):
+        yield f"examples/gtfs/monday{end} is what the importer writes", text(room, "monday" + end), text(os.path.join(ROOT, "examples", "gtfs"), "monday" + end)
 
 
 def hostile(room):
