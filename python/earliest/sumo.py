@@ -33,7 +33,7 @@ def elements(path, root_tag, tags):
                 elif event == "end" and element.tag in tags:
                     yield element
                     root.clear()
-    except trees.ParseError as fault:
+    except (trees.ParseError, LookupError) as fault:  # a LookupError is an encoding that nobody knows
         raise Refused(f"{path} is cut off or isn't XML: {fault}") from None
     except (EOFError, gzip.BadGzipFile) as fault:
         raise Refused(f"{path} is cut off or compressed otherwise: {fault}") from None

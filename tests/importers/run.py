@@ -30,7 +30,7 @@ def main():
         print("0 passed, 1 failed")
         return 1
     passed = failed = 0
-    for group in ("osm", "gtfs", "sumo", "functions", "maps", "guide"):
+    for group in ("osm", "gtfs", "sumo", "functions", "maps", "damaged", "guide"):
         cases = importlib.import_module(group + "_cases").CASES
         for case in cases:
             title = f"{group}.{case.__name__}"

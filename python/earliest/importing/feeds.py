@@ -2,6 +2,7 @@
 import csv
 import datetime
 import io
+import math
 import os
 import re
 import zipfile
@@ -260,6 +261,7 @@ class Calls:
 
 def _float(text):
     try:
-        return float(text)
+        value = float(text)
     except ValueError:
-        return float("nan")
+        return math.nan
+    return value if math.isfinite(value) else math.nan

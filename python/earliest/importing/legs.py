@@ -52,27 +52,33 @@ class Journey:
             if not os.path.isfile(name + end):
                 raise Refused(f"{name}{end} isn't there: legs wants the NAME of a network that `earliest gtfs` has written")
         self.per_second = writing.unit_of(name + ".gr") or 1
-        self.stop = {}
+        self.stop, self.ends, self.kind, self.rides, self.trips = {}, {}, {}, {}, {}
+        try:
+            self._read(arcs)
+        except (KeyError, TypeError, ValueError):
+            raise Refused(f"the files of {name} aren't whole, or not those that `earliest gtfs` writes") from None
+        if any(node not in self.stop for ends in self.ends.values() for node in ends[:2]) or any(ride[3] not in self.trips for rides in self.rides.values() for ride in rides):
+            raise Refused(f"the files of {name} aren't whole: a node or a trip is missing in their tables")
+        missing = [arc for arc in arcs if arc not in self.ends or arc not in self.kind or self.kind[arc] == RIDE and arc not in self.rides]
+        if missing:
+            raise Refused(f"the report has an arc {min(missing)}, which {name} doesn't have")
+
+    def _read(self, arcs):
         for row in self._table(".nodes.csv"):
             self.stop[int(row["node"])] = row["name"] or row["id"]
-        self.ends, self.kind, self.rides = {}, {}, {}
-        with open(name + ".gr", encoding="ascii") as text:
-            count = 0
-            for line in text:
-                if line.startswith("a "):
-                    count += 1
-                    if count in arcs:
-                        self.ends[count] = tuple(map(int, line.split()[1:]))
-        missing = arcs - set(self.ends)
-        if missing:
-            raise Refused(f"the report has an arc {min(missing)}, and {name}.gr has {count}")
+        with open(self.name + ".gr", encoding="ascii", errors="replace") as text:
+            for number, line in enumerate((line for line in text if line.startswith("a ")), 1):
+                if number in arcs:
+                    tail, head, weight = map(int, line.split()[1:])
+                    self.ends[number] = tail, head, weight
         for row in self._table(".arcs.csv"):
             if int(row["arc"]) in arcs:
                 self.kind[int(row["arc"])] = row["kind"]
         for row in self._table(".rides.csv"):
             if int(row["arc"]) in arcs:
                 self.rides.setdefault(int(row["arc"]), []).append((int(row["departs"]), int(row["arrives"]), int(row["run"]), int(row["trip"])))
-        self.trips = {int(row["trip"]): (row["id"], row["line"], row["towards"]) for row in self._table(".trips.csv")}
+        for row in self._table(".trips.csv"):
+            self.trips[int(row["trip"])] = row["id"], row["line"], row["towards"]
 
     def _table(self, end):
         with open(self.name + end, encoding="utf-8", newline="") as file:

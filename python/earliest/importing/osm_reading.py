@@ -92,7 +92,7 @@ class Source:
                         if element.get("action") != "delete" and element.get("visible") != "false":
                             yield element
                         root.clear()
-        except trees.ParseError as fault:
+        except (trees.ParseError, LookupError) as fault:  # a LookupError is an encoding that nobody knows
             raise Refused(f"{self.path} is cut off or isn't XML: {fault}") from None
         except (EOFError, gzip.BadGzipFile, OSError) as fault:
             if isinstance(fault, OSError) and fault.errno:

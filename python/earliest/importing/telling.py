@@ -1,4 +1,5 @@
 """Refusals and summaries."""
+import csv
 import sys
 
 
@@ -20,6 +21,9 @@ def ended(name, command, words):
         return 1
     except OSError as fault:
         print(f"{name}: {fault.filename or 'input'}: {fault.strerror or fault}", file=sys.stderr)
+        return 1
+    except (UnicodeDecodeError, csv.Error) as fault:
+        print(f"{name}: a file isn't the text that it should be: {fault}", file=sys.stderr)
         return 1
     except MemoryError:
         print(f"{name}: there isn't enough memory", file=sys.stderr)

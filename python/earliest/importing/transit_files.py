@@ -1,5 +1,4 @@
 """The files of a transit network: stops, rides, walks, streets."""
-import csv
 import os
 import re
 from array import array
@@ -7,6 +6,7 @@ from array import array
 from . import geography, writing
 from .grouping import grouped
 from .kinds import RIDE, STREET, WALK
+from .maps import Places
 from .telling import Refused
 from .timetable import kept_rides
 
@@ -25,8 +25,10 @@ class Streets:
                 raise Refused(f"{name}{end} isn't there: --streets wants the NAME of a network that `earliest osm` has written")
         if writing.unit_of(name + ".gr") != per_second:
             raise Refused(f"{name}.gr has another unit than --unit; import it again with this one")
-        with open(name + ".nodes.csv", encoding="utf-8", newline="") as file:
-            self.nodes = [(row["id"], float(row["longitude"]), float(row["latitude"]), row["use"]) for row in csv.DictReader(file)]
+        known = Places.read(name + ".nodes.csv")
+        if known.unit != "degrees" or known.nodes != list(range(1, len(known.nodes) + 1)):
+            raise Refused(f"{name}.nodes.csv isn't a table of all nodes with longitudes and latitudes, as `earliest osm` writes it")
+        self.nodes = [(number, *place, use) for number, place, use in zip(known.ids, known.points, known.uses)]
         self.trees = {use: self._tree(use) for use in ("start", "end")}
         self.count = sum(1 for _ in self.arcs())
 
@@ -43,10 +45,16 @@ class Streets:
         return node, geography.metres(*place, *self.nodes[node][1:3])
 
     def arcs(self):
-        with open(self.name + ".gr", encoding="ascii") as text:
-            for line in text:
+        with open(self.name + ".gr", encoding="ascii", errors="replace") as text:
+            for number, line in enumerate(text, 1):
                 if line.startswith("a "):
-                    yield tuple(map(int, line.split()[1:]))
+                    try:
+                        tail, head, weight = map(int, line.split()[1:])
+                    except ValueError:
+                        raise Refused(f"{self.name}.gr, line {number}: an arc is wanted, a U V W") from None
+                    if not (1 <= min(tail, head) and max(tail, head) <= len(self.nodes) and 0 <= weight <= writing.MOST_WEIGHT):
+                        raise Refused(f"{self.name}.gr, line {number}: an arc between nodes of {self.name}.nodes.csv is wanted")
+                    yield tail, head, weight
 
 
 class Files:
