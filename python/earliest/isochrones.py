@@ -63,6 +63,8 @@ def shapes_of(file):
         for row in table:
             try:
                 values = [float(part) for part in row[1].split()]
+                if len(values) < 4 or len(values) % 2 or not all(map(math.isfinite, values)):
+                    raise ValueError
                 found[int(row[0])] = list(zip(values[::2], values[1::2]))
             except (ValueError, IndexError):
                 raise Refused(f"{file}, line {table.line_num}: an arc and its points are wanted") from None
@@ -119,6 +121,8 @@ class Sights:
         for members in groups.values():
             times = [problem.arrivals.get(known.nodes[place]) for place in members]
             reached = [time for time in times if time is not None]
+            if reached and min(reached) < self.start:
+                raise Refused(f"node {known.nodes[members[0]]} is reached at {min(reached)} in the report, before the departure at {self.start}")
             self.rows.append((known.nodes[members[0]], members[0], min(reached) - self.start if reached else None))
         self.rows.sort()
         self.longest = max((time for _, _, time in self.rows if time is not None), default=0)

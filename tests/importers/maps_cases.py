@@ -190,7 +190,7 @@ def hostile(room):
     for name, words, part in (
         ("a report that isn't there", [os.path.join(room, "none"), co], "none"), ("a problem that isn't there", [report, co, "--problem", "2"], "no problem 2"), ("a report of pairs", [put(room, "q", "q 1 2 0\nd 2 1\n"), co], "no problem 1"),
         ("no report", [put(room, "t", "s 1 0\nhello\n"), co], "line 2"), ("a number that is none", [put(room, "u", "s 1 x\n"), co], "line 1"), ("GeoJSON of plain numbers", [report, co, "--write", "nodes"], "wants degrees"), ("arcs without a graph", [report, put(room, "d.co", "v 1 1 1\n"), "--degrees", "--write", "arcs"], "--graph"),
-        ("a folder to write to that isn't there", [report, co, "--out", os.path.join(room, "no", "x.svg")], "isn't there"), ("shapes of another kind", [report, co, "--shapes", put(room, "s.csv", "arc,points\nx,y\n")], "line 2"), ("bands below 0", [report, co, "--band", "-1"], "--band"),
+        ("a folder to write to that isn't there", [report, co, "--out", os.path.join(room, "no", "x.svg")], "isn't there"), ("shapes of another kind", [report, co, "--shapes", put(room, "s.csv", "arc,points\nx,y\n")], "line 2"), ("an arrival before the departure", [put(room, "early", "s 1 9\nd 1 9\nd 2 5\n"), co], "before the departure"), ("bands below 0", [report, co, "--band", "-1"], "--band"),
     ):
         *told, reason = refused("isochrones", room, *words)
         yield f"refused: {name}", (*told, part in reason), (True, True, [], True)
