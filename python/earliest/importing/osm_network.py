@@ -102,7 +102,7 @@ class Extract:
             self.summary.leave("turn restrictions that except this traveller", number)
             return
         if not told.startswith(("no_", "only_")):
-            self.summary.leave(f"turn restrictions of a kind without a meaning here, such as {told!r}", number)
+            self.summary.leave("turn restrictions of a kind without a meaning here", f"{number}: {told!r}")
             return
         found = Restriction()
         found.number, found.only, found.uturn = number, told.startswith("only_"), told == "no_u_turn"

@@ -35,15 +35,15 @@ class Once:
     """What judging a way tells a summary, each reason once though both directions have it; told for each way with the same tags."""
 
     def __init__(self):
-        self.taken, self.left, self.notes = [], [], []
+        self.taken, self.left, self.notes = [], {}, []
 
     def take(self, what):
         if what not in self.taken:
             self.taken.append(what)
 
-    def leave(self, why, _=None):
-        if why not in self.left:
-            self.left.append(why)
+    def leave(self, why, value=None):
+        """Something that is left out, maybe for a value of a tag."""
+        self.left.setdefault(why, value)
 
     def note(self, sentence):
         self.notes.append(sentence)
@@ -51,8 +51,8 @@ class Once:
     def tell(self, summary, way):
         for what in self.taken:
             summary.take(what)
-        for why in self.left:
-            summary.leave(why, way)
+        for why, value in self.left.items():
+            summary.leave(why, way if value is None else f"{way}: {value!r}")
         for note in self.notes:
             summary.note(note)
 
@@ -151,7 +151,7 @@ class Profile:
                     if parts & self.no:
                         return False
                 if summary is not None:
-                    summary.leave(f"values of {full} without a meaning here, such as {value!r}, not looked at")
+                    summary.leave(f"values of {full} without a meaning here, not looked at", value)
         return None
 
     def passes(self, tags):
@@ -165,11 +165,11 @@ class Profile:
         known = self.judged.get(key)
         if known is None:
             once = Once()
-            known = self.judged[key] = self._judge(way, tags, once), once
+            known = self.judged[key] = self._judge(tags, once), once
         known[1].tell(summary, way)
         return known[0]
 
-    def _judge(self, way, tags, summary):
+    def _judge(self, tags, summary):
         ferry = False
         kind = tags.get("highway")
         speed = self.speeds.get(kind)
@@ -181,29 +181,29 @@ class Profile:
             if route in ("ferry", "shuttle_train") and self.ferries:
                 speed, ferry, asked, kind = self.ferry_speed, True, False, route
             elif kind is not None:
-                summary.leave(f"ways with highway={kind}, which the profile has no speed for", way)
+                summary.leave(f"ways with highway={kind}, which the profile has no speed for")
                 return None
             else:
                 return None
         if tags.get("area") == "yes" and not self.areas:
-            summary.leave("ways that are areas", way)
+            summary.leave("ways that are areas")
             return None
         for key in CONDITIONAL:
             if key in tags:
-                summary.leave(f"tags {key} (conditions of time), not looked at", way)
+                summary.leave(f"tags {key} (conditions of time), not looked at")
         open_ways = []
         for direction in ("forward", "backward"):
             allowed = self.allowed(tags, direction, summary)
             open_ways.append(allowed is True or (allowed is None and not asked))
         if not any(open_ways):
-            summary.leave(f"ways with highway={kind} that aren't opened by a key of access" if asked and self.allowed(tags, "") is None else "ways without access", way)
+            summary.leave(f"ways with highway={kind} that aren't opened by a key of access" if asked and self.allowed(tags, "") is None else "ways without access")
             return None
-        directions = self._directions(way, tags, ferry, summary)
+        directions = self._directions(tags, ferry, summary)
         if directions is None:
             return None
         ends = [open_ways[place] and directions[place] for place in (0, 1)]
         if not any(ends):
-            summary.leave("ways without access in the direction that they are driven", way)
+            summary.leave("ways without access in the direction that they are driven")
             return None
         seconds = None
         if ferry and "duration" in tags:
@@ -211,18 +211,18 @@ class Profile:
             if minutes:
                 seconds = 60 * minutes
             else:
-                summary.leave(f"durations of ferries that can't be read, such as {tags['duration']!r}; the ferry speed is taken", way)
+                summary.leave("durations of ferries that can't be read; the ferry speed is taken", tags["duration"])
         elif ferry:
             summary.note(f"ferries without a duration go at {self.ferry_speed:g} km/h, and nobody waits for them")
-        speeds = [self._speed(way, tags, speed, direction, ferry, summary) if goes else 0.0 for direction, goes in zip(("forward", "backward"), ends)]
+        speeds = [self._speed(tags, speed, direction, ferry, summary) if goes else 0.0 for direction, goes in zip(("forward", "backward"), ends)]
         summary.take(f"ways of {'route' if ferry else 'highway'}={kind}")
         return speeds[0], speeds[1], seconds
 
-    def _directions(self, way, tags, ferry, summary):
+    def _directions(self, tags, ferry, summary):
         """Whether a way is driven forward and backward."""
         value = next((tags[key] for key in self.oneway if key in tags), None)
         if value in ("reversible",):
-            summary.leave("ways with oneway=reversible", way)
+            summary.leave("ways with oneway=reversible")
             return None
         if value == "alternating":
             summary.take("ways with oneway=alternating, taken both ways")
@@ -234,14 +234,14 @@ class Profile:
             found = [True, True]
         else:
             if value is not None:
-                summary.leave(f"values of oneway without a meaning here, such as {value!r}, taken as no", way)
+                summary.leave("values of oneway without a meaning here, taken as no", value)
             implied = self.implied_oneway and not ferry and (tags.get("junction") in ("roundabout", "circular") or tags.get("highway") == "motorway")
             found = [True, not implied]
         if self.contraflow and not all(found) and any(tags.get(key, "").startswith("opposite") for key in ("cycleway", "cycleway:left", "cycleway:right", "cycleway:both")):
             found = [True, True]
         return found
 
-    def _speed(self, way, tags, speed, direction, ferry, summary):
+    def _speed(self, tags, speed, direction, ferry, summary):
         for key in self.cap_keys:
             cap = self.caps.get((key, tags.get(key)))
             if cap is not None and not ferry:
@@ -255,7 +255,7 @@ class Profile:
                 if limit is not None:
                     break
                 if key.startswith("maxspeed") and key != "maxspeed:type":
-                    summary.leave(f"values of {key} that can't be read, such as {tags[key]!r}; the class's speed is taken", way)
+                    summary.leave(f"values of {key} that can't be read; the class's speed is taken", tags[key])
         if limit is None:
             return min(speed, self.top)
         driven = limit * self.factor
