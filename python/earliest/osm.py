@@ -95,7 +95,10 @@ def _write(out, path, split, per_second, summary, starts, goals):
         else:
             ways = ";".join(map(str, dict.fromkeys(extract.way_ids[arcs.way[it]] for it in row)))
             seconds, metres = sum(arcs.seconds[it] for it in row), sum(arcs.metres[it] for it in row)
-        graph.write(f"a {tail} {head} {writing.weight_of(seconds + turning, per_second, 'way ' + str(ways))}\n")
+        weight = int((seconds + turning) * per_second + 0.5)
+        if weight > writing.MOST_WEIGHT:
+            weight = writing.weight_of(seconds + turning, per_second, f"way {ways}")
+        graph.write(f"a {tail} {head} {weight}\n")
         table.write(f"{number},{ways},{ids[tail - 1]},{ids[head - 1]},{metres:.2f}\n")
         if len(row) > 1 or abs(arcs.end[first] - arcs.start[first]) > 1:
             between = joined.places(arc)

@@ -196,13 +196,19 @@ class Costs:
         self.bearings = {}
 
     def _bearing(self, arc, last):
+        """The direction in which an arc ends, or begins."""
         found = self.bearings.get((arc, last))
         if found is None:
-            places = self.joined.places(arc)
-            pair = places[-2:] if last else places[:2]
-            extract = self.joined.network.extract
-            found = geography.bearing(*extract.place(pair[0]), *extract.place(pair[-1]))
-            self.bearings[arc, last] = found
+            network, row = self.joined.network, self.joined.row(arc)
+            arcs, index, place = network.arcs, network.extract.index, network.extract.place
+            piece = row[-1] if last else row[0]
+            start, end = arcs.start[piece], arcs.end[piece]
+            step = 1 if start < end else -1
+            pair = (index[end - step], index[end]) if last else (index[start], index[start + step])
+            if pair[0] == pair[1]:  # a way that names a node twice in a row
+                places = self.joined.places(arc)
+                pair = places[-2:] if last else places[:2]
+            found = self.bearings[arc, last] = geography.bearing(*place(pair[0]), *place(pair[-1]))
         return found
 
     def of(self, into, out):
