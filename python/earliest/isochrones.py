@@ -151,9 +151,8 @@ def span(low, high, per_second):
 class Map:
     """From coordinates to places in the picture, north up. Degrees of longitude are as much shorter as they are at the middle latitude."""
 
-    def __init__(self, known):
-        self.known = known
-        easts, norths = zip(*known.points)
+    def __init__(self, known, shapes):
+        easts, norths = zip(*known.points, *(point for line in shapes.values() for point in line))
         self.narrow = math.cos(math.radians((min(norths) + max(norths)) / 2)) if known.unit == "degrees" else 1.0
         self.west, self.north = min(easts), max(norths)
         width = (max(easts) - self.west) * self.narrow
@@ -200,7 +199,7 @@ def draw(problem, known, arcs, shapes, band, per_second=None):
     """The picture."""
     sights = Sights(problem, known)
     band = sights.band(band, per_second)
-    view = Map(known)
+    view = Map(known, shapes)
     radius = max(1.0, min(9.0, 0.36 * ((WIDTH - 2 * MARGIN) * view.height / max(len(sights.rows), 1)) ** 0.5))
     told, bottom = legend(sights, band, per_second, view.height + 8)
     height = bottom + 26

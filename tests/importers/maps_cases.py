@@ -179,6 +179,18 @@ def pictures(room):
     yield "at 60 degrees north a degree of longitude is half as wide", abs(east / north - 1) < 0.01, True
 
 
+def roads_in_the_picture(room):
+    """Roads that bend beyond all nodes stay in the picture."""
+    report, _ = town(room)
+    good("osm", os.path.join(ROOT, "examples", "osm", "town.osm"), os.path.join(room, "town"), "--from", "10.0,50.001")
+    engine("run", os.path.join(room, "town.gr"), os.path.join(room, "town.ss"), "-o", report)
+    good("isochrones", report, os.path.join(room, "town.nodes.csv"), "--graph", os.path.join(room, "town.gr"), "--shapes", os.path.join(room, "town.shapes.csv"), "--out", os.path.join(room, "x.svg"))
+    svg = text(room, "x.svg")
+    width, height = map(float, re.search(r'viewBox="0 0 (\d+) (\d+)"', svg).groups())
+    points = [tuple(map(float, it.split())) for way in re.findall(r'<path d="M([^"]*)"', svg) for it in re.split("[ML]", way)]
+    yield "roads stay in the picture", (len(points) > 40, [it for it in points if not (0 <= it[0] <= width and 0 <= it[1] <= height)]), (True, [])
+
+
 def _stdout(room):
     words = [sys.executable, "-c", f"import sys; sys.path.insert(0, {support.HERE!r}); import support; sys.exit(support.module('isochrones').main(sys.argv[1:]))", os.path.join(room, "report"), os.path.join(ROOT, "examples", "commuter.co"), "--graph", os.path.join(ROOT, "examples", "commuter.gr"), "--band", "180"]
     return subprocess.run(words, stdout=subprocess.PIPE, check=False).stdout.decode()
@@ -212,4 +224,4 @@ def as_users_call_them(room):
     yield "python -m earliest.osm of the example", (told.returncode, told.stderr, b"written: town" in told.stdout, os.path.exists(os.path.join(room, "town.gr"))), (0, b"", True, True)
 
 
-CASES = (nearest_in_degrees, nearest_command, geojson_of_nodes_and_arcs, bands, legends, pictures, hostile, as_users_call_them)
+CASES = (nearest_in_degrees, nearest_command, geojson_of_nodes_and_arcs, bands, legends, pictures, roads_in_the_picture, hostile, as_users_call_them)
