@@ -332,6 +332,13 @@ def walking(room):
     begin, end = places(room, "door")
     wanted = scanned(connections, "C", path)["D"]
     yield "from a place on a street", (source == begin["3"], goal == end["D"], abs(arrivals(room, "door", source, 0)[goal - 1] - 100 * wanted) <= 4), (True, True, True)
+    put(room, "split.nodes.csv", "node,id,longitude,latitude,use\n1,x,8.03,47.0001,start\n2,x,8.03,47.0001,end\n3,y,8.033,47.0011,both\n")
+    put(room, "split.gr", "c time unit: 1/100 s\np sp 3 2\na 1 3 100\na 3 2 200\n")
+    imported(room, feed, "--streets", os.path.join(room, "split"), "--walk", "60", name="split-net")
+    rows = table(room, "split-net.nodes.csv")
+    used = {row["node"]: (row["id"], row["use"]) for row in rows}
+    links = [(used[str(tail)], used[str(head)]) for tail, head, _ in arcs(room, "split-net") if "x" in (used[str(tail)][0], used[str(head)][0]) and {"B"} & {used[str(tail)][0], used[str(head)][0]}]
+    yield "stops lead to where streets start, and from where they end", sorted(links), [(("B", "both"), ("x", "start")), (("x", "end"), ("B", "both"))]
     yield "stops far from streets are told", summary_has(told, "3 stops farther than 60 m"), True
 
 
@@ -345,6 +352,9 @@ def selection(room):
     told = imported(room, feed, "--box", "8.01,46,8.05,48")
     yield "a box", compared(room, "net", feed, "20261123", "BC", (0,), only=lambda it: it[2] in "BC" and it[3] in "BC"), "all"
     yield "stops outside are told", summary_has(told, "6 stops outside the box"), True
+    imported(room, Feed({"a": ("1", "all", line("A", "B", "C", "D", "E", start=7 * 3600))}), "--box", "8.01,46,8.05,48", "--change", "60")
+    yield "a box, and nodes on board outside it", compared(room, "net", Feed({"a": ("1", "all", line("A", "B", "C", "D", "E", start=7 * 3600))}), "20261123", "BC", (0,), dict.fromkeys(STOPS, 60), only=lambda it: it[2] in "BC" and it[3] in "BC"), "all"
+    imported(room, feed, "--routes", "1")
     for words, part in ((["--routes", "9"], "no route '9'"), (["--types", "7"], "no trip"), (["--box", "0,0,1,1"], "is left")):
         *told, reason = refused("gtfs", room, os.path.join(room, "feed"), "20261123", os.path.join(room, "none"), *words)
         yield f"refused: {words}", (*told, part in reason), (True, True, [], True)
@@ -486,6 +496,7 @@ def legs_stay(room):
     for title, others in (
         ("an earlier one to the next stop", {"y": ("2", "all", [(1, "B", 7 * 3600 + 310, 7 * 3600 + 310, "", ""), (2, "C", 7 * 3600 + 700, 7 * 3600 + 700, "", "")])}),
         ("a quicker one for a while", {"y": ("2", "all", [(1, "B", 7 * 3600 + 310, 7 * 3600 + 310, "", ""), (2, "C", 7 * 3600 + 400, 7 * 3600 + 400, "", "")])}),
+        ("one that leaves before and ends at the next stop", {"w": ("2", "all", line("A", "B", start=7 * 3600 - 30))}),
         ("equal ones on each hop", {"a": ("2", "all", line("A", "B", start=7 * 3600)), "b": ("3", "all", line("B", "C", start=7 * 3600 + 400)), "c": ("4", "all", line("C", "D", start=7 * 3600 + 800))}),
     ):
         trips = {"x": ("1", "all", line("A", "B", "C", "D", start=7 * 3600, dwell=100)), **others}

@@ -152,7 +152,7 @@ def tags_of_speed(room):
         ({"highway": "residential"}, 36), ({"highway": "residential", "maxspeed": "50"}, 50), ({"highway": "residential", "maxspeed": "30 mph"}, 30 * 1.609344),
         ({"highway": "residential", "maxspeed": "10 knots"}, 18.52), ({"highway": "residential", "maxspeed": "DE:urban"}, 54), ({"highway": "residential", "maxspeed": "walk"}, 7.2),
         ({"highway": "motorway", "oneway": "no", "maxspeed": "none"}, 200), ({"highway": "residential", "maxspeed": "50;30"}, 30), ({"highway": "residential", "maxspeed": "DE:zone:30"}, 30),
-        ({"highway": "residential", "maxspeed": "fast"}, 36), ({"highway": "residential", "maxspeed:type": "DE:urban"}, 54), ({"highway": "primary", "surface": "gravel"}, 18),
+        ({"highway": "residential", "maxspeed": "fast"}, 36), ({"highway": "residential", "maxspeed:type": "DE:urban"}, 54), ({"highway": "primary", "surface": "gravel"}, 18), ({"highway": "primary", "surface": "gravel", "maxspeed": "50"}, 18), ({"highway": "primary", "surface": "gravel", "maxspeed": "10"}, 10),
         ({"highway": "track", "motor_vehicle": "yes"}, 18), ({"highway": "residential", "access": "no", "motorcar": "yes"}, 36), ({"highway": "residential", "access": "destination"}, 36),
     ]
     closed = [{"highway": "track"}, {"highway": "residential", "access": "private"}, {"highway": "residential", "vehicle": "no"}, {"highway": "footway"}, {"highway": "residential", "area": "yes"}, {"railway": "rail"}]
@@ -296,6 +296,18 @@ def restrictions_at_nodes(room):
     yield "the left turn matters", after[4] > before[4] + 5, True
     imported(room, Town(nodes, ways, [rule("no_left_turn", 1, 5, 4)]), "--no-restrictions", "--keep-nodes")
     yield "restrictions left out where asked", agree(room, "town", 1, before, 5), "all"
+
+
+def restrictions_at_joints(room):
+    """A restriction where just two ways meet: the node isn't joined away, and nobody drives through."""
+    nodes, ways = line(4), {1: ([1, 2], {"highway": "residential"}), 2: ([2, 3, 4], {"highway": "residential"})}
+    speeds = dict.fromkeys(ways, 36)
+    for rules, relations in (([(False, 1, 2, 2)], [rule("no_straight_on", 1, 2, 2)]), ([(True, 1, 2, 1)], [rule("only_u_turn", 1, 2, 1)]), ([], [])):
+        town = Town(nodes, ways, relations)
+        imported(room, town)
+        for source in (1, 4):
+            yield f"from {source} with {rules}", agree(room, "town", source, searched(town, source, speeds, (), rules, turning={1, 2, 4}), 4), "all"
+        yield f"nodes with {rules}", sorted(places(room, "town")[0]), ["1", "2", "4"] if rules else ["1", "4"]
 
 
 def restrictions_over_ways(room):
@@ -537,4 +549,4 @@ def hostile(room):
     yield "refused: a folder to write to that isn't there", (*told, "isn't there" in reason), (True, True, [], True)
 
 
-CASES = (tags_of_speed, directions, bicycles_and_walkers, barriers_and_ferries, chains, rings, restrictions_at_nodes, restrictions_over_ways, random_towns, turn_costs, largest_part, places_asked, missing_nodes, readers, unit_and_files, example, hostile)
+CASES = (tags_of_speed, directions, bicycles_and_walkers, barriers_and_ferries, chains, rings, restrictions_at_nodes, restrictions_at_joints, restrictions_over_ways, random_towns, turn_costs, largest_part, places_asked, missing_nodes, readers, unit_and_files, example, hostile)

@@ -93,6 +93,20 @@ def turns_and_permissions(room):
     yield "a packed network", arcs(room, "packed"), arcs(room, "town")
 
 
+def lanes_inside(room):
+    """Of several connections from an edge to another the quickest counts, over all its lanes inside the junction; a lane that is missing is told."""
+    inside = "".join(f'<edge id=":J_{number}" function="internal"><lane id=":J_{number}_0" index="0" speed="{speed}" length="{length}"/></edge>' for number, (length, speed) in enumerate([(40, 5), (10, 5), (90, 10), (30, 10)]))
+    two = "".join(f'<edge id="{name}"><lane id="{name}_0" index="0" speed="10" length="100"/><lane id="{name}_1" index="1" speed="10" length="100"/></edge>' for name in "ab")
+    links = "".join(f'<connection from="a" to="b" fromLane="{lane}" toLane="{lane}" via="{via}"/>' for lane, via in ((0, ":J_0_0"), (1, ":J_1_0"), (0, ":J_2_0")))
+    onward = '<connection from=":J_1" to="b" fromLane="0" toLane="1" via=":J_3_0"/>'
+    put(room, "town.net.xml", HEAD + inside + two + links + onward + "</net>")
+    good("sumo", os.path.join(room, "town.net.xml"), os.path.join(room, "town"))
+    yield "the quickest way through a junction", [arc[2] for arc in arcs(room, "town")], [1000, 1000, 500]
+    put(room, "town.net.xml", HEAD + two + links + "</net>")
+    told = good("sumo", os.path.join(room, "town.net.xml"), os.path.join(room, "town"))
+    yield "lanes that are missing are told", (summary_has(told, "3 lanes inside junctions that the file doesn't have", ":J_0_0"), [arc[2] for arc in arcs(room, "town")]), (True, [1000, 1000, 0])
+
+
 def intervals(room):
     """Speeds by intervals: travel times and speeds, gaps, edges without data, the end of the period, long edges over several intervals."""
     edges = {"a": (300.0, 10.0, ""), "b": (200.0, 10.0, ""), "c": (50.0, 5.0, ""), "d": (2000.0, 20.0, "")}
@@ -209,4 +223,4 @@ def hostile(room):
     yield "nothing was written", text(room, "town.net.xml"), whole
 
 
-CASES = (turns_and_permissions, intervals, standing_edges, classes_are_shared, random_networks, example, hostile)
+CASES = (turns_and_permissions, lanes_inside, intervals, standing_edges, classes_are_shared, random_networks, example, hostile)
