@@ -221,7 +221,7 @@ def command(words):
     return 0
 
 
-def main(words):
+def main(words=None):
     return ended("functions", command, words)
 
 

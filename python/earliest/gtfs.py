@@ -186,7 +186,7 @@ def command(words):
     return 0
 
 
-def main(words):
+def main(words=None):
     return ended("gtfs", command, words)
 
 

@@ -373,7 +373,7 @@ def command(words):
     return 0
 
 
-def main(words):
+def main(words=None):
     return ended("isochrones", command, words)
 
 

@@ -58,7 +58,7 @@ def command(words):
     return 0
 
 
-def main(words):
+def main(words=None):
     return ended("nearest", command, words)
 
 

@@ -135,7 +135,7 @@ def command(words):
     return 0
 
 
-def main(words):
+def main(words=None):
     return ended("osm", command, words)
 
 

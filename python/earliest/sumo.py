@@ -352,7 +352,7 @@ def command(words):
     return 0
 
 
-def main(words):
+def main(words=None):
     return ended("sumo", command, words)
 
 

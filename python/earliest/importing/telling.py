@@ -8,9 +8,10 @@ class Refused(Exception):
 
 
 def ended(name, command, words):
-    """Runs a command; what it refuses becomes one line on standard error. Returns the exit status."""
+    """Runs a command with its words, those of the process if they are None; what it refuses becomes one line on standard error. Returns the
+    exit status."""
     try:
-        return command(words) or 0
+        return command(sys.argv[1:] if words is None else list(words)) or 0
     except Refused as fault:
         print(f"{name}: {fault}", file=sys.stderr)
         return 1
