@@ -388,6 +388,45 @@ def random_towns(room):
             yield f"random town {seed} from {source}", agree(room, "town", source, wanted, 12), "all"
 
 
+def turns_in_random_towns(room):
+    """Turns that take time, with restrictions and one-way streets, on grids at random."""
+    for seed in range(5):
+        draw = random.Random(seed)
+        nodes = {1 + row * 3 + column: (10 + 0.001 * column + 0.0004 * draw.random(), 50 + 0.0007 * row + 0.0003 * draw.random()) for row in range(3) for column in range(3)}
+        ways, oneway = {}, set()
+        for node in list(nodes):
+            for other in ([node + 1] if node % 3 else []) + ([node + 3] if node + 3 in nodes else []):
+                number = 100 + len(ways)
+                ways[number] = [node, other], {"highway": "residential", **({"oneway": "yes"} if draw.random() < 0.2 else {})}
+                if "oneway" in ways[number][1]:
+                    oneway.add(number)
+        start = draw.choice([way for way in ways if way not in oneway])
+        via = ways[start][0][1]
+        end = draw.choice([way for way, (refs, _) in ways.items() if via in refs and way not in oneway | {start}] or [start])
+        rules = [(False, start, via, end)]
+        town = Town(nodes, ways, [rule("no_u_turn" if start == end else "no_left_turn", start, via, end)])
+        imported(room, town, "--turns")
+        known = {int(it) for it in places(room, "town")[0]}
+        beside = {node: {ref for refs, _ in ways.values() if node in refs for ref in refs} - {node} for node in nodes}
+
+        def cost(before, after):
+            if (before[1], before[2]) == (after[2], after[1]):
+                return 20.0
+            if len(beside[before[2]]) < 3:
+                return 0.0
+            turn = (heading(nodes, after) - heading(nodes, before) + 180) % 360 - 180
+            return 0.0 if abs(turn) <= 30 else 3.0 if turn > 0 and abs(turn) < 130 else 7.0
+
+        for source in sorted(known)[::2]:
+            yield f"turns in the random town {seed} from {source}", agree(room, "town", source, searched(town, source, dict.fromkeys(ways, 36), oneway, rules, cost, known), 12), "all"
+
+
+def heading(nodes, step):
+    """The direction of a step, clockwise from north."""
+    (x, y), (u, v) = nodes[step[1]][:2], nodes[step[2]][:2]
+    return math.degrees(math.atan2((u - x) * math.cos(math.radians((y + v) / 2)), v - y))
+
+
 def turn_costs(room):
     """--turns: seconds by the angle, turning round, traffic lights."""
     nodes, ways = cross()
@@ -395,16 +434,13 @@ def turn_costs(room):
     town = Town(nodes, ways)
     told = imported(room, town, "--turns", "--keep-nodes")
     lights = {5}
-    at = {number: it[:2] for number, it in nodes.items()}
-
-    def heading(step):
-        (x, y), (u, v) = at[step[1]], at[step[2]]
-        return math.degrees(math.atan2((u - x) * math.cos(math.radians(50)), v - y))
 
     def cost(before, after):
         if (before[1], before[2]) == (after[2], after[1]):
             return 20.0
-        turn = (heading(after) - heading(before) + 180) % 360 - 180
+        if before[2] not in (4, 5):  # the others join two roads
+            return 0.0
+        turn = (heading(nodes, after) - heading(nodes, before) + 180) % 360 - 180
         return 0.0 if abs(turn) <= 30 else 3.0 if turn > 0 and abs(turn) < 130 else 7.0
 
     # The wait at lights belongs to the step that enters them.
@@ -549,4 +585,4 @@ def hostile(room):
     yield "refused: a folder to write to that isn't there", (*told, "isn't there" in reason), (True, True, [], True)
 
 
-CASES = (tags_of_speed, directions, bicycles_and_walkers, barriers_and_ferries, chains, rings, restrictions_at_nodes, restrictions_at_joints, restrictions_over_ways, random_towns, turn_costs, largest_part, places_asked, missing_nodes, readers, unit_and_files, example, hostile)
+CASES = (tags_of_speed, directions, bicycles_and_walkers, barriers_and_ferries, chains, rings, restrictions_at_nodes, restrictions_at_joints, restrictions_over_ways, random_towns, turns_in_random_towns, turn_costs, largest_part, places_asked, missing_nodes, readers, unit_and_files, example, hostile)

@@ -189,26 +189,36 @@ class Joined:
 
 
 class Costs:
-    """What turns take, by their angle at a crossing."""
+    """What turns take, by their angle at a crossing of at least three roads; turning round takes its time everywhere."""
 
     def __init__(self, joined, profile):
         self.joined, self.turns = joined, profile.turns
         self.bearings = {}
+        beside = {}
+        for arc in range(len(joined)):
+            beside.setdefault(joined.tail(arc), set()).add(self._pair(arc, False)[-1])
+            beside.setdefault(joined.head(arc), set()).add(self._pair(arc, True)[0])
+        self.crossings = {node for node, others in beside.items() if len(others) > 2}
+
+    def _pair(self, arc, last):
+        """The first two places along an arc, or the last two."""
+        network, row = self.joined.network, self.joined.row(arc)
+        arcs, index = network.arcs, network.extract.index
+        piece = row[-1] if last else row[0]
+        start, end = arcs.start[piece], arcs.end[piece]
+        step = 1 if start < end else -1
+        pair = (index[end - step], index[end]) if last else (index[start], index[start + step])
+        if pair[0] == pair[1]:  # a way that names a node twice in a row
+            places = self.joined.places(arc)
+            pair = (places[-2:] if last else places[:2]) if len(places) > 1 else pair
+        return pair
 
     def _bearing(self, arc, last):
         """The direction in which an arc ends, or begins."""
         found = self.bearings.get((arc, last))
         if found is None:
-            network, row = self.joined.network, self.joined.row(arc)
-            arcs, index, place = network.arcs, network.extract.index, network.extract.place
-            piece = row[-1] if last else row[0]
-            start, end = arcs.start[piece], arcs.end[piece]
-            step = 1 if start < end else -1
-            pair = (index[end - step], index[end]) if last else (index[start], index[start + step])
-            if pair[0] == pair[1]:  # a way that names a node twice in a row
-                places = self.joined.places(arc)
-                pair = places[-2:] if last else places[:2]
-            found = self.bearings[arc, last] = geography.bearing(*place(pair[0]), *place(pair[-1]))
+            place, (here, there) = self.joined.network.extract.place, self._pair(arc, last)
+            found = self.bearings[arc, last] = geography.bearing(*place(here), *place(there))
         return found
 
     def of(self, into, out):
@@ -216,6 +226,8 @@ class Costs:
         last, first = self.joined.row(into)[-1], self.joined.row(out)[0]
         if arcs.start[last] == arcs.end[first] and arcs.end[last] == arcs.start[first]:
             return self.turns["u-turn"]
+        if arcs.tail[first] not in self.crossings:
+            return 0.0
         angle = (self._bearing(out, False) - self._bearing(into, True) + 180.0) % 360.0 - 180.0
         if abs(angle) <= self.turns["straight up to"]:
             return self.turns["straight"]
