@@ -202,9 +202,9 @@ class Costs:
 
     def _pair(self, arc, last):
         """The first two places along an arc, or the last two."""
-        network, row = self.joined.network, self.joined.row(arc)
+        joined, network = self.joined, self.joined.network
         arcs, index = network.arcs, network.extract.index
-        piece = row[-1] if last else row[0]
+        piece = joined.rows[joined.first[arc + 1] - 1 if last else joined.first[arc]]
         start, end = arcs.start[piece], arcs.end[piece]
         step = 1 if start < end else -1
         pair = (index[end - step], index[end]) if last else (index[start], index[start + step])
@@ -222,8 +222,8 @@ class Costs:
         return found
 
     def of(self, into, out):
-        arcs = self.joined.network.arcs
-        last, first = self.joined.row(into)[-1], self.joined.row(out)[0]
+        joined, arcs = self.joined, self.joined.network.arcs
+        last, first = joined.rows[joined.first[into + 1] - 1], joined.rows[joined.first[out]]
         if arcs.start[last] == arcs.end[first] and arcs.end[last] == arcs.start[first]:
             return self.turns["u-turn"]
         if arcs.tail[first] not in self.crossings:
