@@ -16,6 +16,7 @@ COMMANDS: Dict[str, str] = {
     "functions": "earliest.functions",
     "nearest": "earliest.nearest",
     "isochrones": "earliest.isochrones",
+    "latest": "earliest.latest",
 }
 """The module of each command. Each has `main(words) -> status`, and the first line of its docstring is its line of help. A command whose
 module isn't there is left out."""

@@ -91,8 +91,10 @@ def results(program):
     found = [(f"commuter.py makes {name}", stored(EXAMPLES, name), text) for name, text in texts.items()]
     found += [(f"a plain search gives {name}", stored(EXAMPLES, name), text) for name, text in reports(texts)]
     with tempfile.TemporaryDirectory() as folder:
-        subprocess.run([sys.executable, os.path.join(HERE, "..", "..", "tools", "trips_of_gtfs.py"), "gtfs", "20261123", os.path.join(folder, "monday")], cwd=EXAMPLES, check=True)
-        found += [(f"tools/trips_of_gtfs.py makes monday{end}", stored(folder, "monday" + end), stored(os.path.join(EXAMPLES, "gtfs"), "monday" + end)) for end in (".gr", ".tp", ".stops")]
+        environment = {**os.environ, "PYTHONPATH": os.path.join(HERE, "..", "..", "python")}
+        words = [sys.executable, "-m", "earliest", "gtfs", "gtfs", "20261123", os.path.join(folder, "monday"), "--unit", "seconds"]
+        subprocess.run(words, cwd=EXAMPLES, env=environment, stdout=subprocess.DEVNULL, check=True)
+        found += [(f"the importer makes monday{end}", stored(folder, "monday" + end), stored(os.path.join(EXAMPLES, "gtfs"), "monday" + end)) for end in (".gr", ".tp", ".nodes.csv")]
     return found
 
 

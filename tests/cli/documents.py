@@ -1,10 +1,11 @@
 """The commands in the documents: each block of README.md, docs/, docs/guide/ and docs/design/ whose first
 line begins with `$ ` is run in a folder that has bin/earliest, examples/, python/ and tools/ like the
-repository, and must give what the block shows.
+repository, with the Python package among the modules, and must give what the block shows.
 
-A line that begins with `$ ` is a command; a `\\` at its end continues it in the next line. What follows is
-its whole output, standard output first, then standard error; `..` matches any lines. A command ends with
-status 0, or with N if it ends in `# status N`. The blocks of a document run one after another in one folder.
+A line that begins with `$ ` is a command; a `\\` at its end continues it in the next line, and `<<'END'` up
+to the line `END`. What follows is its whole output, standard output first, then standard error; `..` matches
+any lines. A command ends with status 0, or with N if it ends in `# status N`. The blocks of a document run
+one after another in one folder.
 """
 import os
 import re
@@ -26,6 +27,9 @@ def commands(text):
     """The commands of a document and the output shown for each."""
     for block in re.findall(r"(?ms)^```\w*\n(\$ .*?)^```", text):
         for command, shown in re.findall(r"(?ms)^\$ ((?:[^\n]*\\\n)*[^\n]*)\n(.*?)(?=^\$ |\Z)", block):
+            if command.endswith("<<'END'"):
+                text, shown = shown.split("END\n", 1)
+                command += f"\n{text}END\n"
             yield command, shown
 
 
@@ -42,7 +46,8 @@ def run_in(room, name):
         shown_there = list(commands(file.read()))
     for command, shown in shown_there:
         status = re.search(r"# status (\d+)$", command)
-        ran = subprocess.run(["bash", "-c", command], cwd=room, stdin=subprocess.DEVNULL, capture_output=True, text=True, timeout=100)
+        environment = {**os.environ, "PYTHONPATH": os.path.join(ROOT, "python")}
+        ran = subprocess.run(["bash", "-c", command], cwd=room, env=environment, stdin=subprocess.DEVNULL, capture_output=True, text=True, timeout=100)
         said = ran.stdout + ran.stderr
         is_shown = re.fullmatch(pattern(shown), said) is not None
         yield f"{name}: {command}", (ran.returncode, is_shown or said), (int(status[1]) if status else 0, True)

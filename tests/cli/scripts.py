@@ -1,5 +1,5 @@
-"""The scripts of tools/ on the examples: parts of many sources, whose reports one after another are the
-report of the whole; the picture of arrivals, which has a dot for each node and a line for each arc of a
+"""Commands of the Python package on the examples: parts of many sources, whose reports one after another are
+the report of the whole; the picture of arrivals, which has a dot for each node and a line for each arc of a
 walk; and the latest departure, in time by a plain search, while one unit later is late."""
 import os
 import re
@@ -11,21 +11,18 @@ import commuter_network
 
 HERE = os.path.dirname(os.path.abspath(__file__))
 EXAMPLES = os.path.join(HERE, "..", "..", "examples")
-TOOLS = os.path.join(HERE, "..", "..", "tools")
+PYTHON = os.path.join(HERE, "..", "..", "python")
 ROAD = "--tp road.tp".split()
 
 
 def said(words):
-    return subprocess.run(words, cwd=EXAMPLES, stdin=subprocess.DEVNULL, capture_output=True, timeout=120)
-
-
-def script(name, *words):
-    return said([sys.executable, os.path.join(TOOLS, name), *words])
+    environment = {**os.environ, "PYTHONPATH": PYTHON}
+    return subprocess.run(words, cwd=EXAMPLES, env=environment, stdin=subprocess.DEVNULL, capture_output=True, timeout=120)
 
 
 def command(name, *words):
     """A command of the Python package."""
-    return said([sys.executable, os.path.join(HERE, "..", "..", "python", "earliest", name + ".py"), *words])
+    return said([sys.executable, "-m", "earliest", name, *words])
 
 
 def parts(program, room):
@@ -46,7 +43,7 @@ def picture(program, room):
     report, drawn = os.path.join(room, "report"), os.path.join(room, "road.svg")
     with open(report, "wb") as out:
         out.write(said([program, "run", "road.gr", "road.ss", *ROAD, "--depart", "1000", "--walks"]).stdout)
-    made = script("isochrones.py", report, "road.co", "--graph", "road.gr", "--problem", "2", "--out", drawn)
+    made = command("isochrones", report, "road.co", "--graph", "road.gr", "--problem", "2", "--out", drawn)
     with open(drawn, encoding="utf-8") as text:
         svg = text.read()
     with open(report, encoding="ascii") as text:
@@ -59,7 +56,7 @@ def picture(program, room):
     yield "a picture of arrivals and walks", (made.returncode, made.stderr, dots, paths), (0, b"", 2025, [roads, len(arcs)])
 
 
-def departure(program):
+def departure():
     """The latest departures from home to work in the commuter town, also if no departure is in time."""
     texts = {}
     for name in ("commuter.gr", "commuter.tp"):
@@ -67,15 +64,15 @@ def departure(program):
             texts[name] = text.read()
     town = commuter_network.network(texts)
     for wished in (600, 28000, 30600, 86400):
-        ran = script("latest.py", "commuter.gr", "225", "236", str(wished), "--tp", "commuter.tp", "--program", program)
+        ran = command("latest", "commuter.gr", "225", "236", str(wished), "--tp", "commuter.tp")
         leave, arrive = (int(it) for it in re.findall(rb"\d+", ran.stdout))
         now, later = (commuter_network.Search(town, 225, leave + more).least[236] for more in (0, 1))
         yield f"the latest departure for {wished}", (ran.returncode, ran.stderr, arrive == now, now <= wished < later), (0, b"", True, True)
-    for target, wished, why in (("4", "5", b"no departure arrives at 4 by 5\n"), ("9", "5", b"earliest: p2p 2: 6 OutOfRange\n")):
-        ran = script("latest.py", "four-nodes.gr", "1", target, wished, "--program", program)
-        yield f"no departure to {target} by {wished}", (ran.returncode, ran.stdout, ran.stderr), (1, b"", why)
+    for target, wished, why in (("4", "5", b"earliest: no departure from 1 arrives at 4 by 5\n"), ("9", "5", b"earliest: 18 NoSuchNode")):
+        ran = command("latest", "four-nodes.gr", "1", target, wished)
+        yield f"no departure to {target} by {wished}", (ran.returncode, ran.stdout, ran.stderr.startswith(why) or ran.stderr), (1, b"", True)
 
 
 def results(program):
     with tempfile.TemporaryDirectory(prefix="scripts-") as room:
-        return [*parts(program, room), *picture(program, room), *departure(program)]
+        return [*parts(program, room), *picture(program, room), *departure()]

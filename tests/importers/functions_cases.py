@@ -1,12 +1,12 @@
 """Travel time functions: the classes of `points` that are written, beside the functions themselves.
 
-The engine of this repository may not know the kind yet, so an evaluator of its own stands here, by the format's definition.
+They are evaluated by a separate program, from the format's definition.
 """
 import os
 import random
 import struct
 
-from support import ROOT, good, least, put, refused, summary_has, text
+from support import ROOT, arrivals, good, least, put, refused, summary_has, text
 
 
 def function_at(points, period, time):
@@ -90,7 +90,7 @@ def near(room, name, arcs, period, scale, times, slack=2.0):
 
 
 def searches(room, name, arcs, nodes, period, scale, slack):
-    """Whether searches on what was written arrive when searches on the functions do."""
+    """Whether searches on what was written arrive when searches on the functions do, and the engine's exactly so."""
     written = Written(room, name)
     for source in range(min(nodes, 4)):
         for time in (0, period * 0.3, period * 0.37, period * 0.99):
@@ -98,6 +98,9 @@ def searches(room, name, arcs, nodes, period, scale, slack):
             wanted = least([(source, time)], lambda node, at: [(head, at + function_at(points, period, at)) for tail, head, points in arcs if tail == node])
             if {node - 1 for node in mine} != set(wanted) or any(abs(mine[node + 1] - wanted[node] * scale) > slack for node in wanted):
                 return f"from {source} at {time}: {mine} and {wanted}"
+            found = arrivals(room, name, source + 1, round(time * scale))
+            if found != [mine.get(node) for node in range(1, nodes + 1)]:
+                return f"from {source} at {time}: the engine's {found} and {mine}"
     return "all"
 
 
@@ -172,7 +175,7 @@ def edges_of_the_period(room):
 
 
 def rounding(room):
-    """Where whole seconds would let the later overtake, in a period or over its end, points are raised and told."""
+    """If whole seconds would let the later overtake, in a period or over its end, points are raised and reported."""
     arcs = [(0, 1, [(0.6, 19.6), (10.4, 9.8)]), (1, 0, [(0.4, 10.4), (3590.5, 20.3)])]
     put(room, "x.tpgr", tpgr(2, arcs, 3600))
     told = good("functions", os.path.join(room, "x.tpgr"), os.path.join(room, "x"), "--unit", "seconds")

@@ -92,7 +92,7 @@ def filled(calls):
 
 def scanned(connections, start, departure, change=None, walks=None):
     """The earliest time at each stop: connections are scanned until nothing gets earlier. `change` gives the least time of a change at a stop,
-    None if nobody may change there; `walks` the seconds from stop to stop."""
+    None if no change is allowed there; `walks` the seconds from stop to stop."""
     change, walks = change or {}, walks or {}
     there, ready, aboard = {}, {}, set()
 
@@ -188,7 +188,7 @@ def services_of_days(room):
 
 
 def several_days(room):
-    """Two days, and trips of the days before that go on beyond midnight."""
+    """Two days, and trips of the days before that run beyond midnight."""
     trips = {"day": ("1", "all", line("A", "B", "C", start=7 * 3600)), "night": ("2", "all", line("C", "B", "A", start=23 * 3600 + 3000, ride=2400)), "late": ("3", "all", [(1, "A", 25 * 3600, 25 * 3600, "", ""), (2, "D", 26 * 3600, 26 * 3600, "", "")]), "long": ("4", "all", [(1, "A", 20 * 3600, 20 * 3600, "", ""), (2, "E", 50 * 3600, 50 * 3600 + 60, "", ""), (3, "F", 51 * 3600, 51 * 3600, "", "")])}
     feed = Feed(trips)
     told = imported(room, feed)
@@ -231,7 +231,7 @@ def blanks_and_order(room):
 
 
 def bans(room):
-    """Stops where nobody may board, where nobody may leave, at the ends and between; vehicles that wait there while another comes."""
+    """Stops without boarding, stops without alighting, at the ends and between; vehicles that wait there while another comes."""
     for number, banned in enumerate(({1: (1, "")}, {1: ("", 1)}, {1: (1, 1), 2: ("", 1)}, {0: (1, ""), 3: ("", 1)}, {0: (1, ""), 1: (1, "")}, {2: (1, 0)})):
         trips = {"a": ("1", "all", line("A", "B", "C", "D", start=7 * 3600, bans=banned)), "b": ("1", "all", line("A", "B", "C", "D", start=7 * 3600 + 600, bans=banned)), "c": ("2", "all", line("D", "B", "A", start=7 * 3600 + 300)),
                  "slow": ("1", "all", [(1, "A", 8 * 3600, 8 * 3600, *banned.get(0, ("", ""))), (2, "B", 8 * 3600 + 300, 8 * 3600 + 3000, *banned.get(1, ("", ""))), (3, "C", 8 * 3600 + 3300, 8 * 3600 + 3330, *banned.get(2, ("", ""))), (4, "D", 9 * 3600, 9 * 3600, *banned.get(3, ("", "")))]),
@@ -343,7 +343,7 @@ def walking(room):
 
 
 def selection(room):
-    """--routes, --types and --box; what they leave out is told."""
+    """--routes, --types and --box; what they leave out is reported."""
     trips = {"a": ("1", "all", line("A", "B", "C", start=7 * 3600)), "b": ("2", "all", line("A", "C", start=7 * 3600, ride=200)), "c": ("3", "all", line("C", "D", start=8 * 3600))}
     feed = Feed(trips)
     told = imported(room, feed, "--routes", "1", "--routes", "line 3")
@@ -397,7 +397,7 @@ def random_feeds(room):
             change = {**dict.fromkeys(STOPS, 90), **change}
         feed = Feed(trips, transfers=entries, frequencies=frequencies)
         told = imported(room, feed, *words)
-        # Nobody walks over stops that no trip serves, and the summary counts such walks.
+        # No walk leads over stops that no trip serves, and the summary counts such walks.
         known = set(places(room, "net")[1])
         gone = {pair for pair in walks if not set(pair) <= known}
         yield f"walks at stops without trips in the random feed {seed}", summary_has(told, f"{len(gone)} walks and transfers from or to stops without a trip"), bool(gone)
@@ -457,7 +457,7 @@ def legs_hold(room, feed, start, departure, change, walks):
 
 
 def _rides(calls, here, onto, leaves, arrives):
-    """Whether one run goes from a stop at a time to a stop at a time, boarded and left where that is allowed."""
+    """Whether one run goes from a stop at a time to a stop at a time, boarded and left at stops that allow it."""
     for first, call in enumerate(calls):
         if call[2] == here and call[0] == leaves and call[4]:
             for last in calls[first:]:
@@ -509,7 +509,7 @@ def legs_stay(room):
 
 
 def too_many_classes(room):
-    """A feed that needs more classes than there are is told so with the number, and nothing is written."""
+    """A feed that needs more classes than there are is refused with the number, and nothing is written."""
     count = 65_540
     stops = {str(number): (8 + 1e-5 * (number % 1000), 47 + 1e-5 * (number // 1000)) for number in range(count + 1)}
     calls = [(number + 1, str(number), 60 + 2 * number, 60 + 2 * number, "", "") for number in range(count + 1)]

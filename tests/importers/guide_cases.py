@@ -1,52 +1,14 @@
-"""The commands of docs/guide/real-data.md, and what the page says that they write."""
+"""What docs/guide/real-data.md says of files, options and calls. (Its commands run with those of all pages, in tests/cli/documents.py.)"""
 import os
-import shutil
-import subprocess
-import sys
 
 import support
-from support import PACKAGE, ROOT
+from support import ROOT
 
 PAGE = os.path.join(ROOT, "docs", "guide", "real-data.md")
 
 
-def blocks():
-    """The commands of the page with the lines that follow them, block by block."""
-    with open(PAGE, encoding="utf-8") as page:
-        parts = page.read().split("```")[1::2]
-    for part in parts:
-        found = []
-        for line in part.strip("\n").split("\n"):
-            if line.startswith("$ "):
-                found.append((line[2:], []))
-            elif found:
-                found[-1][1].append(line)
-        yield from found
-
-
-def commands_of_the_page(room):
-    """All of them in their order, in one folder; `..` stands for any lines."""
-    if not os.path.isfile(support.library):
-        print(f"{support.library} isn't there: not tested were the commands of the guide")
-        return
-    shutil.copytree(os.path.join(ROOT, "examples"), os.path.join(room, "examples"))
-    os.mkdir(os.path.join(room, "bin"))
-    os.symlink(support.program, os.path.join(room, "bin", "earliest"))
-    where = dict(os.environ, PYTHONPATH=os.path.dirname(PACKAGE), EARLIEST_LIBRARY=support.library)
-    whole = os.path.isfile(os.path.join(PACKAGE, "__main__.py"))
-    count = 0
-    for command, shown in blocks():
-        words = command if whole else command.replace("python3 -m earliest ", "python3 -m earliest.")
-        told = subprocess.run(words.replace("python3 ", sys.executable + " ", 1), shell=True, cwd=room, env=where, stdout=subprocess.PIPE, stderr=subprocess.PIPE, check=False)
-        out = told.stdout.decode().rstrip("\n").split("\n")
-        wanted = out if shown == [".."] else shown or [""]
-        yield f"of the guide: {command}", (told.returncode, told.stderr.decode(), out), (0, "", wanted)
-        count += 1
-    yield "the page has commands", count >= 10, True
-
-
 def losses_of_the_page(room):
-    """What the page says of files is so: every end of a name that an importer writes stands there."""
+    """What the page says of files is so: every end of a name that an importer writes is there."""
     with open(PAGE, encoding="utf-8") as page:
         text = page.read()
     for end in (".gr", ".tp", ".co", ".nodes.csv", ".arcs.csv", ".shapes.csv", ".rides.csv", ".trips.csv", ".ss", ".p2p"):
@@ -76,4 +38,4 @@ def calls_of_the_page(room):
         yield "a refusal from Python", "isn't there" in str(fault), True
 
 
-CASES = (calls_of_the_page, commands_of_the_page, losses_of_the_page)
+CASES = (calls_of_the_page, losses_of_the_page)

@@ -141,7 +141,7 @@ def boxes_of(svg):
 
 
 def legends(room):
-    """Legends never overlap and stay in the picture, in units that are told and in others; times of any length."""
+    """Legends never overlap and stay in the picture, in units that are known and in others; times of any length."""
     for factor in (1, 1000, 10**9, 2**40):
         for told in ("", "c time unit: 1/100 s\n", "c time unit: 1/1 s\n"):
             put(room, "x.gr", told + "p sp 12 11\n" + "".join(f"a {node} {node + 1} 1\n" for node in range(1, 12)))
@@ -160,7 +160,7 @@ def legends(room):
 
 
 def pictures(room):
-    """The picture of the commuter town: a dot for each node in the colour of its band, grey where it isn't reached; degrees keep the shape."""
+    """The picture of the commuter town: a dot for each node in the colour of its band, grey if it isn't reached; degrees keep the shape."""
     put(room, "report", text(os.path.join(ROOT, "examples"), "commuter.report"))
     svg = good("isochrones", os.path.join(room, "report"), os.path.join(ROOT, "examples", "commuter.co"), "--graph", os.path.join(ROOT, "examples", "commuter.gr"), "--band", "180", "--out", os.path.join(room, "x.svg")) and text(room, "x.svg")
     colours = module("isochrones").COLOURS

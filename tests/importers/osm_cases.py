@@ -299,7 +299,7 @@ def restrictions_at_nodes(room):
 
 
 def restrictions_at_joints(room):
-    """A restriction where just two ways meet: the node isn't joined away, and nobody drives through."""
+    """A restriction at a node of just two ways: the node isn't joined away, and no drive leads through."""
     nodes, ways = line(4), {1: ([1, 2], {"highway": "residential"}), 2: ([2, 3, 4], {"highway": "residential"})}
     speeds = dict.fromkeys(ways, 36)
     for rules, relations in (([(False, 1, 2, 2)], [rule("no_straight_on", 1, 2, 2)]), ([(True, 1, 2, 1)], [rule("only_u_turn", 1, 2, 1)]), ([], [])):

@@ -1,4 +1,4 @@
-"""Tests of the importers: python3 tests/importers/run.py [--program PATH] [--library PATH] [--only TEXT]
+"""Tests of the importers: python3 tests/importers/run.py [PROGRAM] [--library PATH] [--only TEXT]
 
 Small feeds and extracts, one feature each. The answers come from the engine's program; what they should be comes from plain
 computations in these files. The last line is `N passed, M failed`.
@@ -19,14 +19,14 @@ WANTED = (("numpy", "fast arrays"), ("scipy", "its tree and its connected parts"
 
 def main():
     words = argparse.ArgumentParser(description=__doc__, formatter_class=argparse.RawDescriptionHelpFormatter)
-    words.add_argument("--program", help="the program (default: bin/earliest)")
+    words.add_argument("program", nargs="?", help="the program (default: bin/earliest)")
     words.add_argument("--library", help="libearliest.so, for commands as `python -m earliest.osm` (default: python/earliest/libearliest.so)")
     words.add_argument("--only", default="", help="only cases with this text in their name")
     asked = words.parse_args()
     support.program = os.path.abspath(asked.program) if asked.program else support.program
     support.library = os.path.abspath(asked.library) if asked.library else support.library
     if not os.path.isfile(support.program):
-        print(f"{support.program} isn't there: build it, or give --program", file=sys.stderr)
+        print(f"{support.program} isn't there: build it, or name another", file=sys.stderr)
         print("0 passed, 1 failed")
         return 1
     passed = failed = 0

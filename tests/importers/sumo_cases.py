@@ -94,7 +94,7 @@ def turns_and_permissions(room):
 
 
 def lanes_inside(room):
-    """Of several connections from an edge to another the quickest counts, over all its lanes inside the junction; a lane that is missing is told."""
+    """Of several connections from an edge to another the quickest counts, over all its lanes inside the junction; a missing lane is reported."""
     inside = "".join(f'<edge id=":J_{number}" function="internal"><lane id=":J_{number}_0" index="0" speed="{speed}" length="{length}"/></edge>' for number, (length, speed) in enumerate([(40, 5), (10, 5), (90, 10), (30, 10)]))
     two = "".join(f'<edge id="{name}"><lane id="{name}_0" index="0" speed="10" length="100"/><lane id="{name}_1" index="1" speed="10" length="100"/></edge>' for name in "ab")
     links = "".join(f'<connection from="a" to="b" fromLane="{lane}" toLane="{lane}" via="{via}"/>' for lane, via in ((0, ":J_0_0"), (1, ":J_1_0"), (0, ":J_2_0")))
@@ -130,7 +130,7 @@ def _ends(room, edge, name="town"):
 
 
 def standing_edges(room):
-    """An edge that stands still all day is left out with its turns; one that does in an interval waits."""
+    """An edge that is blocked all day is left out with its turns; one that does in an interval waits."""
     edges = {"a": (100.0, 10.0, ""), "b": (100.0, 10.0, ""), "c": (100.0, 10.0, "")}
     turns = [("a", "b"), ("b", "c"), ("a", "c")]
     put(room, "town.net.xml", net(edges, turns))

@@ -9,7 +9,6 @@ import os
 import shutil
 import subprocess
 import sys
-import types
 
 HERE = os.path.dirname(os.path.abspath(__file__))
 ROOT = os.path.dirname(os.path.dirname(HERE))
@@ -17,11 +16,7 @@ PACKAGE = os.path.join(ROOT, "python", "earliest")
 program = os.path.join(ROOT, "bin", "earliest")
 library = os.path.join(PACKAGE, "libearliest.so")
 
-# The importers need no engine in this process, so the package is entered without its library.
-if "earliest" not in sys.modules:
-    package = types.ModuleType("earliest")
-    package.__path__ = [PACKAGE]
-    sys.modules["earliest"] = package
+sys.path.insert(0, os.path.dirname(PACKAGE))
 
 
 def module(name):
