@@ -1,11 +1,10 @@
 """Builds the library for programs that are not Rattle: lib/libearliest.a and lib/libearliest.so.
 
-The crate is proved and built first, over what earlier builds left in crates/NAME/out. With `--over ROOM` it
-is proved and built in a copy of the repository in which `rt ci` has just proved the crates below it, over
-these. With `--install PREFIX FOLDER` what was built is copied to a folder, which programs find as PREFIX.
+The crate is proved and built first, over what earlier builds left in crates/NAME/out. With `--over ROOM` it is proved and built in a copy of
+the repository in which `rt ci` has just proved the crates below it, over these. With `--install PREFIX FOLDER` what was built is copied to
+a folder, which programs find as PREFIX.
 """
 import os
-import re
 import shutil
 import subprocess
 import sys
@@ -16,32 +15,17 @@ import repository
 
 ROOT = repository.ROOT
 CRATE = "ea_capi"
-PACKAGE = """prefix=PREFIX
-libdir=${prefix}/lib
-includedir=${prefix}/include
-
-Name: earliest
-Description: Earliest arrivals in road networks whose travel times depend on the departure
-Version: VERSION
-Libs: -L${libdir} -learliest
-Cflags: -I${includedir}
-"""
-
-
-def version():
-    """The version, which the Python package has alone."""
-    with open(os.path.join(ROOT, "python", "earliest", "_version.py"), encoding="utf-8") as file:
-        return re.search(r'^VERSION = "(.*)"$', file.read(), re.M)[1]
+PACKAGING = os.path.join(ROOT, "packaging")
 
 
 def memory():
-    """The archive of the kit that links the library to malloc, realloc and free."""
+    """The archive of the kit that joins the library to malloc, realloc and free."""
     page = subprocess.run(["rt", "doc"], stdout=subprocess.PIPE, text=True, check=True).stdout.split("\n")[0]
     return os.path.join(os.path.dirname(page.strip()), "c", "liblibc_c.a")
 
 
 def joined(archive, folder):
-    """Makes libearliest.a and libearliest.so from the crate's archive in a folder."""
+    """Makes libearliest.a and libearliest.so of the crate's archive in a folder."""
     os.makedirs(folder, exist_ok=True)
     static, shared = os.path.join(folder, "libearliest.a"), os.path.join(folder, "libearliest.so")
     with tempfile.TemporaryDirectory() as room:
@@ -56,15 +40,15 @@ def joined(archive, folder):
 
 
 def archived():
-    """Proves the crate and makes its archive here. Returns the archive, the status and the output."""
+    """Proves the crate and makes its archive here: the archive, the status and what was said."""
     folder = os.path.join(ROOT, "crates", CRATE)
     ran = subprocess.run(["rt", "lib"], cwd=folder, stdout=subprocess.PIPE, stderr=subprocess.STDOUT, text=True, errors="replace")
     return os.path.join(folder, "out", f"lib{CRATE}.a"), ran.returncode, ran.stdout
 
 
 def archived_over(room):
-    """The same in a room in which rt ci proved the crates below, by one job, since the gate tries edits
-    meanwhile. (`rt lib` would prove them again: what rt ci leaves has no stamp.)"""
+    """The same in a room where rt ci has proved what the crate stands on, by one job, since the gate tries edits meanwhile. (`rt lib` would
+    prove that again: what rt ci leaves has no stamp.)"""
     _, rtlib = repository.kit()
     os.chdir(room)
     rtlib.guarded()
@@ -76,7 +60,7 @@ def archived_over(room):
 
 
 def built(room=None):
-    """Proves and builds the library. Returns 0, or the status of what failed."""
+    """Proves and builds the library: 0, or the status of what failed."""
     archive, status, said = archived_over(room) if room else archived()
     if status:
         print(said)
@@ -87,29 +71,36 @@ def built(room=None):
     return 0
 
 
-def installed(prefix, folder):
-    """Copies library, headers, a pkg-config file and the package for CMake to a folder."""
-    text = PACKAGE.replace("VERSION", version()).replace("PREFIX", os.path.abspath(prefix))
-    for part, names in (("lib", ("libearliest.a", "libearliest.so")), ("include", ("earliest.h", "earliest.hpp"))):
+def filled(template, **words):
+    """A template of packaging/ with its words."""
+    with open(os.path.join(PACKAGING, template), encoding="utf-8") as file:
+        text = file.read()
+    with open(os.path.join(ROOT, "VERSION"), encoding="ascii") as file:
+        version = file.read().strip()
+    for name, word in {"VERSION": version, "MINOR": version.rpartition(".")[0], **words}.items():
+        text = text.replace(f"@{name}@", str(word))
+    return text
+
+
+def installed(prefix, folder, lib="lib", built=os.path.join(ROOT, "lib")):
+    """Copies the library, its headers and what pkg-config and CMake ask for to a folder, which programs find as PREFIX."""
+    for part, source, names in ((lib, built, ("libearliest.a", "libearliest.so")), ("include", os.path.join(ROOT, "include"), ("earliest.h", "earliest.hpp"))):
         os.makedirs(os.path.join(folder, part), exist_ok=True)
         for name in names:
-            shutil.copy(os.path.join(ROOT, part, name), os.path.join(folder, part, name))
-    os.makedirs(os.path.join(folder, "lib", "pkgconfig"), exist_ok=True)
-    with open(os.path.join(folder, "lib", "pkgconfig", "earliest.pc"), "w", encoding="ascii") as file:
-        file.write(text)
-    place = os.path.join(folder, "lib", "cmake", "earliest")
-    os.makedirs(place, exist_ok=True)
-    shutil.copy(os.path.join(ROOT, "cmake", "earliest-config.cmake"), place)
-    with open(os.path.join(ROOT, "cmake", "earliest-config-version.cmake.in"), encoding="ascii") as file:
-        text = file.read().replace("@VERSION@", version())
-    with open(os.path.join(place, "earliest-config-version.cmake"), "w", encoding="ascii") as file:
-        file.write(text)
+            shutil.copy(os.path.join(source, name), os.path.join(folder, part, name))
+    up = "/".join([".."] * (lib.count("/") + 3))
+    for place, template in (("pkgconfig/earliest.pc", "earliest.pc.in"), ("cmake/earliest/earliest-config.cmake", "cmake/earliest-config.cmake.in"),
+                            ("cmake/earliest/earliest-config-version.cmake", "cmake/earliest-config-version.cmake.in")):
+        path = os.path.join(folder, lib, place)
+        os.makedirs(os.path.dirname(path), exist_ok=True)
+        with open(path, "w", encoding="ascii") as file:
+            file.write(filled(template, PREFIX=prefix, LIB=lib, UP=up))
     return 0
 
 
 def main(words):
     if words[:1] == ["--install"]:
-        return installed(*words[1:3])
+        return installed(os.path.abspath(words[1]), words[2])
     return built(words[1] if words[:1] == ["--over"] else None)
 
 
