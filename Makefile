@@ -5,9 +5,11 @@
 # `make part CRATES="ea_input"` proves some crates and those that they stand on, with their edits and tests.
 # `make lib` builds the library for C, C++ and Python (lib/), and puts it beside the Python package. `make install PREFIX=..` installs
 # the program, its man page, the completions of bash, zsh and fish, the library, its headers and its pkg-config file.
+# `make dist` packs what is built into dist/, with LOG=gate.log what `make test` printed; `make dist-test` tries the packages on bare Debian
+# systems (SUITES="stable oldstable"); `make reproduce` packs twice and compares, with BUILD=1 after two builds, which take half an hour.
 # `make bench` measures the program in bin/ beside its peers on networks of up to 10^6 nodes, with SIZE=large up to 10^7, and writes
 # bench/results/ and docs/performance.md.
-.PHONY: all lib run try test part cases large bench install clean
+.PHONY: all lib run try test part cases large dist dist-test reproduce bench install clean
 
 PREFIX ?= /usr/local
 
@@ -35,6 +37,16 @@ cases: all lib
 large: all
 	python3 tests/cli/nightly.py bin/earliest
 
+dist:
+	@test -x bin/earliest -a -f lib/libearliest.so || $(MAKE) all lib
+	@python3 tools/dist.py $(if $(LOG),--log $(LOG))
+
+dist-test:
+	@python3 tools/dist_test.py $(SUITES)
+
+reproduce:
+	@python3 tools/reproduce.py $(if $(BUILD),--build)
+
 bench:
 	@test -x bin/earliest || $(MAKE) all
 	python3 bench/bench.py $(if $(filter large,$(SIZE)),--large)
@@ -45,4 +57,4 @@ install: all lib
 	python3 tools/library.py --install $(PREFIX) $(DESTDIR)$(PREFIX)
 
 clean:
-	rm -rf bin lib python/earliest/libearliest.so crates/*/out
+	rm -rf bin lib dist python/earliest/libearliest.so crates/*/out

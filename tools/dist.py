@@ -25,7 +25,6 @@ import repository
 ROOT = repository.ROOT
 ARCHITECTURE, DEBIAN = "x86_64-linux", "lib/x86_64-linux-gnu"
 LICENCES = {"LICENSE-APACHE": "LICENSE-APACHE", "LICENSE-MIT": "LICENSE-MIT", "packaging/licences.txt": "licences.txt"}
-# The examples that are run by other programs than Python and a compiler are files of text.
 DOCUMENTS = ("README.md", "CHANGELOG.md", "docs/claims.md", "docs/performance.md", "docs/guide", "docs/pictures", "examples")
 
 
@@ -52,6 +51,19 @@ def tracked(place):
     return [os.path.join(place, it) for it in archives.files_of(path) if not set(it.split(os.sep)[:-1]) & set(left)]
 
 
+def scripts_of(paths):
+    """The scripts of tools/ that pages name for users, and those that they import."""
+    pages_of_users = [path for path in paths if path.endswith(".md") and path.startswith(("docs/guide", "examples"))]
+    left = [name for path in pages_of_users for name in re.findall(r"tools/(\w+)\.py", evidence.text_of(path))]
+    found = set()
+    while left:
+        path = f"tools/{left.pop()}.py"
+        if path not in found and os.path.isfile(os.path.join(ROOT, path)):
+            found.add(path)
+            left += re.findall(r"(?m)^(?:import|from) (\w+)", evidence.text_of(path))
+    return sorted(found)
+
+
 def unlinked(text, path, packed):
     """A page whose links to files that are not packed are plain words."""
     def judged(found):
@@ -65,6 +77,7 @@ def unlinked(text, path, packed):
 def add_documents(folder, others):
     """Puts the guide, the examples, the claims and the licences into a folder that has other files, too."""
     paths = [path for place in DOCUMENTS for path in tracked(place)]
+    paths += scripts_of(paths)
     packed = {*paths, *LICENCES.values(), *others}
     for path in paths:
         if path.endswith(".md"):
@@ -180,14 +193,14 @@ def wheel(build, to):
 
 def make_all(program, folder, to, log=None):
     """Makes all packages in an empty folder: their paths. Where dpkg-deb isn't there, there is no Debian package, and that is said."""
-    build = Build(program, folder)
+    build, counted = Build(program, folder), evidence.of_the_gate(log)
     archives.emptied(to)
     made = [tarball(build, to), wheel(build, to)]
     if shutil.which("dpkg-deb"):
         made.append(debian_package(build, to))
     else:
         print("dist: there is no Debian package, since dpkg-deb is not there: install dpkg", file=sys.stderr)
-    archives.put(to, "PROOF.txt", evidence.proof_text(build.text, log, sorted(made)))
+    archives.put(to, "PROOF.txt", evidence.proof_text(build.text, counted, sorted(made)))
     made = sorted([*made, os.path.join(to, "PROOF.txt")])
     archives.put(to, "SHA256SUMS", "".join(f"{archives.sha256(path)}  {os.path.basename(path)}\n" for path in made))
     return made

@@ -93,7 +93,7 @@ def kit(program):
     named = re.search(r"rattle-kit-\S+ logic (\w+)", text_of("README.md"))
     built = re.search(r"rattle logic=(\w+)", " ".join(made_by(program)))
     if not named or not built:
-        return "unknown"
+        raise Refused("the README names no kit" if built else "the program doesn't name the kit that built it")
     if not built[1].startswith(named[1]):
         raise Refused(f"the program was built by a kit with logic {built[1]}, and the README names {named[0]}: run `make all lib`")
     return named[0]
@@ -124,13 +124,13 @@ def of_the_gate(log):
     return [it for it in counted if not it[0].isdigit()] + counted[-1:]
 
 
-def proof_text(build, log, packages):
+def proof_text(build, counted, packages):
     """PROOF.txt: where the packages come from, what the gate said, and how to make the same bytes."""
     here = said("rt", "version")
     lines = ["Packages", "", *(f"{archives.sha256(path)}  {os.path.basename(path)}" for path in packages), "", "Build", "", build]
     lines += ["The packer takes the program and the library as they lie there. Which sources they were built from, it can't tell;",
               "a build of the commit does (below). rt here: " + (here or "not there") + ".", ""]
-    lines += ["What the gate proved and counted", "", *of_the_gate(log), "", "docs/claims.md says what is proved, tested and trusted.", ""]
+    lines += ["What the gate proved and counted", "", *counted, "", "docs/claims.md says what is proved, tested and trusted.", ""]
     lines += ["How to make the same bytes", "", f"git checkout {commit() or 'COMMIT'}",
               "make all lib                 # needs the kit named above, and the compilers",
               f"SOURCE_DATE_EPOCH={epoch()} make dist",
