@@ -1,6 +1,6 @@
 """Makes the packages twice and says what differs: python3 tools/reproduce.py [--build [COMMAND]] [--program PROGRAM] [--library FOLDER]
 
-The two runs have different folders, time zones, languages, file masks and users' homes. With --build the commit that is checked out is built
+The two runs have different folders, time zones, languages and file masks. With --build the commit that is checked out is built
 twice first, by COMMAND (`make all lib` if none is given), in two clones whose paths differ in length; then program and libraries are
 compared, too. That takes half an hour.
 """
@@ -24,15 +24,15 @@ ROOT = repository.ROOT
 BUILT = ("bin/earliest", "lib/libearliest.a", "lib/libearliest.so")
 # What may differ from machine to machine and must not matter.
 SURROUNDINGS = (
-    {"TZ": "UTC", "LC_ALL": "C", "HOME": "/nonexistent", "umask": 0o022, "folder": "one"},
-    {"TZ": "Pacific/Kiritimati", "LC_ALL": "C.UTF-8", "HOME": "/tmp", "umask": 0o077, "folder": os.path.join("another", "of", "a-longer-path")},
+    {"TZ": "UTC", "LC_ALL": "C", "umask": 0o022, "folder": "one"},
+    {"TZ": "Pacific/Kiritimati", "LC_ALL": "C.UTF-8", "umask": 0o077, "folder": os.path.join("another", "of", "a-longer-path")},
 )
 
 
 def packed(root, to, which, words):
     """Makes the packages of a checkout in a folder, in one of the surroundings. The time is that of the commit here."""
     around = SURROUNDINGS[which]
-    environment = {**os.environ, "SOURCE_DATE_EPOCH": str(evidence.epoch()), **{name: around[name] for name in ("TZ", "LC_ALL", "HOME")}}
+    environment = {**os.environ, "SOURCE_DATE_EPOCH": str(evidence.epoch()), **{name: around[name] for name in ("TZ", "LC_ALL")}}
     command = [sys.executable, os.path.join(root, "tools", "dist.py"), "--to", to, *words]
     ran = subprocess.run(command, cwd=os.path.dirname(to), env=environment, umask=around["umask"], capture_output=True, text=True)
     if ran.returncode:

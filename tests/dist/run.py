@@ -145,8 +145,10 @@ def differences_are_named(packs):
 def builds_are_compared(packs):
     """`--build` clones the commit twice, runs the command in each, and names what that built otherwise, alone and in the packages."""
     script = [sys.executable, os.path.join(ROOT, "tools", "reproduce.py"), "--build"]
-    is_there = os.path.exists(os.path.join(ROOT, ".git")) and ran(["git", "-C", ROOT, "cat-file", "-e", "HEAD:tools/dist.py"])[0] == 0
-    if without("git", "two builds") or not is_there:
+    if without("git", "two builds"):
+        return
+    if not os.path.exists(os.path.join(ROOT, ".git")) or ran(["git", "-C", ROOT, "cat-file", "-e", "HEAD:tools/dist.py"])[0]:
+        print("left out, since this is no commit of git with the packer: two builds")
         return
     copies = f'mkdir -p bin lib && cp "{packs.program}" bin/earliest && cp "{LIBRARY}"/libearliest.* lib/'
     status, out, _ = ran([*script, f"{copies} && pwd >> lib/libearliest.a"])
