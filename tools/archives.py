@@ -5,7 +5,6 @@ import gzip
 import hashlib
 import io
 import os
-import shutil
 import tarfile
 
 
@@ -82,10 +81,3 @@ def digest(path, method):
 def sha256(path):
     """The SHA-256 of a file."""
     return digest(path, "sha256")
-
-
-def emptied(folder):
-    """An empty folder in the place of what was there."""
-    shutil.rmtree(folder, ignore_errors=True)
-    os.makedirs(folder)
-    return folder

@@ -24,6 +24,8 @@ import repository
 
 ROOT = repository.ROOT
 ARCHITECTURE, DEBIAN = "x86_64-linux", "lib/x86_64-linux-gnu"
+# The names of what is made, of any version. Nothing else is removed from the folder.
+MADE = re.compile(r"earliest[-_][\d.]+[-_].*\.(?:tar\.gz|whl|deb)|PROOF\.txt|SHA256SUMS")
 LICENCES = {"LICENSE-APACHE": "LICENSE-APACHE", "LICENSE-MIT": "LICENSE-MIT", "packaging/licences.txt": "licences.txt"}
 DOCUMENTS = ("README.md", "CHANGELOG.md", "docs/claims.md", "docs/performance.md", "docs/guide", "docs/pictures", "examples")
 
@@ -192,9 +194,12 @@ def wheel(build, to):
 
 
 def make_all(program, folder, to, log=None):
-    """Makes all packages in an empty folder: their paths. Where dpkg-deb isn't there, there is no Debian package, and that is said."""
+    """Makes all packages in a folder, in the place of those that were there: their paths. If dpkg-deb isn't there, there is no Debian
+    package, and that is said."""
     build, counted = Build(program, folder), evidence.of_the_gate(log)
-    archives.emptied(to)
+    os.makedirs(to, exist_ok=True)
+    for name in filter(MADE.fullmatch, os.listdir(to)):
+        os.remove(os.path.join(to, name))
     made = [tarball(build, to), wheel(build, to)]
     if shutil.which("dpkg-deb"):
         made.append(debian_package(build, to))

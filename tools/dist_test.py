@@ -21,6 +21,8 @@ ROOT = repository.ROOT
 DIST, PROGRAM = os.path.join(ROOT, "dist"), os.path.join(ROOT, "bin", "earliest")
 SUITES = ("stable", "oldstable")
 MIRROR = os.environ.get("MIRROR", "http://deb.debian.org/debian")
+# What is mounted in a name space goes with it, so that nothing but the folder has to be removed.
+APART = ("unshare", "--mount", "--propagation", "private")
 # The page, and the modules of Python by which the wheel is installed.
 EXTRA = "man-db,python3,python3-venv"
 
@@ -66,15 +68,15 @@ def tried(suite):
     """Makes a system, tries the packages on it and removes it: how many steps passed and failed."""
     room = tempfile.mkdtemp(prefix=f"earliest-{suite}-")
     try:
-        made = subprocess.run(["debootstrap", "--variant=minbase", f"--include={EXTRA}", suite, room, MIRROR], capture_output=True, text=True, errors="replace")
+        words = [*APART, "debootstrap", "--variant=minbase", f"--include={EXTRA}", suite, room, MIRROR]
+        made = subprocess.run(words, capture_output=True, text=True, errors="replace")
         if made.returncode:
             print(f"FAILED {suite}: debootstrap: {(made.stdout + made.stderr).strip().splitlines()[-1]}")
             return 0, 1
         filled(room)
         needed = evidence.glibc(PROGRAM)
-        # What is mounted goes with the name space, so that nothing but the folder has to be removed.
         inside = f'mount -t proc proc "{room}/proc" && exec chroot "{room}" /root/try-installed.sh {evidence.version()} {needed}'
-        ran = subprocess.run(["unshare", "--mount", "--propagation", "private", "sh", "-c", inside], capture_output=True, text=True, errors="replace")
+        ran = subprocess.run([*APART, "sh", "-c", inside], capture_output=True, text=True, errors="replace")
         print("".join(f"{suite}: {line}\n" for line in (ran.stdout + ran.stderr).splitlines()), end="", flush=True)
         passed, failed = (len(re.findall(rf"(?m)^{word} ", ran.stdout)) for word in ("ok", "FAILED"))
         return passed, failed + (passed == 0 or ran.returncode != 0)

@@ -268,7 +268,11 @@ def evidence_is_right(packs):
         needed = ".".join(map(str, versions[path]))
         yield f"{name}: the oldest glibc", re.search(rf"(?m)^{name} needs glibc {needed} or later", build) is not None, True
     said = text_of("docs", "guide", "install.md")
-    yield "docs/guide/install.md: the oldest glibc", f"glibc {'.'.join(map(str, versions[packs.program]))} or later" in said, True
+    tag = re.search(r"manylinux_(\d+)_(\d+)_x86_64", packs.path(".whl"))
+    wanted = {".".join(map(str, versions[packs.program])), ".".join(tag.groups())}
+    yield "docs/guide/install.md: the oldest glibc of program and wheel", set(re.findall(r"glibc ([\d.]+) or later", said)), wanted
+    yield "docs/guide/install.md: the message", set(re.findall(r"GLIBC_([\d.]+\d)", said)), {".".join(map(str, versions[packs.program]))}
+    yield "the wheel's tag is no older than its library", tuple(map(int, tag.groups())) >= versions[os.path.join(LIBRARY, "libearliest.so")], True
     if packs.has_debian:
         needed = ".".join(map(str, versions[packs.program]))
         yield "Debian's dependency", ran(["dpkg-deb", "--field", packs.path(".deb"), "Depends"])[1], f"libc6 (>= {needed})\n"
@@ -291,6 +295,16 @@ def logs_are_read(packs):
             yield f"a log of a gate that {name}", (status, part.splitlines()), (0, wanted)
         else:
             yield f"a log that is refused: {name}", (status, "is no log of a gate that passed" in said), (1, True)
+
+
+def other_files_stay(packs):
+    """Packages go in the place of older ones, and what else lies in the folder stays."""
+    to = os.path.join(packs.room, "logged")
+    for name in ("mine.txt", "earliest-0.0.9-x86_64-linux.tar.gz", "earliest_0.0.9_amd64.deb"):
+        with open(os.path.join(to, name), "w", encoding="ascii") as file:
+            file.write(name)
+    status = ran([sys.executable, os.path.join(ROOT, "tools", "dist.py"), "--program", packs.program, "--library", LIBRARY, "--to", to])[0]
+    yield "older packages go, other files stay", (status, sorted(os.listdir(to))), (0, sorted([*packs.names, "mine.txt"]))
 
 
 def faults_are_told(packs):
@@ -410,7 +424,7 @@ def ci_installs_first(packs):
 
 
 CHECKS = (two_packs_are_equal, differences_are_named, builds_are_compared, checksums_are_right, contents_are_whole, links_lead_somewhere, versions_are_one,
-          evidence_is_right, logs_are_read, faults_are_told, programs_run, c_programs_run, debian_is_content, install_is_whole, ci_installs_first)
+          evidence_is_right, logs_are_read, other_files_stay, faults_are_told, programs_run, c_programs_run, debian_is_content, install_is_whole, ci_installs_first)
 
 
 def main(words):
