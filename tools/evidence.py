@@ -128,8 +128,8 @@ def proof_text(build, counted, packages):
     """PROOF.txt: where the packages come from, what the gate said, and how to make the same bytes."""
     here = said("rt", "version")
     lines = ["Packages", "", *(f"{archives.sha256(path)}  {os.path.basename(path)}" for path in packages), "", "Build", "", build]
-    lines += ["The packer takes the program, the library and the log of the gate as they lie there. Of which sources they are, it can't",
-              "tell; a build of the commit does (below). rt here: " + (here or "not there") + ".", ""]
+    lines += ["The packer takes the program, the library and the log of the gate as it finds them. It can't tell which sources they were",
+              "built from; a build of the commit can (below). rt here: " + (here or "not there") + ".", ""]
     lines += ["What the gate proved and counted", "", *counted, "", "docs/claims.md says what is proved, tested and trusted.", ""]
     lines += ["How to make the same bytes", "", f"git checkout {commit() or 'COMMIT'}",
               "make all lib                 # needs the kit named above, and the compilers",

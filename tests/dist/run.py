@@ -220,6 +220,25 @@ def links_lead_somewhere(packs):
     yield "links were looked at", count >= 20, True
 
 
+def pages_are_right(packs):
+    """The pages at the top: their links lead to files, the targets of make and the scripts that they name are there, and one is one page."""
+    targets = set(re.findall(r"(?m)^([\w-]+):", text_of("Makefile")))
+    for page in ("CHANGELOG.md", "CONTRIBUTING.md", "SECURITY.md"):
+        text = text_of(page)
+        for link in re.findall(r"\]\(([^)\s]+)\)", text):
+            if not re.match(r"[a-z]+:", link):
+                yield f"{page}: the link {link}", os.path.exists(os.path.join(ROOT, link.partition("#")[0])), True
+        for name in re.findall(r"\bmake ([a-z][\w-]*)", " ".join(re.findall(r"(?s)```.*?```|`[^`]+`", text))):
+            yield f"{page}: make {name}", name in targets, True
+        for path in re.findall(r"\b(?:crates|tests|tools)/[\w./]+\w", text):
+            if "NAME" not in path:
+                yield f"{page}: {path}", os.path.exists(os.path.join(ROOT, path)), True
+    words = len([word for word in text_of("CONTRIBUTING.md").split() if re.search(r"\w", word)])
+    yield "CONTRIBUTING.md is a page", words <= 700, True
+    readme = text_of("README.md")
+    yield "README.md: how to install comes before how to build", 0 < readme.find("\n## Install\n") < readme.find("\n## Build\n"), True
+
+
 def versions_are_one(packs):
     version = packs.version
     def one(pattern, text):
@@ -423,7 +442,7 @@ def ci_installs_first(packs):
             yield f"{what}: all packages", [word for word in calls[1][2:] if not word.startswith("-")], listed
 
 
-CHECKS = (two_packs_are_equal, differences_are_named, builds_are_compared, checksums_are_right, contents_are_whole, links_lead_somewhere, versions_are_one,
+CHECKS = (two_packs_are_equal, differences_are_named, builds_are_compared, checksums_are_right, contents_are_whole, links_lead_somewhere, pages_are_right, versions_are_one,
           evidence_is_right, logs_are_read, other_files_stay, faults_are_told, programs_run, c_programs_run, debian_is_content, install_is_whole, ci_installs_first)
 
 
