@@ -53,19 +53,6 @@ def tracked(place):
     return [os.path.join(place, it) for it in archives.files_of(path) if not set(it.split(os.sep)[:-1]) & set(left)]
 
 
-def scripts_of(paths):
-    """The scripts of tools/ that pages name for users, and those that they import."""
-    pages_of_users = [path for path in paths if path.endswith(".md") and path.startswith(("docs/guide", "examples"))]
-    left = [name for path in pages_of_users for name in re.findall(r"tools/(\w+)\.py", evidence.text_of(path))]
-    found = set()
-    while left:
-        path = f"tools/{left.pop()}.py"
-        if path not in found and os.path.isfile(os.path.join(ROOT, path)):
-            found.add(path)
-            left += re.findall(r"(?m)^(?:import|from) (\w+)", evidence.text_of(path))
-    return sorted(found)
-
-
 def unlinked(text, path, packed):
     """A page whose links to files that are not packed are plain words."""
     def judged(found):
@@ -79,7 +66,6 @@ def unlinked(text, path, packed):
 def add_documents(folder, others):
     """Puts the guide, the examples, the claims and the licences into a folder that has other files, too."""
     paths = [path for place in DOCUMENTS for path in tracked(place)]
-    paths += scripts_of(paths)
     packed = {*paths, *LICENCES.values(), *others}
     for path in paths:
         if path.endswith(".md"):
@@ -100,7 +86,7 @@ def add_installed(build, prefix, folder, lib):
 
 
 def tarball(build, to):
-    """A folder with bin, lib, include and share, which are copied where programs lie, and with documents as the repository has them."""
+    """A folder with bin, lib, include and share, which can be copied to a prefix, and with documents as the repository has them."""
     name = f"earliest-{build.version}-{ARCHITECTURE}"
     with tempfile.TemporaryDirectory(prefix="dist-") as room:
         add_installed(build, "${pcfiledir}/../..", room, "lib")
@@ -130,7 +116,7 @@ def add_for_debian(build, room):
     """Puts what Debian's rules ask for beside what is installed."""
     usr, documents = os.path.join(room, "usr"), os.path.join(room, "usr/share/doc/earliest")
     add_installed(build, "/usr", usr, DEBIAN)
-    # Where Debian keeps completions of zsh.
+    # Debian's folder for completions of zsh.
     archives.copy(os.path.join(usr, "share/zsh/site-functions/_earliest"), usr, "share/zsh/vendor-completions/_earliest")
     shutil.rmtree(os.path.join(usr, "share/zsh/site-functions"))
     page = os.path.join(usr, "share/man/man1/earliest.1")
@@ -148,7 +134,7 @@ def add_for_debian(build, room):
 
 
 def as_field(text):
-    """A text as a field of Debian's files goes on: each line after a space, an empty one as a dot."""
+    """A text as the further lines of a field in Debian's files: each line after a space, an empty one as a dot."""
     return "\n".join(" " + (line or ".") for line in text.strip().splitlines())
 
 
@@ -172,25 +158,12 @@ def debian_package(build, to):
     return path
 
 
-def platform_of(shared):
-    """The tags by which pip knows for which systems a library was built: its oldest glibc, and at least that of manylinux2014."""
-    major, minor = max(evidence.as_numbers(evidence.glibc(shared)), (2, 17))[:2]
-    older = ".manylinux2014_x86_64" if (major, minor) == (2, 17) else ""
-    return f"manylinux_{major}_{minor}_x86_64{older}"
-
-
 def wheel(build, to):
     """The wheel, of the Python package with the library that is packed."""
     with tempfile.TemporaryDirectory(prefix="dist-") as room:
         shutil.copytree(os.path.join(ROOT, "python"), room, dirs_exist_ok=True)
         shutil.copy(build.shared, os.path.join(room, "earliest", "libearliest.so"))
-        maker = repository.module("wheel_of", os.path.join(room, "wheel_of.py"))
-        was = os.environ.get("SOURCE_DATE_EPOCH")
-        os.environ["SOURCE_DATE_EPOCH"] = str(build.epoch)
-        try:
-            return os.path.join(to, maker.build_wheel(to, {"platform": platform_of(build.shared)}))
-        finally:
-            os.environ.pop("SOURCE_DATE_EPOCH") if was is None else os.environ.update(SOURCE_DATE_EPOCH=was)
+        return os.path.join(to, repository.module("wheel_of", os.path.join(room, "wheel_of.py")).build_wheel(to))
 
 
 def make_all(program, folder, to, log=None):

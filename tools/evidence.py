@@ -1,4 +1,4 @@
-"""What tells where packages come from: BUILD.txt, which lies in them, and PROOF.txt, which lies beside them."""
+"""The origin of packages: BUILD.txt, which is in them, and PROOF.txt, which is beside them."""
 import os
 import re
 import shutil
@@ -32,7 +32,7 @@ def text_of(path):
 
 
 def version():
-    """The version, which stands in the file VERSION."""
+    """The version, of the file VERSION."""
     return text_of("VERSION").strip()
 
 
@@ -125,7 +125,7 @@ def of_the_gate(log):
 
 
 def proof_text(build, counted, packages):
-    """PROOF.txt: where the packages come from, what the gate said, and how to make the same bytes."""
+    """PROOF.txt: the origin of the packages, what the gate said, and how to make the same bytes."""
     here = said("rt", "version")
     lines = ["Packages", "", *(f"{archives.sha256(path)}  {os.path.basename(path)}" for path in packages), "", "Build", "", build]
     lines += ["The packer takes the program, the library and the log of the gate as it finds them. It can't tell which sources they were",

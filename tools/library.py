@@ -47,7 +47,7 @@ def archived():
 
 
 def archived_over(room):
-    """The same in a room where rt ci has proved what the crate stands on, by one job, since the gate tries edits meanwhile. (`rt lib` would
+    """The same in a copy of the repository in which rt ci has proved the crates below it, by one job, since the gate tries edits meanwhile. (`rt lib` would
     prove that again: what rt ci leaves has no stamp.)"""
     _, rtlib = repository.kit()
     os.chdir(room)
@@ -77,7 +77,7 @@ def filled(template, **words):
         text = file.read()
     with open(os.path.join(ROOT, "VERSION"), encoding="ascii") as file:
         version = file.read().strip()
-    for name, word in {"VERSION": version, "MINOR": version.rpartition(".")[0], **words}.items():
+    for name, word in {"VERSION": version, **words}.items():
         text = text.replace(f"@{name}@", str(word))
     return text
 

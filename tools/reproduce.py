@@ -49,7 +49,7 @@ def built(to, command):
 
 
 def first_difference(one, other):
-    """Where two texts differ first."""
+    """The first difference of two texts."""
     at = next((i for i, (a, b) in enumerate(zip(one, other)) if a != b), min(len(one), len(other)))
     return f"{len(one)} and {len(other)} bytes, which differ first at {at}"
 
@@ -90,7 +90,7 @@ def of_ar(text):
 
 
 def differences(one, other, name):
-    """What differs between two files of one name, line by line; nothing where they are equal."""
+    """What differs between two files of one name, line by line; nothing if they are equal."""
     texts = []
     for folder in (one, other):
         try:

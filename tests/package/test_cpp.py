@@ -57,11 +57,14 @@ class Cpp(Case):
             os.makedirs(folder)
         for name in ("earliest.h", "earliest.hpp"):
             shutil.copy(os.path.join(INCLUDE, name), os.path.join(prefix, "include"))
-        shutil.copy(os.path.join(plain.ROOT, "cmake", "earliest-config.cmake"), place)
-        with open(os.path.join(plain.ROOT, "cmake", "earliest-config-version.cmake.in"), encoding="ascii") as file:
-            text = file.read().replace("@VERSION@", earliest.__version__)
-        with open(os.path.join(place, "earliest-config-version.cmake"), "w", encoding="ascii") as file:
-            file.write(text)
+        version = earliest.__version__
+        for name in ("earliest-config.cmake", "earliest-config-version.cmake"):
+            with open(os.path.join(plain.ROOT, "packaging", "cmake", name + ".in"), encoding="ascii") as file:
+                text = file.read()
+            for word, value in (("VERSION", version), ("UP", "../../.."), ("LIB", "lib")):
+                text = text.replace(f"@{word}@", value)
+            with open(os.path.join(place, name), "w", encoding="ascii") as file:
+                file.write(text)
         configure = lambda *more: ran(["cmake", "-S", os.path.join(plain.HERE, "project"), "-B", built, f"-DCMAKE_PREFIX_PATH={prefix}", *more])
         status, _, said = configure()
         self.assertEqual((status != 0, "there is neither libearliest.so nor libearliest.a" in " ".join(said.split())), (True, True), said)
