@@ -25,10 +25,13 @@ def write_path(folder, name, nodes, weight=1, backwards=False):
 
 
 def limited(megabytes):
-    """What a child calls to get this much memory, or None for no limit."""
-    if megabytes is None:
-        return None
-    return lambda: resource.setrlimit(resource.RLIMIT_DATA, (megabytes * MEGABYTE, megabytes * MEGABYTE))
+    """What a child calls to get four processors at most, and this much memory; None is no limit."""
+    def limit():
+        os.sched_setaffinity(0, sorted(os.sched_getaffinity(0))[:4])
+        if megabytes is not None:
+            resource.setrlimit(resource.RLIMIT_DATA, (megabytes * MEGABYTE, megabytes * MEGABYTE))
+
+    return limit
 
 
 def ran(program, words, folder, megabytes=None):
