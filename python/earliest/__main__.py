@@ -17,6 +17,8 @@ COMMANDS: Dict[str, str] = {
     "nearest": "earliest.nearest",
     "isochrones": "earliest.isochrones",
     "latest": "earliest.latest",
+    "serve": "earliest.serve",
+    "join": "earliest.join",
 }
 """The module of each command. Each has `main(words) -> status`, and the first line of its docstring is its line of help. A command whose
 module isn't there is left out."""
