@@ -44,7 +44,7 @@ function arrivalsOf(buffer) {
 // The least round number that is at least a length: a longest time for the legend that stays while the departure is dragged.
 function rounded(length, perSecond) {
   const unit = perSecond || 1;
-  if (perSecond) for (const seconds of [60, 120, 300, 600, 900, 1200, 1800, 2700, 3600, 5400, 7200, 10800, 14400, 21600, 43200, 86400]) if (length <= seconds * unit) return seconds * unit;
+  if (perSecond) for (const seconds of [60, 120, 300, 600, 900, 1200, 1500, 1800, 2700, 3600, 5400, 7200, 10800, 14400, 21600, 43200, 86400]) if (length <= seconds * unit) return seconds * unit;
   const power = 10 ** Math.floor(Math.log10(Math.max(length, 1)));
   return [1, 2, 5, 10].map((it) => it * power).find((it) => it >= length);
 }
@@ -207,9 +207,10 @@ class RoadMap {
       for (let arc = this.firstArc[tail]; arc < this.firstArc[tail + 1]; arc++) if (!Number.isNaN(this.xs[this.heads[arc]])) paths[this.shade(this.heads[arc]) + 1].push(tail, this.heads[arc]);
     }
     context.lineCap = "round";
-    context.lineWidth = Math.max(1, Math.min(4, 300 / Math.sqrt(count + 1) / 4)) * this.ratio;
+    const width = Math.max(1, Math.min(4, 300 / Math.sqrt(count + 1) / 4)) * this.ratio;
     paths.forEach((path, at) => {
       if (!path.length) return;
+      context.lineWidth = at ? width : width / 2;
       context.strokeStyle = css(at ? PALETTE[at - 1] : GREY);
       context.beginPath();
       for (let it = 0; it < path.length; it += 2) context.moveTo(x(path[it]), y(path[it])), context.lineTo(x(path[it + 1]), y(path[it + 1]));
@@ -221,7 +222,7 @@ class RoadMap {
       const node = this.members[it], shade = this.shade(node);
       context.fillStyle = css(shade < 0 ? GREY : PALETTE[shade]);
       context.beginPath();
-      context.arc(x(node), y(node), radius, 0, 7);
+      context.arc(x(node), y(node), shade < 0 ? radius / 2 : radius, 0, 7);
       context.fill();
     }
   }
@@ -270,24 +271,40 @@ class RoadMap {
 // A legend: the bar of colours with times below it, and grey.
 function legend(place, longest, perSecond) {
   const bar = document.createElement("div"), marks = document.createElement("div"), never = document.createElement("div"), head = document.createElement("div");
-  head.textContent = `Time after the departure${perSecond ? "" : " (the network's unit)"}`;
+  const [unit, name] = !perSecond ? [1, "the network's unit"] : longest >= 7200 * perSecond ? [3600 * perSecond, "hours"] : [60 * perSecond, "minutes"];
+  head.textContent = `Time after the departure, in ${name}`;
   bar.className = "bar";
-  const width = SHADES, picture = document.createElement("canvas");
-  picture.width = width, picture.height = 1;
+  const picture = document.createElement("canvas");
+  picture.width = SHADES, picture.height = 1;
   const pen = picture.getContext("2d");
   PALETTE.forEach((it, at) => { pen.fillStyle = css(it); pen.fillRect(at, 0, 1, 1); });
-  picture.style.cssText = "width:100%;height:100%;display:block";
   bar.append(picture);
   marks.className = "marks";
   for (const part of [0, 0.5, 1]) {
     const mark = document.createElement("span");
-    mark.textContent = `${span(Math.round(longest * part), perSecond)}${part === 1 ? " and more" : ""}`;
+    mark.textContent = `${Number(((longest * part) / unit).toFixed(2))}${part === 1 ? " and more" : ""}`;
     marks.append(mark);
   }
   const grey = document.createElement("span");
   grey.className = "grey";
-  never.append(grey, " not reached");
+  never.append(grey, " not reached (thin lines)");
   place.replaceChildren(head, bar, marks, never);
+}
+
+// The longest time for the legend: a round number that 98 of 100 nodes are reached within.
+function longestOf(arrivals, departure, perSecond) {
+  const spans = arrivals.filter((it) => it >= 0).map((it) => it - departure).sort();
+  return rounded(spans.length ? spans[Math.min(spans.length - 1, Math.floor(spans.length * 0.98))] : 1, perSecond);
+}
+
+// Shows a node's time beside the pointer. `text` is empty if there is nothing to show.
+function tipped(map, tip, text, place) {
+  tip.hidden = !text;
+  if (!text || !place) return;
+  tip.textContent = text;
+  const right = place[0] + 16 + tip.offsetWidth > map.canvas.clientWidth, low = place[1] + 12 + tip.offsetHeight > map.canvas.clientHeight;
+  tip.style.left = `${right ? place[0] - 16 - tip.offsetWidth : place[0] + 16}px`;
+  tip.style.top = `${low ? place[1] - 12 - tip.offsetHeight : place[1] + 12}px`;
 }
 
 // Moves, zooms and points by mouse, touch and keyboard. `hover(node)` and `click(node)` get a node, or 0 if none is near.

@@ -36,7 +36,7 @@ async function refresh() {
       const [from, at, to, began] = [source, departure, target, performance.now()];
       const arrivals = arrivalsOf(await ask(`/v1/arrivals?source=${from}&departure=${at}`, true));
       taken = performance.now() - began;
-      if (!map.longestOf || map.longestOf !== from) scaled(arrivals, at, from);
+      scaled(arrivals, at, from);
       map.show(arrivals, at);
       map.walk = [];
       await walk(from, to, at, arrivals);
@@ -51,11 +51,12 @@ async function refresh() {
   }
 }
 
-// The legend's longest time is chosen with the source, and stays while the departure is dragged.
+// The legend's longest time is chosen with the source. It grows while the departure is dragged, and never shrinks.
 function scaled(arrivals, at, from) {
-  const spans = arrivals.filter((it) => it >= 0).map((it) => it - at).sort();
-  map.longest = rounded(spans.length ? spans[Math.min(spans.length - 1, Math.floor(spans.length * 0.98))] : 1, network.per_second);
-  map.longestOf = from;
+  const longest = longestOf(arrivals, at, network.per_second);
+  if (map.scaledFor === from && map.longest >= longest) return;
+  map.longest = longest;
+  map.scaledFor = from;
   legend($("legend"), map.longest, network.per_second);
 }
 
@@ -77,19 +78,13 @@ async function walk(from, to, at, arrivals) {
 }
 
 function hover(node, place) {
-  const arrival = node && map.arrivals ? map.arrivals[node - 1] : -1, tip = $("tip");
+  const arrival = node && map.arrivals ? map.arrivals[node - 1] : -1;
   const text = !node ? "" : !map.arrivals ? nameOf(node) : arrival < 0 ? `${nameOf(node)}: not reached`
     : `${nameOf(node)}: ${clock(arrival, network.per_second)}, after ${span(arrival - map.departure, network.per_second)}`;
   $("hover").textContent = text || "\u00a0";
   $("hover").dataset.node = node || "";
   $("hover").dataset.arrival = node && arrival >= 0 ? arrival : "";
-  tip.hidden = !text;
-  if (text && place) {
-    tip.textContent = text;
-    const right = place[0] + 16 + tip.offsetWidth > map.canvas.clientWidth;
-    tip.style.left = `${right ? place[0] - 16 - tip.offsetWidth : place[0] + 16}px`;
-    tip.style.top = `${place[1] + 12}px`;
-  }
+  tipped(map, $("tip"), text, place);
 }
 
 function chosen() { return document.querySelector("input[name=sets]:checked").value; }
@@ -157,10 +152,10 @@ async function begin() {
   });
   legend($("legend"), rounded(3600 * unit, network.per_second), network.per_second);
   const words = new URLSearchParams(location.hash.slice(1));
-  source = nodeOf(words.get("source") || ""), target = nodeOf(words.get("target") || "");
-  if (source) set("source", source);
-  if (target) set("target", target);
   leave(Math.min(Number(/^\d+$/.test(words.get("departure") || "") ? words.get("departure") : 8 * 3600 * unit), Number(slider.max)));
+  const [from, to] = ["source", "target"].map((it) => nodeOf(words.get(it) || ""));
+  if (from) set("source", from);
+  if (to) set("target", to);
 }
 
 begin().catch((error) => note(error.message));
