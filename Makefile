@@ -7,9 +7,10 @@
 # the program, its man page, the completions of bash, zsh and fish, the library, its headers and its pkg-config file.
 # `make dist` packs what is built into dist/, with LOG=gate.log what `make test` printed; `make dist-test` tries the packages on bare Debian
 # systems (SUITES="stable oldstable"); `make reproduce` packs twice and compares, with BUILD=1 after two builds, which take half an hour.
+# `make serve` shows the commuter town on a map in the browser, with ARGS="--port 8400" at another address.
 # `make bench` measures the program in bin/ beside its peers on networks of up to 10^6 nodes, with SIZE=large up to 10^7, and writes
 # bench/results/ and docs/performance.md.
-.PHONY: all lib run try test part cases large dist dist-test reproduce bench install clean
+.PHONY: all lib run serve try test part cases large dist dist-test reproduce bench install clean
 
 PREFIX ?= /usr/local
 
@@ -21,6 +22,11 @@ lib:
 
 run: all
 	bin/earliest run examples/four-nodes.gr examples/four-nodes.ss --walks
+
+# Debian's Python sees the libraries that its packages install.
+serve:
+	@test -f python/earliest/libearliest.so || $(MAKE) lib
+	PYTHONPATH=python $(or $(wildcard /usr/bin/python3),python3) -m earliest serve examples/commuter.gr --tp examples/commuter.tp --co examples/commuter.co --per-second 1 $(ARGS)
 
 try:
 	@python3 tools/try.py $(ARGS)
