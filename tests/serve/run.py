@@ -33,8 +33,8 @@ def main():
     print(served.found(), flush=True)
     suite = unittest.defaultTestLoader.loadTestsFromNames(asked.only)
     ran = unittest.TextTestRunner(stream=sys.stdout, verbosity=1).run(suite)
-    for test, why in ran.skipped:
-        print(f"left out: {test.id()}: {why}")
+    for why in sorted({why for _, why in ran.skipped}):
+        print(f"left out: {why}: {', '.join(test.id().split('.', 1)[1] for test, its in ran.skipped if its == why)}")
     ill = len({test.id() for test, _ in [*ran.failures, *ran.errors]}) + len(ran.unexpectedSuccesses)
     print(f"{max(ran.testsRun - len(ran.skipped) - ill, 0)} passed, {ill} failed")
     return 1 if ill or ran.testsRun == 0 else 0

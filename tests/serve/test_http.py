@@ -303,9 +303,9 @@ class Words(unittest.TestCase):
 class Stops(unittest.TestCase):
     def test_requests_in_flight_finish(self):
         for number in (signal.SIGTERM, signal.SIGINT):
-            service = Served(example("road.gr"), "--tp", example("road.tp"), "--threads", "1")
+            service = Served(example("road.gr"), "--tp", example("road.tp"), "--threads", "1", "--values", "9000000")
             got = []
-            asked = threading.Thread(target=lambda: got.append(service.get("/v1/matrix", BINARY, sources="1-1500", departures=1000)))
+            asked = threading.Thread(target=lambda: got.append(service.get("/v1/matrix", BINARY, sources=["1-2025", "1-2025"], departures=1000)))
             try:
                 asked.start()
                 until = time.monotonic() + LONG
@@ -316,7 +316,7 @@ class Stops(unittest.TestCase):
                 status = service.stop(number)
             asked.join(LONG)
             self.assertEqual((status, service.log()), (0, ""))
-            self.assertEqual((got[0][0], len(got[0][2])), (200, 8 * 1500 * 2025))
+            self.assertEqual((got[0][0], len(got[0][2])), (200, 8 * 4050 * 2025))
             self.assertTrue(waiting, "the request was over before the signal")
             with self.assertRaises(OSError):
                 socket.create_connection(("127.0.0.1", service.port), 5)

@@ -1,8 +1,9 @@
 """Limits: sizes, deadlines, the queue, requests of one address."""
 import concurrent.futures
+import time
 import unittest
 
-from served import COMMUTER, Served, commuter, example, needs
+from served import COMMUTER, LONG, Served, commuter, example, needs
 
 ROAD = (example("road.gr"), "--tp", example("road.tp"), "--threads", "1")
 
@@ -32,13 +33,14 @@ class Limits(unittest.TestCase):
             status, headers, told = service.problem("/v1/matrix", sources="1-1900")
             self.assertEqual((status, told["name"]), (503, "DeadlinePassed"))
             self.assertGreaterEqual(int(headers["Retry-After"]), 1)
-            # The thread has left the request, and serves the next ones.
-            replies = [service.get("/v1/network")[0] for _ in range(20)]
-            self.assertEqual(replies[-1], 200)
+            # The thread has left the request, and serves the next ones, on a busy machine not at once.
+            until = time.monotonic() + LONG
+            while service.get("/v1/network")[0] != 200:
+                self.assertLess(time.monotonic(), until)
 
     def test_a_full_queue(self):
         with Served(*ROAD, "--queue", "2") as service:
-            statuses, refused, _ = at_once(service, 12, "/v1/matrix", sources="1-150")
+            statuses, refused, _ = at_once(service, 12, "/v1/matrix", sources="1-800")
             self.assertEqual(set(statuses), {200, 503})
             self.assertGreaterEqual(statuses.count(200), 3)
             for headers in refused:
@@ -48,7 +50,7 @@ class Limits(unittest.TestCase):
 
     def test_requests_of_one_address(self):
         with Served(*ROAD, "--client", "3") as service:
-            statuses, refused, _ = at_once(service, 12, "/v1/matrix", sources="1-150")
+            statuses, refused, _ = at_once(service, 12, "/v1/matrix", sources="1-800")
             self.assertEqual(set(statuses), {200, 429})
             self.assertTrue(all(int(it["Retry-After"]) >= 1 for it in refused))
             self.assertEqual(service.get("/v1/network")[0], 200)

@@ -2,7 +2,7 @@
 // The page of the service: asks it for the network once, and for arrivals whenever the source or the departure changes.
 const $ = (id) => document.getElementById(id);
 const DAY = 86400;
-let network, names = [], map, source = 0, target = 0, departure = 0, asking = false, again = false, taken = 0;
+let network, names = [], map, source = 0, target = 0, departure = 0, asking = false, again = false, taken = 0, pointed = null;
 
 async function ask(path, binary) {
   const reply = await fetch(path, { headers: { Accept: binary ? "application/octet-stream" : "application/json" } });
@@ -38,6 +38,7 @@ async function refresh() {
       taken = performance.now() - began;
       scaled(arrivals, at, from);
       map.show(arrivals, at);
+      if (pointed) hover(map.near(...pointed), pointed);
       map.walk = [];
       await walk(from, to, at, arrivals);
       note("");
@@ -78,6 +79,7 @@ async function walk(from, to, at, arrivals) {
 }
 
 function hover(node, place) {
+  pointed = place;
   const arrival = node && map.arrivals ? map.arrivals[node - 1] : -1;
   const text = !node ? "" : !map.arrivals ? nameOf(node) : arrival < 0 ? `${nameOf(node)}: not reached`
     : `${nameOf(node)}: ${clock(arrival, network.per_second)}, after ${span(arrival - map.departure, network.per_second)}`;
