@@ -9,6 +9,8 @@ A colour tells how long after the source's departure a node is reached, in bands
 take stand out: they are the tree of shortest paths. --problem K takes the K-th problem of the report (from 1). The map goes to FILE, or to
 standard output.
 
+--html FILE writes a page instead that can be mailed: the map with hover and legend, in one file.
+
 Coordinates of a .co are plain numbers unless its first comment, --degrees or --metres says otherwise. GeoJSON wants degrees. Bands want
 shapely.
 """
@@ -22,6 +24,7 @@ import sys
 from .importing import writing
 from .importing.maps import Places
 from .importing.telling import Refused, ended
+from .static_page import page
 
 WIDTH = 900
 MARGIN = 24
@@ -352,12 +355,16 @@ def command(words):
     unit.add_argument("--degrees", action="store_const", const="degrees", dest="unit", help="the .co is in millionths of a degree, as those of the 9th DIMACS Challenge")
     unit.add_argument("--metres", action="store_const", const="metres", dest="unit", help="the .co is in metres")
     asked.add_argument("--out")
+    asked.add_argument("--html", metavar="FILE", help="write a page with a map, hover and legend, that needs no other file")
     given = asked.parse_args(words)
     if given.band < 0 or (given.units is not None and given.units < 1) or (given.reach is not None and not 0 < given.reach < 1e6):
         asked.error("--band is at least 0, --units at least 1, and --reach above 0")
     problem, known = problem_of(given.report, given.problem), Places.read(given.co, given.unit)
     per_second = given.units or (writing.unit_of(given.graph) if given.graph else None)
     arcs, shapes = arcs_of(given.graph) if given.graph else [], shapes_of(given.shapes) if given.shapes else {}
+    if given.html:
+        written(given.html, [page(known, arcs, problem.sources, problem.arrivals, per_second)])
+        return 0
     if given.write != "svg" and known.unit != "degrees":
         raise Refused(f"GeoJSON wants degrees, and {given.co} is " + ("in metres" if known.unit == "metres" else "in plain numbers; give --degrees if it is in millionths of a degree"))
     if given.write == "arcs" and not arcs:

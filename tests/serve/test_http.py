@@ -262,7 +262,7 @@ class Words(unittest.TestCase):
             self.assertIn("2 SecondProblemLine", self.refused(file("p sp 1 0\np sp 1 0\n")))
             self.assertIn("no-such", self.refused(os.path.join(room, "no-such.gr")))
             self.assertIn("line 2", self.refused(gr, "--co", file("p aux sp co 4\nv 1 x 2\n")))
-            self.assertIn("5 is no node", self.refused(gr, "--co", file("v 5 1 2\n")))
+            self.assertIn("a place for 5, which is no node", self.refused(gr, "--co", file("v 5 1 2\n")))
             self.assertIn("no place", self.refused(gr, "--co", file("p aux sp co 4\n")))
             self.assertIn("no degrees", self.refused(gr, "--degrees", "--co", file("v 1 181000000 2\n")))
             self.assertIn("3 names", self.refused(gr, "--names", file("a\nb\nc\n")))
@@ -297,6 +297,18 @@ class Words(unittest.TestCase):
                 features = json.loads(service.get("/v1/arrivals", GEO, source=1)[2])["features"]
                 self.assertEqual([it["properties"]["node"] for it in features], [1, 2, 3])
                 self.assertIsNone(service.json("/v1/network/coordinates")["coordinates"][3])
+
+
+    def test_the_table_of_an_importer(self):
+        with tempfile.TemporaryDirectory(prefix="serve-") as room:
+            table = os.path.join(room, "x.nodes.csv")
+            with open(table, "w", encoding="utf-8") as out:
+                out.write("node,id,longitude,latitude,use\n1,a,11.0,44.0,end\n2,a,11.0,44.0,start\n3,b,11.002,44.0,both\n4,,11.0,44.0,turn\n")
+            with Served(example("four-nodes.gr"), "--co", table) as service:
+                self.assertTrue(service.json("/v1/network")["degrees"])
+                for query, node in (({}, 2), ({"end": "false"}, 2), ({"end": "true"}, 1)):
+                    self.assertEqual(service.json("/v1/nearest", x=11.0001, y=44.0, **query)["node"], node)
+                self.assertEqual(service.json("/v1/nearest", x=11.0019, y=44.0)["node"], 3)
 
 
 @needs("aiohttp", "numpy")

@@ -13,8 +13,8 @@ from served import LONG, NEVER, commuter, example, needs, places, program
 
 
 def command(*words):
-    """`python -m earliest.static_page`: status and standard error."""
-    ran = subprocess.run([sys.executable, "-m", "earliest.static_page", *words], stdin=subprocess.DEVNULL, capture_output=True, text=True, timeout=LONG)
+    """`python -m earliest isochrones`: status and standard error."""
+    ran = subprocess.run([sys.executable, "-m", "earliest", "isochrones", *words], stdin=subprocess.DEVNULL, capture_output=True, text=True, timeout=LONG)
     return ran.returncode, ran.stderr
 
 
@@ -25,7 +25,7 @@ class Static(unittest.TestCase):
         cls.report, cls.page = (os.path.join(cls.room.name, it) for it in ("report", "map.html"))
         with open(cls.report, "w", encoding="ascii") as out:
             out.write(program("run", "commuter.gr", "commuter.ss", "--tp", "commuter.tp", "--depart", "29400", "--walks"))
-        cls.ran = command(cls.report, example("commuter.co"), "--html", cls.page, "--graph", example("commuter.gr"), "--per-second", "1")
+        cls.ran = command(cls.report, example("commuter.co"), "--html", cls.page, "--graph", example("commuter.gr"), "--units", "1")
         with open(cls.page, encoding="utf-8") as file:
             cls.text = file.read()
 
@@ -63,14 +63,14 @@ class Static(unittest.TestCase):
                 data = json.loads(re.search(r'id="data">(.*?)</script>', file.read())[1])
             self.assertEqual((data["sources"], list(struct.unpack("<300Q", base64.b64decode(data["arrivals"])))), ([1], commuter(1, 29400)))
             status, told = command(report, example("commuter.co"), "--html", out, "--problem", "3")
-            self.assertEqual((status, "has 2 problems" in told), (1, True))
+            self.assertEqual((status, "there is no problem 3; it has 2" in told), (1, True))
 
     def test_wrong_inputs(self):
         with tempfile.TemporaryDirectory(prefix="static-") as room:
             out = os.path.join(room, "out.html")
             for words, told in (
-                ((os.path.join(room, "none"), example("commuter.co")), "none"), ((self.report, example("commuter.gr")), "a place is"), ((example("commuter.gr"), example("commuter.co")), "BadLine"),
-                ((self.report, example("commuter.co"), "--graph", example("four-nodes.gr")), "has 4 nodes"), ((example("four-nodes.p2p.report"), example("commuter.co")), "is no report of"),
+                ((os.path.join(room, "none"), example("commuter.co")), "none"), ((self.report, example("commuter.gr")), "a place needs"), ((example("commuter.gr"), example("commuter.co")), "there is no problem 1"),
+                ((example("four-nodes.p2p.report"), example("commuter.co")), "there is no problem 1"),
             ):
                 status, said = command(*words, "--html", out)
                 self.assertEqual((status, said.count("\n"), told in said), (1, 1, True), said)

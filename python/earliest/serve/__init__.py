@@ -19,7 +19,7 @@ def parser() -> argparse.ArgumentParser:
     words = argparse.ArgumentParser(prog="python -m earliest serve", description=__doc__, formatter_class=argparse.RawDescriptionHelpFormatter)
     words.add_argument("network", metavar="NET", help="the network (.gr)")
     words.add_argument("--tp", metavar="F", help="its timetables (.tp)")
-    words.add_argument("--co", metavar="F", help="its coordinates (.co), without which there is no map")
+    words.add_argument("--co", metavar="F", help="its coordinates (.co, or the .nodes.csv of an importer), without which there is no map")
     words.add_argument("--degrees", action="store_true", help="the coordinates are millionths of a degree, as those of the 9th DIMACS Challenge")
     words.add_argument("--names", metavar="F", help="names of nodes: a line for each, in the order of their numbers")
     words.add_argument("--per-second", metavar="N", type=int, help="how many units of time a second has (default: what the first comment of the network says)")

@@ -9,18 +9,17 @@ import numpy
 
 from .._engine import Road
 from .._failures import Failure
-from .._places import Refused, coordinates_of, names_of, unit_of
+from .._places import Refused, coordinates_of, names_of
+from ..importing.geography import RADIUS
+from ..importing.writing import unit_of
 
 __all__ = ["Ground", "Refused"]
-
-EARTH = 6_371_008.8
-"""The mean radius of the earth in metres (IUGG)."""
-
 
 class Ground:
     """A road with its ends, coordinates (NaN for a node without them), names and unit of time."""
 
-    def __init__(self, road: Road, coordinates: Any = None, degrees: bool = False, names: Optional[List[str]] = None, per_second: Optional[int] = None):
+    def __init__(self, road: Road, coordinates: Any = None, degrees: bool = False, names: Optional[List[str]] = None, per_second: Optional[int] = None, unfit: Any = None):
+        self.unfit = {use: numpy.array(nodes, dtype=numpy.intp) - 1 for use, nodes in (unfit or {}).items() if nodes}
         self.road, self.coordinates, self.degrees, self.names, self.per_second = road, coordinates, degrees, names, per_second
         self.tails, self.heads = road.ends()
         self.numbers = {name: number for number, name in enumerate(names, 1)} if names else {}
@@ -29,17 +28,22 @@ class Ground:
     def read(cls, gr: str, tp: Optional[str] = None, co: Optional[str] = None, names: Optional[str] = None, degrees: bool = False, per_second: Optional[int] = None) -> "Ground":
         """Reads the files."""
         road = Road.read(gr, tp)
-        coordinates = None
+        coordinates, unfit = None, None
         if co is None:
             degrees = False
         else:
-            places, degrees = coordinates_of(co, road.nodes, degrees)
+            places, degrees, unfit = coordinates_of(co, road.nodes, degrees)
             coordinates = numpy.array(places).reshape(road.nodes, 2)
-        return cls(road, coordinates, degrees, None if names is None else names_of(names, road.nodes), per_second or unit_of(gr))
+        return cls(road, coordinates, degrees, None if names is None else names_of(names, road.nodes), per_second or unit_of(gr), unfit)
 
-    def nearest(self, x: float, y: float) -> Tuple[int, float]:
-        """The node nearest to a place, the lowest of several, and its distance: metres if coordinates are degrees, else their own unit."""
+    def nearest(self, x: float, y: float, use: str = "start") -> Tuple[int, float]:
+        """The node nearest to a place, the lowest of several, and its distance: metres if coordinates are degrees, else their own unit. `use`
+        is "start" or "end": of a crossing or stop that is split only the nodes to start from or to end at."""
         distances = self.distances(x, y)
+        if use in self.unfit:
+            distances[self.unfit[use]] = math.nan
+        if numpy.isnan(distances).all():
+            raise Refused(f"no node is there to {use} at")
         place = int(numpy.nanargmin(distances))
         return place + 1, float(distances[place])
 
@@ -50,7 +54,7 @@ class Ground:
             return numpy.hypot(xs - x, ys - y)
         across, along = numpy.radians(ys - y), numpy.radians(xs - x)
         chord = numpy.sin(across / 2) ** 2 + numpy.cos(numpy.radians(ys)) * math.cos(math.radians(y)) * numpy.sin(along / 2) ** 2
-        return 2 * EARTH * numpy.arcsin(numpy.sqrt(numpy.minimum(chord, 1)))
+        return 2 * RADIUS * numpy.arcsin(numpy.sqrt(numpy.minimum(chord, 1)))
 
     def number(self, text: str) -> int:
         """The node that a request names: by its number, or by its name."""

@@ -9,7 +9,7 @@ import numpy
 from .._failures import Failure
 from .._library import HORIZON, NEVER
 from .asked import Asked, Parameter, Problem
-from .ground import Ground
+from .ground import Ground, Refused
 from .pool import Work, held
 
 JSON, GEO, BINARY = "application/json", "application/geo+json", "application/octet-stream"
@@ -186,7 +186,10 @@ def _nearest(ground: Ground, asked: Asked, work: Work) -> Reply:
     _need_coordinates(ground)
     if ground.degrees and not (-180 <= asked.x <= 180 and -90 <= asked.y <= 90):
         raise Problem(400, "BadParameter", f"{asked.x:g}, {asked.y:g} are no degrees of longitude and latitude")
-    node, distance = ground.nearest(asked.x, asked.y)
+    try:
+        node, distance = ground.nearest(asked.x, asked.y, "end" if asked.end else "start")
+    except Refused as error:
+        raise Problem(404, "NoSuchPlace", str(error)) from None
     x, y = _point(ground, node)
     more = {"name": ground.names[node - 1]} if ground.names else {}
     return Reply(lambda: {"node": node, "x": x, "y": y, "distance": distance, **more}, lambda: held([node]),
@@ -268,7 +271,8 @@ ROUTES = [
     Route("/v1/matrix", "The earliest arrivals from each source at each node. The binary form has one row after the other.", [SOURCES, DEPARTURES, NODES], [JSON, BINARY], _matrix,
           _object(sources=_number_array(WHOLE), departures=_number_array(TIME), arrivals=_number_array(_number_array(LATER)))),
     Route("/v1/nearest", "The node nearest to a place, with the distance in metres if coordinates are degrees, else in their own unit. The binary form is the node.",
-          [_p("x", "number", True, "the place's x, or its longitude", "100"), _p("y", "number", True, "the place's y, or its latitude", "200")], [JSON, GEO, BINARY], _nearest,
+          [_p("x", "number", True, "the place's x, or its longitude", "100"), _p("y", "number", True, "the place's y, or its latitude", "200"),
+           _p("end", "flag", False, "of a crossing or stop that is split: whether the node to arrive at is returned, in place of the one to start from", "false")], [JSON, GEO, BINARY], _nearest,
           _object(node=WHOLE, x=NUMBER, y=NUMBER, distance=NUMBER)),
     Route("/v1/isochrones", "Nodes by bands of time after the departure. The binary form has the band of each node, from 0.",
           [SOURCE, DEPARTURE, _p("band", "length", False, "the length of a band, an eighth of the longest time if it is not given", "600")], [JSON, GEO, BINARY], _isochrones,
