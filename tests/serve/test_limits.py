@@ -1,5 +1,6 @@
 """Limits: sizes, deadlines, the queue, requests of one address."""
 import concurrent.futures
+import socket
 import time
 import unittest
 
@@ -54,6 +55,28 @@ class Limits(unittest.TestCase):
             self.assertEqual(set(statuses), {200, 429})
             self.assertTrue(all(int(it["Retry-After"]) >= 1 for it in refused))
             self.assertEqual(service.get("/v1/network")[0], 200)
+
+    def test_a_reader_who_does_not_read(self):
+        with Served(*ROAD, "--deadline", "8") as service, socket.create_connection(("127.0.0.1", service.port), LONG) as line:
+            # More than the buffers of the system hold.
+            line.sendall(b"GET /v1/arrivals?source=1" + b"&nodes=1-2025" * 1900 + b" HTTP/1.1\r\nHost: localhost\r\nAccept: application/octet-stream\r\n\r\n")
+            self.assertTrue(line.recv(15).startswith(b"HTTP/1.1 200"))
+            self.assertEqual(service.metric("earliest_jobs_inside"), 0)
+            # The last request in flight is that for the metrics.
+            until = time.monotonic() + LONG
+            while service.metric("earliest_requests_in_flight") > 1:
+                self.assertLess(time.monotonic(), until)
+                time.sleep(0.1)
+            count = 15
+            try:
+                while count < 8 * 1900 * 2025:
+                    found = len(line.recv(1 << 20))
+                    if not found:
+                        break
+                    count += found
+            except ConnectionError:
+                pass
+            self.assertLess(count, 8 * 1900 * 2025)
 
     def test_threads_share_the_road(self):
         with Served(*COMMUTER, "--threads", "4") as service:

@@ -26,6 +26,8 @@ PAGE = os.path.join(os.path.dirname(os.path.abspath(__file__)), "page")
 PARTS = {"index.html": "text/html", "page.css": "text/css", "map.js": "text/javascript", "page.js": "text/javascript"}
 LONGEST_LINE = 65_536
 """The longest line of a request, in bytes."""
+SMALL = 65_536
+"""The most bytes of a small reply."""
 HEADERS = {
     "Content-Security-Policy": "default-src 'none'; script-src 'self'; style-src 'self'; connect-src 'self'; img-src 'self' data:; base-uri 'none'; form-action 'none'; frame-ancestors 'none'",
     "X-Content-Type-Options": "nosniff",
@@ -78,12 +80,27 @@ class Service:
             if self.stopping:
                 response.force_close()
             self.counts.add(name, response.status, time.monotonic() - began)
+            await self.sent(request, response)
             return response
         finally:
             self.counts.in_flight -= 1
             self.of_client[client] -= 1
             if not self.of_client[client]:
                 del self.of_client[client]
+
+    async def sent(self, request: web.Request, response: Any) -> None:
+        """Sends a large reply while its request still counts as in flight, so that readers who don't read take no more memory than the limits
+        say. A reader who takes longer than the deadline loses the connection. aiohttp sends a small reply, which the system takes at once."""
+        if not isinstance(response.body, bytes) or len(response.body) <= SMALL:
+            return
+        try:
+            await response.prepare(request)
+            await asyncio.wait_for(response.write_eof(), self.pool.deadline)
+        except (asyncio.TimeoutError, ConnectionError):
+            # aiohttp would wait for the next request of a connection that is gone.
+            response.force_close()
+            if request.transport is not None:
+                request.transport.abort()
 
     def let_in(self, request: web.Request, client: str) -> None:
         """Refuses a request before anything is done for it."""
