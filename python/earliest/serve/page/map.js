@@ -227,15 +227,16 @@ class RoadMap {
     }
   }
 
-  // Nodes as points of two pixels each way, straight into the picture's bytes.
+  // Nodes as squares that reach to the next ones, straight into the picture's bytes.
   points(nodes) {
     const { canvas, context } = this, picture = context.getImageData(0, 0, canvas.width, canvas.height), out = new Uint32Array(picture.data.buffer);
     const word = ([r, g, b]) => (255 << 24) | (b << 16) | (g << 8) | r, words = Uint32Array.from([GREY, ...PALETTE], word), wide = canvas.width, high = canvas.height;
+    const size = Math.min(8, Math.max(2, Math.ceil(this.scale * Math.sqrt((this.width * this.height) / Math.max(this.nodes, 1)))));
     for (const [from, to] of nodes) for (let it = from; it < to; it++) {
       const node = this.members[it], x = Math.floor(this.left + this.xs[node] * this.scale), y = Math.floor(this.bottom - this.ys[node] * this.scale);
-      if (x < 0 || y < 0 || x >= wide - 1 || y >= high - 1) continue;
-      const shade = words[this.shade(node) + 1], at = x + y * wide;
-      out[at] = out[at + 1] = out[at + wide] = out[at + wide + 1] = shade;
+      if (x < 0 || y < 0 || x > wide - size || y > high - size) continue;
+      const shade = words[this.shade(node) + 1];
+      for (let row = x + y * wide, end = row + size * wide; row < end; row += wide) for (let column = 0; column < size; column++) out[row + column] = shade;
     }
     context.putImageData(picture, 0, 0);
   }
