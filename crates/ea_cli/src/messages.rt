@@ -86,9 +86,8 @@ fn tell_put(rt: &HostRuntime, output: &mut Output, explains: bool) -> u8 {
     let written = output.written;
     match output.put_in_place(rt) {
         Ok(()) => 0,
-        Err(unplaced) => {
-            let reason = unplaced.reason;
-            if let Some(kept) = unplaced.kept.and_then(|kept| shown_word(rt, kept)) {
+        Err(reason) => {
+            if let Some(kept) = output.part().and_then(|part| shown_word(rt, part)) {
                 let _ = eprintln!(rt; "earliest: the whole report is in {kept}");
             }
             let status = tell(rt, &Outcome::Answer(AnswerFault::Write { written }));

@@ -1,4 +1,6 @@
 //! What a report is written to: a stream, or a file that is put in its place when it is whole.
+ghost use Rattle.std.specs.Prelude.{◌≤◌, IfOk, length};
+
 use crate::target::{Goal, goal_of};
 use std::fs::{self, File};
 use std::io::{self, ErrorKind, Write};
@@ -11,14 +13,6 @@ pub struct Output {
     pub(crate) written: u128,
     /// Why the last write failed.
     pub(crate) refusal: Option<ErrorKind>,
-}
-
-/// A whole report that couldn't be put in its place.
-#[derive(Clone, Copy)]
-pub(crate) struct Unplaced<'a> {
-    pub(crate) reason: ErrorKind,
-    /// The part file that has the whole report.
-    pub(crate) kept: Option<&'a str>,
 }
 
 impl Output {
@@ -48,24 +42,23 @@ impl Output {
         self.refusal == Some(ErrorKind::BrokenPipe)
     }
 
-    /// Puts a whole report in its place. If that fails, the part file stays, and the error names it.
-    pub(crate) fn put_in_place(&mut self, rt: &HostRuntime) -> Result<(), Unplaced<'_>> {
+    /// Puts a whole report in its place. If that fails, the part file stays.
+    pub(crate) fn put_in_place(&mut self, rt: &HostRuntime) -> Result<(), ErrorKind> {
         match &mut self.goal {
-            Goal::Part { file, part, name } => match put(rt, file, part, name) {
-                Ok(()) => Ok(()),
-                Err(reason) => Err(Unplaced {
-                    reason,
-                    kept: Some(part.as_str()),
-                }),
-            },
+            Goal::Part { file, part, name } => put(rt, file, part, name),
             Goal::InPlace { file, begun } => match emptied(file, begun) {
                 Ok(()) => Ok(()),
-                Err(error) => Err(Unplaced {
-                    reason: error.kind(),
-                    kept: None,
-                }),
+                Err(error) => Err(error.kind()),
             },
             Goal::Output(_) | Goal::Errors(_) | Goal::Stream(_) => Ok(()),
+        }
+    }
+
+    /// The part file, if there is one.
+    pub(crate) fn part(&self) -> Option<&str> {
+        match &self.goal {
+            Goal::Part { part, .. } => Some(part.as_str()),
+            _ => None,
         }
     }
 
@@ -104,7 +97,9 @@ fn emptied(file: &File, begun: &mut bool) -> io::Result<()> {
 }
 
 /// Writes bytes to their stream or file.
-fn write_to(goal: &mut Goal, buf: &[u8]) -> io::Result<usize> {
+fn write_to(goal: &mut Goal, buf: &[u8]) -> io::Result<usize>
+    ensures { IfOk result (λ count. count ≤ length buf.now) }
+{
     match goal {
         Goal::Output(out) => out.write(buf),
         Goal::Errors(out) => out.write(buf),
