@@ -78,13 +78,21 @@ fn put(rt: &HostRuntime, file: &File, part: &str, name: &str) -> Result<(), Erro
     if fs::rename(rt, part, name).is_ok() {
         return Ok(());
     }
-    match fs::copy(rt, part, name) {
-        Ok(_) => {
+    match copied_over(rt, part, name) {
+        Ok(()) => {
             let _ = fs::remove_file(rt, part);
             Ok(())
         }
         Err(error) => Err(error.kind()),
     }
+}
+
+/// Writes the bytes of a file over those of an existing one, which keeps its owner and its permissions.
+fn copied_over(rt: &HostRuntime, part: &str, name: &str) -> io::Result<()> {
+    let mut from = File::open(rt, part)?;
+    let mut to = File::options().write(true).truncate(true).open(rt, name)?;
+    io::copy(&mut from, &mut to)?;
+    to.sync_all()
 }
 
 /// Empties a file that is written in place, before its first bytes.

@@ -1,4 +1,5 @@
 //! Texts that are asked for.
+use crate::harmless::shown_word;
 use crate::output::Output;
 use ea_bytes::StdOut;
 use ea_messages::{FAULTS, Fault, Outcome, fault_named, say, show};
@@ -27,7 +28,7 @@ pub fn explain_fault(rt: &HostRuntime, word: Option<&str>) -> u8 {
         None => list_of_faults(rt.alloc()),
         Some(word) => match fault_named(word) {
             Some(fault) => page_of(rt.alloc(), &fault),
-            None => return refuse(rt, no_such_fault(rt.alloc(), word)),
+            None => return refuse(rt, no_such_fault(rt, word)),
         },
     };
     match text {
@@ -55,8 +56,11 @@ fn list_of_faults(alloc: Global) -> Result<String, AllocError> {
 }
 
 /// The message if a fault isn't known.
-fn no_such_fault(alloc: Global, word: &str) -> CommandFault {
-    let text = format!(in alloc;
+fn no_such_fault(rt: &HostRuntime, word: &str) -> CommandFault {
+    let Some(word) = shown_word(rt, word) else {
+        return CommandFault::OutOfMemory;
+    };
+    let text = format!(in rt.alloc();
         "error: no fault has the number or name '{word}'\n\nFor a list of all, try 'earliest explain'.\n"
     );
     match text {
