@@ -18,7 +18,7 @@ from .importing.telling import Refused, Summary, ended
 
 
 def elements(path, root_tag, tags):
-    """The elements of an XML file at the first level or below, when they end; what has been gone through is let go."""
+    """The elements of an XML file at the first level or below, when they end; what was read is freed."""
     if not os.path.exists(path):
         raise Refused(f"{path} isn't there")
     opened = gzip.open if path.endswith(".gz") else open

@@ -184,7 +184,7 @@ fn search_again(
     Ok(search)
 }
 
-/// Answers this many random queries with one search, and counts the answers that are those of fresh arrays.
+/// Searches this many random queries with one search, and counts the results that are those of fresh arrays.
 fn ask_again<R: Rng>(
     alloc: Global,
     mut search: Search,
@@ -207,7 +207,7 @@ fn ask_again<R: Rng>(
 }
 
 /// Answers this many random queries with one search in a network of as many nodes, with timetables of all
-/// kinds, and counts the answers that are those of fresh arrays.
+/// kinds, and counts the results that are those of fresh arrays.
 fn ask_of_all_kinds<R: Rng>(
     alloc: Global,
     search: Search,
@@ -230,7 +230,7 @@ fn ask_of_all_kinds<R: Rng>(
 }
 
 /// Answers this many random queries with one search in a random network of this many arcs, and counts the
-/// answers that are those of fresh arrays.
+/// results that are those of fresh arrays.
 fn ask_at_random<R: Rng>(
     alloc: Global,
     search: Search,
@@ -250,7 +250,7 @@ fn ask_at_random<R: Rng>(
 }
 
 /// Answers this many random queries with one search in each of this many random networks, and counts the
-/// answers that are those of fresh arrays.
+/// results that are those of fresh arrays.
 fn count_alike(alloc: Global, nodes: u32, networks: u32, queries: u32) -> Result<u32, AllocError> {
     let mut words = Xoshiro256PlusPlus::seed_from_u64(u64::from(nodes));
     let mut search = Search::reserve(alloc, nodes)?;
