@@ -1,11 +1,13 @@
-//! The limits of everything, the plain records of parsed texts, and reports of progress.
+//! The limits of everything, the plain records of parsed texts, the direction of a run, and reports of progress.
 #![tactic(auto)]
 
+mod direction;
 mod graph;
 mod limits;
 mod progress;
 mod timetable;
 
+pub use direction::Direction;
 pub use graph::{RawArc, RawGraph};
 pub use limits::{
     HORIZON, LEAST_HEAPS, MOST_ARCS, MOST_AT_ONCE, MOST_BATCH, MOST_BYTES, MOST_CLASSES,
