@@ -6,6 +6,7 @@ use Rattle.ea_base.specs.declared.timetable.RawKind.{RawKind}
 use Rattle.ea_base.specs.declared.timetable.RawKind.TheVariants.{Plain, Every, Closed, Rush, Speeds, Trips, Points}
 use Rattle.ea_travel_times.specs.Points.{ArePoints, IsArrivalByPoints}
 use Rattle.ea_travel_times.specs.Speeds.{AreSpeeds, IsArrivalBySpeeds, speed_at}
+use Rattle.ea_travel_times.specs.TimetableLists.{kind_of}
 use Rattle.ea_travel_times.specs.Timetables.{AreFit, ClassAnswers, IsClass, KindAnswers, is_class, is_kind, run_of}
 use Rattle.ea_travel_times.specs.Trips.{AreTrips, IsArrivalByTrips}
 
@@ -52,7 +53,7 @@ class_of kinds steps place (Speeds period first count) fit at = fit.speeds place
 class_of kinds steps place (Trips period first count) fit at = fit.trips place period first count at
 class_of kinds steps place (Points period first count) fit at = fit.points place period first count at
 
-get_of : (kinds : List RawKind) (place : ℕ) (d : RawKind) → place < length kinds → slice_get kinds place ≡ Some (get_or kinds place d)
+pub get_of : (kinds : List RawKind) (place : ℕ) (d : RawKind) → place < length kinds → slice_get kinds place ≡ Some (get_or kinds place d)
 get_of [] place d below = absurd (omega (arith, below))
 get_of (kind ∷ kinds) zero d below = refl
 get_of (kind ∷ kinds) (suc place) d below = get_of kinds place d (omega (arith, below))
@@ -88,3 +89,8 @@ fit_of_few kinds each = record {
 
     few : (place : ℕ) (kind : RawKind) → slice_get kinds place ≡ Some kind → IsTrue (is_kind kind)
     few place kind at = let found = among_of kinds place kind at in each kind (place, (found.0, found.1))
+
+-- the kind of a class of a list that is fit: class 0 is plain
+pub class_fits : (kinds : List RawKind) (steps : List (ℕ × ℕ)) (class : ℕ) → AreFit kinds steps → class ≤ length kinds → IsClass steps (kind_of kinds class)
+class_fits kinds steps zero fit to = refl
+class_fits kinds steps (suc place) fit to = class_at kinds steps place Plain fit (omega (arith, to))

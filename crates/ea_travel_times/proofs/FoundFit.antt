@@ -34,7 +34,7 @@ fit_of_each kinds steps count all each = record {
     one : (place : ℕ) (kind : RawKind) → slice_get kinds place ≡ Some kind → IsClass steps kind
     one place kind at = let found = among_of kinds place kind at in each place kind (omega (arith, found.0, all)) at
 
-read_as : (kinds : List RawKind) (place : ℕ) (kind d : RawKind) → slice_get kinds place ≡ Some kind → get_or kinds place d ≡ kind
+pub read_as : (kinds : List RawKind) (place : ℕ) (kind d : RawKind) → slice_get kinds place ≡ Some kind → get_or kinds place d ≡ kind
 read_as [] place kind d at = cc
 read_as (first ∷ kinds) zero kind d at = cc
 read_as (first ∷ kinds) (suc place) kind d at = read_as kinds place kind d at

@@ -8,3 +8,4 @@ pub mod Classes
 pub mod FoundFit
 pub mod Turns
 pub mod Latest
+pub mod Extremes

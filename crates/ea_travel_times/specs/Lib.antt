@@ -17,3 +17,6 @@ pub mod KindLaws
 pub mod TimetableLaws
 pub mod ProfileLists
 pub mod ProfileLaws
+pub mod Lows
+pub mod Extremes
+pub mod LowLaws

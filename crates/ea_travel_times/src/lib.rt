@@ -4,6 +4,7 @@
 mod arrival_function;
 mod latest_departures;
 pub mod laws;
+mod least_times;
 mod points;
 mod profile;
 mod profile_list;

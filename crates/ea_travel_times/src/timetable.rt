@@ -64,6 +64,10 @@ impl TravelTimes for Timetable {
         Timetable::arrive(self, weight, departure)
     }
 
+    fn low(&self, _class: u32, weight: u64) -> u64 {
+        weight
+    }
+
     fn latest(&self, _class: u32, weight: u64, arrival: u64) -> Option<u64> {
         latest_by(self.kind, weight, arrival)
     }

@@ -3,11 +3,14 @@ ghost use Rattle.std.specs.List.{IsAmong};
 ghost use Rattle.ea_base.specs.declared.timetable.RawKind.{RawKind};
 ghost use Rattle.ea_base.specs.declared.limits.TheConstants.{HORIZON};
 ghost use Rattle.ea_travel_times.specs.Answers.{IsQuestion};
-ghost use Rattle.ea_travel_times.specs.StepLists.{steps_in};
+ghost use Rattle.ea_travel_times.specs.Extremes.{AreExtremes};
+ghost use Rattle.ea_travel_times.specs.Lows.{TimetablesLow};
+ghost use Rattle.ea_travel_times.specs.StepLists.{extremes_in, steps_in};
 ghost use Rattle.ea_travel_times.specs.TimetableLists.{TimetablesAnswer, kind_of};
 ghost use Rattle.ea_travel_times.specs.Timetables.{AreFit, ClassAnswers, IsClass, has_run, is_kind};
 
 use crate::latest_departures::latest_by;
+use crate::least_times::low_at;
 use crate::ranges::all_fit;
 use crate::step_table::StepTable;
 use crate::timetable::arrive_by;
@@ -21,6 +24,7 @@ pub struct Timetables {
     pub list: Vec<RawKind>,
     pub steps: Option<StepTable>,
     pub ghost fit: { AreFit list.items (steps_in steps) },
+    pub ghost extremes: { AreExtremes list.items (steps_in steps) (extremes_in steps) },
 }
 
 impl Timetables {
@@ -49,8 +53,8 @@ impl Timetables {
         Ok(Timetables::new(list))
     }
 
-    /// Travel times by kinds of timetable, whose steps are among these. An error comes only if memory for the sums beside the
-    /// steps was refused.
+    /// Travel times by kinds of timetable, whose steps are among these. An error comes only if memory for the table of
+    /// the steps was refused.
     pub fn with_steps(
         alloc: Global,
         kinds: Vec<RawKind>,
@@ -60,7 +64,7 @@ impl Timetables {
         ensures { IfOk result (λ times.
             (times.list.items ≡ kinds.items) × (steps_in times.steps ≡ steps.items)) }
     {
-        let steps = Some(StepTable::of(alloc, steps)?);
+        let steps = Some(StepTable::of(alloc, &kinds, steps)?);
         Ok(Timetables { list: kinds, steps })
     }
 
@@ -86,6 +90,17 @@ impl Timetables {
         ensures fits { IsClass (steps_in self.now.steps) result }
     {
         self.list[class as usize - 1]
+    }
+
+    /// The least travel time of an arc of a class and a weight.
+    pub fn low(&self, class: u32, weight: u64) -> u64
+        requires { IsQuestion (length self.now.list.items) class weight 0 }
+        ensures { TimetablesLow self.now.list.items (steps_in self.now.steps) class weight result }
+    {
+        if class == 0 {
+            return weight;
+        }
+        low_at(&self.steps, self.kind_at(class), class as usize - 1, weight)
     }
 
     /// When an arc of a class and a weight arrives that is left at a departure.
@@ -198,6 +213,10 @@ impl TravelTimes for Timetables {
     #[inline(always)]
     fn arrive(&self, class: u32, weight: u64, departure: u64) -> u64 {
         Timetables::arrive(self, class, weight, departure)
+    }
+
+    fn low(&self, class: u32, weight: u64) -> u64 {
+        Timetables::low(self, class, weight)
     }
 
     fn latest(&self, class: u32, weight: u64, arrival: u64) -> Option<u64> {

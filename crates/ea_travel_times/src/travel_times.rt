@@ -1,6 +1,7 @@
 ghost use Rattle.std.specs.Prelude.{ℕ};
 ghost use Rattle.ea_travel_times.specs.Answers.{IsFifo, IsQuestion};
 ghost use Rattle.ea_travel_times.specs.Departures.{IsLatest};
+ghost use Rattle.ea_travel_times.specs.Lows.{IsLowerBound};
 
 /// Travel times that depend on the departure and are first in, first out: each class, weight and departure has an
 /// arrival, no arrival is before its departure, and a later departure arrives no earlier. So one departure has exactly
@@ -16,6 +17,14 @@ pub trait TravelTimes {
     fn arrive(&self, class: u32, weight: u64, departure: u64) -> u64
         requires { IsQuestion (classes self.now) class weight departure }
         ensures { answers self.now class weight departure result };
+
+    /// A least travel time of an arc of a class and a weight: no arrival within the horizon is sooner after its departure, whenever that is.
+    fn low(&self, class: u32, weight: u64) -> u64
+        requires { IsQuestion (classes self.now) class weight 0 }
+        ensures { IsLowerBound (answers self.now) class weight result }
+    {
+        0
+    }
 
     /// The latest departure of an arc of a class and a weight that arrives by a time, at most HORIZON; none if every departure arrives
     /// later.

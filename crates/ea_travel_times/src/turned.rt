@@ -35,6 +35,10 @@ impl<'a, T: TravelTimes> TravelTimes for Turned<'a, T> {
         }
     }
 
+    fn low(&self, class: u32, weight: u64) -> u64 {
+        self.times.low(class, weight)
+    }
+
     ghost fifo = { λ turned. turned_is_fifo (T.answers turned.times.now)
         (T.classes turned.times.now) (T.fifo turned.times.now) };
 }

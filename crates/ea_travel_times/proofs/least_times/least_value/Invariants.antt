@@ -1,0 +1,9 @@
+use Rattle.std.proofs.Common.{ℕ, ◌<◌, ◌≤◌, length}
+use Rattle.ea_travel_times.specs.Speeds.{value_at}
+use Rattle.ea_travel_times.proofs.least_times.least_value.Given as goal
+
+abbrev pub invariant-loop-place : goal.invariant-loop-place
+invariant-loop-place l = record {
+  inside : l.least < length l.steps;
+  least : (p : ℕ) → p < l.place → value_at l.steps l.least ≤ value_at l.steps p;
+}
