@@ -21,3 +21,7 @@ pub mod Assigning
 pub mod ArcLists
 pub mod Numbering
 pub mod Turning
+pub mod TurnedWalks
+pub mod TurnedArrivals
+pub mod TurnedLevels
+pub mod TwoSides

@@ -1,9 +1,9 @@
 -- A network whose arcs are turned round is one.
-use Rattle.std.proofs.Common.{◌≡◌, ℕ, zero, suc, ◌+◌, ◌-◌, ◌<◌, List, [], ◌∷◌, ◌++◌, length, map, take, refl, sym, ◌∙◌, ap, subst, arith}
+use Rattle.std.proofs.Common.{◌≡◌, ℕ, zero, suc, ◌+◌, ◌-◌, List, [], ◌∷◌, ◌++◌, map, take, ap, arith}
 use Rattle.std.specs.Prelude.{Some, slice_get}
 use Rattle.std.proofs.lemmas.List.{length-map}
 use Rattle.ea_road.specs.declared.arc.Arc.{Arc}
-use Rattle.ea_road.specs.Roads.{FitsNodes, IsArc, IsNetwork, Roads}
+use Rattle.ea_road.specs.Roads.{IsNetwork, Roads}
 use Rattle.ea_road.specs.Turned.{turned_arc, turned_roads}
 
 -- the arc at a place of the turned list is the arc there, turned

@@ -9,3 +9,4 @@ pub mod Assigned
 pub mod Windows
 pub mod ArcLists
 pub mod Turned
+pub mod LatestDepartures

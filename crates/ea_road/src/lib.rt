@@ -1,10 +1,11 @@
-//! The network: arcs by their tails, queries, walks, and the laws of earliest arrivals.
+//! The network: arcs by their tails, queries, walks, and the laws of earliest arrivals and latest departures.
 #![tactic(auto)]
 
 mod arc;
 mod arc_list;
 mod arcs_of_graph;
 mod known;
+pub mod latest_laws;
 pub mod laws;
 mod leaving_arc;
 mod network;
@@ -12,6 +13,7 @@ mod problem;
 mod query;
 mod source;
 mod tail_index;
+mod target;
 mod turned_arcs;
 mod walk;
 mod window;
@@ -31,6 +33,7 @@ pub use problem::is_problem;
 pub use query::Query;
 pub use source::Source;
 pub use std::alloc::AllocError as OutOfMemory;
+pub use target::{Target, turned_targets};
 pub use walk::run_walk;
 pub use window::window_bits;
 

@@ -1,4 +1,4 @@
-use Rattle.std.proofs.Common.{◌∙◌, refl, [], ◌∷◌, map, take}
+use Rattle.std.proofs.Common.{◌∙◌, refl, [], ◌∷◌, take}
 use Rattle.std.proofs.lemmas.List.{map-append}
 use Rattle.ea_road.specs.Turned.{turned_arc}
 use Rattle.ea_road.proofs.Turning.{one_more}
