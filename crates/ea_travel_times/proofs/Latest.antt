@@ -1,5 +1,5 @@
 -- The latest departures of kinds.
-use Rattle.std.proofs.Common.{◌≡◌, Bool, true, false, ℕ, List, ◌+◌, ◌-◌, ◌*◌, ◌/◌, ◌%◌, ◌<◌, ◌≤◌, inl, inr, refl, ap, sym, ◌∙◌, subst, arith}
+use Rattle.std.proofs.Common.{◌≡◌, false, ℕ, List, ◌+◌, ◌-◌, ◌*◌, ◌/◌, ◌%◌, ◌<◌, ◌≤◌, inl, inr, refl, ap, sym, ◌∙◌, subst, arith}
 use Rattle.std.proofs.Math.Nat.{div-add-mod, mod-le, mul-le-mul_left}
 use Rattle.std.proofs.lemmas.Bool.Decides.{leb_tells, nat_tests}
 use Rattle.std.specs.Prelude.{IsTrue, MatchOption, Option, Some, None}
@@ -151,4 +151,29 @@ module _ (kinds : List RawKind) (steps : List (ℕ × ℕ)) (class : ℕ) (kind 
   latest_in_list weight arrival (Some latest) by = record {
     in_time = into weight arrival latest by.in_time;
     latest = λ later in_time. by.latest later (out_of weight arrival later in_time);
+  }
+
+-- what holds of a kind holds of its class in a list
+module _ (kinds : List RawKind) (steps : List (ℕ × ℕ)) (class : ℕ) (kind : RawKind) (is : kind_of kinds class ≡ kind) where
+  in_class : (weight arrival departure : ℕ) → IsInTime (λ class. ClassAnswers steps kind) 0 weight arrival departure → IsInTime (TimetablesAnswer kinds steps) class weight arrival departure
+  in_class weight arrival departure in_time = record {
+    within = in_time.within;
+    reached = in_time.reached;
+    answer = (let P : RawKind → Type 0 = λ k. ClassAnswers steps k weight departure in_time.reached in subst P (sym is) in_time.answer);
+    by = in_time.by;
+  }
+
+  of_class : (weight arrival departure : ℕ) → IsInTime (TimetablesAnswer kinds steps) class weight arrival departure → IsInTime (λ class. ClassAnswers steps kind) 0 weight arrival departure
+  of_class weight arrival departure in_time = record {
+    within = in_time.within;
+    reached = in_time.reached;
+    answer = (let P : RawKind → Type 0 = λ k. ClassAnswers steps k weight departure in_time.reached in subst P is in_time.answer);
+    by = in_time.by;
+  }
+
+  pub latest_in_class : (weight arrival : ℕ) (result : Option ℕ) → IsLatest (λ class. ClassAnswers steps kind) 0 weight arrival result → IsLatest (TimetablesAnswer kinds steps) class weight arrival result
+  latest_in_class weight arrival None never = λ departure in_time. never departure (of_class weight arrival departure in_time)
+  latest_in_class weight arrival (Some latest) by = record {
+    in_time = in_class weight arrival latest by.in_time;
+    latest = λ later in_time. by.latest later (of_class weight arrival later in_time);
   }

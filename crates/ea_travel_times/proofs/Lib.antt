@@ -9,3 +9,6 @@ pub mod FoundFit
 pub mod Turns
 pub mod Latest
 pub mod Extremes
+pub mod TripsBy
+pub mod SpeedsBy
+pub mod PointsBy

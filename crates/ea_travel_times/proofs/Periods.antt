@@ -102,14 +102,14 @@ module _ (period : ℕ) (steps : List (ℕ × ℕ)) where
       let here : 0 + period * turns ≡ period * turns = omega arith in
       omega (arith, rw here at parts, whole_turns turns, one_turn turns count within)
 
-sum_grows : (speed : ℕ → ℕ) (first last : ℕ) → first ≤ last → speed_sum speed 0 first ≤ speed_sum speed 0 last
+pub sum_grows : (speed : ℕ → ℕ) (first last : ℕ) → first ≤ last → speed_sum speed 0 first ≤ speed_sum speed 0 last
 sum_grows speed first last order =
     let same : first + (last - first) ≡ last = omega arith in
     let parts = sum_on speed 0 first (last - first) in
     omega (arith, rw same at parts)
 
 -- from zero on to a time, by way of an earlier one
-sum_by_way : (speed : ℕ → ℕ) (first last : ℕ) → first ≤ last → speed_sum speed 0 last ≡ speed_sum speed 0 first + speed_sum speed first (last - first)
+pub sum_by_way : (speed : ℕ → ℕ) (first last : ℕ) → first ≤ last → speed_sum speed 0 last ≡ speed_sum speed 0 first + speed_sum speed first (last - first)
 sum_by_way speed first last order =
     let same : first + (last - first) ≡ last = omega arith in
     let here : 0 + first ≡ first = omega arith in

@@ -1,5 +1,6 @@
 pub mod Answers
 pub mod Departures
+pub mod LastSteps
 pub mod TurnedTimes
 pub mod TurnedLaws
 pub mod Speeds

@@ -2,7 +2,12 @@
 #![tactic(auto)]
 
 mod arrival_function;
+mod last_done;
 mod latest_departures;
+mod latest_points;
+mod latest_speeds;
+mod latest_steps;
+mod latest_trips;
 pub mod laws;
 mod least_times;
 mod points;

@@ -94,7 +94,7 @@ fn sums_before(sums: &[u64], sum: u64) -> usize
 }
 
 /// The place of the step of speeds in which a time lies.
-fn step_at(steps: &[(u64, u64)], time: u64) -> usize
+pub(crate) fn step_at(steps: &[(u64, u64)], time: u64) -> usize
     requires some { 0 < length steps.now }
     requires from_zero { time_at steps.now 0 ≡ 0 }
     requires time { time < 2 ^ 63 }
@@ -116,7 +116,13 @@ fn end_of(steps: &[(u64, u64)], place: usize, period: u64) -> u64
 }
 
 /// The sum of a period's speeds before a time that lies in the step at a place or ends it.
-fn sum_until(steps: &[(u64, u64)], sums: &[u64], period: u64, place: usize, time: u64) -> u64
+pub(crate) fn sum_until(
+    steps: &[(u64, u64)],
+    sums: &[u64],
+    period: u64,
+    place: usize,
+    time: u64,
+) -> u64
     requires speeds { AreSpeeds period steps.now }
     requires sums { AreRunSums steps.now sums.now }
     requires place { place < length steps.now }
@@ -129,7 +135,7 @@ fn sum_until(steps: &[(u64, u64)], sums: &[u64], period: u64, place: usize, time
 }
 
 /// The sum of a period's speeds.
-fn sum_of_period(steps: &[(u64, u64)], sums: &[u64], period: u64) -> u64
+pub(crate) fn sum_of_period(steps: &[(u64, u64)], sums: &[u64], period: u64) -> u64
     requires speeds { AreSpeeds period steps.now }
     requires sums { AreRunSums steps.now sums.now }
     ensures is { result ≡ sum_to steps.now period }
@@ -140,7 +146,7 @@ fn sum_of_period(steps: &[(u64, u64)], sums: &[u64], period: u64) -> u64
 }
 
 /// When the sum of a period's speeds is first so large.
-fn time_of_sum(steps: &[(u64, u64)], sums: &[u64], period: u64, sum: u64) -> u64
+pub(crate) fn time_of_sum(steps: &[(u64, u64)], sums: &[u64], period: u64, sum: u64) -> u64
     requires speeds { AreSpeeds period steps.now }
     requires sums { AreRunSums steps.now sums.now }
     requires from_one { 0 < sum }

@@ -10,6 +10,7 @@ ghost use Rattle.ea_travel_times.specs.TimetableLists.{TimetablesAnswer, kind_of
 ghost use Rattle.ea_travel_times.specs.Timetables.{AreFit, ClassAnswers, IsClass, has_run, is_kind};
 
 use crate::latest_departures::latest_by;
+use crate::latest_steps::latest_by_steps;
 use crate::least_times::low_at;
 use crate::ranges::all_fit;
 use crate::step_table::StepTable;
@@ -225,7 +226,7 @@ impl TravelTimes for Timetables {
         }
         let kind = self.kind_at(class);
         if has_steps(kind) {
-            return self.latest_by_halves(class, weight, arrival);
+            return latest_by_steps(&self.steps, kind, weight, arrival);
         }
         latest_by(kind, weight, arrival)
     }
