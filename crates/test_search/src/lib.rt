@@ -12,6 +12,8 @@ mod constants;
 #[cfg(test)]
 mod latest;
 #[cfg(test)]
+mod latest_at_random;
+#[cfg(test)]
 mod networks;
 #[cfg(test)]
 mod refused;
