@@ -8,8 +8,10 @@
  *     anything). Lists and results of one call don't overlap one another or a handle.
  *   - A handle is set to EARLIEST_NOTHING before its first use, and is not copied: it is passed by its address, and one copy of it is
  *     in use. No program writes to it.
- *   - One thread at a time is in a call with one handle, and hands it to another thread through a lock, the thread's start or its
+ *   - One thread at a time is in a call with one road's handle, and hands it to another thread through a lock, the thread's start or its
  *     end. Different handles are used by different threads at the same time, also where searches share a road.
+ *   - A search lets in one call at a time: a second one is refused at once (EARLIEST_BUSY) and changes nothing. Threads that share a
+ *     search find the answer of whichever query came last.
  *   - No call is made from a signal handler, or in the child of a fork of a process with threads.
  *
  * Nodes and arcs are numbered from 1, arcs in the order in which they were given. Times are whole numbers from 0 to
@@ -30,11 +32,15 @@ extern "C" {
 /* The arrival at a node that no walk reaches within the horizon. */
 #define EARLIEST_NEVER UINT64_MAX
 
-/* A share of a road; EARLIEST_NOTHING where it holds none. */
-typedef struct earliest_road { void *at; } earliest_road;
-/* A search with its last answer; EARLIEST_NOTHING where it holds none. */
-typedef struct earliest_search { void *at; } earliest_search;
+/* A share of a road; EARLIEST_NOTHING where it holds none. `inside` is unused: handles have one form. */
+typedef struct earliest_road { void *at; uint32_t inside; } earliest_road;
+/* A search with its last answer; EARLIEST_NOTHING where it holds none. `inside` is 1 while a call is in it. */
+typedef struct earliest_search { void *at; uint32_t inside; } earliest_search;
+#ifdef __cplusplus
+#define EARLIEST_NOTHING {}
+#else
 #define EARLIEST_NOTHING { 0 }
+#endif
 
 /* What is wrong with a text. */
 typedef struct earliest_fault {
@@ -65,6 +71,7 @@ enum earliest_number {
     EARLIEST_NOT_REACHED = 22,    /* no walk reaches the node within the horizon */
     EARLIEST_LENGTHS_DIFFER = 23, /* lists that belong together have different lengths */
     EARLIEST_ROOM_TOO_SMALL = 24, /* there is another room than the result takes */
+    EARLIEST_BUSY = 25,           /* another call is in the search */
     EARLIEST_BAD_LINE = 31,       /* a report's line is not what its place asks; 0 where it ends too early */
     EARLIEST_NOT_ATTAINED = 32,   /* a report's time or walk is not attained */
     EARLIEST_NOT_LEAST = 33,      /* a walk arrives before a report's time */
@@ -100,6 +107,8 @@ uint32_t earliest_road_arcs(earliest_road *road);
 /* Lets a road go; `road` is EARLIEST_NOTHING then. Searches on it keep their shares and go on. */
 void earliest_road_free(earliest_road *road);
 
+/* Each call with a search may also be refused by EARLIEST_BUSY, and changes nothing then. */
+
 /* Makes a search on a road, with room for walks where `walks` isn't 0: then each query finds canonical walks, too, which takes about
  * twice as long. `search` holds it then, and what it held before is let go. Refusals: EARLIEST_NO_ROAD, 13. */
 uint32_t earliest_search_new(earliest_road *road, uint32_t walks, earliest_search *search);
@@ -119,8 +128,52 @@ uint32_t earliest_search_arrivals(earliest_search *search, uint64_t *out, size_t
  * EARLIEST_NO_SEARCH, EARLIEST_NO_SUCH_NODE, EARLIEST_NOT_ASKED, EARLIEST_NO_WALKS, EARLIEST_NOT_REACHED, 13, where `out` and `count`
  * are as they were. */
 uint32_t earliest_search_walk(earliest_search *search, uint32_t node, uint32_t *out, size_t room, uint64_t *count);
-/* Lets a search go; `search` is EARLIEST_NOTHING then. */
+/* Lets a search go; `search` is EARLIEST_NOTHING then. With this header it returns a number, 0 or EARLIEST_BUSY. */
 void earliest_search_free(earliest_search *search);
+
+/* Lets a call into a search: 0, or EARLIEST_BUSY where another one is inside. The calls below do so by themselves; who calls the
+ * library without this header, by ctypes say, takes a lock. */
+static inline uint32_t earliest_enter(uint32_t *inside) {
+    return __atomic_exchange_n(inside, UINT32_C(1), __ATOMIC_SEQ_CST) ? (uint32_t)EARLIEST_BUSY : (uint32_t)EARLIEST_DONE;
+}
+/* Ends a call that was let in. */
+static inline void earliest_leave(uint32_t *inside) { __atomic_store_n(inside, UINT32_C(0), __ATOMIC_SEQ_CST); }
+
+/* The calls with a search, each let in before and out behind. */
+#define EARLIEST_ALONE_(search, call) \
+    uint32_t number_ = earliest_enter(&(search)->inside); \
+    if (number_) return number_; \
+    number_ = (call); \
+    earliest_leave(&(search)->inside); \
+    return number_
+static inline uint32_t earliest_search_new_alone(earliest_road *road, uint32_t walks, earliest_search *search) {
+    EARLIEST_ALONE_(search, earliest_search_new(road, walks, search));
+}
+static inline uint32_t earliest_search_from_alone(earliest_search *search, const uint32_t *nodes, size_t node_count, const uint64_t *departures, size_t departure_count) {
+    EARLIEST_ALONE_(search, earliest_search_from(search, nodes, node_count, departures, departure_count));
+}
+static inline uint32_t earliest_search_pair_alone(earliest_search *search, uint32_t source, uint64_t departure, uint32_t target) {
+    EARLIEST_ALONE_(search, earliest_search_pair(search, source, departure, target));
+}
+static inline uint32_t earliest_search_arrival_alone(earliest_search *search, uint32_t node, uint64_t *arrival) {
+    EARLIEST_ALONE_(search, earliest_search_arrival(search, node, arrival));
+}
+static inline uint32_t earliest_search_arrivals_alone(earliest_search *search, uint64_t *out, size_t count) {
+    EARLIEST_ALONE_(search, earliest_search_arrivals(search, out, count));
+}
+static inline uint32_t earliest_search_walk_alone(earliest_search *search, uint32_t node, uint32_t *out, size_t room, uint64_t *count) {
+    EARLIEST_ALONE_(search, earliest_search_walk(search, node, out, room, count));
+}
+static inline uint32_t earliest_search_free_alone(earliest_search *search) {
+    EARLIEST_ALONE_(search, (earliest_search_free(search), (uint32_t)EARLIEST_DONE));
+}
+#define earliest_search_new earliest_search_new_alone
+#define earliest_search_from earliest_search_from_alone
+#define earliest_search_pair earliest_search_pair_alone
+#define earliest_search_arrival earliest_search_arrival_alone
+#define earliest_search_arrivals earliest_search_arrivals_alone
+#define earliest_search_walk earliest_search_walk_alone
+#define earliest_search_free earliest_search_free_alone
 
 /* Checks the text of a report on a road, of searches from these nodes to all nodes: 0 where it is right, else 31 to 35, with its first
  * wrong line in `fault`. Refusals: EARLIEST_NO_ROAD, EARLIEST_NO_SUCH_NODE, EARLIEST_BEYOND_HORIZON, 13, which say nothing of the
@@ -150,6 +203,7 @@ static inline const char *earliest_message(uint32_t number) {
     case EARLIEST_NOT_REACHED: return "no walk reaches the node within the horizon (22 NotReached)";
     case EARLIEST_LENGTHS_DIFFER: return "lists that belong together have different lengths (23 LengthsDiffer)";
     case EARLIEST_ROOM_TOO_SMALL: return "the room is not that of the result (24 RoomTooSmall)";
+    case EARLIEST_BUSY: return "another call is in the search (25 Busy)";
     case EARLIEST_BAD_LINE: return "a line is not what its place asks (31 BadLine)";
     case EARLIEST_NOT_ATTAINED: return "a line is not attained (32 NotAttained)";
     case EARLIEST_NOT_LEAST: return "a line is not the least arrival (33 NotLeast)";

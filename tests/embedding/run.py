@@ -66,6 +66,10 @@ def in_c(room):
         yield "the calls of C under valgrind", ran([*words, plain, *FILES]), (0, b"", b"")
     else:
         print("left out: the calls of C under valgrind, which isn't there")
+    threads = os.path.join(room, "threads")
+    said = built("cc", ["-std=c99", "-D_POSIX_C_SOURCE=200112L", "-pthread", "-g", "-fsanitize=address,undefined"], os.path.join(HERE, "threads.c"), threads)
+    yield "threads with one search, compiled", said, None
+    yield "threads with one search", ran([threads, "four-nodes.gr"]), (0, b"", b"")
     yield "walk_to.c, compiled", built("cc", ["-std=c99"], os.path.join(EXAMPLES, "walk_to.c"), example), None
     yield "walk_to", ran([example, "four-nodes.gr", "1", "0", "4"]), (0, b"node 4 at 6, over 2 3 4\n", b"")
     yield "walk_to, not reached", ran([example, "four-nodes.gr", "4", "0", "1"]), (0, b"node 1 is not reached\n", b"")
