@@ -131,6 +131,28 @@ uint32_t earliest_search_walk(earliest_search *search, uint32_t node, uint32_t *
 /* Lets a search go; `search` is EARLIEST_NOTHING then. With this header it returns a number, 0 or EARLIEST_BUSY. */
 void earliest_search_free(earliest_search *search);
 
+/* Turns a road round, for searches for latest departures, which share it; it takes as much memory as the road's network once more. `turned`
+ * holds it then, with a share of the road, and what it held before is let go; earliest_road_free lets it go. Refusals:
+ * EARLIEST_NO_ROAD, 13. */
+uint32_t earliest_road_turned(earliest_road *road, earliest_road *turned);
+/* Makes a search for latest departures on a road turned round; else like earliest_search_new. The calls of this part take such a search,
+ * and those above a search made by earliest_search_new: each refuses the other sort (EARLIEST_NO_SEARCH). Both are let go by
+ * earliest_search_free. */
+uint32_t earliest_search_new_until(earliest_road *turned, uint32_t walks, earliest_search *search);
+/* Searches for the latest departures of all nodes from which some of these nodes is reached by its time; lists of 0 give no node one.
+ * Refusals as for earliest_search_from. */
+uint32_t earliest_search_until(earliest_search *search, const uint32_t *nodes, size_t node_count, const uint64_t *times, size_t time_count);
+/* Searches for the latest departure from one node by which one target is reached by a time. Refusals as for earliest_search_pair. */
+uint32_t earliest_search_pair_until(earliest_search *search, uint32_t source, uint32_t target, uint64_t time);
+/* The latest departure of a node for which the last query asked, after a pair its source; EARLIEST_NEVER where no departure is in time,
+ * and before the first query. Refusals as for earliest_search_arrival. */
+uint32_t earliest_search_departure(earliest_search *search, uint32_t node, uint64_t *departure);
+/* The latest departures of all nodes; else like earliest_search_arrivals. */
+uint32_t earliest_search_departures(earliest_search *search, uint64_t *out, size_t count);
+/* The canonical walk to a target from a node that is left at its latest departure; else like earliest_search_walk. A target that may be
+ * left at its own time has the empty walk. */
+uint32_t earliest_search_walk_until(earliest_search *search, uint32_t node, uint32_t *out, size_t room, uint64_t *count);
+
 /* Lets a call into a search: 0, or EARLIEST_BUSY where another one is inside. The calls below do so by themselves; who calls the
  * library without this header, by ctypes say, takes a lock. */
 static inline uint32_t earliest_enter(uint32_t *inside) {
@@ -164,6 +186,24 @@ static inline uint32_t earliest_search_arrivals_alone(earliest_search *search, u
 static inline uint32_t earliest_search_walk_alone(earliest_search *search, uint32_t node, uint32_t *out, size_t room, uint64_t *count) {
     EARLIEST_ALONE_(search, earliest_search_walk(search, node, out, room, count));
 }
+static inline uint32_t earliest_search_new_until_alone(earliest_road *turned, uint32_t walks, earliest_search *search) {
+    EARLIEST_ALONE_(search, earliest_search_new_until(turned, walks, search));
+}
+static inline uint32_t earliest_search_until_alone(earliest_search *search, const uint32_t *nodes, size_t node_count, const uint64_t *times, size_t time_count) {
+    EARLIEST_ALONE_(search, earliest_search_until(search, nodes, node_count, times, time_count));
+}
+static inline uint32_t earliest_search_pair_until_alone(earliest_search *search, uint32_t source, uint32_t target, uint64_t time) {
+    EARLIEST_ALONE_(search, earliest_search_pair_until(search, source, target, time));
+}
+static inline uint32_t earliest_search_departure_alone(earliest_search *search, uint32_t node, uint64_t *departure) {
+    EARLIEST_ALONE_(search, earliest_search_departure(search, node, departure));
+}
+static inline uint32_t earliest_search_departures_alone(earliest_search *search, uint64_t *out, size_t count) {
+    EARLIEST_ALONE_(search, earliest_search_departures(search, out, count));
+}
+static inline uint32_t earliest_search_walk_until_alone(earliest_search *search, uint32_t node, uint32_t *out, size_t room, uint64_t *count) {
+    EARLIEST_ALONE_(search, earliest_search_walk_until(search, node, out, room, count));
+}
 static inline uint32_t earliest_search_free_alone(earliest_search *search) {
     EARLIEST_ALONE_(search, (earliest_search_free(search), (uint32_t)EARLIEST_DONE));
 }
@@ -173,6 +213,12 @@ static inline uint32_t earliest_search_free_alone(earliest_search *search) {
 #define earliest_search_arrival earliest_search_arrival_alone
 #define earliest_search_arrivals earliest_search_arrivals_alone
 #define earliest_search_walk earliest_search_walk_alone
+#define earliest_search_new_until earliest_search_new_until_alone
+#define earliest_search_until earliest_search_until_alone
+#define earliest_search_pair_until earliest_search_pair_until_alone
+#define earliest_search_departure earliest_search_departure_alone
+#define earliest_search_departures earliest_search_departures_alone
+#define earliest_search_walk_until earliest_search_walk_until_alone
 #define earliest_search_free earliest_search_free_alone
 
 /* Checks the text of a report on a road, of searches from these nodes to all nodes: 0 where it is right, else 31 to 35, with its first

@@ -197,7 +197,14 @@ struct start {
     std::uint64_t departure;
 };
 
+/// A node, and the time by which it has to be reached.
+struct stop {
+    std::uint32_t node;
+    std::uint64_t time;
+};
+
 class search;
+class latest;
 
 /// A road with its timetables.
 class road {
@@ -250,15 +257,17 @@ public:
 
 private:
     friend class search;
-    /// A handle, the lock under which one thread at a time calls with it, and what never changes.
+    friend class latest;
+    /// A handle, that of the road turned round when it is first asked for, the lock under which one thread at a time calls with them, and
+    /// what never changes.
     struct core {
-        earliest_road handle = EARLIEST_NOTHING;
+        earliest_road handle = EARLIEST_NOTHING, turned = EARLIEST_NOTHING;
         std::mutex lock;
         std::uint32_t nodes = 0, arcs = 0;
         core() = default;
         core(const core &) = delete;
         core &operator=(const core &) = delete;
-        ~core() { earliest_road_free(&handle); }
+        ~core() { earliest_road_free(&handle), earliest_road_free(&turned); }
     };
     explicit road(std::unique_ptr<core> it) noexcept : core_(std::move(it)) {}
     road counted() {
@@ -369,6 +378,92 @@ public:
 
 private:
     search() = default;
+    earliest_search handle_ = EARLIEST_NOTHING;
+    std::uint32_t nodes_ = 0;
+};
+
+/// A search for latest departures on a road, with its last answer. It has a share of the road, which may go before it.
+class latest {
+public:
+#ifndef EARLIEST_EXPECTED
+    /// As on.
+    explicit latest(const road &where, bool walks = true) : latest(on(where, walks)) {}
+#endif
+    /// A search on a road, which is turned round once for all such searches; with walks each query finds canonical walks, too.
+    static detail::returned<latest> on(const road &where, bool walks = true) {
+        EARLIEST_TEST_(where.core_ ? 0u : std::uint32_t{EARLIEST_NO_ROAD}, earliest_fault{});
+        latest made;
+        std::lock_guard<std::mutex> alone(where.core_->lock);
+        if (!where.core_->turned.at) EARLIEST_TEST_(earliest_road_turned(&where.core_->handle, &where.core_->turned), earliest_fault{});
+        EARLIEST_TEST_(earliest_search_new_until(&where.core_->turned, walks ? 1 : 0, &made.handle_), earliest_fault{});
+        made.nodes_ = where.core_->nodes;
+        return made;
+    }
+    latest(latest &&other) noexcept : handle_(std::exchange(other.handle_, earliest_search EARLIEST_NOTHING)), nodes_(std::exchange(other.nodes_, 0)) {}
+    /// Lets go what this held; the other holds nothing then.
+    latest &operator=(latest &&other) noexcept {
+        if (this != &other) {
+            earliest_search_free(&handle_);
+            handle_ = std::exchange(other.handle_, earliest_search EARLIEST_NOTHING);
+            nodes_ = std::exchange(other.nodes_, 0);
+        }
+        return *this;
+    }
+    latest(const latest &) = delete;
+    latest &operator=(const latest &) = delete;
+    ~latest() { earliest_search_free(&handle_); }
+
+    /// Searches for the latest departures of all nodes from which some of these stops is reached by its time.
+#ifdef EARLIEST_EXPECTED
+    expected<void> until(list<stop> stops) {
+#else
+    latest &until(list<stop> stops) {
+#endif
+        std::vector<std::uint32_t> nodes(1 + stops.size());
+        std::vector<std::uint64_t> times(1 + stops.size());
+        for (std::size_t i = 0; i < stops.size(); i++) nodes[i] = stops[i].node, times[i] = stops[i].time;
+        EARLIEST_TEST_(earliest_search_until(&handle_, nodes.data(), stops.size(), times.data(), stops.size()), earliest_fault{});
+#ifdef EARLIEST_EXPECTED
+        return {};
+#else
+        return *this;
+#endif
+    }
+    /// The latest departure from a node by which one stop is reached by its time; none if no departure is in time.
+    detail::returned<std::optional<std::uint64_t>> from(std::uint32_t source, stop target) {
+        EARLIEST_TEST_(earliest_search_pair_until(&handle_, source, target.node, target.time), earliest_fault{});
+        return departure(source);
+    }
+    /// The latest departure of a node for which the last query asked.
+    detail::returned<std::optional<std::uint64_t>> departure(std::uint32_t node) {
+        std::uint64_t time = never;
+        EARLIEST_TEST_(earliest_search_departure(&handle_, node, &time), earliest_fault{});
+        return time == never ? std::optional<std::uint64_t>() : std::optional<std::uint64_t>(time);
+    }
+    /// The latest departures of all nodes, the first that of node 1; `never` for a node that can't be left in time.
+    detail::returned<std::vector<std::uint64_t>> departures() {
+        std::vector<std::uint64_t> out(nodes_ + std::size_t{1});
+        EARLIEST_TEST_(earliest_search_departures(&handle_, out.data(), nodes_), earliest_fault{});
+        out.pop_back();
+        return out;
+    }
+    /// The numbers of the arcs of a node's canonical walk to a stop; none if no departure is in time.
+    detail::returned<std::optional<std::vector<std::uint32_t>>> walk(std::uint32_t node) {
+        std::vector<std::uint32_t> out(256);
+        std::uint64_t count = 0;
+        std::uint32_t number = earliest_search_walk_until(&handle_, node, out.data(), out.size(), &count);
+        if (number == EARLIEST_ROOM_TOO_SMALL) {
+            out.resize(static_cast<std::size_t>(count));
+            number = earliest_search_walk_until(&handle_, node, out.data(), out.size(), &count);
+        }
+        if (number == EARLIEST_NOT_REACHED) return std::optional<std::vector<std::uint32_t>>();
+        EARLIEST_TEST_(number, earliest_fault{});
+        out.resize(static_cast<std::size_t>(count));
+        return std::optional<std::vector<std::uint32_t>>(std::move(out));
+    }
+
+private:
+    latest() = default;
     earliest_search handle_ = EARLIEST_NOTHING;
     std::uint32_t nodes_ = 0;
 };

@@ -251,6 +251,13 @@ static int many(const char *gr, size_t gr_length, const char *tp, size_t tp_leng
         case 18: case 19: case 20: case 21: case 22: case 23: number = earliest_search_walk(search, nodes[0], out, word() % 65, &one); break;
         case 24: number = earliest_check(road, nodes, word() % 5, &(earliest_starts){any(9), any(9), (uint32_t)any(1)}, tp, word() % tp_length, &fault); break;
         case 25: number = earliest_road_of_lists(nodes[0], nodes, word() % 5, nodes, word() % 5, nodes, word() % 5, nodes, word() % 5, tp, word() % 2, road, &fault); break;
+        case 26: number = earliest_road_turned(road, &roads[word() % 2]); break;
+        case 27: number = earliest_search_new_until(road, (uint32_t)any(1), search); break;
+        case 28: case 29: number = earliest_search_until(search, nodes, word() % 5, departures, word() % 5); break;
+        case 30: number = earliest_search_pair_until(search, nodes[0], nodes[1], departures[0]); break;
+        case 31: number = earliest_search_departures(search, all, word() % 2 ? size : word() % 4096); break;
+        case 32: number = earliest_search_walk_until(search, nodes[0], out, word() % 65, &one); break;
+        case 33: number = earliest_search_departure(search, nodes[0], &one); break;
         default: number = earliest_search_arrival(search, nodes[0], &one); break;
         }
         TEST(number <= 35);
@@ -258,6 +265,72 @@ static int many(const char *gr, size_t gr_length, const char *tp, size_t tp_leng
     for (int i = 0; i < 2; i++) earliest_road_free(&roads[i]);
     for (int i = 0; i < 3; i++) earliest_search_free(&searches[i]);
     free(all);
+    return 0;
+}
+
+/* The example four-nodes turned round: latest departures, walks to targets, and refusals. */
+static int latest(const char *gr, size_t length) {
+    earliest_road road = EARLIEST_NOTHING, turned = EARLIEST_NOTHING;
+    earliest_search search = EARLIEST_NOTHING, plain = EARLIEST_NOTHING, forward = EARLIEST_NOTHING;
+    earliest_fault fault;
+    uint32_t nodes[2] = {4, 3}, walk[3] = {9, 9, 9};
+    uint64_t times[2] = {6, 1}, departures[4] = {7, 7, 7, 7}, departure = 7, count = 7;
+
+    TEST(earliest_road_turned(&road, &turned) == EARLIEST_NO_ROAD && turned.at == NULL);
+    TEST(earliest_search_new_until(&turned, 1, &search) == EARLIEST_NO_ROAD && search.at == NULL);
+    TEST(earliest_search_until(&search, nodes, 1, times, 1) == EARLIEST_NO_SEARCH);
+    TEST(earliest_road_read(gr, length, "", 0, &road, &fault) == 0);
+    TEST(earliest_search_new_until(&road, 1, &search) == EARLIEST_NO_ROAD);
+    TEST(earliest_road_turned(&road, &turned) == 0 && earliest_road_turned(&turned, &road) == EARLIEST_NO_ROAD && road.at);
+    TEST(earliest_road_nodes(&turned) == 0 && earliest_search_new(&turned, 1, &forward) == EARLIEST_NO_ROAD);
+    TEST(earliest_search_new_until(&turned, 1, &search) == 0 && earliest_search_new_until(&turned, 0, &plain) == 0);
+    TEST(earliest_search_new(&road, 1, &forward) == 0);
+    earliest_road_free(&road), earliest_road_free(&turned);
+    TEST(turned.at == NULL);
+    TEST(earliest_search_departure(&search, 1, &departure) == 0 && departure == EARLIEST_NEVER);
+
+    TEST(earliest_search_until(&search, nodes, 1, times, 1) == 0 && earliest_search_departures(&search, departures, 4) == 0);
+    TEST(departures[0] == 0 && departures[1] == 5 && departures[2] == 2 && departures[3] == 6);
+    TEST(earliest_search_walk_until(&search, 1, walk, 3, &count) == 0 && count == 3 && walk[0] == 2 && walk[1] == 3 && walk[2] == 4);
+    TEST(earliest_search_walk_until(&search, 3, walk, 3, &count) == 0 && count == 2 && walk[0] == 3 && walk[1] == 4);
+    TEST(earliest_search_walk_until(&search, 4, walk, 0, &count) == 0 && count == 0);
+    TEST(earliest_search_walk_until(&search, 1, walk, 2, &count) == EARLIEST_ROOM_TOO_SMALL && count == 3);
+    TEST(earliest_search_departures(&search, departures, 3) == EARLIEST_ROOM_TOO_SMALL);
+    times[0] = 5;
+    TEST(earliest_search_until(&search, nodes, 1, times, 1) == 0 && earliest_search_departures(&search, departures, 4) == 0);
+    TEST(departures[0] == EARLIEST_NEVER && departures[1] == 4 && departures[2] == 1 && departures[3] == 5);
+    TEST(earliest_search_walk_until(&search, 1, walk, 3, &count) == EARLIEST_NOT_REACHED);
+    /* Node 3 by 1 and node 4 by 5: leaving 3 at 1 is in time for both, and at 3 the empty walk is the shorter one. */
+    TEST(earliest_search_until(&search, nodes, 2, times, 2) == 0 && earliest_search_departure(&search, 3, &departure) == 0 && departure == 1);
+    TEST(earliest_search_walk_until(&search, 3, walk, 3, &count) == 0 && count == 0);
+    TEST(earliest_search_until(&search, nodes, 0, times, 0) == 0 && earliest_search_departure(&search, 4, &departure) == 0 && departure == EARLIEST_NEVER);
+
+    TEST(earliest_search_pair_until(&search, 1, 4, 6) == 0 && earliest_search_departure(&search, 1, &departure) == 0 && departure == 0);
+    TEST(earliest_search_walk_until(&search, 1, walk, 3, &count) == 0 && count == 3 && walk[0] == 2);
+    TEST(earliest_search_departure(&search, 4, &departure) == EARLIEST_NOT_ASKED && departure == 0);
+    TEST(earliest_search_departures(&search, departures, 4) == EARLIEST_NOT_ASKED);
+    TEST(earliest_search_pair_until(&search, 4, 1, 6) == 0 && earliest_search_departure(&search, 4, &departure) == 0 && departure == EARLIEST_NEVER);
+    TEST(earliest_search_pair_until(&search, 1, 4, EARLIEST_HORIZON) == 0 && earliest_search_departure(&search, 1, &departure) == 0);
+    TEST(departure == EARLIEST_HORIZON - 6);
+
+    times[0] = 6;
+    TEST(earliest_search_until(&search, nodes, 1, times, 1) == 0);
+    TEST(earliest_search_until(&search, nodes, 2, times, 1) == EARLIEST_LENGTHS_DIFFER);
+    nodes[1] = 5;
+    TEST(earliest_search_until(&search, nodes, 2, times, 2) == EARLIEST_NO_SUCH_NODE);
+    nodes[1] = 3, times[1] = EARLIEST_HORIZON + 1;
+    TEST(earliest_search_until(&search, nodes, 2, times, 2) == EARLIEST_BEYOND_HORIZON);
+    TEST(earliest_search_pair_until(&search, 0, 4, 6) == EARLIEST_NO_SUCH_NODE && earliest_search_pair_until(&search, 1, 5, 6) == EARLIEST_NO_SUCH_NODE);
+    TEST(earliest_search_pair_until(&search, 1, 4, EARLIEST_HORIZON + 1) == EARLIEST_BEYOND_HORIZON);
+    TEST(earliest_search_departure(&search, 2, &departure) == 0 && departure == 5);
+    TEST(earliest_search_departure(&search, 0, &departure) == EARLIEST_NO_SUCH_NODE && earliest_search_departure(&search, 5, &departure) == EARLIEST_NO_SUCH_NODE);
+
+    TEST(earliest_search_from(&search, nodes, 1, times, 1) == EARLIEST_NO_SEARCH && earliest_search_pair(&search, 1, 0, 4) == EARLIEST_NO_SEARCH);
+    TEST(earliest_search_arrival(&search, 2, &departure) == EARLIEST_NO_SEARCH && earliest_search_walk(&search, 1, walk, 3, &count) == EARLIEST_NO_SEARCH);
+    TEST(earliest_search_until(&forward, nodes, 1, times, 1) == EARLIEST_NO_SEARCH && earliest_search_departure(&forward, 1, &departure) == EARLIEST_NO_SEARCH);
+    TEST(earliest_search_until(&plain, nodes, 1, times, 1) == 0 && earliest_search_departure(&plain, 1, &departure) == 0 && departure == 0);
+    TEST(earliest_search_walk_until(&plain, 1, walk, 3, &count) == EARLIEST_NO_WALKS);
+    earliest_search_free(&search), earliest_search_free(&plain), earliest_search_free(&forward);
     return 0;
 }
 
@@ -302,7 +375,7 @@ int main(int count, char **words) {
     if (count != 4 && count != 5) return 2;
     size_t four_length, gr_length, tp_length;
     char *four = text_of(words[1], &four_length), *gr = text_of(words[2], &gr_length), *tp = text_of(words[3], &tp_length);
-    int failed = four_nodes(four, four_length) || of_lists() || no_lists() || many(gr, gr_length, tp, tp_length) || long_path(count == 5 ? strtoul(words[4], NULL, 10) : 1000);
+    int failed = four_nodes(four, four_length) || latest(four, four_length) || of_lists() || no_lists() || many(gr, gr_length, tp, tp_length) || long_path(count == 5 ? strtoul(words[4], NULL, 10) : 1000);
     free(four), free(gr), free(tp);
     return failed;
 }

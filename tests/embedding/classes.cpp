@@ -17,6 +17,11 @@ int main() {
     earliest::search search(plain);
     TEST(search.from({{1, 0}}).arrivals() == (std::vector<std::uint64_t>{0, 5, 2, 6}));
     TEST(search.walk(4) == (std::vector<std::uint32_t>{2, 3, 4}));
+    earliest::latest latest(plain);
+    TEST(latest.until({{4, 6}}).departures() == (std::vector<std::uint64_t>{0, 5, 2, 6}));
+    TEST(latest.walk(1) == (std::vector<std::uint32_t>{2, 3, 4}) && latest.departure(2) == std::optional<std::uint64_t>(5));
+    TEST(latest.from(1, {4, 5}) == std::nullopt && latest.from(1, {4, 7}) == std::optional<std::uint64_t>(1));
+    TEST(earliest::latest(plain, false).from(3, {4, 6}) == std::optional<std::uint64_t>(2));
     earliest::road timed = earliest::road::of_arcs(4, tails, heads, weights, classes, "p tp 1 0\nk 1 every 10 0\n");
     earliest::search other(timed);
     // The arc from 2 to 4 is left at 10, so the one from 3 to 4, which takes 9, is as early.

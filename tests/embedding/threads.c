@@ -69,7 +69,7 @@ int main(int count, char **words) {
     }
     TEST(all == (uint64_t)THREADS * ROUNDS * 3 && done > 0);
 
-    /* A call that is let in by hand keeps others out, and what it leaves serves on. */
+    /* While a call is inside, others are refused; afterwards the search answers again. */
     TEST(earliest_enter(&search.inside) == 0 && earliest_enter(&search.inside) == EARLIEST_BUSY);
     TEST(earliest_search_pair(&search, 1, 0, 4) == EARLIEST_BUSY);
     TEST(earliest_search_arrival(&search, 4, &first) == EARLIEST_BUSY && first == 0);

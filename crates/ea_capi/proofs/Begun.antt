@@ -1,11 +1,10 @@
 -- A new search.
-use Rattle.std.proofs.Common.{◌≡◌, ℕ, Bool, refl, sym, subst, inl, inr}
+use Rattle.std.proofs.Common.{ℕ, Bool, refl, inl, inr}
 use Rattle.std.specs.Prelude.{Option, Some, None}
 use Rattle.ea_load.specs.declared.road.Road.{Road}
 use Rattle.ea_capi.specs.declared.handle.content.Content.{Content}
 use Rattle.ea_capi.specs.declared.handle.content.Session.{Session}
 use Rattle.ea_capi.specs.Calls.{IsBegun, IsNew, IsHeld, IsThere, held, no_memory}
-use Rattle.ea_capi.specs.States.{road_in}
 
 pub begun : (road : Option Road) (walks : Bool) (session : Session) (old new : Option Content) (number : ℕ) → IsNew road walks (Some session) → IsHeld session old new number → IsBegun road walks old new number
 begun None walks session old new number is here = absurd is

@@ -7,3 +7,7 @@ mod Asking
 mod Begun
 mod Judged
 mod Listing
+mod Timely
+mod TurnedRound
+mod Ending
+mod QueryingUntil

@@ -1,14 +1,19 @@
 -- Labels written place by place, and the asked node.
-use Rattle.std.proofs.Common.{◌≡◌, ◌≢◌, ℕ, zero, suc, ◌+◌, ◌-◌, ◌<◌, ◌≤◌, List, length, get_or, slice_set, refl, ap, sym, ◌∙◌, subst, arith, inl, inr}
+use Rattle.std.proofs.Common.{◌≡◌, ℕ, ◌-◌, ◌<◌, ◌≤◌, List, arith}
 use Rattle.std.specs.Prelude.{Option, Some, None, slice_index}
 use Rattle.ea_road.specs.Labels.{time_of}
 use Rattle.ea_road.specs.Roads.{IsNode}
 use Rattle.ea_road.specs.Queries.{IsAskedBy}
 use Rattle.ea_search.specs.Answers.{Answered, arrival_of}
+use Rattle.ea_capi.specs.Latest.{departure_of}
 
 -- The first places have the labels of their nodes.
 pub record AreWritten (answer : Answered) (out : List ℕ) (count : ℕ) : Type 0 where
   pub each : (node : ℕ) → 0 < node → node ≤ count → time_of (slice_index out (node - 1)) ≡ arrival_of answer node
+
+-- The first places have the latest departures of their nodes.
+pub record AreDepartures (answer : Answered) (out : List ℕ) (count : ℕ) : Type 0 where
+  pub each : (node : ℕ) → 0 < node → node ≤ count → time_of (slice_index out (node - 1)) ≡ departure_of answer node
 
 pub first_and_last : (nodes : ℕ) (target : Option ℕ) → IsAskedBy target 1 → IsAskedBy target nodes → (node : ℕ) → IsNode nodes node → IsAskedBy target node
 first_and_last nodes None first last node is = tt

@@ -1,5 +1,5 @@
 -- The outcomes of the calls on searches.
-use Rattle.std.specs.Prelude.{◌≡◌, ◌≢◌, ◌⊎◌, ℕ, ◌<◌, ◌≤◌, Bool, true, false, List, [], ◌∷◌, length, take, slice_index, ◌-◌, Option, Some, None}
+use Rattle.std.specs.Prelude.{◌≡◌, ◌≢◌, ◌⊎◌, ℕ, ◌<◌, Bool, List, [], ◌∷◌, length, take, slice_index, ◌-◌, Option, Some, None}
 use Rattle.std.specs.List.{IsAmong}
 use Rattle.ea_road.specs.declared.source.Source.{Source}
 use Rattle.ea_road.specs.Labels.{time_of}
@@ -10,7 +10,7 @@ use Rattle.ea_load.specs.declared.road.Road.{Road}
 use Rattle.ea_capi.specs.declared.handle.content.Content.{Content}
 use Rattle.ea_capi.specs.declared.handle.content.Session.{Session}
 use Rattle.ea_capi.specs.Sessions.{IsAnswered, IsSame, IsStart, starts}
-use Rattle.ea_capi.specs.States.{road_in, road_of, session_in}
+use Rattle.ea_capi.specs.States.{road_of, session_in}
 
 -- A new search on the road, with room for walks or without; or the handle is unchanged, and memory was
 -- refused.

@@ -1,5 +1,5 @@
 -- What a handle owns.
-use Rattle.std.specs.Prelude.{◌≡◌, Option, Some, None}
+use Rattle.std.specs.Prelude.{Option, Some, None}
 use base.Fml.{Fml, feq}
 use denote.RattleType.{RattleType}
 use denote.RawPtr.{Ptr, null_ptr}

@@ -6,3 +6,5 @@ pub mod States
 pub mod Calls
 pub mod Checks
 pub mod Lists
+pub mod Latest
+pub mod LatestCalls

@@ -1,12 +1,11 @@
 -- Searches as callers see them: queries, answers and refusals.
-use Rattle.std.specs.Prelude.{◌≡◌, ◌≢◌, ℕ, ◌<◌, ◌≤◌, true, List, [], ◌∷◌, length, Option, Some, None}
-use Rattle.std.specs.List.{IsAmong}
+use Rattle.std.specs.Prelude.{◌≡◌, ℕ, ◌≤◌, true, List, [], ◌∷◌}
 use Rattle.ea_base.specs.declared.limits.TheConstants.{HORIZON}
 use Rattle.ea_road.specs.declared.source.Source.{Source}
 use Rattle.ea_travel_times.specs.StepLists.{steps_in}
 use Rattle.ea_travel_times.specs.TimetableLists.{TimetablesAnswer}
 use Rattle.ea_road.specs.Roads.{IsNode}
-use Rattle.ea_road.specs.Queries.{Asking, IsAskedBy}
+use Rattle.ea_road.specs.Queries.{Asking}
 use Rattle.ea_search.specs.Answers.{HasArrivals, IsAnswer}
 use Rattle.ea_load.specs.declared.road.Road.{Road}
 use Rattle.ea_capi.specs.declared.handle.content.Session.{Session}

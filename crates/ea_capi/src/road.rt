@@ -2,3 +2,4 @@
 
 pub mod arc_lists;
 pub mod roads;
+pub mod turned;

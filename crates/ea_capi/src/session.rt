@@ -2,6 +2,9 @@
 
 pub mod arrivals;
 pub mod begin;
+pub mod departures;
+pub mod latest;
 pub mod queries;
 pub mod sessions;
+pub mod until;
 pub mod walks;

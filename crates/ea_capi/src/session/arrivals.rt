@@ -75,7 +75,7 @@ pub extern "C" fn earliest_search_arrival(
 }
 
 /// Whether the last query asked for all nodes: tests the first and the last.
-fn asks_all(answer: &Answer) -> bool
+pub(crate) fn asks_all(answer: &Answer) -> bool
     ensures yes { IsTrue result →
         ((node : ℕ) → IsNode answer.now.nodes node → IsAskedBy answer.now.target node) }
     ensures all { 0 < answer.now.nodes → answer.now.target ≡ None → IsTrue result }

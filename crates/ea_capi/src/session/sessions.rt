@@ -17,7 +17,7 @@ use std::alloc::{AllocError, Global};
 use std::sync::Arc;
 
 /// Arrays for searches in a network of this number of nodes.
-fn room(alloc: Global, nodes: u32, walks: bool) -> Result<Search, AllocError>
+pub(crate) fn room(alloc: Global, nodes: u32, walks: bool) -> Result<Search, AllocError>
     ensures nodes { IfOk result (λ search. search.nodes ≡ nodes) }
     ensures walks { IfOk result (λ search. search.walks ≡ walks) }
 {

@@ -13,7 +13,7 @@ use ea_paths::Answer;
 use std::alloc::Global;
 
 /// The walk to a node in an answer, or the refusal's number.
-fn walk_in(alloc: Global, answer: &Answer, node: u32) -> Result<Vec<u32>, u32>
+pub(crate) fn walk_in(alloc: Global, answer: &Answer, node: u32) -> Result<Vec<u32>, u32>
     ensures told { IfOk result (λ walk. walk_of answer.now node ≡ Some walk.items) }
     ensures refused { IfErr result (IsWhyNot answer.now node) }
 {
@@ -54,7 +54,7 @@ fn write(list: &[u32], out: &mut [u32])
 }
 
 /// Writes a walk's length, and the walk if it fits.
-fn give(walk: &[u32], out: &mut [u32], count: &mut u64) -> u32
+pub(crate) fn give(walk: &[u32], out: &mut [u32], count: &mut u64) -> u32
     ensures count { count.new ≡ length walk.now }
     ensures walk { result ≡ 0 → take (length walk.now) out.new ≡ walk.now }
     ensures fits { length walk.now ≤ length out.old → result ≡ 0 }

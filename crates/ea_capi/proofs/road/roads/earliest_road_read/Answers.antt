@@ -1,4 +1,4 @@
-use Rattle.std.proofs.Common.{◌≡◌, ℕ, List, ap, refl}
+use Rattle.std.proofs.Common.{ℕ, List, ap, refl}
 use Rattle.std.specs.Prelude.{Option}
 use Rattle.ea_load.specs.declared.road.Road.{Road}
 use Rattle.ea_load.specs.declared.file_fault.FileFault.TheVariants.{OutOfMemory}

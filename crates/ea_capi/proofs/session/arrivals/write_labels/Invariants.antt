@@ -1,4 +1,3 @@
-use Rattle.std.proofs.Common.{◌≡◌, ◌<◌, ◌≤◌, ◌-◌, ℕ, length}
 use Rattle.ea_capi.proofs.Telling.{AreWritten}
 use Rattle.ea_capi.proofs.session.arrivals.write_labels.Given as goal
 

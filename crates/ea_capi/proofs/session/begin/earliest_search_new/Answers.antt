@@ -1,5 +1,5 @@
 use Rattle.std.proofs.Common.{◌≡◌, ◌∙◌, sym, ap, subst, nat_lt}
-use Rattle.std.specs.Prelude.{Option, Some, None}
+use Rattle.std.specs.Prelude.{Option, Some}
 use Rattle.ea_capi.specs.declared.handle.content.Content.{Content}
 use Rattle.ea_capi.specs.Calls.{IsNew, IsThere}
 use Rattle.ea_capi.specs.States.{road_in}

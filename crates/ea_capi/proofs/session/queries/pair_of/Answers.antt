@@ -1,4 +1,3 @@
-use Rattle.ea_road.specs.declared.source.Source.{Source}
 use Rattle.ea_capi.specs.Calls.{IsDone, IsPair, from_to}
 use Rattle.ea_capi.specs.States.{road_of}
 use Rattle.ea_capi.proofs.Querying.{queried}

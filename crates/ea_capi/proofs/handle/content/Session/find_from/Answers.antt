@@ -1,6 +1,5 @@
-use Rattle.std.proofs.Common.{◌≡◌, List, Bool, true, false, subst}
+use Rattle.std.proofs.Common.{subst}
 use Rattle.std.specs.Prelude.{IsTrue}
-use Rattle.ea_road.specs.declared.source.Source.{Source}
 use Rattle.ea_capi.specs.Calls.{AreStarts}
 use Rattle.ea_capi.specs.States.{road_of}
 use Rattle.ea_capi.proofs.Asking.{starts_are_sources, starts_make_problem}

@@ -20,10 +20,9 @@ use denote.Triple.Walked.{Stays, stay_dropped, walk_of, Goes-dropped}
 use Rattle.core.proofs.cell.Inside.{one}
 use Rattle.std.proofs.raw_atomic.Walks.{proved_at, leaves}
 use Rattle.std.proofs.alloc.Global.TheLaws as heap_laws
-use Rattle.std.specs.declared.option.Option.{Option}
 use Rattle.std.specs.declared.option.Option.TheVariants.{None}
 use Rattle.ea_capi.proofs.Values.{both}
-use Rattle.ea_capi.proofs.Handles.{R, Z, Handle, handle_good, handle_in}
+use Rattle.ea_capi.proofs.Handles.{Z, Handle, handle_good, handle_in}
 use Rattle.ea_capi.specs.contracts.handle.handle.Handle.empty.{ended, clauses}
 use Rattle.ea_capi.specs.contracts.handle.handle.Handle.empty.Key.{name as #self}
 use Rattle.ea_capi.proofs.handle.handle.Handle.empty.Statement.{statement}

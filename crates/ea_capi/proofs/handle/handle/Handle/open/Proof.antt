@@ -27,7 +27,6 @@ use Rattle.std_alloc.proofs.ResultValues.{and_tt}
 use Rattle.std.proofs.raw_atomic.Walks.{proved_at, leaves}
 use Rattle.std.proofs.alloc.Global.TheLaws as heap_laws
 use Rattle.std.specs.contracts.impls.GlobalAllocator.TheImpl.{ghosts}
-use Rattle.std.specs.declared.option.Option.{Option}
 use Rattle.std.specs.declared.option.Option.TheVariants.{None, Some}
 use Rattle.ea_capi.proofs.Values.{both, Loose, loose_good, loose_in}
 use Rattle.ea_capi.proofs.Handles.{R, Z, Handle, handle_good, handle_out, either_held}
