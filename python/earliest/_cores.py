@@ -30,7 +30,7 @@ class Core:
     """A road of the library: its handle, the lock under which one thread at a time calls with it, and how it is made again."""
 
     def __init__(self, again: "Again", fill: Callable[[Any, Any], int], refused: Callable[[Any], Exception]):
-        self.handle, self.lock, self.again, fault = Handle(), threading.Lock(), again, Fault()
+        self.handle, self.turned, self.lock, self.again, fault = Handle(), Handle(), threading.Lock(), again, Fault()
         number = fill(self.handle, fault)
         if number and number != 13 and fault.text:
             raise refused(fault)
@@ -58,14 +58,25 @@ class Core:
             it.flags.writeable = False
         return self.found_ends
 
+    def fill_latest(self, handle: Handle) -> None:
+        """Makes a search for latest departures, without walks, in a handle. The road is turned round when this is first asked for."""
+        with self.lock:
+            if not self.turned.at:
+                test(library().earliest_road_turned(self.handle, self.turned))
+            test(library().earliest_search_new_until(self.turned, 0, handle))
+
     def close(self):
         with self.lock:
-            library().earliest_road_free(self.handle)
+            self._free()
             self.closed = True
+
+    def _free(self):
+        for handle in (self.handle, self.turned):
+            library().earliest_road_free(handle)
 
     def __del__(self):
         if getattr(self, "handle", None) is not None and self.handle.at:
-            library().earliest_road_free(self.handle)
+            self._free()
 
 
 class Again:

@@ -297,7 +297,8 @@ class Road:
         """The latest departures by which n sources are in time at their targets: uint64 with the shape (n,), NEVER if no departure is.
 
         `sources`, `targets` and `arrivals`, the times by which the targets have to be reached, are lists of n members; one of them in the
-        place of a list serves for all. A later departure never arrives earlier, so each is found by halving, by up to 49 searches of its pair.
+        place of a list serves for all. Each is found by a search from its target in the road turned round, which is made when it is first asked
+        for and takes as much memory as the road's network once more.
         """
         times = Times(unit, origin, masked, as_float)
         if arrivals is None:

@@ -142,6 +142,18 @@ class Search:
         return out[: count.value]
 
 
+class LatestSearch:
+    """The arrays of a search for latest departures on a road, for one thread."""
+
+    def __init__(self, road: Road):
+        self.handle = Handle()
+        road._core.fill_latest(self.handle)
+
+    def __del__(self):
+        if self.handle.at:
+            library().earliest_search_free(self.handle)
+
+
 class Latest:
     """What a search's query found, until its next one."""
 

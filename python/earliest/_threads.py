@@ -8,7 +8,7 @@ from typing import Any, Callable, Optional
 
 from . import _numbers
 from ._failures import test
-from ._library import NEVER, library
+from ._library import library
 from ._numbers import numpy
 
 MOST = 16
@@ -115,48 +115,47 @@ def _pick(whole, places, out, row):
 
 def pairs(road: Any, sources: Any, targets: Any, departures: Any, threads: Optional[int]):
     """The arrivals of pairs."""
-    def ask(arrival):
-        return lambda at: arrival(int(sources[at]), int(departures[at]), int(targets[at]))
+    from ._searches import Search
 
-    return _each_pair(road, len(sources), threads, ask)
+    def begin():
+        search, calls, found = Search(road, False), library(), ctypes.c_uint64()
 
-
-def latest(road: Any, sources: Any, targets: Any, arrivals: Any, threads: Optional[int]):
-    """The latest departures of pairs, each found by halving the times between a departure that is in time and one that is late."""
-    def ask(arrival):
         def one(at):
-            source, target, by = int(sources[at]), int(targets[at]), int(arrivals[at])
-            if arrival(source, 0, target) > by:
-                return NEVER
-            low, high = 0, by + 1
-            while high - low > 1:
-                middle = (low + high) // 2
-                if arrival(source, middle, target) <= by:
-                    low = middle
-                else:
-                    high = middle
-            return low
+            target = int(targets[at])
+            test(calls.earliest_search_pair(search._handle, int(sources[at]), int(departures[at]), target))
+            test(calls.earliest_search_arrival(search._handle, target, found))
+            return found.value
 
         return one
 
-    return _each_pair(road, len(sources), threads, ask)
+    return _each_pair(len(sources), threads, begin)
 
 
-def _each_pair(road, count, threads, ask):
-    from ._searches import Search
+def latest(road: Any, sources: Any, targets: Any, arrivals: Any, threads: Optional[int]):
+    """The latest departures of pairs, each by a search from its target in the road turned round."""
+    from ._searches import LatestSearch
 
+    def begin():
+        search, calls, found = LatestSearch(road), library(), ctypes.c_uint64()
+
+        def one(at):
+            source = int(sources[at])
+            test(calls.earliest_search_pair_until(search.handle, source, int(targets[at]), int(arrivals[at])))
+            test(calls.earliest_search_departure(search.handle, source, found))
+            return found.value
+
+        return one
+
+    return _each_pair(len(sources), threads, begin)
+
+
+def _each_pair(count, threads, begin):
+    """A number for each pair. `begin` is called in each thread, and what it returns for each pair that the thread takes."""
     counted(threads, 1)
     out = _numbers.room((count,))
 
     def worker():
-        search, calls, found = Search(road, False), library(), ctypes.c_uint64()
-
-        def arrival(source, departure, target):
-            test(calls.earliest_search_pair(search._handle, source, departure, target))
-            test(calls.earliest_search_arrival(search._handle, target, found))
-            return found.value
-
-        one = ask(arrival)
+        one = begin()
 
         def do(part):
             for at in range(part * CHUNK, min(count, (part + 1) * CHUNK)):
@@ -166,5 +165,5 @@ def _each_pair(road, count, threads, ask):
 
     by_threads(-(-count // CHUNK), threads, worker)
     if count == 0:
-        Search(road, False)
+        begin()  # A road that is closed is refused here too.
     return out

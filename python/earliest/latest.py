@@ -2,7 +2,7 @@
 
     python -m earliest latest GR SOURCE TARGET WISHED [--tp FILE]
 
-A later departure never arrives earlier, so the latest one that is in time is found by halving (`Road.latest`).
+It is found by a search from the target, with every arc turned round (`Road.latest`).
 It prints that departure and its arrival. Status 1 if no departure is in time, or a file or a node is refused.
 """
 import argparse
