@@ -1,0 +1,13 @@
+pub mod Sums
+pub mod LeastOver
+pub mod Potential
+pub mod Listing
+pub mod Appending
+pub mod Growing
+pub mod Finding
+pub mod Relaxing
+pub mod Covering
+pub mod Reaching
+pub mod Bounding
+pub mod Paths
+pub mod Consistent

@@ -1,0 +1,85 @@
+-- What is known of each rank for one target: what is reached from it downward, and its bound once that is found.
+use Rattle.std.specs.Prelude.{◌≡◌, ◌⊎◌, ℕ, ◌+◌, ◌-◌, ◌<◌, ◌≤◌, List, length, nat_le, slice_index, slice_index_or, if◌then◌else◌}
+use Rattle.ea_hierarchy.specs.Hierarchies.{HasArc, IsFrom}
+use Rattle.ea_hierarchy.specs.Numbers.{plus}
+use Rattle.ea_hierarchy.specs.Potentials.{IsReach, potential}
+use Rattle.ea_hierarchy.specs.declared.cells.Cell.{Cell}
+use Rattle.ea_hierarchy.specs.declared.numbers.TheConstants.{NONE}
+
+-- The cell of a rank; a stale one if there is none.
+abbrev pub cell_at : List Cell → ℕ → Cell
+cell_at list rank = slice_index_or list rank (record { stamp = 0; reach = NONE; bound = NONE })
+
+-- What is reached at a rank: nothing if its cell is stale.
+abbrev pub reach_of : ℕ → List Cell → ℕ → ℕ
+reach_of stamp list rank = if nat_le stamp (cell_at list rank).stamp then (cell_at list rank).reach else NONE
+
+-- No cell has a bound yet.
+abbrev pub AreReached : ℕ → List Cell → Type 0
+AreReached stamp list = (rank : ℕ) → (cell_at list rank).stamp ≤ stamp
+
+-- All cells are stale.
+abbrev pub AreStale : ℕ → List Cell → Type 0
+AreStale stamp list = (rank : ℕ) → (cell_at list rank).stamp < stamp
+
+-- The bound of a rank is found.
+abbrev pub IsFinal : ℕ → List Cell → ℕ → Type 0
+IsFinal stamp list rank = stamp < (cell_at list rank).stamp
+
+-- One rank is reached earlier, the others as before.
+pub record LowersReach (stamp : ℕ) (list after : List Cell) (rank reach : ℕ) : Type 0 where
+  pub count : length after ≡ length list
+  pub reached : AreReached stamp list → AreReached stamp after
+  pub here : (reach_of stamp after rank ≤ reach_of stamp list rank) × (reach_of stamp after rank ≤ reach)
+  pub others : (other : ℕ) → (other ≡ rank → ⊥) → reach_of stamp after other ≡ reach_of stamp list other
+
+-- The heads of a rank are reached over its arcs.
+pub record RelaxesReach (firsts heads downs : List ℕ) (stamp : ℕ) (list after : List Cell) (rank to : ℕ) : Type 0 where
+  pub count : length after ≡ length list
+  pub reached : AreReached stamp list → AreReached stamp after
+  pub fall : (other : ℕ) → reach_of stamp after other ≤ reach_of stamp list other
+  pub kept : (other : ℕ) → (reach_of stamp after other ≡ reach_of stamp list other) ⊎ HasArc firsts heads rank other
+  pub over : (place : ℕ) → IsFrom firsts rank place → place < to → reach_of stamp after (slice_index heads place) ≤ plus (slice_index downs place) (reach_of stamp list rank)
+
+-- What is reached from a target downward, before any bound is found.
+pub record IsBegun (firsts heads downs : List ℕ) (target stamp : ℕ) (list : List Cell) : Type 0 where
+  pub few : stamp ≤ 4294967282
+  pub count : length list ≡ length firsts - 1
+  pub reached : AreReached stamp list
+  pub reach : IsReach (length firsts - 1) firsts heads downs target (reach_of stamp list)
+
+-- The bound that the cells have for a rank once it is found.
+abbrev pub worth_of : List ℕ → List ℕ → List ℕ → ℕ → List Cell → ℕ → ℕ
+worth_of firsts heads ups stamp list rank = potential firsts heads ups (reach_of stamp list) (length firsts - 1) rank
+
+-- Bounds that are found are the potentials, and with a rank's bound those of its heads are found.
+pub record AreFound (firsts heads ups : List ℕ) (stamp : ℕ) (list : List Cell) : Type 0 where
+  pub few : stamp ≤ 4294967282
+  pub count : length list ≡ length firsts - 1
+  pub stamps : AreReached (stamp + 1) list
+  pub final : (rank : ℕ) → rank < length firsts - 1 → IsFinal stamp list rank → (cell_at list rank).bound ≡ worth_of firsts heads ups stamp list rank
+  pub closed : (rank place : ℕ) → rank < length firsts - 1 → IsFinal stamp list rank → IsFrom firsts rank place → IsFinal stamp list (slice_index heads place)
+
+-- More bounds are found, and the same is reached.
+pub record FindsMore (stamp : ℕ) (list after : List Cell) : Type 0 where
+  pub reach : (rank : ℕ) → reach_of stamp after rank ≡ reach_of stamp list rank
+  pub kept : (rank : ℕ) → IsFinal stamp list rank → IsFinal stamp after rank
+
+-- A rank has another as its lowest head.
+pub record IsLowest (firsts heads : List ℕ) (rank parent : ℕ) : Type 0 where
+  pub some : slice_index firsts rank < slice_index firsts (rank + 1)
+  pub is : slice_index heads (slice_index firsts rank) ≡ parent
+
+-- Ranks of which each but the last has the next one as its lowest head.
+pub record IsPath (firsts heads path : List ℕ) : Type 0 where
+  pub below : (place : ℕ) → place < length path → slice_index path place < length firsts - 1
+  pub parents : (place : ℕ) → place + 1 < length path → IsLowest firsts heads (slice_index path place) (slice_index path (place + 1))
+
+-- The bound of the lowest head of the last rank is found, if it has one.
+abbrev pub IsTopFound : List ℕ → List ℕ → ℕ → List Cell → List ℕ → Type 0
+IsTopFound firsts heads stamp list path =
+    (parent : ℕ) → 0 < length path → IsLowest firsts heads (slice_index path (length path - 1)) parent → IsFinal stamp list parent
+
+-- The path begins at a rank, or the bound of this rank is found.
+abbrev pub IsWayFrom : ℕ → List Cell → List ℕ → ℕ → Type 0
+IsWayFrom stamp list path rank = IsFinal stamp list rank ⊎ ((0 < length path) × (slice_index path 0 ≡ rank))

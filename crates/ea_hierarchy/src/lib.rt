@@ -1,0 +1,20 @@
+//! A prepared road: an order of the nodes, upward arcs, and bounds of the travel time to a target.
+#![tactic(auto)]
+
+mod bounds;
+mod cells;
+mod cover;
+mod customize;
+pub mod laws;
+mod numbers;
+mod prepared;
+mod ranks;
+mod unprepared;
+mod upward;
+mod waiting;
+
+pub use bounds::Bounds;
+pub use ea_road::OutOfMemory;
+pub use numbers::{MOST, NONE};
+pub use prepared::Prepared;
+pub use unprepared::Unprepared;

@@ -1,0 +1,36 @@
+//! Least travel times and their sums, in 32 bits.
+ghost use Rattle.std.specs.Prelude.{◌≡◌, ◌≤◌, ◌<◌, ◌^◌, min};
+ghost use Rattle.ea_hierarchy.specs.Numbers.{plus};
+
+/// No walk.
+pub const NONE: u32 = u32::MAX;
+
+/// The greatest number of a walk: sums above it count as this.
+pub const MOST: u32 = u32::MAX - 1;
+
+/// The sum of two numbers, at most `MOST`; `NONE` if one of them is.
+#[tactic(auto, unfolding(crate::specs::Numbers::plus))]
+#[inline(always)]
+pub(crate) fn plus(first: u32, second: u32) -> u32
+    ensures { result ≡ plus first second }
+{
+    if first == NONE {
+        return NONE;
+    }
+    if second == NONE {
+        return NONE;
+    }
+    if first > MOST - second {
+        MOST
+    } else {
+        first + second
+    }
+}
+
+/// A least travel time as a number of a walk.
+#[inline(always)]
+pub(crate) fn capped(low: u64) -> u32
+    ensures { result ≡ min low MOST }
+{
+    low.min(u64::from(MOST)) as u32
+}

@@ -1,0 +1,160 @@
+ghost use Rattle.std.specs.Prelude.{◌≡◌, ◌≤◌, ◌<◌, ◌+◌, ◌-◌, ◌^◌, ℕ, IfOk, IfSome, length};
+ghost use Rattle.ea_road.specs.Roads.{IsNode, top_class};
+ghost use Rattle.ea_hierarchy.specs.Growth.{AreJoined};
+ghost use Rattle.ea_hierarchy.specs.Hierarchies.{AreNumbers, AreRanks, AreUpward, IsHierarchy, rank_of};
+ghost use Rattle.ea_hierarchy.specs.Preparations.{IsPreparedFor, IsPreparedOver};
+
+use crate::cover::cover;
+use crate::customize::{Numbers, relax};
+use crate::numbers::NONE;
+use crate::ranks::ranks_of;
+use crate::unprepared::Unprepared;
+use crate::upward::{Limits, Upward, upward_of};
+use crate::waiting::lists_of;
+use ea_road::Network;
+use ea_travel_times::TravelTimes;
+use std::alloc::{AllocError, Global};
+use std::marker::Model;
+
+/// A prepared road: a customizable contraction hierarchy (Dibbelt, Strasser and Wagner, 2016) over least
+/// travel times. The nodes have ranks in an order; upward arcs join them such that two heads of a rank are
+/// joined, too; and each has two numbers, one for each direction. In contracts it is these lists.
+#[derive(Drop)]
+pub struct Prepared {
+    pub(crate) ranks: Vec<u32>,
+    pub(crate) upward: Upward,
+    pub(crate) numbers: Numbers,
+}
+
+impl Model for Prepared {
+    ghost use Rattle.ea_hierarchy.specs.Hierarchies.{Hierarchy, IsHierarchy};
+
+    ghost Value = { Hierarchy };
+
+    ghost view = { λ p. record {
+      ranks = p.ranks.items;
+      firsts = p.upward.firsts.items;
+      heads = p.upward.heads.items;
+      ups = p.numbers.ups.items;
+      downs = p.numbers.downs.items;
+    } };
+
+    ghost invariant = { λ p. IsHierarchy (record {
+      ranks = p.ranks.items;
+      firsts = p.upward.firsts.items;
+      heads = p.upward.heads.items;
+      ups = p.numbers.ups.items;
+      downs = p.numbers.downs.items;
+    }) };
+}
+
+/// The upward arcs of a network over the ranks of its nodes; none if there are too many of them or of triangles.
+fn upward_over(
+    alloc: Global,
+    network: &Network,
+    ranks: &[u32],
+) -> Result<Option<Upward>, AllocError>
+    requires { AreRanks network.now.nodes ranks.now }
+    ensures upward { IfOk result (λ made. IfSome made (λ upward.
+        AreUpward upward.firsts.items upward.heads.items)) }
+    ensures nodes { IfOk result (λ made. IfSome made (λ upward.
+        length upward.firsts.items ≡ network.now.nodes + 1)) }
+    ensures joined { IfOk result (λ made. IfSome made (λ upward.
+        AreJoined network.now ranks.now upward.firsts.items upward.heads.items)) }
+{
+    network.keeps_limits();
+    let lists = lists_of(alloc, network, ranks)?;
+    match upward_of(alloc, lists, limits_of(network))? {
+        Some(upward) => Ok(Some(upward)),
+        None => Ok(None),
+    }
+}
+
+/// How many upward arcs and triangles a preparation may have: some for each node and arc.
+fn limits_of(network: &Network) -> Limits {
+    let size = u64::from(network.nodes()) + network.arcs().len() as u64;
+    Limits {
+        arcs: (4096 + 16 * size).min(u64::from(NONE)) as u32,
+        triangles: 1_048_576 + 256 * size,
+    }
+}
+
+/// Numbers at upward arcs for these travel times.
+fn numbers_for<T: TravelTimes>(
+    alloc: Global,
+    network: &Network,
+    times: &T,
+    ranks: &[u32],
+    upward: &Upward,
+) -> Result<Numbers, AllocError>
+    requires classes { top_class network.now.arcs ≤ T.classes times.now }
+    requires upward { AreUpward upward.now.firsts.items upward.now.heads.items }
+    requires nodes { length upward.now.firsts.items ≡ network.now.nodes + 1 }
+    requires ranks { AreRanks network.now.nodes ranks.now }
+    requires joined { AreJoined network.now ranks.now upward.now.firsts.items
+        upward.now.heads.items }
+    ensures { IfOk result (λ numbers. IsPreparedFor network.now (T.answers times.now) (record {
+      ranks = ranks.now;
+      firsts = upward.now.firsts.items;
+      heads = upward.now.heads.items;
+      ups = numbers.ups.items;
+      downs = numbers.downs.items;
+    })
+        × IsHierarchy (record {
+          ranks = ranks.now;
+          firsts = upward.now.firsts.items;
+          heads = upward.now.heads.items;
+          ups = numbers.ups.items;
+          downs = numbers.downs.items;
+        })) }
+{
+    network.keeps_limits();
+    let mut numbers = Numbers::none(alloc, upward.heads.len())?;
+    cover(network, times, ranks, upward, &mut numbers);
+    relax(upward, &mut numbers);
+    Ok(numbers)
+}
+
+impl Prepared {
+    /// A preparation of a network over an order of its nodes: any permutation serves. `NotWorth` comes if there
+    /// are too many upward arcs or triangles for the network's size, `OutOfMemory` if memory was refused.
+    pub fn with_order<T: TravelTimes>(
+        alloc: Global,
+        network: &Network,
+        times: &T,
+        order: &[u32],
+    ) -> Result<Prepared, Unprepared>
+        requires { top_class network.now.arcs ≤ T.classes times.now }
+        ensures { IfOk result (IsPreparedFor network.now (T.answers times.now)) }
+    {
+        let ranks = ranks_of(alloc, network.nodes(), order)?;
+        let Some(upward) = upward_over(alloc, network, &ranks)? else {
+            return Err(Unprepared::NotWorth);
+        };
+        let numbers = numbers_for(alloc, network, times, &ranks, &upward)?;
+        Ok(Prepared {
+            ranks,
+            upward,
+            numbers,
+        })
+    }
+
+    /// Makes the numbers anew for other travel times of the same arcs. Takes no memory.
+    pub fn customize<T: TravelTimes>(&mut self, network: &Network, times: &T)
+        requires classes { top_class network.now.arcs ≤ T.classes times.now }
+        requires over { IsPreparedOver network.now self.old }
+        ensures { IsPreparedFor network.now (T.answers times.now) self.new }
+    {
+        network.keeps_limits();
+        self.numbers.forget();
+        cover(network, times, &self.ranks, &self.upward, &mut self.numbers);
+        relax(&self.upward, &mut self.numbers);
+    }
+
+    /// For proofs: the upward arcs and their numbers are in order. Does nothing at run time.
+    pub fn keeps_order(&self)
+        ensures { IsHierarchy self.now }
+    {
+        let _ = &self.ranks;
+    }
+}

@@ -1,0 +1,20 @@
+//! Orders of nodes, and the ranks of nodes in them.
+ghost use Rattle.std.specs.Prelude.{◌≡◌, ◌≤◌, ◌<◌, ◌+◌, ◌-◌, ℕ, IfOk, IsTrue, Contains, length, true};
+ghost use Rattle.ea_hierarchy.specs.Hierarchies.{AreRanks};
+
+use std::alloc::{AllocError, Global};
+
+/// The rank of each node: its place in an order. A node that isn't in the order has rank 0.
+pub(crate) fn ranks_of(alloc: Global, nodes: u32, order: &[u32]) -> Result<Vec<u32>, AllocError>
+    requires { 0 < nodes }
+    ensures { IfOk result (λ ranks. AreRanks nodes ranks.items) }
+{
+    let mut ranks = vec![in alloc; 0u32; nodes as usize]?;
+    for place in 0..(nodes as usize).min(order.len()) {
+        let slot = (order[place] as usize).wrapping_sub(1);
+        if slot < ranks.len() {
+            ranks[slot] = place as u32;
+        }
+    }
+    Ok(ranks)
+}

@@ -1,0 +1,79 @@
+//! The upward arcs over an order: a rank's upper neighbours, but for the lowest, are handed on to the lowest.
+ghost use Rattle.std.specs.Prelude.{◌≡◌, ◌≤◌, ◌<◌, ◌+◌, ◌-◌, ◌^◌, ℕ, List, IfOk, IfSome, length, map, true};
+ghost use Rattle.ea_hierarchy.specs.Growth.{IsGrown, IsMade};
+ghost use Rattle.ea_hierarchy.specs.Waiting.{AreAbove};
+
+use crate::waiting::{append_once, hand_on, sort};
+use std::alloc::{AllocError, Global};
+
+/// Upward arcs: the place of each rank's first, and at the end that after the last; and their heads.
+#[derive(Drop)]
+pub(crate) struct Upward {
+    pub(crate) firsts: Vec<u32>,
+    pub(crate) heads: Vec<u32>,
+}
+
+/// How many upward arcs a network may have, and triangles over their lower ends, for a preparation to be worth it.
+#[derive(Clone, Copy)]
+pub(crate) struct Limits {
+    pub(crate) arcs: u32,
+    pub(crate) triangles: u64,
+}
+
+/// Makes the upward arcs of a rank from the heads that wait there, and hands them on; false if there are too many of them.
+fn make_arcs(
+    rank: u32,
+    most: u32,
+    lists: &mut Vec<Vec<u32>>,
+    firsts: &mut Vec<u32>,
+    heads: &mut Vec<u32>,
+) -> Result<bool, AllocError>
+    requires rank { rank < length lists.old.items }
+    requires ranks { length lists.old.items < 2 ^ 32 - 1 }
+    requires above { AreAbove (length lists.old.items) (map (λ l. l.items) lists.old.items) }
+    ensures { (begin : List (List ℕ))
+        → IsGrown (length lists.old.items) rank begin (map (λ l. l.items) lists.old.items)
+        firsts.old.items heads.old.items
+        → IfOk result (λ more. more ≡ true → IsGrown (length lists.old.items) (rank + 1) begin
+        (map (λ l. l.items) lists.new.items) firsts.new.items heads.new.items) }
+{
+    let first = heads.len();
+    sort(lists, rank as usize);
+    append_once(&lists[rank as usize], heads)?;
+    if heads.len() > most as usize {
+        return Ok(false);
+    }
+    hand_on(lists, heads, first)?;
+    firsts.push(heads.len() as u32)?;
+    Ok(true)
+}
+
+/// The upward arcs over the heads that wait at the beginning; none if there are too many of them or of triangles.
+pub(crate) fn upward_of(
+    alloc: Global,
+    mut lists: Vec<Vec<u32>>,
+    limits: Limits,
+) -> Result<Option<Upward>, AllocError>
+    requires ranks { length lists.items < 2 ^ 32 - 1 }
+    requires above { AreAbove (length lists.items) (map (λ l. l.items) lists.items) }
+    ensures { IfOk result (λ made. IfSome made (λ upward.
+        IsMade (map (λ l. l.items) lists.items) upward.firsts.items upward.heads.items)) }
+{
+    let nodes = lists.len();
+    let mut firsts = Vec::with_capacity(alloc, nodes + 1)?;
+    let mut heads = Vec::new(alloc);
+    let mut triangles = 0u64;
+    firsts.push(0)?;
+    for rank in 0..nodes as u32 {
+        let before = heads.len();
+        if !make_arcs(rank, limits.arcs, &mut lists, &mut firsts, &mut heads)? {
+            return Ok(None);
+        }
+        let arcs = heads.len().saturating_sub(before) as u64;
+        triangles = triangles.saturating_add(arcs.saturating_mul(arcs) / 2);
+        if triangles > limits.triangles {
+            return Ok(None);
+        }
+    }
+    Ok(Some(Upward { firsts, heads }))
+}
