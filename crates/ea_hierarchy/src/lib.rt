@@ -7,6 +7,8 @@ mod cover;
 mod customize;
 pub mod laws;
 mod numbers;
+mod order;
+mod postorder;
 mod prepared;
 mod ranks;
 mod unprepared;

@@ -7,6 +7,8 @@ ghost use Rattle.ea_hierarchy.specs.Preparations.{IsPreparedFor, IsPreparedOver}
 use crate::cover::cover;
 use crate::customize::{Numbers, relax};
 use crate::numbers::NONE;
+use crate::order::eliminate_all;
+use crate::postorder::in_postorder;
 use crate::ranks::ranks_of;
 use crate::unprepared::Unprepared;
 use crate::upward::{Limits, Upward, upward_of};
@@ -116,6 +118,25 @@ fn numbers_for<T: TravelTimes>(
 }
 
 impl Prepared {
+    /// A preparation of a network over an order of its own: the nodes are eliminated by least degree and level.
+    /// `NotWorth` comes if there are too many upward arcs or triangles for the network's size, `OutOfMemory` if
+    /// memory was refused.
+    pub fn of<T: TravelTimes>(
+        alloc: Global,
+        network: &Network,
+        times: &T,
+    ) -> Result<Prepared, Unprepared>
+        requires { top_class network.now.arcs ≤ T.classes times.now }
+        ensures { IfOk result (IsPreparedFor network.now (T.answers times.now)) }
+    {
+        let Some(elimination) = eliminate_all(alloc, network, limits_of(network))? else {
+            return Err(Unprepared::NotWorth);
+        };
+        let order = in_postorder(alloc, &elimination)?;
+        drop(elimination);
+        Prepared::with_order(alloc, network, times, &order)
+    }
+
     /// A preparation of a network over an order of its nodes: any permutation serves. `NotWorth` comes if there
     /// are too many upward arcs or triangles for the network's size, `OutOfMemory` if memory was refused.
     pub fn with_order<T: TravelTimes>(

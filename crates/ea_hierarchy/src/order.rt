@@ -1,0 +1,200 @@
+//! An elimination order: the cheapest node first, by its degree and its level.
+use crate::upward::Limits;
+use ea_road::Network;
+use std::alloc::{AllocError, Global};
+use std::collections::VecDeque;
+use std::mem;
+
+/// How many costs are told apart; dearer nodes share the last one.
+const COSTS: usize = 4096;
+
+/// Nodes are eliminated one after the other: the neighbours of one become neighbours of one another. Nodes
+/// count from 0 here.
+#[derive(Drop)]
+pub(crate) struct Elimination {
+    /// The neighbours of each node that are left; of an eliminated node those that were.
+    pub(crate) around: Vec<Vec<u32>>,
+    /// One above the highest eliminated neighbour's.
+    levels: Vec<u32>,
+    gone: Vec<bool>,
+    /// Nodes by their costs, some of which have changed since.
+    waiting: Vec<VecDeque<u32>>,
+    /// No node that is left costs less.
+    cheapest: usize,
+    pub(crate) order: Vec<u32>,
+}
+
+/// Puts a neighbour to those of a node.
+fn join(around: &mut Vec<Vec<u32>>, node: u32, neighbour: u32) -> Result<(), AllocError> {
+    let place = node as usize;
+    if node != neighbour && place < around.len() {
+        around[place].push(neighbour)?;
+    }
+    Ok(())
+}
+
+/// The neighbours of each node, each once.
+fn around_of(alloc: Global, network: &Network) -> Result<Vec<Vec<u32>>, AllocError> {
+    let mut around = Vec::new(alloc);
+    for _ in 0..network.nodes() {
+        around.push(Vec::new(alloc))?;
+    }
+    let arcs = network.arcs();
+    for place in 0..arcs.len() {
+        let arc = arcs.at(place);
+        join(
+            &mut around,
+            arc.tail.wrapping_sub(1),
+            arc.head.wrapping_sub(1),
+        )?;
+        join(
+            &mut around,
+            arc.head.wrapping_sub(1),
+            arc.tail.wrapping_sub(1),
+        )?;
+    }
+    for place in 0..around.len() {
+        once(&mut around[place]);
+    }
+    Ok(around)
+}
+
+/// Leaves each number once, ascending.
+fn once(list: &mut Vec<u32>) {
+    list.sort_unstable();
+    list.dedup();
+}
+
+impl Elimination {
+    /// No node of a network is eliminated yet.
+    fn of(alloc: Global, network: &Network) -> Result<Elimination, AllocError> {
+        let around = around_of(alloc, network)?;
+        let nodes = around.len();
+        let mut waiting = Vec::new(alloc);
+        for _ in 0..COSTS {
+            waiting.push(VecDeque::new(alloc))?;
+        }
+        Ok(Elimination {
+            around,
+            levels: vec![in alloc; 0; nodes]?,
+            gone: vec![in alloc; false; nodes]?,
+            waiting,
+            cheapest: 0,
+            order: Vec::with_capacity(alloc, nodes)?,
+        })
+    }
+
+    fn level(&self, node: u32) -> u32 {
+        match self.levels.get(node as usize) {
+            Some(level) => *level,
+            None => 0,
+        }
+    }
+
+    /// Four times the degree, and the level.
+    fn cost(&self, node: u32) -> usize {
+        let degree = match self.around.get(node as usize) {
+            Some(list) => list.len(),
+            None => 0,
+        };
+        let cost = degree
+            .saturating_mul(4)
+            .saturating_add(self.level(node) as usize);
+        cost.min(COSTS - 1)
+    }
+
+    /// Puts a node to those of its cost.
+    fn put(&mut self, node: u32) -> Result<(), AllocError> {
+        let cost = self.cost(node);
+        if cost < self.waiting.len() {
+            self.waiting[cost].push_back(node)?;
+        }
+        self.cheapest = self.cheapest.min(cost);
+        Ok(())
+    }
+
+    /// Whether a node is left.
+    fn is_left(&self, node: u32) -> bool {
+        match self.gone.get(node as usize) {
+            Some(gone) => !*gone,
+            None => false,
+        }
+    }
+
+    /// The next cheapest node.
+    fn next(&mut self) -> Option<u32> {
+        for _ in 0..u64::MAX {
+            if self.cheapest >= self.waiting.len() {
+                return None;
+            }
+            match self.waiting[self.cheapest].pop_front() {
+                None => self.cheapest += 1,
+                Some(node) => {
+                    if self.is_left(node) && self.cost(node) == self.cheapest {
+                        return Some(node);
+                    }
+                }
+            }
+        }
+        None
+    }
+
+    /// Joins a neighbour of an eliminated node with the others.
+    fn join_all(&mut self, node: u32, others: &[u32], neighbour: u32) -> Result<(), AllocError> {
+        let place = neighbour as usize;
+        if place >= self.around.len() || place >= self.levels.len() {
+            return Ok(());
+        }
+        let list = &mut self.around[place];
+        list.extend_from_slice(others)?;
+        once(list);
+        list.retain(|other| *other != neighbour && *other != node);
+        self.levels[place] = self.levels[place].max(self.level(node).saturating_add(1));
+        self.put(neighbour)
+    }
+
+    /// Eliminates a node. Returns its degree.
+    fn eliminate(&mut self, alloc: Global, node: u32) -> Result<usize, AllocError> {
+        let place = node as usize;
+        if place >= self.around.len() || place >= self.gone.len() {
+            return Ok(0);
+        }
+        self.gone[place] = true;
+        self.order.push(node.saturating_add(1))?;
+        let others = mem::replace(&mut self.around[place], Vec::new(alloc));
+        for neighbour in &others {
+            self.join_all(node, &others, *neighbour)?;
+        }
+        let degree = others.len();
+        if place < self.around.len() {
+            self.around[place] = others;
+        }
+        Ok(degree)
+    }
+}
+
+/// An elimination order of a network's nodes; none if it makes too many upward arcs or triangles.
+pub(crate) fn eliminate_all(
+    alloc: Global,
+    network: &Network,
+    limits: Limits,
+) -> Result<Option<Elimination>, AllocError> {
+    let mut elimination = Elimination::of(alloc, network)?;
+    for node in 0..network.nodes() {
+        elimination.put(node)?;
+    }
+    let mut arcs = 0u64;
+    let mut triangles = 0u64;
+    for _ in 0..network.nodes() {
+        let Some(node) = elimination.next() else {
+            return Ok(Some(elimination));
+        };
+        let degree = elimination.eliminate(alloc, node)? as u64;
+        arcs = arcs.saturating_add(degree);
+        triangles = triangles.saturating_add(degree.saturating_mul(degree) / 2);
+        if arcs > u64::from(limits.arcs) || triangles > limits.triangles {
+            return Ok(None);
+        }
+    }
+    Ok(Some(elimination))
+}
