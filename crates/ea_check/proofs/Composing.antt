@@ -8,14 +8,14 @@ use Rattle.std.specs.List.{IsAmong}
 use Rattle.ea_base.specs.declared.limits.TheConstants.{HORIZON}
 use Rattle.ea_road.specs.Queries.{Asking, IsProblem}
 use Rattle.ea_road.specs.Roads.{Roads, IsNode}
-use Rattle.ea_check.specs.declared.form.line.SpokenLine.{SpokenLine}
 use Rattle.ea_check.specs.declared.fault.CheckFault.{CheckFault}
 use Rattle.ea_check.specs.declared.fault.CheckFault.TheVariants.{BadLine, NotAttained, NotLeast, OutOfMemory, NotCanonical}
 use Rattle.ea_check.specs.Verdicts.{Said, IsFaultless, IsRight, IsVerdict, IsWellFormed}
 use Rattle.ea_check.specs.Form.{Line, IsAfter, AreInOrder, spoken_from, SaysNode, alone, with_walk, SaysNodes, no_node, next_node, SaysSources, SaysProblem, SaysProblems, no_problem, next_problem, IsBadLine, at_line, at_end}
 use Rattle.ea_check.specs.Checked.{AreRight, IsFirstFault, in_this, in_later, IsFaulty, IsChecked, sources_of}
+use Rattle.ea_check.specs.Streams.{found_then}
 use Rattle.ea_check.specs.Places.{AreSmall, AreAllSmall}
-use Rattle.ea_check.specs.Reads.{IsWrong, ReadsSources, ReadsNode, without_walk, and_walk, ReadsNodes, no_more, one_more, ReadsProblem, ReadsReport, all_read, one_read, found_then, line_of, ReportWrong, too_long, in_problem, behind_problem, ProblemWrong}
+use Rattle.ea_check.specs.Reads.{IsWrong, ReadsSources, ReadsNode, without_walk, and_walk, ReadsNodes, no_more, one_more, ReadsProblem, ReadsReport, all_read, one_read, ReportWrong, too_long, in_problem, behind_problem, ProblemWrong}
 use Rattle.ea_check.proofs.BadLines.{wrong_is_bad}
 use Rattle.ea_check.proofs.Formed.{well_formed}
 
@@ -203,7 +203,7 @@ no_query_left [] (suc place) long = refl
 no_query_left (query ∷ queries) zero long = absurd (omega arith)
 no_query_left (query ∷ queries) (suc place) long = no_query_left queries place (omega arith)
 
-pub form_too_long : (nodes : ℕ) (queries : List Asking) (place : ℕ) (found : Option SpokenLine) (line : SpokenLine) (behind : List Line) (P : ℕ → Type 0) → length queries ≤ place → found ≡ Some line → ((number : ℕ) → ReportWrong nodes (sources_of (drop place queries)) (found_then found behind) number → P number) → P line.number
+pub form_too_long : (nodes : ℕ) (queries : List Asking) (place : ℕ) (found : Option Line) (line : Line) (behind : List Line) (P : ℕ → Type 0) → length queries ≤ place → found ≡ Some line → ((number : ℕ) → ReportWrong nodes (sources_of (drop place queries)) (found_then found behind) number → P number) → P line.number
 form_too_long nodes queries place found line behind P long is whole =
-    let here : ReportWrong nodes [] (line_of line ∷ behind) line.number = too_long in
+    let here : ReportWrong nodes [] (line ∷ behind) line.number = too_long in
     whole line.number (rw (no_query_left queries place long, is) here)

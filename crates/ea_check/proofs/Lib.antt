@@ -22,3 +22,6 @@ pub mod Written
 pub mod Leading
 pub mod Counting
 pub mod Onward
+pub mod Streaming
+pub mod Stopping
+pub mod Streamed

@@ -4,11 +4,11 @@ use Rattle.std.specs.Prelude.{Result, Ok, Err, None, Option, MatchResult}
 use Rattle.ea_road.specs.declared.source.Source.{Source}
 use Rattle.ea_road.specs.Roads.{Roads}
 use Rattle.ea_check.specs.declared.fault.CheckFault.{CheckFault}
-use Rattle.ea_check.specs.declared.form.line.SpokenLine.{SpokenLine}
 use Rattle.ea_check.specs.Verdicts.{Said, IsFaultless, IsRight, IsVerdict}
 use Rattle.ea_check.specs.Checked.{IsChecked}
+use Rattle.ea_check.specs.Streams.{found_then}
 use Rattle.ea_check.specs.Form.{Line}
-use Rattle.ea_check.specs.Reads.{ReadsProblem, ReadsReport, all_read, found_then, one_read}
+use Rattle.ea_check.specs.Reads.{ReadsProblem, ReadsReport, ReportWrong, all_read, one_read}
 use Rattle.ea_check.proofs.Composing.{checked_behind, checked_end, fault_here}
 
 -- What the problems read so far say of the whole, if the form of those that are left is right: the fault of
@@ -17,6 +17,15 @@ abbrev pub Onward : Roads → (ℕ → ℕ → ℕ → ℕ → Type 0) → List 
 Onward roads answers queries lines left ahead (Ok _) =
     (result : Result (Unit {0}) CheckFault) → ReadsReport roads.nodes left ahead → IsChecked roads answers left ahead result → IsChecked roads answers queries lines result
 Onward roads answers queries lines left ahead (Err fault) = ReadsReport roads.nodes left ahead → IsChecked roads answers queries lines (Err fault)
+
+-- The lines of the first problems were read: what holds of those that are left holds of all, and the verdict is
+-- that of the problems that were read.
+pub record ProblemsLeft (roads : Roads) (answers : ℕ → ℕ → ℕ → ℕ → Type 0) (queries left : List (List Source)) (verdict : Result (Unit {0}) CheckFault) (lines next : List Line) : Type 0 where
+  pub wrong : (number : ℕ) → ReportWrong roads.nodes left next number → ReportWrong roads.nodes queries lines number
+  pub onward : Onward roads answers queries lines left next verdict
+
+pub no_problem_read : (roads : Roads) (answers : ℕ → ℕ → ℕ → ℕ → Type 0) (queries : List (List Source)) (lines : List Line) → ProblemsLeft roads answers queries queries (Ok tt) lines lines
+no_problem_read roads answers queries lines = record { wrong = λ number wrong. wrong; onward = λ result form checked. checked }
 
 module _ (roads : Roads) (answers : ℕ → ℕ → ℕ → ℕ → Type 0) (queries : List (List Source)) (lines : List Line) where
   -- One more problem is read.
@@ -27,9 +36,9 @@ module _ (roads : Roads) (answers : ℕ → ℕ → ℕ → ℕ → Type 0) (que
       subst (λ (r : Result (Unit {0}) CheckFault). Onward roads answers queries lines left others r) (sym same) (λ form. onward (one_read read form))
 
   -- No problem and no line is left.
-  pub onward_end : (left : List (List Source)) (found : Option SpokenLine) (behind : List Line) (verdict : Result (Unit {0}) CheckFault) → left ≡ [] → found ≡ None → Onward roads answers queries lines left (found_then found behind) verdict → IsChecked roads answers queries lines verdict
+  pub onward_end : (left : List (List Source)) (found : Option Line) (behind : List Line) (verdict : Result (Unit {0}) CheckFault) → left ≡ [] → found ≡ None → Onward roads answers queries lines left (found_then found behind) verdict → IsChecked roads answers queries lines verdict
   onward_end left found behind verdict none no_line onward =
-      ended verdict (subst (λ (qs : List (List Source)). Onward roads answers queries lines qs [] verdict) none (subst (λ (f : Option SpokenLine). Onward roads answers queries lines left (found_then f behind) verdict) no_line onward))
+      ended verdict (subst (λ (qs : List (List Source)). Onward roads answers queries lines qs [] verdict) none (subst (λ (f : Option Line). Onward roads answers queries lines left (found_then f behind) verdict) no_line onward))
     where
       ended : (verdict : Result (Unit {0}) CheckFault) → Onward roads answers queries lines [] [] verdict → IsChecked roads answers queries lines verdict
       ended (Ok _) onward = onward (Ok tt) all_read (checked_end roads answers [] [] refl all_read)

@@ -8,4 +8,7 @@ pub mod Checked
 pub mod Places
 pub mod Reads
 pub mod FaultNames
-pub mod Aheads
+pub mod Streams
+pub mod Judging
+pub mod Problems
+pub mod Stops

@@ -1,26 +1,12 @@
 -- What the lines that are still to be read say, place by place, and which are wrong.
 use Rattle.std.specs.Prelude.{◌≡◌, ◌≢◌, ◌⊎◌, ℕ, suc, ◌+◌, List, [], ◌∷◌, length, Option, Some, None}
-use Rattle.ea_bytes.specs.Text.{field_lines, fields_of}
+use Rattle.ea_bytes.specs.Text.{fields_of}
 use Rattle.ea_road.specs.declared.TheConstants.{NONE}
 use Rattle.ea_road.specs.declared.source.Source.{Source}
-use Rattle.ea_check.specs.declared.form.line.Ahead.{Ahead}
-use Rattle.ea_check.specs.declared.form.line.SpokenLine.{SpokenLine}
 use Rattle.ea_check.specs.declared.fault.CheckFault.{CheckFault}
 use Rattle.ea_check.specs.declared.fault.CheckFault.TheVariants.{BadLine, NotAttained, NotLeast, OutOfMemory, NotCanonical}
 use Rattle.ea_check.specs.Verdicts.{WrittenWalk, Said}
-use Rattle.ea_check.specs.Form.{Line, arc_of, IsWalkLine, SaysSource, SaysTime, SaysWalk, spoken_from}
-
-abbrev pub line_of : SpokenLine → Line
-line_of line = record { number = line.number; fields = fields_of line.text.now }
-
--- The lines ahead that are neither blank nor comments: the one that was found, and those of the text behind
--- it.
-abbrev pub found_then : Option SpokenLine → List Line → List Line
-found_then None behind = []
-found_then (Some line) behind = line_of line ∷ behind
-
-abbrev pub ahead : Ahead → List Line
-ahead a = found_then a.line (spoken_from (a.lines + 1) (field_lines a.rest.now))
+use Rattle.ea_check.specs.Form.{Line, arc_of, IsWalkLine, SaysSource, SaysTime, SaysWalk}
 
 -- A line's first field has this arc number, and the other fields are those of the rest.
 abbrev pub BeginsWithArc : List ℕ → ℕ → List ℕ → Type 0

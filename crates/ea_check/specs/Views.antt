@@ -1,6 +1,8 @@
 -- The lines of a report, as contracts see them.
-use Rattle.std.specs.Prelude.{◌≡◌, ℕ, List, map, Option, Some, None}
+use Rattle.std.specs.Prelude.{◌≡◌, ℕ, ◌-◌, ◌≤◌, List, [], ◌∷◌, length, map, take, drop, Option, Some, None}
 use Rattle.ea_bytes.specs.Text.{fields_of}
+use Rattle.ea_check.specs.declared.form.reported.KeptLine.{KeptLine}
+use Rattle.ea_check.specs.declared.form.reported.KeptWalk.{KeptWalk}
 use Rattle.ea_check.specs.declared.form.reported.SaidLine.{SaidLine}
 use Rattle.ea_check.specs.declared.form.reported.WalkLine.{WalkLine}
 use Rattle.ea_check.specs.Form.{arcs_of}
@@ -13,6 +15,28 @@ walk_of (Some walk) = Some (record { line = walk.line; arcs = arcs_of (fields_of
 abbrev pub said_of : SaidLine → Said
 said_of said = record { line = said.line; time = said.time; walk = walk_of said.walk }
 
--- The lines and the table have the same times.
-abbrev pub IsKept : List SaidLine → List ℕ → Type 0
-IsKept lines table = map (λ said. said.time) lines ≡ table
+-- The bytes of a text between two places.
+abbrev pub part : List ℕ → ℕ → ℕ → List ℕ
+part text start end = take (end - start) (drop start text)
+
+-- A walk whose arcs stand in a text.
+abbrev pub kept_walk : List ℕ → Option KeptWalk → Option WrittenWalk
+kept_walk arcs None = None
+kept_walk arcs (Some walk) = Some (record { line = walk.line; arcs = arcs_of (fields_of (part arcs walk.start walk.end)) })
+
+abbrev pub kept_of : List ℕ → KeptLine → Said
+kept_of arcs said = record { line = said.line; time = said.time; walk = kept_walk arcs said.walk }
+
+-- Walks that stand in a text.
+abbrev pub IsInside : List ℕ → Option KeptWalk → Type 0
+IsInside arcs None = Unit {0}
+IsInside arcs (Some walk) = (walk.start ≤ walk.end) × (walk.end ≤ length arcs)
+
+abbrev pub AreInside : List ℕ → List KeptLine → Type 0
+AreInside arcs [] = Unit {0}
+AreInside arcs (line ∷ lines) = IsInside arcs line.walk × AreInside arcs lines
+
+-- The lines and the table have the same times, and the walks stand in the text.
+pub record AreKept (arcs : List ℕ) (lines : List KeptLine) (table : List ℕ) : Type 0 where
+  pub times : map (λ said. said.time) lines ≡ table
+  pub walks : AreInside arcs lines

@@ -1,18 +1,26 @@
 //! Whether a report is right.
-ghost use Rattle.std.specs.Prelude.{◌≡◌, ◌↔◌, Err, IsTrue, None, MatchResult};
+ghost use Rattle.std.specs.Prelude.{◌≡◌, ◌↔◌, Err, IfErr, IfOk, IsTrue, None, MatchResult, OnOk};
+ghost use Rattle.std.specs.Io.KnownBytes.{IsAtEnd};
+ghost use Rattle.ea_bytes.specs.Taking.{IsStopped};
 ghost use Rattle.std.specs.List.{IsAmong};
 ghost use Rattle.ea_road.specs.Queries.{Asking, IsProblem};
 ghost use Rattle.ea_check.specs.Checked.{IsChecked, sources_of, AreCheckable};
+ghost use Rattle.ea_check.specs.declared.form.stop.Stop.TheVariants.{Device};
 ghost use Rattle.ea_check.specs.Form.{lines_of_report};
+ghost use Rattle.ea_check.specs.Judging.{HasVerdict, JudgesTo, judged_as};
+ghost use Rattle.ea_check.specs.Streams.{IsSound, most_bytes};
 ghost use Rattle.ea_check.specs.Verdicts.{IsTask, IsVerdict, IsWellFormed};
 
 use crate::fault::CheckFault;
-use crate::form::line::look_ahead;
 use crate::form::problem::read_problem;
+use crate::form::report_lines::ReportLines;
 use crate::form::reported::Reported;
+use crate::form::stop::Stop;
 use crate::judge::verdict::judge;
 use crate::judge::walk_sources::ordered_sources;
+use crate::text_in::TextIn;
 use ea_base::{Silent, Watch};
+use ea_bytes::{ByteIn, ReadFault};
 use ea_paths::find_links;
 use ea_road::{Network, Query, is_problem};
 use ea_search::Open;
@@ -69,14 +77,87 @@ pub fn is_checkable(network: &Network, classes: usize, queries: &[Query]) -> boo
     true
 }
 
-/// Whether a report is right: its form, each `d` line's time the least arrival (`inf` if there is none), and
-/// each `w` line the canonical walk. Otherwise its first fault: a fault of form if the report has any, else
-/// that of the first problem with one. Each query asks all nodes; its lines follow those of the query before.
+/// The first fault of the lines of a report's problems.
+fn check_lines<T: TravelTimes, R: ByteIn, V: Watch>(
+    alloc: Global,
+    network: &Network,
+    times: &T,
+    queries: &[Query],
+    lines: &mut ReportLines,
+    device: &mut R,
+    watch: &mut V,
+) -> Result<(), Stop>
+    requires checkable { AreCheckable network.now (T.classes times.now) queries.now }
+    requires sound { IsSound lines.old }
+    ensures { JudgesTo (IsChecked network.now (T.answers times.now) (sources_of queries.now))
+        (R.seen device.old) lines.old (R.seen device.new) lines.new result }
+{
+    let nodes = network.nodes();
+    let mut verdict = Ok(());
+    let mut done = 0;
+    for query in queries {
+        let reported = read_problem(alloc, lines, device, nodes, query.sources())?;
+        verdict = check_next(verdict, alloc, network, times, query, &reported);
+        done += 1;
+        watch.checked(nodes as usize, reported.walks());
+        watch.did(done, queries.len());
+    }
+    match lines.line() {
+        None => Ok(verdict?),
+        Some(line) => Err(Stop::Report(CheckFault::BadLine(line.number))),
+    }
+}
+
+/// The verdict that was found, or the fault of the device.
+fn verdict_of(judged: Result<(), Stop>) -> Result<Result<(), CheckFault>, ReadFault>
+    ensures { MatchResult result
+        (λ verdict. judged ≡ judged_as verdict)
+        (λ fault. judged ≡ Err (Device fault)) }
+{
+    match judged {
+        Ok(()) => Ok(Ok(())),
+        Err(stop) => match stop {
+            Stop::Report(fault) => Ok(Err(fault)),
+            Stop::Device(fault) => Err(fault),
+        },
+    }
+}
+
+/// Whether the report that a device gives is right: its form, each `d` line's time the least arrival (`inf`
+/// if there is none), and each `w` line the canonical walk. Otherwise its first fault: a fault of form if the
+/// report has any, else that of the first problem with one. Each query asks all nodes; its lines follow those
+/// of the query before.
 ///
-/// Reads the report once. A problem's fault is kept while the form of later problems is read.
+/// Reads the device once, to its end before any verdict. A problem's fault is kept while the form of later
+/// problems is read. The lines of one problem are in memory at a time.
 ///
-/// Takes time in proportion to the report, and to the network for each query, and memory for one problem at a
-/// time.
+/// Fails if the device couldn't be read, whatever its report: with `ReadFailed` if a read failed or was
+/// interrupted for the 1,001st time; with `OutOfMemory` if memory for a block or a line was refused; with
+/// `TooLarge` if it has more than 2^64 - 1 bytes. Refused memory for a problem is a `CheckFault`.
+///
+/// Takes time in proportion to the report, and to the network for each query.
+pub fn check_stream<T: TravelTimes, R: ByteIn, V: Watch>(
+    alloc: Global,
+    network: &Network,
+    times: &T,
+    queries: &[Query],
+    report: &mut R,
+    watch: &mut V,
+) -> Result<Result<(), CheckFault>, ReadFault>
+    requires { AreCheckable network.now (T.classes times.now) queries.now }
+    ensures checked { IfOk result (λ verdict. HasVerdict network.now (T.answers times.now)
+        (sources_of queries.now) (R.seen report.old) (R.seen report.new) verdict) }
+    ensures end { OnOk result (IsAtEnd (R.seen report.new).bytes) }
+    ensures fault { IfErr result (IsStopped most_bytes (R.seen report.old) (R.seen report.new)) }
+{
+    let mut lines = ReportLines::open(alloc, report)?;
+    let judged = check_lines(alloc, network, times, queries, &mut lines, report, watch);
+    let verdict = verdict_of(judged)?;
+    lines.skip_rest(report)?;
+    Ok(verdict)
+}
+
+/// Like `check_stream` for a report in memory. Refused memory is a `CheckFault`.
 pub fn check<T: TravelTimes>(
     alloc: Global,
     network: &Network,
@@ -104,20 +185,10 @@ pub fn check_watched<T: TravelTimes, V: Watch>(
     ensures { IsChecked network.now (T.answers times.now) (sources_of queries.now)
         (lines_of_report report.now) result }
 {
-    let nodes = network.nodes();
-    let mut next = look_ahead(report, 0);
-    let mut verdict = Ok(());
-    let mut done = 0;
-    for query in queries {
-        let (reported, rest) = read_problem(alloc, nodes, query.sources(), next)?;
-        verdict = check_next(verdict, alloc, network, times, query, &reported);
-        next = rest;
-        done += 1;
-        watch.checked(nodes as usize, reported.walks());
-        watch.did(done, queries.len());
-    }
-    match next.line {
-        None => verdict,
-        Some(line) => Err(CheckFault::BadLine(line.number)),
+    let mut device = TextIn::new(report);
+    match check_stream(alloc, network, times, queries, &mut device, watch) {
+        Ok(verdict) => verdict,
+        // A text in memory can be read, and has fewer than 2^64 bytes.
+        Err(_) => Err(CheckFault::OutOfMemory),
     }
 }

@@ -1,8 +1,9 @@
 //! The form of a report: the order of its lines, and what each says.
 
-pub mod line;
 pub mod line_form;
 pub mod number_count;
 pub mod problem;
+pub mod report_lines;
 pub mod reported;
+pub mod stop;
 pub mod walk_arcs;

@@ -6,6 +6,7 @@ mod fault;
 mod form;
 mod judge;
 pub mod laws;
+mod text_in;
 
-pub use checking::{check, check_watched, is_checkable};
+pub use checking::{check, check_stream, check_watched, is_checkable};
 pub use fault::CheckFault;

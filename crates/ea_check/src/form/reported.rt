@@ -1,11 +1,14 @@
 //! A report's lines on one problem.
-ghost use Rattle.std.specs.Prelude.{◌≡◌, ◌≤◌, length, map, MatchOption, None, Some};
+ghost use Rattle.std.specs.Prelude.{◌≡◌, ◌≤◌, ◌++◌, ◌∷◌, [], ℕ, IfErr, IfOk, List, length, map, MatchOption, None, OnOk, Some};
 ghost use Rattle.ea_road.specs.Roads.{IsNode};
 ghost use Rattle.ea_bytes.specs.Text.{fields_of};
+ghost use Rattle.ea_check.specs.declared.fault.CheckFault.TheVariants.{OutOfMemory};
 ghost use Rattle.ea_check.specs.Form.{arcs_of};
 ghost use Rattle.ea_check.specs.Verdicts.{IsSaid, Said, reported_time, times_of};
-ghost use Rattle.ea_check.specs.Views.{IsKept, said_of};
+ghost use Rattle.ea_check.specs.Views.{IsInside, kept_walk, part, said_of, walk_of};
 
+use crate::fault::CheckFault;
+use std::alloc::Global;
 use std::marker::Model;
 
 /// The text of a walk's arcs, and the number of its line.
@@ -23,34 +26,103 @@ pub(crate) struct SaidLine<'a> {
     pub walk: Option<WalkLine<'a>>,
 }
 
+/// Where a walk is kept: the number of its line, and where the text of its arcs begins and ends.
+#[derive(Clone, Copy)]
+pub(crate) struct KeptWalk {
+    pub line: u64,
+    pub start: usize,
+    pub end: usize,
+}
+
+/// A node's lines as they are kept.
+#[derive(Clone, Copy)]
+pub(crate) struct KeptLine {
+    pub line: u64,
+    pub time: u64,
+    pub walk: Option<KeptWalk>,
+}
+
+/// The bytes of a text between two places.
+fn bytes_between(text: &[u8], start: usize, end: usize) -> &[u8]
+    requires order { start ≤ end }
+    requires inside { end ≤ length text.now }
+    ensures { result.now ≡ part text.now start end }
+{
+    &text[start..end]
+}
+
+/// Appends the arcs of a walk, if there is one.
+fn keep_walk(arcs: &mut Vec<u8>, walk: Option<WalkLine<'_>>) -> Result<Option<KeptWalk>, CheckFault>
+    ensures grown { (more : List ℕ) × (arcs.new.items ≡ arcs.old.items ++ more) }
+    ensures kept { IfOk result (λ kept. IsInside arcs.new.items kept
+        × (kept_walk arcs.new.items kept ≡ walk_of walk.entry)) }
+    ensures refused { IfErr result (λ fault. fault ≡ OutOfMemory) }
+{
+    let Some(walk) = walk else {
+        return Ok(None);
+    };
+    let start = arcs.len();
+    arcs.extend_from_slice(walk.arcs)?;
+    Ok(Some(KeptWalk {
+        line: walk.line,
+        start,
+        end: arcs.len(),
+    }))
+}
+
 /// A report's lines on the nodes of one problem, in their order. In contracts it is the list of what they
 /// say.
 #[derive(Drop)]
-pub(crate) struct Reported<'a> {
-    said: Vec<SaidLine<'a>>,
+pub(crate) struct Reported {
+    said: Vec<KeptLine>,
     /// The times again, contiguous in memory.
     table: Vec<u64>,
+    /// The arcs of all walks, one walk after another.
+    arcs: Vec<u8>,
 }
 
-impl<'a> Model for Reported<'a> {
+impl Model for Reported {
     ghost use Rattle.std.specs.Prelude.{List, map};
     ghost use Rattle.ea_check.specs.Verdicts.{Said};
-    ghost use Rattle.ea_check.specs.Views.{IsKept, said_of};
+    ghost use Rattle.ea_check.specs.Views.{AreKept, kept_of};
 
     ghost Value = { List Said };
 
-    ghost view = { λ r. map said_of r.said.items };
+    ghost view = { λ r. map (kept_of r.arcs.items) r.said.items };
 
-    ghost invariant = { λ r. IsKept r.said.items r.table.items };
+    ghost invariant = { λ r. AreKept r.arcs.items r.said.items r.table.items };
 }
 
-impl<'a> Reported<'a> {
-    /// From the lines that were read, and their times.
-    pub(crate) fn of(said: Vec<SaidLine<'a>>, table: Vec<u64>) -> Reported<'a>
-        requires { IsKept said.items table.items }
-        ensures { result ≡ map said_of said.entry.items }
+impl Reported {
+    /// No line yet, and room for this many nodes.
+    pub(crate) fn for_nodes(alloc: Global, nodes: usize) -> Result<Reported, CheckFault>
+        ensures none { IfOk result (λ reported. reported ≡ []) }
+        ensures refused { IfErr result (λ fault. fault ≡ OutOfMemory) }
     {
-        Reported { said, table }
+        Ok(Reported {
+            said: Vec::with_capacity(alloc, nodes)?,
+            table: Vec::with_capacity(alloc, nodes)?,
+            arcs: Vec::new(alloc),
+        })
+    }
+
+    /// Keeps the lines of the next node.
+    pub(crate) fn push(&mut self, said: SaidLine<'_>) -> Result<(), CheckFault>
+        ensures kept { OnOk result (self.new ≡ self.old ++ said_of said.entry ∷ []) }
+        ensures refused { IfErr result (λ fault. fault ≡ OutOfMemory) }
+    {
+        let walk = keep_walk(&mut self.arcs, said.walk)?;
+        self.said.push(KeptLine {
+            line: said.line,
+            time: said.time,
+            walk,
+        })?;
+        if self.table.push(said.time).is_err() {
+            // As many times as lines, after a refusal too.
+            let _ = self.said.pop();
+            return Err(CheckFault::OutOfMemory);
+        }
+        Ok(())
     }
 
     /// The times of all nodes, the first that of node 1; NONE for `inf`.
@@ -90,7 +162,7 @@ impl<'a> Reported<'a> {
     }
 
     /// The number of a node's `w` line and the text of its arcs, if it has one.
-    pub(crate) fn walk(&self, node: u32) -> Option<(u64, &'a [u8])>
+    pub(crate) fn walk(&self, node: u32) -> Option<(u64, &[u8])>
         requires { IsNode (length self.now) node }
         ensures { MatchOption result
             ((said : Said) → IsSaid self.now node said → said.walk ≡ None)
@@ -100,6 +172,6 @@ impl<'a> Reported<'a> {
         let Some(walk) = self.said[node as usize - 1].walk else {
             return None;
         };
-        Some((walk.line, walk.arcs))
+        Some((walk.line, bytes_between(&self.arcs, walk.start, walk.end)))
     }
 }

@@ -6,4 +6,4 @@ use Rattle.ea_check.proofs.form.reported.Reported.table.Goals as goal
 pub returns : goal.returns
 returns c =
     let inside = c.self.inside in
-    c.deref.ensures.value ∙ sym (times_kept inside.said.items inside.table.items c.self.invariant) ∙ ap (λ (r : List Said). times_of r) c.self.view_is
+    c.deref.ensures.value ∙ sym (times_kept inside.arcs.items inside.said.items inside.table.items c.self.invariant) ∙ ap (λ (r : List Said). times_of r) c.self.view_is

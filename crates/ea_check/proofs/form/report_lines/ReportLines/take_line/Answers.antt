@@ -1,0 +1,63 @@
+use Rattle.std.proofs.Common.{◌≡◌, ◌∙◌, ℕ, ◌+◌, ◌-◌, ◌<◌, ◌≤◌, List, ap, arith, drop, length, length-drop, true}
+use Rattle.std.proofs.lemmas.Result.{err_from_is_err_and}
+use Rattle.ea_bytes.specs.declared.blocks.Blocks.{Blocks}
+use Rattle.ea_check.specs.Streams.{TakesLine, rest_of}
+use Rattle.ea_check.proofs.Streaming.{falls, leads_here, leads_same, memory_stops, stops_on, takes_first, takes_last}
+use Rattle.ea_check.proofs.form.report_lines.ReportLines.take_line.Goals as goal
+
+pub returns-in_err-take-clause-fault : goal.returns-in_err-take-clause-fault
+returns-in_err-take-clause-fault g c =
+    let p = err_from_is_err_and c.from_residual.result c.from_residual.ensures.1 in
+    rw (p.1, p.2) (stops_on (λ text next. text ≡ next) _ _ _ _ c.pulls.self _ c.pulls.invariant.leads (memory_stops _ c.pulls.self.blocks))
+
+pub returns-in-Some-clause-taken : goal.returns-in-Some-clause-taken
+returns-in-Some-clause-taken g c =
+    let took = c.in_ok-take.ensures in
+    let line = c.take.new.self.line.items in
+    let text = rest_of c.pulls.self in
+    leads_same (TakesLine true line) _ _ _ _ c.pulls.self _ c.pulls.invariant.leads
+    (leads_here (TakesLine true line) _ c.pulls.self c.take.new.self took.ready.room took.blocks took.ended
+    (λ later none. takes_first text (rest_of c.take.new.self) line c.rest.result.now c.in-Some.end c.rest.ensures c.in-Some.ensures.1 took.rest took.line later))
+
+size_falls : (start block_start past left new_left : ℕ) (block new_block : List ℕ) → start ≤ length block → block_start ≤ length new_block → 0 < past → past ≤ length (drop start block) → drop block_start new_block ≡ drop past (drop start block) → new_left ≡ left → (length new_block - block_start) + new_left < (length block - start) + left
+size_falls start block_start past left new_left block new_block inside new_inside some within rest same =
+    omega (arith, ap (λ (l : List ℕ). length l) rest, length-drop block_start new_block, length-drop past (drop start block), length-drop start block, same)
+
+pub returns-in-Some-clause-some : goal.returns-in-Some-clause-some
+returns-in-Some-clause-some g c =
+    let took = c.in_ok-take.ensures in λ is. (
+      took.count ∙ ap (λ n. n + 1) c.pulls.invariant.count,
+      omega (arith, c.pulls.invariant.size, size_falls c.pulls.self.start c.take.new.self.start (c.in-Some.end + 1) c.pulls.self.blocks.left c.take.new.self.blocks.left c.pulls.self.block.items c.take.new.self.block.items c.pulls.invariant.ready.inside took.ready.inside (omega arith) (omega (arith, c.in-Some.ensures.0, ap (λ (l : List ℕ). length l) c.rest.ensures)) took.rest (ap (λ (b : Blocks). b.left) took.blocks)),
+    )
+
+pub pulls-smaller : goal.pulls-smaller
+pulls-smaller g c = falls c.pulls.self.ended c.refill.new.self.ended c.pulls.self.blocks.left c.refill.new.self.blocks.left c.if-self.false c.in_ok-refill.ensures.less c.in_ok-refill.ensures.on
+
+pub pulls-preserved : goal.pulls-preserved
+pulls-preserved g c =
+    let went = c.in_ok-refill.ensures in
+    record {
+      ready = went.ready;
+      leads = leads_same (λ text next. text ≡ next) _ _ _ _ c.pulls.self _ c.pulls.invariant.leads went.leads;
+      count = went.count ∙ c.pulls.invariant.count;
+      size = went.size ∙ c.pulls.invariant.size;
+    }
+
+pub returns-in_err-refill-clause-fault : goal.returns-in_err-refill-clause-fault
+returns-in_err-refill-clause-fault g c =
+    let p = err_from_is_err_and c.from_residual-in_err-refill.result c.from_residual-in_err-refill.ensures.1 in
+    rw (p.1, p.2) (stops_on (λ text next. text ≡ next) _ _ _ _ c.pulls.self _ c.pulls.invariant.leads c.in_err-refill.ensures.fault)
+
+pub returns-in_err-take-2-clause-fault : goal.returns-in_err-take-2-clause-fault
+returns-in_err-take-2-clause-fault g c =
+    let p = err_from_is_err_and c.from_residual-in_err-take-2.result c.from_residual-in_err-take-2.ensures.1 in
+    rw (p.1, p.2) (stops_on (λ text next. text ≡ next) _ _ _ _ c.pulls.self _ c.pulls.invariant.leads (memory_stops _ c.pulls.self.blocks))
+
+pub returns-clause-taken : goal.returns-clause-taken
+returns-clause-taken g c =
+    let took = c.in_ok-take-2.ensures in
+    let line = c.take-2.new.self.line.items in
+    let text = rest_of c.pulls.self in
+    leads_same (TakesLine true line) _ _ _ _ c.pulls.self _ c.pulls.invariant.leads
+    (leads_here (TakesLine true line) _ c.pulls.self c.take-2.new.self took.ready.room took.blocks took.ended
+    (λ later none. takes_last text (rest_of c.take-2.new.self) line c.rest.result.now (length c.rest-left.result.now) c.rest.ensures c.in_default.ensures (omega (arith, c.if-left-eq0.false)) (ap (λ (l : List ℕ). length l) c.rest-left.ensures) took.rest took.line later (none (took.ended ∙ c.if-self.true))))

@@ -1,0 +1,221 @@
+//! The lines of a report, found one after another as the bytes of its device come.
+ghost use Rattle.std.specs.Prelude.{◌≡◌, ◌+◌, ◌<◌, ◌≤◌, ◌↔◌, ◌∷◌, [], IfErr, IfOk, IsTrue, MatchOption, None, OnOk, Some, drop, false, length, take, true};
+ghost use Rattle.std.specs.Str.Lines.{strip_carriage_return};
+ghost use Rattle.ea_bytes.specs.Taking.{HasRoom, IsStopped, StopsTaking};
+ghost use Rattle.ea_bytes.specs.Text.{fields_of, is_silent, lines_of};
+ghost use Rattle.ea_check.specs.Streams.{Begins, BeginsWithLine, FindsLine, IsReady, IsSound, Leads, Skips, TakesLine, behind, line_of, most_bytes, rest_of, size_left, spoken};
+
+use ea_bytes::{Blocks, ByteIn, ReadFault, first_field, is_comment, without_return};
+use memchr::memchr;
+use std::alloc::{AllocError, Global};
+use std::mem;
+
+/// A line that is neither blank nor a comment, and its number.
+#[derive(Clone, Copy)]
+pub(crate) struct SpokenLine<'a> {
+    pub number: u64,
+    pub text: &'a [u8],
+}
+
+/// The lines of a device's text that are neither blank nor comments, one after another. Only a block of its
+/// bytes and the line that was found last are in memory.
+#[derive(Drop)]
+pub(crate) struct ReportLines {
+    pub blocks: Blocks,
+    /// Bytes of the device.
+    pub block: Vec<u8>,
+    /// The bytes of the block before this place were read.
+    pub start: usize,
+    /// Room for the next block.
+    pub spare: Vec<u8>,
+    /// Whether the block has the last byte of the device.
+    pub ended: bool,
+    /// The number of lines that were read.
+    pub count: u64,
+    /// Whether the last line that was read is a line that says something. If it isn't, no line is left.
+    pub found: bool,
+    /// The last line that was read, without its line feed.
+    pub line: Vec<u8>,
+}
+
+/// The least length of a block that is filled; the last one of a device may be shorter.
+const BLOCK: usize = 262_144;
+
+/// Whether a line is neither blank nor a comment.
+fn speaks(text: &[u8]) -> bool
+    ensures { IsTrue result ↔ (is_silent (fields_of text.now) ≡ false) }
+{
+    match first_field(text) {
+        None => false,
+        Some((word, _)) => !is_comment(word),
+    }
+}
+
+/// The length of the first line of a text; none if no line feed ends it.
+fn line_end(text: &[u8]) -> Option<usize>
+    ensures { MatchOption result (0 < length text.now → lines_of text.now ≡ text.now ∷ [])
+        (λ end. (end < length text.now)
+        × BeginsWithLine text.now (take end text.now) (drop (end + 1) text.now)) }
+{
+    memchr(b'\n', text)
+}
+
+impl ReportLines {
+    /// The lines of a device that was not read yet; the first one is found.
+    pub(crate) fn open<R: ByteIn>(alloc: Global, device: &mut R) -> Result<ReportLines, ReadFault>
+        ensures sound { IfOk result IsSound }
+        ensures begins { IfOk result
+            (Begins most_bytes (R.seen device.old) (R.seen device.new)) }
+        ensures fault { IfErr result
+            (IsStopped most_bytes (R.seen device.old) (R.seen device.new)) }
+    {
+        let mut lines = ReportLines {
+            blocks: Blocks::new(alloc, u64::MAX)?,
+            block: Vec::new(alloc),
+            start: 0,
+            spare: Vec::new(alloc),
+            ended: false,
+            count: 0,
+            found: false,
+            line: Vec::new(alloc),
+        };
+        lines.find(device)?;
+        Ok(lines)
+    }
+
+    /// The line that was found, if one is left.
+    pub(crate) fn line(&self) -> Option<SpokenLine<'_>>
+        ensures { MatchOption result (spoken self.now ≡ None)
+            (λ line. spoken self.now ≡ Some (line_of line)) }
+    {
+        if self.found {
+            Some(SpokenLine {
+                number: self.count,
+                text: &self.line,
+            })
+        } else {
+            None
+        }
+    }
+
+    /// The bytes of the block that were not read.
+    fn rest(&self) -> &[u8]
+        requires { self.now.start ≤ length self.now.block.items }
+        ensures { result.now ≡ rest_of self.now }
+    {
+        &self.block[self.start..]
+    }
+
+    /// Moves the bytes that were not read to the front of the block, and fills it with further ones.
+    fn refill<R: ByteIn>(&mut self, device: &mut R) -> Result<(), ReadFault>
+        requires ready { IsReady self.old }
+        requires more { self.old.ended ≡ false }
+        ensures ready { OnOk result (IsReady self.new) }
+        ensures leads { OnOk result (Leads (λ text next. text ≡ next)
+            (R.seen device.old) self.old (R.seen device.new) self.new) }
+        ensures count { self.new.count ≡ self.old.count }
+        ensures size { OnOk result (size_left self.new ≡ size_left self.old) }
+        ensures less { OnOk result (self.new.blocks.left ≤ self.old.blocks.left) }
+        ensures on { OnOk result
+            (self.new.ended ≡ false → self.new.blocks.left < self.old.blocks.left) }
+        ensures fault { IfErr result
+            (StopsTaking (R.seen device.old) self.old.blocks (R.seen device.new)) }
+    {
+        self.spare.clear();
+        self.spare.extend_from_slice(&self.block[self.start..])?;
+        let size = self.spare.len().saturating_mul(2).max(BLOCK);
+        self.ended = self.blocks.fill(device, &mut self.spare, size)?;
+        mem::swap(&mut self.block, &mut self.spare);
+        self.start = 0;
+        Ok(())
+    }
+
+    /// Reads a line of `len` bytes, and goes on after `past` bytes.
+    fn take(&mut self, len: usize, past: usize) -> Result<(), AllocError>
+        requires ready { IsReady self.old }
+        requires some { 0 < past }
+        requires len { len ≤ past }
+        requires within { past ≤ length (rest_of self.old) }
+        ensures ready { OnOk result (IsReady self.new) }
+        ensures rest { OnOk result (rest_of self.new ≡ drop past (rest_of self.old)) }
+        ensures line { OnOk result
+            (self.new.line.items ≡ strip_carriage_return (take len (rest_of self.old))) }
+        ensures count { OnOk result (self.new.count ≡ self.old.count + 1) }
+        ensures blocks { self.new.blocks ≡ self.old.blocks }
+        ensures ended { self.new.ended ≡ self.old.ended }
+    {
+        let rest = &self.block[self.start..];
+        let text = without_return(&rest[..len]);
+        self.line.clear();
+        self.line.extend_from_slice(text)?;
+        self.start += past;
+        self.count += 1;
+        Ok(())
+    }
+
+    /// Reads the next line, whatever it says. Returns whether there is one.
+    fn take_line<R: ByteIn>(&mut self, device: &mut R) -> Result<bool, ReadFault>
+        requires ready { IsReady self.old }
+        ensures ready { OnOk result (IsReady self.new) }
+        ensures taken { IfOk result (λ some.
+            Leads (TakesLine some self.new.line.items)
+            (R.seen device.old) self.old (R.seen device.new) self.new) }
+        ensures some { IfOk result (λ some. some ≡ true →
+            (self.new.count ≡ self.old.count + 1) × (size_left self.new < size_left self.old)) }
+        ensures none { IfOk result (λ some. some ≡ false → self.new.ended ≡ true) }
+        ensures fault { IfErr result
+            (StopsTaking (R.seen device.old) self.old.blocks (R.seen device.new)) }
+    {
+        'pulls: loop {
+            if let Some(end) = line_end(self.rest()) {
+                self.take(end, end + 1)?;
+                return Ok(true);
+            }
+            if self.ended {
+                break;
+            }
+            self.refill(device)?;
+        }
+        let left = self.rest().len();
+        if left == 0 {
+            return Ok(false);
+        }
+        self.take(left, left)?;
+        Ok(true)
+    }
+
+    /// Finds the next line that is neither blank nor a comment.
+    pub(crate) fn find<R: ByteIn>(&mut self, device: &mut R) -> Result<(), ReadFault>
+        requires ready { IsReady self.old }
+        ensures sound { OnOk result (IsSound self.new) }
+        ensures found { OnOk result (Leads (FindsLine self.old self.new)
+            (R.seen device.old) self.old (R.seen device.new) self.new) }
+        ensures fault { IfErr result
+            (StopsTaking (R.seen device.old) self.old.blocks (R.seen device.new)) }
+    {
+        'lines: while self.take_line(device)? {
+            if speaks(&self.line) {
+                self.found = true;
+                return Ok(());
+            }
+        }
+        self.found = false;
+        Ok(())
+    }
+
+    /// Reads the rest of the device without a look at it.
+    pub(crate) fn skip_rest<R: ByteIn>(&mut self, device: &mut R) -> Result<(), ReadFault>
+        requires room { HasRoom self.old.blocks }
+        ensures rest { OnOk result
+            (Skips (R.seen device.old) self.old (R.seen device.new) self.new) }
+        ensures fault { IfErr result
+            (StopsTaking (R.seen device.old) self.old.blocks (R.seen device.new)) }
+    {
+        while !self.ended {
+            self.block.clear();
+            self.start = 0;
+            self.ended = self.blocks.fill(device, &mut self.block, BLOCK)?;
+        }
+        Ok(())
+    }
+}
