@@ -7,6 +7,7 @@ use Rattle.std.proofs.lemmas.Str.Parse.{numerals_by_value, tells_all_ascii_digit
 use Rattle.std.specs.Fmt.{decimal}
 use Rattle.std.specs.Str.{all_ascii_digits}
 use Rattle.std.specs.Prelude.{Option, Some, None, codes, if◌then◌else◌}
+use Rattle.ea_base.specs.declared.direction.Direction.TheVariants.{Forward}
 use Rattle.ea_bytes.specs.Text.{number_of}
 use Rattle.ea_road.specs.declared.TheConstants.{NONE}
 use Rattle.ea_road.specs.declared.source.Source.{Source}
@@ -53,14 +54,14 @@ module _ (nodes : ℕ) where
   with_nodes queries zero node small later = later node
   with_nodes queries (suc count) node small later =
       let on = with_nodes queries count (node + 1) (omega arith) later in
-      let line : Line = record { number = 0; fields = codes "d" ∷ decimal node ∷ codes "inf" ∷ [] } in
+      let line : Line = record { number = 0; fields = codes "d" ∷ decimal node ∷ codes "inf" ∷ []; way = Forward } in
       (line ∷ on.0, inf_line (refl, number_written node (omega arith), inl (refl, refl)) on.1)
 
   with_sources : (queries : List (List Source)) (sources : List Source) (node count : ℕ) → AreSmall sources → CanEnd None [] node count queries [] → CanEnd None sources node count queries []
   with_sources queries [] node count small later = later
   with_sources queries (source ∷ sources) node count small later =
       let on = with_sources queries sources node count small.2 later in
-      let line : Line = record { number = 0; fields = codes "s" ∷ decimal source.node ∷ decimal source.departure ∷ [] } in
+      let line : Line = record { number = 0; fields = codes "s" ∷ decimal source.node ∷ decimal source.departure ∷ []; way = Forward } in
       (line ∷ on.0, source_line (refl, number_written source.node small.0, number_written source.departure small.1) on.1)
 
   with_queries : (queries : List (List Source)) → nodes + 1 < 2 ^ 64 → AreAllSmall queries → (node : ℕ) → CanEnd None [] node 0 queries []
@@ -114,7 +115,7 @@ module _ (nodes : ℕ) where
         push None None (source ∷ sources) sources node node count count queries queries line (λ rest begins ends. after_source nodes line ends) (λ rest ends. source_line reads.0 ends) (behind_sources sources node count queries lines middle number reads.1 bad)
 
     -- a line with a time, before a possible walk
-    push_time : (node count : ℕ) (queries : List (List Source)) (line : Line) (time : ℕ) {after : List Line} {number : ℕ} → SaysTime line.fields node time → time ≢ NONE → BadFrom (Some node) [] (node + 1) count queries after number → BadFrom None [] node (suc count) queries (line ∷ after) number
+    push_time : (node count : ℕ) (queries : List (List Source)) (line : Line) (time : ℕ) {after : List Line} {number : ℕ} → SaysTime line.way line.fields node time → time ≢ NONE → BadFrom (Some node) [] (node + 1) count queries after number → BadFrom None [] node (suc count) queries (line ∷ after) number
     push_time node count queries line time says has bad =
         push None (Some node) [] [] node (node + 1) (suc count) count queries queries line (λ rest begins ends. after_time nodes line time says has ends) (λ rest ends. time_line time says has ends) bad
 
@@ -131,7 +132,7 @@ module _ (nodes : ℕ) where
     behind_a_node node count queries {said} {number} (without_walk {line} {others} says at none quiet) bad =
         elim (eqb_tells said.time NONE) [
           | inl inf ↦
-              let says_inf = subst (λ t. SaysTime line.fields node t) inf.1 says in
+              let says_inf = subst (λ t. SaysTime line.way line.fields node t) inf.1 says in
               push None None [] [] node (node + 1) (suc count) count queries queries line (λ rest begins ends. after_inf nodes line says_inf ends) (λ rest ends. inf_line says_inf ends) bad
           | inr has ↦
               push_time node count queries line said.time says has.1
@@ -139,7 +140,7 @@ module _ (nodes : ℕ) where
         ]
     behind_a_node node count queries {said} {number} (and_walk {line} {next} {walk} {others} says has at some at_next walks) bad =
         push_time node count queries line said.time says has
-        (push (Some node) None [] [] (node + 1) (node + 1) count count queries queries next (λ rest begins ends. after_walk nodes next (walk_begins next.fields node walk.arcs walks) ends) (λ rest ends. walk_line walk.arcs walks ends) bad)
+        (push (Some node) None [] [] (node + 1) (node + 1) count count queries queries next (λ rest begins ends. after_walk nodes next (walk_begins next.way next.fields node walk.arcs walks) ends) (λ rest ends. walk_line walk.arcs walks ends) bad)
 
     bad_in_nodes : (queries : List (List Source)) {node count number : ℕ} {lines : List Line} → node + count < 2 ^ 64 → AreAllSmall queries → NodesWrong node count lines number → BadFrom None [] node count queries lines number
     bad_in_nodes queries short all_small (in_node {node} {count} {number} {lines} wrong) = bad_node node count queries lines number short all_small wrong

@@ -2,6 +2,7 @@
 use Rattle.std.proofs.Common.{Bool, true, false, ◌≡◌, ◌∙◌, refl, ℕ, zero, suc, ◌+◌, ◌^◌, ◌<◌, ◌≤◌, List, [], ◌∷◌, ◌++◌, length, drop, get_or, arith, ap, sym, subst, append_assoc}
 use Rattle.std.proofs.Math.Seq.{drop-cons}
 use Rattle.std.specs.Prelude.{if◌then◌else◌, Option, Some, None, Result, Ok, Err}
+use Rattle.ea_base.specs.declared.direction.Direction.{Direction}
 use Rattle.ea_bytes.specs.Text.{is_silent}
 use Rattle.ea_road.specs.declared.source.Source.{Source}
 use Rattle.std.specs.List.{IsAmong}
@@ -93,10 +94,10 @@ either_order : (silent : Bool) (low : ℕ) (line : Line) (rest : List Line) → 
 either_order true low line rest less this that = this
 either_order false low line rest less this that = (less, that)
 
-pub spoken_in_order : (number low : ℕ) (lines : List (List (List ℕ))) → low < number → IsAfter low (spoken_from number lines)
-spoken_in_order number low [] less = tt
-spoken_in_order number low (fields ∷ lines) less =
-    either_order (is_silent fields) low (record { number = number; fields = fields }) (spoken_from (number + 1) lines) less (spoken_in_order (number + 1) low lines (omega arith)) (spoken_in_order (number + 1) number lines (omega arith))
+pub spoken_in_order : (way : Direction) (number low : ℕ) (lines : List (List (List ℕ))) → low < number → IsAfter low (spoken_from way number lines)
+spoken_in_order way number low [] less = tt
+spoken_in_order way number low (fields ∷ lines) less =
+    either_order (is_silent fields) low (record { number = number; fields = fields; way = way }) (spoken_from way (number + 1) lines) less (spoken_in_order way (number + 1) low lines (omega arith)) (spoken_in_order way (number + 1) number lines (omega arith))
 
 pub order_behind : {nodes : ℕ} {sources : List Source} {reported : List Said} {lines others : List Line} → ReadsProblem nodes sources reported lines others → AreInOrder lines → AreInOrder others
 order_behind {others} reads order = let front = front_problem reads in after_behind front.first others 0 (subst AreInOrder front.cut order)

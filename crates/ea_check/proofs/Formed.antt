@@ -1,19 +1,20 @@
 -- What lines of right form say is well formed.
 use Rattle.std.proofs.Common.{◌≡◌, refl, ℕ, zero, suc, ◌-◌, ◌<◌, ◌≤◌, List, [], ◌∷◌, ◌++◌, ◌⊎◌, inl, inr, arith, ap, sym, subst}
 use Rattle.std.specs.Prelude.{◌≢◌, Option, Some, None, slice_get}
+use Rattle.ea_base.specs.declared.direction.Direction.{Direction}
 use Rattle.ea_base.specs.declared.limits.TheConstants.{HORIZON}
 use Rattle.ea_road.specs.declared.TheConstants.{NONE}
 use Rattle.ea_road.specs.declared.source.Source.{Source}
 use Rattle.ea_check.specs.Verdicts.{WrittenWalk, Said, IsLineOf, time_line, walk_line, IsWellFormed}
 use Rattle.ea_check.specs.Form.{Line, SaysTime, SaysNode, alone, with_walk, SaysNodes, no_node, next_node, SaysSources, SaysProblem, IsAfter, AreInOrder}
 
-time_within : (fields : List (List ℕ)) (node time : ℕ) → SaysTime fields node time → time ≢ NONE → time ≤ HORIZON
-time_within [] node time says has_time = absurd says
-time_within (word ∷ []) node time says has_time = absurd says
-time_within (word ∷ place ∷ []) node time says has_time = absurd says
-time_within (word ∷ place ∷ arrival ∷ []) node time says has_time =
+time_within : (way : Direction) (fields : List (List ℕ)) (node time : ℕ) → SaysTime way fields node time → time ≢ NONE → time ≤ HORIZON
+time_within way [] node time says has_time = absurd says
+time_within way (word ∷ []) node time says has_time = absurd says
+time_within way (word ∷ place ∷ []) node time says has_time = absurd says
+time_within way (word ∷ place ∷ arrival ∷ []) node time says has_time =
     elim says.2 [ inl none ↦ absurd (has_time none.1) | inr some ↦ some.1 ]
-time_within (word ∷ place ∷ arrival ∷ other ∷ rest) node time says has_time = absurd says
+time_within way (word ∷ place ∷ arrival ∷ other ∷ rest) node time says has_time = absurd says
 
 -- a line on a node
 abbrev OfSaid : Said → ℕ → Type 0
@@ -89,8 +90,8 @@ times_all (next_node {node} {said = first} here later) zero said found has_time 
     subst P same (of_node here) has_time
   where
     of_node : {node : ℕ} {said : Said} {lines : List Line} → SaysNode node said lines → said.time ≢ NONE → said.time ≤ HORIZON
-    of_node {node} {said} (alone {line} says number none) has = time_within line.fields node said.time says has
-    of_node {node} {said} (with_walk {line} says has number some at walks) also = time_within line.fields node said.time says also
+    of_node {node} {said} (alone {line} says number none) has = time_within line.way line.fields node said.time says has
+    of_node {node} {said} (with_walk {line} says has number some at walks) also = time_within line.way line.fields node said.time says also
 times_all (next_node here later) (suc place) said found has_time = times_all later place said found has_time
 
 walks_all : {start : ℕ} {reported : List Said} {lines : List Line} (number : ℕ) → SaysNodes start reported lines → IsAfter number lines → (place : ℕ) (said : Said) (walk : WrittenWalk) → slice_get reported place ≡ Some said → said.walk ≡ Some walk → (said.time ≢ NONE) × (said.line < walk.line)

@@ -15,7 +15,7 @@ any_node other (problem_begins rest) = problem_begins rest
 by_node : {nodes node count : ℕ} {said : Said} {queries : List (List Source)} {lines : List Line} (others : List Line) → SaysNode node said lines → Remains nodes None [] (node + 1) count queries others → Remains nodes None [] node (suc count) queries (lines ++ others)
 by_node {node} {said} others (alone {line} says at none) rest =
     elim (eqb_tells said.time NONE) [
-      | inl same ↦ inf_line (subst (λ t. SaysTime line.fields node t) same.1 says) rest
+      | inl same ↦ inf_line (subst (λ t. SaysTime line.way line.fields node t) same.1 says) rest
       | inr has ↦ time_line said.time says has.1 (no_walk rest)
     ]
 by_node {said} others (with_walk {walk} says has at some at_next walks) rest = time_line said.time says has (walk_line walk.arcs walks rest)
@@ -146,10 +146,10 @@ found (time_line {node} {line} time says has (walk_line {line = next} arcs walks
     }
 
 -- the first line that remains is one that its place requires
-pub asks_source : {nodes node count : ℕ} {source : Source} {sources : List Source} {queries : List (List Source)} {line : Line} {lines : List Line} → Remains nodes None (source ∷ sources) node count queries (line ∷ lines) → SaysSource line.fields source.node source.departure
+pub asks_source : {nodes node count : ℕ} {source : Source} {sources : List Source} {queries : List (List Source)} {line : Line} {lines : List Line} → Remains nodes None (source ∷ sources) node count queries (line ∷ lines) → SaysSource line.way line.fields source.node source.departure
 asks_source (source_line says rest) = says
 
-pub asks_time : {nodes node count : ℕ} {queries : List (List Source)} {line : Line} {lines : List Line} → Remains nodes None [] node (suc count) queries (line ∷ lines) → (time : ℕ) × SaysTime line.fields node time
+pub asks_time : {nodes node count : ℕ} {queries : List (List Source)} {line : Line} {lines : List Line} → Remains nodes None [] node (suc count) queries (line ∷ lines) → (time : ℕ) × SaysTime line.way line.fields node time
 asks_time (inf_line says rest) = (NONE, says)
 asks_time (time_line time says has rest) = (time, says)
 

@@ -59,10 +59,10 @@ pub source_missing : (source : Source) (found : Option Line) (behind : List Line
 source_missing source found behind none = rw none refl
 
 -- a source's line, and another line in its place
-pub source_read : (source : Source) (found : Option Line) (line : Line) (behind others : List Line) → found ≡ Some line → SaysSource line.fields source.node source.departure → behind ≡ others → ReadsSources (source ∷ []) (found_then found behind) others
+pub source_read : (source : Source) (found : Option Line) (line : Line) (behind others : List Line) → found ≡ Some line → SaysSource line.way line.fields source.node source.departure → behind ≡ others → ReadsSources (source ∷ []) (found_then found behind) others
 source_read source found line behind others is says same = rw is (says, same)
 
-pub source_other : (source : Source) (found : Option Line) (line : Line) (behind : List Line) → found ≡ Some line → (SaysSource line.fields source.node source.departure → ⊥) → SourcesWrong (source ∷ []) (found_then found behind) line.number
+pub source_other : (source : Source) (found : Option Line) (line : Line) (behind : List Line) → found ≡ Some line → (SaysSource line.way line.fields source.node source.departure → ⊥) → SourcesWrong (source ∷ []) (found_then found behind) line.number
 source_other source found line behind is other = rw is (inl (refl, other))
 
 -- a walk is read, or there is none
@@ -73,10 +73,10 @@ module _ (node : ℕ) (found : Option Line) (behind : List Line) where
   pub walk_none : (line : Line) → found ≡ Some line → (IsWalkLine line.fields → ⊥) → ReadsWalk node None (found_then found behind) (found_then found behind)
   walk_none line is other = rw is (refl, other)
 
-  pub walk_read : (line : Line) (arcs : List ℕ) (others : List Line) → found ≡ Some line → SaysWalk line.fields node arcs → behind ≡ others → ReadsWalk node (Some (record { line = line.number; arcs = arcs })) (found_then found behind) others
+  pub walk_read : (line : Line) (arcs : List ℕ) (others : List Line) → found ≡ Some line → SaysWalk line.way line.fields node arcs → behind ≡ others → ReadsWalk node (Some (record { line = line.number; arcs = arcs })) (found_then found behind) others
   walk_read line arcs others is says same = rw is (refl, says, same)
 
-  pub walk_other : (line : Line) → found ≡ Some line → IsWalkLine line.fields → ((arcs : List ℕ) → SaysWalk line.fields node arcs → ⊥) → WalkWrong node (found_then found behind) line.number
+  pub walk_other : (line : Line) → found ≡ Some line → IsWalkLine line.fields → ((arcs : List ℕ) → SaysWalk line.way line.fields node arcs → ⊥) → WalkWrong node (found_then found behind) line.number
   walk_other line is begins none = rw is (refl, begins, none)
 
 module _ (node : ℕ) (found : Option Line) (behind : List Line) where
@@ -84,10 +84,10 @@ module _ (node : ℕ) (found : Option Line) (behind : List Line) where
   node_missing none = rw none no_line
 
   module _ (line : Line) (is : found ≡ Some line) where
-    pub node_untimed : ((time : ℕ) → SaysTime line.fields node time → ⊥) → NodeWrong node (found_then found behind) line.number
+    pub node_untimed : ((time : ℕ) → SaysTime line.way line.fields node time → ⊥) → NodeWrong node (found_then found behind) line.number
     node_untimed none = rw is (no_time {line = line} none)
 
-    module _ (time : ℕ) (says : SaysTime line.fields node time) where
+    module _ (time : ℕ) (says : SaysTime line.way line.fields node time) where
       pub node_alone : (others : List Line) → time ≡ NONE → others ≡ behind → ReadsNode node (record { line = line.number; time = time; walk = None }) (found_then found behind) others
       node_alone others none same =
           let here : ReadsNode node (record { line = line.number; time = time; walk = None }) (line ∷ behind) behind = without_walk says refl refl (λ some. absurd (some none)) in

@@ -1,6 +1,7 @@
 -- The verdict on a report whose lines are read as its bytes come.
 use Rattle.std.proofs.Common.{◌≡◌, ◌∙◌, refl, Bool, true, false, ℕ, ◌+◌, ◌<◌, List, [], ◌++◌, arith, ap, sym, subst, append_assoc}
 use Rattle.std.specs.Prelude.{Result, Ok, Err, Some, None, if◌then◌else◌}
+use Rattle.ea_base.specs.declared.direction.Direction.{Direction}
 use Rattle.ea_bytes.proofs.Taken.{all_taken, was_borne, within_limit}
 use Rattle.ea_bytes.specs.Device.{Seen}
 use Rattle.ea_bytes.specs.Taking.{IsStopped, IsTakenBy, StopsTaking}
@@ -23,12 +24,12 @@ use Rattle.ea_check.proofs.Stopping.{then_lines}
 use Rattle.ea_check.proofs.Streaming.{stops_on}
 
 -- the lines that are left are in the order of their numbers
-found_in_order : (found : Bool) (line : Line) (texts : List (List (List ℕ))) → (found ≡ true → 0 < line.number) → AreInOrder (found_then (if found then Some line else None) (spoken_from (line.number + 1) texts))
-found_in_order true line texts some = (some refl, spoken_in_order (line.number + 1) line.number texts (omega arith))
+found_in_order : (found : Bool) (line : Line) (texts : List (List (List ℕ))) → (found ≡ true → 0 < line.number) → AreInOrder (found_then (if found then Some line else None) (spoken_from line.way (line.number + 1) texts))
+found_in_order true line texts some = (some refl, spoken_in_order line.way (line.number + 1) line.number texts (omega arith))
 found_in_order false line texts some = tt
 
 pub ahead_in_order : (lines : ReportLines) (text : List ℕ) → IsSound lines → AreInOrder (ahead lines text)
-ahead_in_order lines text sound = found_in_order lines.found (record { number = lines.count; fields = fields_of lines.line.items }) (field_lines text) sound.number
+ahead_in_order lines text sound = found_in_order lines.found (record { number = lines.count; fields = fields_of lines.line.items; way = lines.way }) (field_lines text) sound.number
 
 -- reading stops behind lines that were read
 module _ (Has : List Line → Result (Unit {0}) CheckFault → Type 0) (P : List Line → List Line → Type 0) (Bad : List Line → ℕ → Type 0) where
@@ -42,13 +43,13 @@ pub verdict_leads : (Has : List Line → Result (Unit {0}) CheckFault → Type 0
 verdict_leads Has old new before after (Ok _) judges = judges
 verdict_leads Has old new before after (Err fault) judges = judges
 
-module _ (first begun read last : Seen) (start after : ReportLines) (begins : Begins most_bytes first begun start) where
+module _ (way : Direction) (first begun read last : Seen) (start after : ReportLines) (begins : Begins way most_bytes first begun start) where
   -- the device stops after lines that were read
   pub whole_stops : (P : List ℕ → List ℕ → Type 0) (fault : ReadFault) → Leads P begun start read after → StopsTaking read after.blocks last fault → IsStopped most_bytes first last fault
   whole_stops P fault leads stops = stops most_bytes first (begins.got ++ leads.got) (leads.taken most_bytes first begins.got begins.taken)
 
   -- the lines were read, and then the rest of the device
-  pub whole_checked : (roads : Roads) (answers : ℕ → ℕ → ℕ → ℕ → Type 0) (queries : List (List Source)) (verdict : Result (Unit {0}) CheckFault) (end : ReportLines) → LeadsTo (λ lines others. IsChecked roads answers queries lines verdict) begun start read after → Skips read after last end → HasVerdict roads answers queries first last verdict
+  pub whole_checked : (roads : Roads) (answers : ℕ → ℕ → ℕ → ℕ → Type 0) (queries : List (List Source)) (verdict : Result (Unit {0}) CheckFault) (end : ReportLines) → LeadsTo (λ lines others. IsChecked roads answers queries lines verdict) begun start read after → Skips read after last end → HasVerdict way roads answers queries first last verdict
   whole_checked roads answers queries verdict end leads skips =
       let behind = leads.got ++ skips.got in
       let text = begins.got ++ behind in

@@ -9,6 +9,7 @@ use Rattle.memchr.specs.Find.{IsFirstByte, is_byte}
 use Rattle.std.specs.Prelude.{if◌then◌else◌, IsTrue, MatchOption, Option, Some, None}
 use Rattle.ea_bytes.proofs.Cutting.{feed_at, lines_at, lines_end, no_feed}
 use Rattle.ea_bytes.proofs.Taken.{at_most_taken, was_borne}
+use Rattle.ea_base.specs.declared.direction.Direction.{Direction}
 use Rattle.ea_bytes.specs.Device.{Seen}
 use Rattle.ea_bytes.specs.Taking.{GoesOnTaking, HasRoom, IsTakenBy, StopsTaking}
 use Rattle.ea_bytes.specs.Text.{field_lines, fields_of, is_silent, lines_of}
@@ -16,7 +17,7 @@ use Rattle.ea_bytes.specs.declared.blocks.Blocks.{Blocks}
 use Rattle.ea_bytes.specs.declared.blocks.ReadFault.{ReadFault}
 use Rattle.ea_bytes.specs.declared.blocks.ReadFault.TheVariants.{OutOfMemory}
 use Rattle.ea_check.specs.declared.form.report_lines.ReportLines.{ReportLines}
-use Rattle.ea_check.specs.Form.{spoken_from}
+use Rattle.ea_check.specs.Form.{Line, spoken_from}
 use Rattle.ea_check.specs.Streams.{BeginsWithLine, Leads, TakesLine, rest_of}
 
 -- ---- one state after another
@@ -164,20 +165,22 @@ falls false false before left more less on = omega (arith, on refl)
 
 -- ---- lines that say something
 
-pub silent_line : (number next_number : ℕ) (fields : List (List ℕ)) (text next : List ℕ) → next_number ≡ number + 1 → is_silent fields ≡ true → field_lines text ≡ fields ∷ field_lines next → spoken_from (number + 1) (field_lines text) ≡ spoken_from (next_number + 1) (field_lines next)
-silent_line number next_number fields text next count silent is =
-    ap (spoken_from (number + 1)) is
-    ∙ ap (λ t. if t then spoken_from (number + 1 + 1) (field_lines next) else (record { number = number + 1; fields = fields } ∷ spoken_from (number + 1 + 1) (field_lines next))) silent
-    ∙ ap (λ n. spoken_from (n + 1) (field_lines next)) (sym count)
+module _ (way next_way : Direction) (number next_number : ℕ) (fields : List (List ℕ)) (text next : List ℕ) (same : next_way ≡ way) (count : next_number ≡ number + 1) where
+  abbrev more : Bool → List Line
+  more silent =
+      if silent then spoken_from way (number + 1 + 1) (field_lines next) else (record { number = number + 1; fields = fields; way = way } ∷ spoken_from way (number + 1 + 1) (field_lines next))
 
-pub spoken_line : (number next_number : ℕ) (fields : List (List ℕ)) (text next : List ℕ) → next_number ≡ number + 1 → is_silent fields ≡ false → field_lines text ≡ fields ∷ field_lines next → spoken_from (number + 1) (field_lines text) ≡ record { number = next_number; fields = fields } ∷ spoken_from (next_number + 1) (field_lines next)
-spoken_line number next_number fields text next count speaks is =
-    ap (spoken_from (number + 1)) is
-    ∙ ap (λ t. if t then spoken_from (number + 1 + 1) (field_lines next) else (record { number = number + 1; fields = fields } ∷ spoken_from (number + 1 + 1) (field_lines next))) speaks
-    ∙ ap (λ n. record { number = n; fields = fields } ∷ spoken_from (n + 1) (field_lines next)) (sym count)
+  pub silent_line : is_silent fields ≡ true → field_lines text ≡ fields ∷ field_lines next → spoken_from way (number + 1) (field_lines text) ≡ spoken_from next_way (next_number + 1) (field_lines next)
+  silent_line silent is =
+      ap (spoken_from way (number + 1)) is ∙ ap more silent ∙ ap (λ n. spoken_from way (n + 1) (field_lines next)) (sym count) ∙ ap (λ w. spoken_from w (next_number + 1) (field_lines next)) (sym same)
 
-pub no_line_left : (number : ℕ) (text : List ℕ) → text ≡ [] → spoken_from number (field_lines text) ≡ []
-no_line_left number text none = ap (λ (t : List ℕ). spoken_from number (field_lines t)) none
+  pub spoken_line : is_silent fields ≡ false → field_lines text ≡ fields ∷ field_lines next → spoken_from way (number + 1) (field_lines text) ≡ record { number = next_number; fields = fields; way = next_way } ∷ spoken_from next_way (next_number + 1) (field_lines next)
+  spoken_line speaks is =
+      ap (spoken_from way (number + 1)) is ∙ ap more speaks ∙ ap (λ n. record { number = n; fields = fields; way = way } ∷ spoken_from way (n + 1) (field_lines next)) (sym count)
+      ∙ ap (λ w. record { number = next_number; fields = fields; way = w } ∷ spoken_from w (next_number + 1) (field_lines next)) (sym same)
+
+pub no_line_left : (way : Direction) (number : ℕ) (text : List ℕ) → text ≡ [] → spoken_from way number (field_lines text) ≡ []
+no_line_left way number text none = ap (λ (t : List ℕ). spoken_from way number (field_lines t)) none
 
 not_true : (b : Bool) → (b ≡ false → b ≡ true → ⊥) → (b ≡ false → ⊥) → b ≡ true
 not_true true both none = refl

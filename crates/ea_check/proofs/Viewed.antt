@@ -3,15 +3,16 @@ use Rattle.std.proofs.Common.{◌≡◌, ◌∙◌, refl, ℕ, zero, suc, ◌-�
 use Rattle.std.proofs.lemmas.List.{drop-append-le, length-map, map-append, take-append-le, take_all}
 use Rattle.std.proofs.Math.Seq.{drop-append_seam, take-append_seam}
 use Rattle.std.specs.Prelude.{if◌then◌else◌, false, true, is_err, is_ok, Result, Ok, Err, Option, Some, None, slice_get}
+use Rattle.ea_base.specs.declared.direction.Direction.{Direction}
 use Rattle.ea_bytes.specs.Text.{fields_of}
 use Rattle.ea_check.specs.declared.form.reported.KeptLine.{KeptLine}
 use Rattle.ea_check.specs.declared.form.reported.KeptWalk.{KeptWalk}
-use Rattle.ea_check.specs.Form.{arcs_of}
+use Rattle.ea_check.specs.Form.{arcs_of, told_walk}
 use Rattle.ea_check.specs.Verdicts.{Said, IsSaid, WrittenWalk, times_of}
 use Rattle.ea_check.specs.Views.{AreInside, AreKept, IsInside, kept_of, kept_walk, part}
 
-abbrev pub kept_as : ℕ → List ℕ → Option WrittenWalk
-kept_as line text = Some (record { line = line; arcs = arcs_of (fields_of text) })
+abbrev pub kept_as : Direction → ℕ → List ℕ → Option WrittenWalk
+kept_as way line text = Some (record { line = line; arcs = told_walk way (arcs_of (fields_of text)) })
 
 module _ (arcs : List ℕ) where
   said_here : (lines : List KeptLine) (place : ℕ) (here : KeptLine) (said : Said) → place < length lines → here ≡ get_or lines place here → slice_get (map (kept_of arcs) lines) place ≡ Some said → said ≡ kept_of arcs here
@@ -54,7 +55,7 @@ module _ (arcs : List ℕ) where
 
     walk_more : (walk : Option KeptWalk) → IsInside arcs walk → kept_walk (arcs ++ more) walk ≡ kept_walk arcs walk
     walk_more None inside = refl
-    walk_more (Some walk) inside = ap (λ (text : List ℕ). kept_as walk.line text) (part_more walk.start walk.end inside.0 inside.1)
+    walk_more (Some walk) inside = ap (λ (text : List ℕ). kept_as walk.way walk.line text) (part_more walk.start walk.end inside.0 inside.1)
 
     pub lines_more : (lines : List KeptLine) → AreInside arcs lines → map (kept_of (arcs ++ more)) lines ≡ map (kept_of arcs) lines
     lines_more [] all = refl

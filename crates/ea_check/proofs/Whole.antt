@@ -26,8 +26,8 @@ quiet_report nodes queries problems [] says = tt
 quiet_report nodes queries problems (line ∷ lines) says = λ walk. no_other_walk nodes line walk (remains 0 says)
 
 node_reads : {node : ℕ} {said : Said} {lines : List Line} (rest : List Line) → NoWalkNext rest → SaysNode node said lines → ReadsNode node said (lines ++ rest) rest × NoWalkNext (lines ++ rest)
-node_reads {node} {said} rest quiet (alone {line} says at none) = (without_walk says at none (λ has. quiet), time_no_walk line.fields node said.time says)
-node_reads {node} {said} rest quiet (with_walk {line} says has at some at_next walks) = (and_walk says has at some at_next walks, time_no_walk line.fields node said.time says)
+node_reads {node} {said} rest quiet (alone {line} says at none) = (without_walk says at none (λ has. quiet), time_no_walk line.way line.fields node said.time says)
+node_reads {node} {said} rest quiet (with_walk {line} says has at some at_next walks) = (and_walk says has at some at_next walks, time_no_walk line.way line.fields node said.time says)
 
 nodes_read : {node : ℕ} {reported : List Said} {lines : List Line} (rest : List Line) → NoWalkNext rest → SaysNodes node reported lines → ReadsNodes node reported (lines ++ rest) rest × NoWalkNext (lines ++ rest)
 nodes_read rest quiet no_node = (no_more, quiet)

@@ -7,6 +7,7 @@ use Rattle.std.specs.List.{onto_first, flat_map}
 use Rattle.std.specs.Str.Lines.{strip_carriage_return}
 use Rattle.ea_bytes.specs.Text.{lines_of, is_blank, fields_of, field_lines, is_comment}
 use Rattle.ea_bytes.specs.Text.{number_of}
+use Rattle.ea_base.specs.declared.direction.Direction.TheVariants.{Forward}
 use Rattle.ea_base.specs.declared.limits.TheConstants.{HORIZON}
 use Rattle.ea_road.specs.declared.TheConstants.{NONE}
 use Rattle.ea_road.specs.declared.source.Source.{Source}
@@ -70,10 +71,10 @@ line_cut word fields rest is are =
     ap field_lines joined ∙ ap (map (λ l. fields_of (strip_carriage_return l))) (feed_cut body rest plain) ∙ ap (λ (fs : List (List ℕ)). fs ∷ field_lines rest) (ap fields_of (kept body plain) ∙ fields_line word fields is are)
 
 -- the lines of a text that begins with a written line
-pub line_spoken : (word : List ℕ) (fields : List (List ℕ)) (rest : List ℕ) (number : ℕ) → IsField word → AreFields fields → is_comment word ≡ false → spoken_from number (field_lines (line word fields ++ rest)) ≡ record { number = number; fields = word ∷ fields } ∷ spoken_from (number + 1) (field_lines rest)
+pub line_spoken : (word : List ℕ) (fields : List (List ℕ)) (rest : List ℕ) (number : ℕ) → IsField word → AreFields fields → is_comment word ≡ false → spoken_from Forward number (field_lines (line word fields ++ rest)) ≡ record { number = number; fields = word ∷ fields; way = Forward } ∷ spoken_from Forward (number + 1) (field_lines rest)
 line_spoken word fields rest number is are loud =
-    let here : Line = record { number = number; fields = word ∷ fields } in
-    ap (spoken_from number) (line_cut word fields rest is are) ∙ ap (λ t. cond t (spoken_from (number + 1) (field_lines rest)) (here ∷ spoken_from (number + 1) (field_lines rest))) loud
+    let here : Line = record { number = number; fields = word ∷ fields; way = Forward } in
+    ap (spoken_from Forward number) (line_cut word fields rest is are) ∙ ap (λ t. cond t (spoken_from Forward (number + 1) (field_lines rest)) (here ∷ spoken_from Forward (number + 1) (field_lines rest))) loud
 
 word_field : (b : ℕ) → b ≢ 10 → b ≢ 13 → is_blank b ≡ false → IsField (b ∷ [])
 word_field b feed return blank = record { clear = (feed, return, blank, tt); some = omega arith }
@@ -94,14 +95,14 @@ inf_field = record {
 }
 
 -- the lines of sources
-pub sources_written : (sources : List Source) → AreSmall sources → (rest : List ℕ) (number : ℕ) → (next : ℕ) × ReadsSources sources (spoken_from number (field_lines (flat_map source_line sources ++ rest))) (spoken_from next (field_lines rest))
+pub sources_written : (sources : List Source) → AreSmall sources → (rest : List ℕ) (number : ℕ) → (next : ℕ) × ReadsSources sources (spoken_from Forward number (field_lines (flat_map source_line sources ++ rest))) (spoken_from Forward next (field_lines rest))
 sources_written [] small rest number = (number, refl)
 sources_written (source ∷ sources) small rest number =
     let on = sources_written sources small.2 rest (number + 1) in
     let fields : List (List ℕ) = decimal source.node ∷ decimal source.departure ∷ [] in
     let joined = append_assoc (source_line source) (flat_map source_line sources) rest in
-    let lines = ap (λ (text : List ℕ). spoken_from number (field_lines text)) joined ∙ line_spoken (codes "s") fields (flat_map source_line sources ++ rest) number s_field (number_field source.node small.0, (number_field source.departure small.1, tt)) refl in
-    (on.0, subst (λ (ls : List Line). ReadsSources (source ∷ sources) ls (spoken_from on.0 (field_lines rest))) (sym lines) ((refl, number_written source.node small.0, number_written source.departure small.1), on.1))
+    let lines = ap (λ (text : List ℕ). spoken_from Forward number (field_lines text)) joined ∙ line_spoken (codes "s") fields (flat_map source_line sources ++ rest) number s_field (number_field source.node small.0, (number_field source.departure small.1, tt)) refl in
+    (on.0, subst (λ (ls : List Line). ReadsSources (source ∷ sources) ls (spoken_from Forward on.0 (field_lines rest))) (sym lines) ((refl, number_written source.node small.0, number_written source.departure small.1), on.1))
 
 map_length : (arcs : List ℕ) → length (map decimal arcs) ≡ length arcs
 map_length [] = refl
@@ -111,15 +112,15 @@ map_length (arc ∷ arcs) = ap suc (map_length arcs)
 pub record NodeRead (walks : Bool) (node number : ℕ) (text rest : List ℕ) (label : ℕ) (linked : List ℕ) : Type 0 where
   pub said : Said
   pub next : ℕ
-  pub reads : ReadsNode node said (spoken_from number (field_lines text)) (spoken_from next (field_lines rest))
+  pub reads : ReadsNode node said (spoken_from Forward number (field_lines text)) (spoken_from Forward next (field_lines rest))
   pub time : said.time ≡ label
   pub walk : (written : WrittenWalk) → said.walk ≡ Some written → (written.arcs ≡ linked) × (label ≢ NONE) × (walks ≡ true)
 
 abbrev Quiet : List ℕ → Type 0
-Quiet rest = (number : ℕ) → NoWalkNext (spoken_from number (field_lines rest))
+Quiet rest = (number : ℕ) → NoWalkNext (spoken_from Forward number (field_lines rest))
 
 module _ (node : ℕ) (small : node < 2 ^ 64) where
-  time_spoken : (fields : List (List ℕ)) (rest : List ℕ) (number : ℕ) → AreFields fields → spoken_from number (field_lines (line (codes "d") fields ++ rest)) ≡ record { number = number; fields = codes "d" ∷ fields } ∷ spoken_from (number + 1) (field_lines rest)
+  time_spoken : (fields : List (List ℕ)) (rest : List ℕ) (number : ℕ) → AreFields fields → spoken_from Forward number (field_lines (line (codes "d") fields ++ rest)) ≡ record { number = number; fields = codes "d" ∷ fields; way = Forward } ∷ spoken_from Forward (number + 1) (field_lines rest)
   time_spoken fields rest number are = line_spoken (codes "d") fields rest number d_field are refl
 
   quiet_time : (fields : List (List ℕ)) (rest : List ℕ) → AreFields fields → Quiet (line (codes "d") fields ++ rest)
@@ -128,14 +129,14 @@ module _ (node : ℕ) (small : node < 2 ^ 64) where
   no_arrival : (walks : Bool) (number : ℕ) (rest linked : List ℕ) → Quiet rest → NodeRead walks node number (line (codes "d") (decimal node ∷ codes "inf" ∷ []) ++ rest) rest NONE linked
   no_arrival walks number rest linked quiet =
       let fields : List (List ℕ) = decimal node ∷ codes "inf" ∷ [] in
-      let here : Line = record { number = number; fields = codes "d" ∷ fields } in
+      let here : Line = record { number = number; fields = codes "d" ∷ fields; way = Forward } in
       let said : Said = record { line = number; time = NONE; walk = None } in
-      let reads : ReadsNode node said (here ∷ spoken_from (number + 1) (field_lines rest)) (spoken_from (number + 1) (field_lines rest)) =
+      let reads : ReadsNode node said (here ∷ spoken_from Forward (number + 1) (field_lines rest)) (spoken_from Forward (number + 1) (field_lines rest)) =
       without_walk (refl, number_written node small, inl (refl, refl)) refl refl (λ has. absurd (has refl)) in
       record {
         said = said;
         next = number + 1;
-        reads = subst (λ (ls : List Line). ReadsNode node said ls (spoken_from (number + 1) (field_lines rest))) (sym (time_spoken fields rest number (number_field node small, (inf_field, tt)))) reads;
+        reads = subst (λ (ls : List Line). ReadsNode node said ls (spoken_from Forward (number + 1) (field_lines rest))) (sym (time_spoken fields rest number (number_field node small, (inf_field, tt)))) reads;
         time = refl;
         walk = λ written same. cc;
       }
@@ -147,14 +148,14 @@ module _ (node : ℕ) (small : node < 2 ^ 64) where
     arrival_alone : (walks : Bool) (number : ℕ) (rest linked : List ℕ) → Quiet rest → NodeRead walks node number (line (codes "d") (decimal node ∷ decimal label ∷ []) ++ rest) rest label linked
     arrival_alone walks number rest linked quiet =
         let fields : List (List ℕ) = decimal node ∷ decimal label ∷ [] in
-        let here : Line = record { number = number; fields = codes "d" ∷ fields } in
+        let here : Line = record { number = number; fields = codes "d" ∷ fields; way = Forward } in
         let said : Said = record { line = number; time = label; walk = None } in
-        let reads : ReadsNode node said (here ∷ spoken_from (number + 1) (field_lines rest)) (spoken_from (number + 1) (field_lines rest)) =
+        let reads : ReadsNode node said (here ∷ spoken_from Forward (number + 1) (field_lines rest)) (spoken_from Forward (number + 1) (field_lines rest)) =
         without_walk (refl, number_written node small, inr (number_written label (omega arith), within)) refl refl (λ has. quiet (number + 1)) in
         record {
           said = said;
           next = number + 1;
-          reads = subst (λ (ls : List Line). ReadsNode node said ls (spoken_from (number + 1) (field_lines rest))) (sym (time_spoken fields rest number arrival_fields)) reads;
+          reads = subst (λ (ls : List Line). ReadsNode node said ls (spoken_from Forward (number + 1) (field_lines rest))) (sym (time_spoken fields rest number arrival_fields)) reads;
           time = refl;
           walk = λ written same. cc;
         }
@@ -163,11 +164,11 @@ module _ (node : ℕ) (small : node < 2 ^ 64) where
     arrival_walk number rest linked short long =
         let fields : List (List ℕ) = decimal node ∷ decimal label ∷ [] in
         let walked : List (List ℕ) = decimal node ∷ decimal (length linked) ∷ map decimal linked in
-        let here : Line = record { number = number; fields = codes "d" ∷ fields } in
-        let behind : Line = record { number = number + 1; fields = codes "w" ∷ walked } in
+        let here : Line = record { number = number; fields = codes "d" ∷ fields; way = Forward } in
+        let behind : Line = record { number = number + 1; fields = codes "w" ∷ walked; way = Forward } in
         let walk : WrittenWalk = record { line = number + 1; arcs = linked } in
         let said : Said = record { line = number; time = label; walk = Some walk } in
-        let others : List Line = spoken_from (number + 1 + 1) (field_lines rest) in
+        let others : List Line = spoken_from Forward (number + 1 + 1) (field_lines rest) in
         let counted : number_of (decimal (length linked)) ≡ Some (length (map decimal linked)) = number_written (length linked) long ∙ ap (λ n. Some n) (sym (map_length linked)) in
         let reads : ReadsNode node said (here ∷ behind ∷ others) others =
         and_walk (refl, number_written node small, inr (number_written label (omega arith), within)) (λ none. omega arith) refl refl refl (refl, number_written node small, counted, arcs_written linked short) in
@@ -218,10 +219,10 @@ quiet_node walks answer node small can rest = by_test (label_of answer.labels no
 
     by_test : (none : Bool) → (label_of answer.labels node == NONE) ≡ none → Quiet ((arrival_line node (if none then None else Some (label_of answer.labels node)) ++ (if walks then walk_text node (if none then None else Some (linked_walk answer.links node)) else [])) ++ rest)
     by_test true same number =
-        subst (λ (text : List ℕ). NoWalkNext (spoken_from number (field_lines text))) (sym (append_assoc (line (codes "d") (decimal node ∷ codes "inf" ∷ [])) (if walks then [] else []) rest)) (quiet_time node small (decimal node ∷ codes "inf" ∷ []) ((if walks then [] else []) ++ rest) (number_field node small, (inf_field, tt)) number)
+        subst (λ (text : List ℕ). NoWalkNext (spoken_from Forward number (field_lines text))) (sym (append_assoc (line (codes "d") (decimal node ∷ codes "inf" ∷ [])) (if walks then [] else []) rest)) (quiet_time node small (decimal node ∷ codes "inf" ∷ []) ((if walks then [] else []) ++ rest) (number_field node small, (inf_field, tt)) number)
     by_test false differs number =
         let some : label_of answer.labels node ≢ NONE = eqb-false (label_of answer.labels node) NONE differs in
-        subst (λ (text : List ℕ). NoWalkNext (spoken_from number (field_lines text))) (sym (append_assoc (line (codes "d") (decimal node ∷ decimal (label_of answer.labels node) ∷ [])) (if walks then walk_line node (linked_walk answer.links node) else []) rest)) (quiet_time node small (decimal node ∷ decimal (label_of answer.labels node) ∷ []) ((if walks then walk_line node (linked_walk answer.links node) else []) ++ rest) (arrival_fields node small (label_of answer.labels node) (can.within some)) number)
+        subst (λ (text : List ℕ). NoWalkNext (spoken_from Forward number (field_lines text))) (sym (append_assoc (line (codes "d") (decimal node ∷ decimal (label_of answer.labels node) ∷ [])) (if walks then walk_line node (linked_walk answer.links node) else []) rest)) (quiet_time node small (decimal node ∷ decimal (label_of answer.labels node) ∷ []) ((if walks then walk_line node (linked_walk answer.links node) else []) ++ rest) (arrival_fields node small (label_of answer.labels node) (can.within some)) number)
 
 -- the texts of nodes, from one on
 from_node : (ℕ → List ℕ) → ℕ → ℕ → List ℕ
@@ -247,7 +248,7 @@ all_nodes text (suc count) =
 record NodesRead (walks : Bool) (answer : Answered) (node count number : ℕ) (text : List ℕ) : Type 0 where
   pub reported : List Said
   pub next : ℕ
-  pub reads : ReadsNodes node reported (spoken_from number (field_lines text)) (spoken_from next [])
+  pub reads : ReadsNodes node reported (spoken_from Forward number (field_lines text)) (spoken_from Forward next [])
   pub each_node : length reported ≡ count
   pub time : (place : ℕ) (said : Said) → slice_get reported place ≡ Some said → said.time ≡ label_of answer.labels (node + place)
   pub walk : (place : ℕ) (said : Said) (written : WrittenWalk) → slice_get reported place ≡ Some said → said.walk ≡ Some written → (written.arcs ≡ linked_walk answer.links (node + place)) × (label_of answer.labels (node + place) ≢ NONE) × (walks ≡ true)
@@ -339,9 +340,9 @@ module _
         let first = sources_written sources small rest 1 in
         let nodes = nodes_written walks answer roads.nodes 1 first.0 (omega arith) can_write in
         let reads : ReadsProblem roads.nodes sources nodes.reported (lines_of_report (flat_map source_line sources ++ rest)) [] = record {
-          middle = spoken_from first.0 (field_lines rest);
+          middle = spoken_from Forward first.0 (field_lines rest);
           of_sources = first.1;
-          of_nodes = subst (λ (t : List ℕ). ReadsNodes 1 nodes.reported (spoken_from first.0 (field_lines t)) []) (sym (all_nodes (node_text walks answer) roads.nodes)) nodes.reads;
+          of_nodes = subst (λ (t : List ℕ). ReadsNodes 1 nodes.reported (spoken_from Forward first.0 (field_lines t)) []) (sym (all_nodes (node_text walks answer) roads.nodes)) nodes.reads;
           each_node = nodes.each_node;
         } in
         let front = front_problem reads in

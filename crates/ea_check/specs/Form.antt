@@ -1,24 +1,33 @@
 -- The form of a report: the order of its lines, and what each says.
-use Rattle.std.specs.Prelude.{◌≡◌, ◌≢◌, ◌⊎◌, ℕ, ◌+◌, ◌<◌, ◌≤◌, ◌^◌, nat_lt, if◌then◌else◌, List, [], ◌∷◌, ◌++◌, length, map, codes, Option, Some, None}
+use Rattle.std.specs.Prelude.{◌≡◌, ◌≢◌, ◌⊎◌, ℕ, ◌+◌, ◌-◌, ◌<◌, ◌≤◌, ◌^◌, nat_lt, if◌then◌else◌, List, [], ◌∷◌, ◌++◌, length, map, reverse, codes, Option, Some, None}
 use Rattle.ea_bytes.specs.Text.{number_of, is_silent, field_lines}
+use Rattle.ea_base.specs.declared.direction.Direction.{Direction}
+use Rattle.ea_base.specs.declared.direction.Direction.TheVariants.{Forward, Turned}
 use Rattle.ea_base.specs.declared.limits.TheConstants.{HORIZON}
 use Rattle.ea_road.specs.declared.TheConstants.{NONE}
 use Rattle.ea_road.specs.declared.source.Source.{Source}
 use Rattle.ea_check.specs.Verdicts.{WrittenWalk, Said}
 
--- A line of a text: its number, from 1, and its fields.
+-- A line of a report: its number, from 1, its fields, and the direction of its run. What may follow a line
+-- doesn't depend on the direction.
 pub record Line : Type 0 where
   pub number : ℕ
   pub fields : List (List ℕ)
+  pub way : Direction
 
 -- The lines that are neither blank nor comments, numbered from that of the first line.
-abbrev pub spoken_from : ℕ → List (List (List ℕ)) → List Line
-spoken_from number [] = []
-spoken_from number (fields ∷ rest) =
-    if is_silent fields then spoken_from (number + 1) rest else record { number = number; fields = fields } ∷ spoken_from (number + 1) rest
+abbrev pub spoken_from : Direction → ℕ → List (List (List ℕ)) → List Line
+spoken_from way number [] = []
+spoken_from way number (fields ∷ rest) =
+    if is_silent fields then spoken_from way (number + 1) rest else record { number = number; fields = fields; way = way } ∷ spoken_from way (number + 1) rest
 
+-- The lines of a report of a run in this direction.
+abbrev pub report_lines : Direction → List ℕ → List Line
+report_lines way text = spoken_from way 1 (field_lines text)
+
+-- The lines of a report of earliest arrivals.
 abbrev pub lines_of_report : List ℕ → List Line
-lines_of_report text = spoken_from 1 (field_lines text)
+lines_of_report text = report_lines Forward text
 
 -- Lines whose numbers ascend.
 abbrev pub IsAfter : ℕ → List Line → Type 0
@@ -28,21 +37,43 @@ IsAfter number (line ∷ lines) = (number < line.number) × IsAfter line.number 
 abbrev pub AreInOrder : List Line → Type 0
 AreInOrder lines = IsAfter 0 lines
 
--- A line `s S D`.
-abbrev pub SaysSource : List (List ℕ) → ℕ → ℕ → Type 0
-SaysSource (word ∷ source ∷ time ∷ []) node departure =
-    (word ≡ codes "s") × (number_of source ≡ Some node) × (number_of time ≡ Some departure)
-SaysSource _ node departure = ⊥
+-- The word of a line of a source, or of a target.
+abbrev pub start_word : Direction → List ℕ
+start_word Forward = codes "s"
+start_word Turned = codes "t"
 
--- A time within the horizon, or `inf`.
-abbrev pub IsTime : List ℕ → ℕ → Type 0
-IsTime field time = ((field ≡ codes "inf") × (time ≡ NONE)) ⊎ ((number_of field ≡ Some time) × (time ≤ HORIZON))
+-- The word in place of a time: nothing arrives, or nothing departs in time.
+abbrev pub none_word : Direction → List ℕ
+none_word Forward = codes "inf"
+none_word Turned = codes "none"
 
--- A line `d V A` or `d V inf`.
-abbrev pub SaysTime : List (List ℕ) → ℕ → ℕ → Type 0
-SaysTime (word ∷ place ∷ arrival ∷ []) node time =
-    (word ≡ codes "d") × (number_of place ≡ Some node) × IsTime arrival time
-SaysTime _ node time = ⊥
+-- The time in a report, and the time of the network that was searched: a latest departure is the horizon less
+-- the arrival in the network turned round. Each gives the other.
+abbrev pub told_time : Direction → ℕ → ℕ
+told_time Forward time = time
+told_time Turned time = HORIZON - time
+
+-- The arcs in a report, and those of a walk in the network that was searched: a walk to a target is written
+-- in the order in which it is driven. Each gives the other.
+abbrev pub told_walk : Direction → List ℕ → List ℕ
+told_walk Forward arcs = arcs
+told_walk Turned arcs = reverse arcs
+
+-- A line `s S D` of a source, or `t T A` of a target.
+abbrev pub SaysSource : Direction → List (List ℕ) → ℕ → ℕ → Type 0
+SaysSource way (word ∷ source ∷ time ∷ []) node departure =
+    (word ≡ start_word way) × (number_of source ≡ Some node) × (number_of time ≡ Some (told_time way departure))
+SaysSource way _ node departure = ⊥
+
+-- A time within the horizon, or the word in its place.
+abbrev pub IsTime : Direction → List ℕ → ℕ → Type 0
+IsTime way field time = ((field ≡ none_word way) × (time ≡ NONE)) ⊎ ((number_of field ≡ Some (told_time way time)) × (time ≤ HORIZON))
+
+-- A line `d V A` or `d V inf` of an arrival, or `d V D` or `d V none` of a departure.
+abbrev pub SaysTime : Direction → List (List ℕ) → ℕ → ℕ → Type 0
+SaysTime way (word ∷ place ∷ arrival ∷ []) node time =
+    (word ≡ codes "d") × (number_of place ≡ Some node) × IsTime way arrival time
+SaysTime way _ node time = ⊥
 
 -- An arc number. A number of more than 32 bits becomes 0, which is no arc's.
 abbrev pub arc_number : ℕ → ℕ
@@ -80,16 +111,20 @@ abbrev pub IsWalkLine : List (List ℕ) → Type 0
 IsWalkLine [] = ⊥
 IsWalkLine (word ∷ others) = word ≡ codes "w"
 
--- A line `w V k e1 .. ek`.
-abbrev pub SaysWalk : List (List ℕ) → ℕ → List ℕ → Type 0
-SaysWalk (word ∷ place ∷ count ∷ numbers) node arcs =
+-- A line `w V k e1 .. ek`, whose arcs are these as they are written.
+abbrev pub SaysArcs : List (List ℕ) → ℕ → List ℕ → Type 0
+SaysArcs (word ∷ place ∷ count ∷ numbers) node arcs =
     (word ≡ codes "w") × (number_of place ≡ Some node) × (number_of count ≡ Some (length numbers)) × AreArcNumbers numbers arcs
-SaysWalk _ node arcs = ⊥
+SaysArcs _ node arcs = ⊥
+
+-- A line `w V k e1 .. ek`, given the arcs of the walk in the network that was searched.
+abbrev pub SaysWalk : Direction → List (List ℕ) → ℕ → List ℕ → Type 0
+SaysWalk way fields node arcs = SaysArcs fields node (told_walk way arcs)
 
 -- The lines of a node: its `d` line and, if that has a time, maybe a `w` line.
 pub data SaysNode (node : ℕ) (said : Said) : List Line → Type 0 where
-  alone : {line : Line} → SaysTime line.fields node said.time → said.line ≡ line.number → said.walk ≡ None → SaysNode node said (line ∷ [])
-  with_walk : {line next : Line} {walk : WrittenWalk} → SaysTime line.fields node said.time → said.time ≢ NONE → said.line ≡ line.number → said.walk ≡ Some walk → walk.line ≡ next.number → SaysWalk next.fields node walk.arcs → SaysNode node said (line ∷ next ∷ [])
+  alone : {line : Line} → SaysTime line.way line.fields node said.time → said.line ≡ line.number → said.walk ≡ None → SaysNode node said (line ∷ [])
+  with_walk : {line next : Line} {walk : WrittenWalk} → SaysTime line.way line.fields node said.time → said.time ≢ NONE → said.line ≡ line.number → said.walk ≡ Some walk → walk.line ≡ next.number → SaysWalk next.way next.fields node walk.arcs → SaysNode node said (line ∷ next ∷ [])
 
 -- The lines of nodes, one node after another from this one on.
 pub data SaysNodes : ℕ → List Said → List Line → Type 0 where
@@ -102,7 +137,7 @@ SaysSources [] [] = Unit {0}
 SaysSources [] (line ∷ lines) = ⊥
 SaysSources (source ∷ sources) [] = ⊥
 SaysSources (source ∷ sources) (line ∷ lines) =
-    SaysSource line.fields source.node source.departure × SaysSources sources lines
+    SaysSource line.way line.fields source.node source.departure × SaysSources sources lines
 
 -- The lines of a problem: those of its sources, then those of all nodes.
 pub record SaysProblem (nodes : ℕ) (sources : List Source) (reported : List Said) (lines : List Line) : Type 0 where

@@ -9,11 +9,11 @@ use Rattle.ea_check.specs.Form.{Line, SaysSource, SaysTime, SaysWalk}
 pub data Remains (nodes : ℕ) : Option ℕ → List Source → ℕ → ℕ → List (List Source) → List Line → Type 0 where
   ended : {node : ℕ} → Remains nodes None [] node 0 [] []
   problem_begins : {node : ℕ} {sources : List Source} {queries : List (List Source)} {lines : List Line} → Remains nodes None sources 1 nodes queries lines → Remains nodes None [] node 0 (sources ∷ queries) lines
-  source_line : {source : Source} {sources : List Source} {node count : ℕ} {queries : List (List Source)} {line : Line} {lines : List Line} → SaysSource line.fields source.node source.departure → Remains nodes None sources node count queries lines → Remains nodes None (source ∷ sources) node count queries (line ∷ lines)
-  inf_line : {node count : ℕ} {queries : List (List Source)} {line : Line} {lines : List Line} → SaysTime line.fields node NONE → Remains nodes None [] (node + 1) count queries lines → Remains nodes None [] node (suc count) queries (line ∷ lines)
-  time_line : {node count : ℕ} {queries : List (List Source)} {line : Line} {lines : List Line} (time : ℕ) → SaysTime line.fields node time → time ≢ NONE → Remains nodes (Some node) [] (node + 1) count queries lines → Remains nodes None [] node (suc count) queries (line ∷ lines)
+  source_line : {source : Source} {sources : List Source} {node count : ℕ} {queries : List (List Source)} {line : Line} {lines : List Line} → SaysSource line.way line.fields source.node source.departure → Remains nodes None sources node count queries lines → Remains nodes None (source ∷ sources) node count queries (line ∷ lines)
+  inf_line : {node count : ℕ} {queries : List (List Source)} {line : Line} {lines : List Line} → SaysTime line.way line.fields node NONE → Remains nodes None [] (node + 1) count queries lines → Remains nodes None [] node (suc count) queries (line ∷ lines)
+  time_line : {node count : ℕ} {queries : List (List Source)} {line : Line} {lines : List Line} (time : ℕ) → SaysTime line.way line.fields node time → time ≢ NONE → Remains nodes (Some node) [] (node + 1) count queries lines → Remains nodes None [] node (suc count) queries (line ∷ lines)
   no_walk : {walked node count : ℕ} {queries : List (List Source)} {lines : List Line} → Remains nodes None [] node count queries lines → Remains nodes (Some walked) [] node count queries lines
-  walk_line : {walked node count : ℕ} {queries : List (List Source)} {line : Line} {lines : List Line} (arcs : List ℕ) → SaysWalk line.fields walked arcs → Remains nodes None [] node count queries lines → Remains nodes (Some walked) [] node count queries (line ∷ lines)
+  walk_line : {walked node count : ℕ} {queries : List (List Source)} {line : Line} {lines : List Line} (arcs : List ℕ) → SaysWalk line.way line.fields walked arcs → Remains nodes None [] node count queries lines → Remains nodes (Some walked) [] node count queries (line ∷ lines)
 
 -- Sources whose numbers can be written with 64 bits.
 abbrev pub AreSmall : List Source → Type 0

@@ -24,15 +24,15 @@ IsWrong IsBad (NotCanonical number) = ⊥
 abbrev pub ReadsSources : List Source → List Line → List Line → Type 0
 ReadsSources [] lines others = lines ≡ others
 ReadsSources (source ∷ sources) [] others = ⊥
-ReadsSources (source ∷ sources) (line ∷ lines) others = SaysSource line.fields source.node source.departure × ReadsSources sources lines others
+ReadsSources (source ∷ sources) (line ∷ lines) others = SaysSource line.way line.fields source.node source.departure × ReadsSources sources lines others
 
 -- The first line that is not its source's; 0 if the lines end.
 abbrev pub SourcesWrong : List Source → List Line → ℕ → Type 0
 SourcesWrong [] lines number = ⊥
 SourcesWrong (source ∷ sources) [] number = number ≡ 0
 SourcesWrong (source ∷ sources) (line ∷ lines) number =
-    ((number ≡ line.number) × (SaysSource line.fields source.node source.departure → ⊥))
-    ⊎ (SaysSource line.fields source.node source.departure × SourcesWrong sources lines number)
+    ((number ≡ line.number) × (SaysSource line.way line.fields source.node source.departure → ⊥))
+    ⊎ (SaysSource line.way line.fields source.node source.departure × SourcesWrong sources lines number)
 
 -- No line that begins with `w` comes next.
 abbrev pub NoWalkNext : List Line → Type 0
@@ -43,24 +43,24 @@ NoWalkNext (line ∷ lines) = IsWalkLine line.fields → ⊥
 abbrev pub ReadsWalk : ℕ → Option WrittenWalk → List Line → List Line → Type 0
 ReadsWalk node None lines others = (lines ≡ others) × NoWalkNext lines
 ReadsWalk node (Some walk) [] others = ⊥
-ReadsWalk node (Some walk) (line ∷ lines) others = (walk.line ≡ line.number) × SaysWalk line.fields node walk.arcs × (lines ≡ others)
+ReadsWalk node (Some walk) (line ∷ lines) others = (walk.line ≡ line.number) × SaysWalk line.way line.fields node walk.arcs × (lines ≡ others)
 
 -- The next line begins with `w`, and is not the node's.
 abbrev pub WalkWrong : ℕ → List Line → ℕ → Type 0
 WalkWrong node [] number = ⊥
-WalkWrong node (line ∷ lines) number = (number ≡ line.number) × IsWalkLine line.fields × ((arcs : List ℕ) → SaysWalk line.fields node arcs → ⊥)
+WalkWrong node (line ∷ lines) number = (number ≡ line.number) × IsWalkLine line.fields × ((arcs : List ℕ) → SaysWalk line.way line.fields node arcs → ⊥)
 
 -- A node's lines come first, then the others: its `d` line and, if that has a time, its `w` line if one comes
 -- next.
 pub data ReadsNode (node : ℕ) (said : Said) : List Line → List Line → Type 0 where
-  without_walk : {line : Line} {others : List Line} → SaysTime line.fields node said.time → said.line ≡ line.number → said.walk ≡ None → (said.time ≢ NONE → NoWalkNext others) → ReadsNode node said (line ∷ others) others
-  and_walk : {line next : Line} {walk : WrittenWalk} {others : List Line} → SaysTime line.fields node said.time → said.time ≢ NONE → said.line ≡ line.number → said.walk ≡ Some walk → walk.line ≡ next.number → SaysWalk next.fields node walk.arcs → ReadsNode node said (line ∷ next ∷ others) others
+  without_walk : {line : Line} {others : List Line} → SaysTime line.way line.fields node said.time → said.line ≡ line.number → said.walk ≡ None → (said.time ≢ NONE → NoWalkNext others) → ReadsNode node said (line ∷ others) others
+  and_walk : {line next : Line} {walk : WrittenWalk} {others : List Line} → SaysTime line.way line.fields node said.time → said.time ≢ NONE → said.line ≡ line.number → said.walk ≡ Some walk → walk.line ≡ next.number → SaysWalk next.way next.fields node walk.arcs → ReadsNode node said (line ∷ next ∷ others) others
 
 -- The first of a node's lines that is not what its place requires.
 pub data NodeWrong (node : ℕ) : List Line → ℕ → Type 0 where
   no_line : NodeWrong node [] 0
-  no_time : {line : Line} {others : List Line} → ((time : ℕ) → SaysTime line.fields node time → ⊥) → NodeWrong node (line ∷ others) line.number
-  no_such_walk : {line next : Line} {others : List Line} (time : ℕ) → SaysTime line.fields node time → time ≢ NONE → IsWalkLine next.fields → ((arcs : List ℕ) → SaysWalk next.fields node arcs → ⊥) → NodeWrong node (line ∷ next ∷ others) next.number
+  no_time : {line : Line} {others : List Line} → ((time : ℕ) → SaysTime line.way line.fields node time → ⊥) → NodeWrong node (line ∷ others) line.number
+  no_such_walk : {line next : Line} {others : List Line} (time : ℕ) → SaysTime line.way line.fields node time → time ≢ NONE → IsWalkLine next.fields → ((arcs : List ℕ) → SaysWalk next.way next.fields node arcs → ⊥) → NodeWrong node (line ∷ next ∷ others) next.number
 
 -- The lines of nodes come first, one node after another from this one on, then the others.
 pub data ReadsNodes : ℕ → List Said → List Line → List Line → Type 0 where

@@ -1,12 +1,13 @@
 -- The lines of a report whose bytes come from a device.
 use Rattle.std.specs.Prelude.{◌≡◌, ℕ, ◌+◌, ◌-◌, ◌<◌, ◌≤◌, ◌^◌, Bool, true, false, if◌then◌else◌, List, [], ◌∷◌, ◌++◌, length, drop, Option, Some, None, IfSome}
 use Rattle.std.specs.Io.KnownBytes.{IsAtEnd}
+use Rattle.ea_base.specs.declared.direction.Direction.{Direction}
 use Rattle.ea_bytes.specs.Device.{Seen, BearsOn}
 use Rattle.ea_bytes.specs.Taking.{HasRoom, IsTakenBy}
 use Rattle.ea_bytes.specs.Text.{field_lines, fields_of, lines_of}
 use Rattle.ea_check.specs.declared.form.report_lines.ReportLines.{ReportLines}
 use Rattle.ea_check.specs.declared.form.report_lines.SpokenLine.{SpokenLine}
-use Rattle.ea_check.specs.Form.{Line, lines_of_report, spoken_from}
+use Rattle.ea_check.specs.Form.{Line, report_lines, spoken_from}
 
 -- The most bytes of a report: a count of 64 bits.
 abbrev pub most_bytes : ℕ
@@ -29,11 +30,11 @@ abbrev pub size_left : ReportLines → ℕ
 size_left lines = (length lines.block.items - lines.start) + lines.blocks.left
 
 abbrev pub line_of : SpokenLine → Line
-line_of line = record { number = line.number; fields = fields_of line.text.now }
+line_of line = record { number = line.number; fields = fields_of line.text.now; way = line.way }
 
 -- The line that was found.
 abbrev pub spoken : ReportLines → Option Line
-spoken lines = if lines.found then Some (record { number = lines.count; fields = fields_of lines.line.items }) else None
+spoken lines = if lines.found then Some (record { number = lines.count; fields = fields_of lines.line.items; way = lines.way }) else None
 
 -- A line, if there is one, and those behind it.
 abbrev pub found_then : Option Line → List Line → List Line
@@ -42,7 +43,7 @@ found_then (Some line) behind = line ∷ behind
 
 -- The lines of a text behind those that were read.
 abbrev pub behind : ReportLines → List ℕ → List Line
-behind lines text = spoken_from (lines.count + 1) (field_lines text)
+behind lines text = spoken_from lines.way (lines.count + 1) (field_lines text)
 
 -- The line that was found, and those of the text behind it.
 abbrev pub ahead : ReportLines → List ℕ → List Line
@@ -96,8 +97,8 @@ pub record Skips (old : Seen) (before : ReportLines) (new : Seen) (after : Repor
   pub end : (before.ended ≡ true → IsAtEnd old.bytes) → IsAtEnd new.bytes
 
 -- The first line of a device's text was found.
-pub record Begins (limit : ℕ) (first now : Seen) (lines : ReportLines) : Type 0 where
+pub record Begins (way : Direction) (limit : ℕ) (first now : Seen) (lines : ReportLines) : Type 0 where
   pub got : List ℕ
   pub taken : IsTakenBy lines.blocks limit first now got
   pub end : lines.ended ≡ true → IsAtEnd now.bytes
-  pub begins : (later : List ℕ) → (lines.ended ≡ true → later ≡ []) → lines_of_report (got ++ later) ≡ ahead lines (rest_of lines ++ later)
+  pub begins : (later : List ℕ) → (lines.ended ≡ true → later ≡ []) → report_lines way (got ++ later) ≡ ahead lines (rest_of lines ++ later)

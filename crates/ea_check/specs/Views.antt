@@ -5,12 +5,16 @@ use Rattle.ea_check.specs.declared.form.reported.KeptLine.{KeptLine}
 use Rattle.ea_check.specs.declared.form.reported.KeptWalk.{KeptWalk}
 use Rattle.ea_check.specs.declared.form.reported.SaidLine.{SaidLine}
 use Rattle.ea_check.specs.declared.form.reported.WalkLine.{WalkLine}
-use Rattle.ea_check.specs.Form.{arcs_of}
+use Rattle.ea_check.specs.Form.{arcs_of, told_walk}
 use Rattle.ea_check.specs.Verdicts.{WrittenWalk, Said}
+
+-- The arcs of a walk in the network that was searched.
+abbrev pub arcs_said : WalkLine → List ℕ
+arcs_said walk = told_walk walk.way (arcs_of (fields_of walk.arcs.now))
 
 abbrev pub walk_of : Option WalkLine → Option WrittenWalk
 walk_of None = None
-walk_of (Some walk) = Some (record { line = walk.line; arcs = arcs_of (fields_of walk.arcs.now) })
+walk_of (Some walk) = Some (record { line = walk.line; arcs = arcs_said walk })
 
 abbrev pub said_of : SaidLine → Said
 said_of said = record { line = said.line; time = said.time; walk = walk_of said.walk }
@@ -22,7 +26,7 @@ part text start end = take (end - start) (drop start text)
 -- A walk whose arcs stand in a text.
 abbrev pub kept_walk : List ℕ → Option KeptWalk → Option WrittenWalk
 kept_walk arcs None = None
-kept_walk arcs (Some walk) = Some (record { line = walk.line; arcs = arcs_of (fields_of (part arcs walk.start walk.end)) })
+kept_walk arcs (Some walk) = Some (record { line = walk.line; arcs = told_walk walk.way (arcs_of (fields_of (part arcs walk.start walk.end))) })
 
 abbrev pub kept_of : List ℕ → KeptLine → Said
 kept_of arcs said = record { line = said.line; time = said.time; walk = kept_walk arcs said.walk }

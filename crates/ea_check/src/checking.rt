@@ -19,7 +19,7 @@ use crate::form::stop::Stop;
 use crate::judge::verdict::judge;
 use crate::judge::walk_sources::ordered_sources;
 use crate::text_in::TextIn;
-use ea_base::{Silent, Watch};
+use ea_base::{Direction, Silent, Watch};
 use ea_bytes::{ByteIn, ReadFault};
 use ea_paths::find_links;
 use ea_road::{Network, Query, is_problem};
@@ -128,6 +128,10 @@ fn verdict_of(judged: Result<(), Stop>) -> Result<Result<(), CheckFault>, ReadFa
 /// report has any, else that of the first problem with one. Each query asks all nodes; its lines follow those
 /// of the query before.
 ///
+/// With `Direction::Turned` the report is one of latest departures: its times are departures, and its walks
+/// lead to a target. The network, the travel times and the queries are then those turned round; a target that
+/// has to be reached at A is a source that departs at HORIZON - A.
+///
 /// Reads the device once, to its end before any verdict. A problem's fault is kept while the form of later
 /// problems is read. The lines of one problem are in memory at a time.
 ///
@@ -141,23 +145,24 @@ pub fn check_stream<T: TravelTimes, R: ByteIn, V: Watch>(
     network: &Network,
     times: &T,
     queries: &[Query],
+    way: Direction,
     report: &mut R,
     watch: &mut V,
 ) -> Result<Result<(), CheckFault>, ReadFault>
     requires { AreCheckable network.now (T.classes times.now) queries.now }
-    ensures checked { IfOk result (λ verdict. HasVerdict network.now (T.answers times.now)
+    ensures checked { IfOk result (λ verdict. HasVerdict way network.now (T.answers times.now)
         (sources_of queries.now) (R.seen report.old) (R.seen report.new) verdict) }
     ensures end { OnOk result (IsAtEnd (R.seen report.new).bytes) }
     ensures fault { IfErr result (IsStopped most_bytes (R.seen report.old) (R.seen report.new)) }
 {
-    let mut lines = ReportLines::open(alloc, report)?;
+    let mut lines = ReportLines::open(alloc, way, report)?;
     let judged = check_lines(alloc, network, times, queries, &mut lines, report, watch);
     let verdict = verdict_of(judged)?;
     lines.skip_rest(report)?;
     Ok(verdict)
 }
 
-/// Like `check_stream` for a report in memory. Refused memory is a `CheckFault`.
+/// Like `check_stream` for a report of earliest arrivals in memory. Refused memory is a `CheckFault`.
 pub fn check<T: TravelTimes>(
     alloc: Global,
     network: &Network,
@@ -186,7 +191,8 @@ pub fn check_watched<T: TravelTimes, V: Watch>(
         (lines_of_report report.now) result }
 {
     let mut device = TextIn::new(report);
-    match check_stream(alloc, network, times, queries, &mut device, watch) {
+    let way = Direction::Forward;
+    match check_stream(alloc, network, times, queries, way, &mut device, watch) {
         Ok(verdict) => verdict,
         // A text in memory can be read, and has fewer than 2^64 bytes.
         Err(_) => Err(CheckFault::OutOfMemory),

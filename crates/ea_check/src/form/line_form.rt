@@ -1,10 +1,12 @@
 //! The fields of a report's lines.
-ghost use Rattle.std.specs.Prelude.{◌≡◌, ◌∷◌, ◌↔◌, [], ℕ, IsTrue, List, MatchBool, MatchOption, Some, length};
+ghost use Rattle.std.specs.Prelude.{◌≡◌, ◌≤◌, ◌∷◌, ◌↔◌, [], ℕ, IsTrue, List, MatchBool, MatchOption, Some, length};
+ghost use Rattle.ea_base.specs.declared.limits.TheConstants.{HORIZON};
 ghost use Rattle.ea_bytes.specs.Text.{fields_of, number_of};
-ghost use Rattle.ea_check.specs.Form.{AreArcNumbers, IsTime, IsWalkLine, SaysSource, SaysTime, SaysWalk, arcs_of};
+ghost use Rattle.ea_check.specs.Form.{AreArcNumbers, IsTime, IsWalkLine, SaysArcs, SaysSource, SaysTime, arcs_of, told_time};
+ghost use Rattle.ea_check.specs.Form as spec;
 
 use crate::form::number_count::count_numbers;
-use ea_base::HORIZON;
+use ea_base::{Direction, HORIZON};
 use ea_bytes::{first_field, number};
 use ea_road::{NONE, Source};
 
@@ -36,47 +38,80 @@ fn is_number(field: &[u8], wanted: u64) -> bool
     number(field) == Some(u128::from(wanted))
 }
 
+/// The word of a line of a source, or of a target.
+fn start_word(way: Direction) -> &'static [u8]
+    ensures { result.now ≡ spec.start_word way }
+{
+    match way {
+        Direction::Forward => b"s",
+        Direction::Turned => b"t",
+    }
+}
+
+/// The word in place of a time.
+fn none_word(way: Direction) -> &'static [u8]
+    ensures { result.now ≡ spec.none_word way }
+{
+    match way {
+        Direction::Forward => b"inf",
+        Direction::Turned => b"none",
+    }
+}
+
+/// The time in a report of a time of the network that was searched, and the other way round.
+fn told(way: Direction, time: u64) -> u64
+    requires { time ≤ HORIZON }
+    ensures { result ≡ told_time way time }
+{
+    match way {
+        Direction::Forward => time,
+        Direction::Turned => HORIZON - time,
+    }
+}
+
 /// Whether a line is this source's.
-pub(crate) fn says_source(text: &[u8], source: Source) -> bool
-    ensures { IsTrue result ↔ SaysSource (fields_of text.now) source.node source.departure }
+pub(crate) fn says_source(way: Direction, text: &[u8], source: Source) -> bool
+    requires { source.departure ≤ HORIZON }
+    ensures { IsTrue result ↔ SaysSource way (fields_of text.now) source.node source.departure }
 {
     match three_fields(text) {
-        Some((word, node, departure)) => are_source(word, node, departure, source),
+        Some((word, node, departure)) => are_source(way, word, node, departure, source),
         None => false,
     }
 }
 
 /// Whether three fields are this source's.
-fn are_source(word: &[u8], node: &[u8], departure: &[u8], source: Source) -> bool
-    ensures { IsTrue result ↔ SaysSource
+fn are_source(way: Direction, word: &[u8], node: &[u8], departure: &[u8], source: Source) -> bool
+    requires { source.departure ≤ HORIZON }
+    ensures { IsTrue result ↔ SaysSource way
         (word.now ∷ node.now ∷ departure.now ∷ []) source.node source.departure }
 {
-    if word != b"s".as_slice() {
+    if word != start_word(way) {
         return false;
     }
     if !is_number(node, u64::from(source.node)) {
         return false;
     }
-    is_number(departure, source.departure)
+    is_number(departure, told(way, source.departure))
 }
 
-/// The time in a node's `d` line, or NONE for `inf`; None if the line is no such line.
-pub(crate) fn time_said(text: &[u8], node: u32) -> Option<u64>
+/// The time in a node's `d` line, or NONE for the word in its place; None if the line is no such line.
+pub(crate) fn time_said(way: Direction, text: &[u8], node: u32) -> Option<u64>
     ensures { MatchOption result
-        ((time : ℕ) → SaysTime (fields_of text.now) node time → ⊥)
-        (λ time. SaysTime (fields_of text.now) node time) }
+        ((time : ℕ) → SaysTime way (fields_of text.now) node time → ⊥)
+        (λ time. SaysTime way (fields_of text.now) node time) }
 {
     match three_fields(text) {
-        Some((word, place, arrival)) => time_in(word, place, arrival, node),
+        Some((word, place, arrival)) => time_in(way, word, place, arrival, node),
         None => None,
     }
 }
 
 /// The time in the three fields of a node's `d` line.
-fn time_in(word: &[u8], place: &[u8], arrival: &[u8], node: u32) -> Option<u64>
+fn time_in(way: Direction, word: &[u8], place: &[u8], arrival: &[u8], node: u32) -> Option<u64>
     ensures { MatchOption result
-        ((time : ℕ) → SaysTime (word.now ∷ place.now ∷ arrival.now ∷ []) node time → ⊥)
-        (λ time. SaysTime (word.now ∷ place.now ∷ arrival.now ∷ []) node time) }
+        ((time : ℕ) → SaysTime way (word.now ∷ place.now ∷ arrival.now ∷ []) node time → ⊥)
+        (λ time. SaysTime way (word.now ∷ place.now ∷ arrival.now ∷ []) node time) }
 {
     if word != b"d".as_slice() {
         return None;
@@ -84,22 +119,22 @@ fn time_in(word: &[u8], place: &[u8], arrival: &[u8], node: u32) -> Option<u64>
     if !is_number(place, u64::from(node)) {
         return None;
     }
-    time_of(arrival)
+    time_of(way, arrival)
 }
 
-/// A time within the horizon, or NONE for `inf`.
-fn time_of(field: &[u8]) -> Option<u64>
-    ensures { MatchOption result ((time : ℕ) → IsTime field.now time → ⊥)
-        (λ time. IsTime field.now time) }
+/// A time within the horizon, or NONE for the word in its place.
+fn time_of(way: Direction, field: &[u8]) -> Option<u64>
+    ensures { MatchOption result ((time : ℕ) → IsTime way field.now time → ⊥)
+        (λ time. IsTime way field.now time) }
 {
-    if field == b"inf".as_slice() {
+    if field == none_word(way) {
         return Some(NONE);
     }
     let Some(time) = number(field) else {
         return None;
     };
     if time <= u128::from(HORIZON) {
-        Some(time as u64)
+        Some(told(way, time as u64))
     } else {
         None
     }
@@ -118,8 +153,8 @@ pub(crate) fn is_walk_line(text: &[u8]) -> bool
 /// The text of the arcs, if a line is a node's `w` line.
 pub(crate) fn says_walk(text: &[u8], node: u32) -> Option<&[u8]>
     ensures { MatchOption result
-        ((arcs : List ℕ) → SaysWalk (fields_of text.entry.now) node arcs → ⊥)
-        (λ rest. SaysWalk (fields_of text.entry.now) node (arcs_of (fields_of rest.now))) }
+        ((arcs : List ℕ) → SaysArcs (fields_of text.entry.now) node arcs → ⊥)
+        (λ rest. SaysArcs (fields_of text.entry.now) node (arcs_of (fields_of rest.now))) }
 {
     let Some((word, rest)) = first_field(text) else {
         return None;

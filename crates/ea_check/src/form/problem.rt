@@ -1,5 +1,8 @@
 //! The lines of a problem.
-ghost use Rattle.std.specs.Prelude.{◌≡◌, ◌+◌, ◌<◌, ◌^◌, ◌++◌, ◌∷◌, [], MatchResult, None, OnOk, length};
+ghost use Rattle.std.specs.Prelude.{◌≡◌, ◌+◌, ◌<◌, ◌≤◌, ◌^◌, ◌++◌, ◌∷◌, [], MatchResult, None, OnOk, length};
+ghost use Rattle.std.specs.List.{IsAmong};
+ghost use Rattle.ea_base.specs.declared.limits.TheConstants.{HORIZON};
+ghost use Rattle.ea_road.specs.declared.source.Source.{Source};
 ghost use Rattle.ea_check.specs.declared.fault.CheckFault.TheVariants.{OutOfMemory};
 ghost use Rattle.ea_check.specs.declared.form.stop.Stop.TheVariants.{Report};
 ghost use Rattle.ea_check.specs.Reads.{NodeWrong, NodesWrong, ProblemWrong, ReadsProblem, ReadsSources, SourcesWrong, WalkWrong};
@@ -22,6 +25,7 @@ fn read_source<R: ByteIn>(
     device: &mut R,
     source: Source,
 ) -> Result<(), Stop>
+    requires departure { source.departure ≤ HORIZON }
     requires sound { IsSound lines.old }
     ensures sound { OnOk result (IsSound lines.new) }
     ensures read { MatchResult result
@@ -33,7 +37,7 @@ fn read_source<R: ByteIn>(
     let Some(line) = lines.line() else {
         return Err(Stop::Report(CheckFault::BadLine(0)));
     };
-    if !says_source(line.text, source) {
+    if !says_source(line.way, line.text, source) {
         return Err(Stop::Report(CheckFault::BadLine(line.number)));
     }
     lines.find(device)?;
@@ -46,6 +50,8 @@ fn read_sources<R: ByteIn>(
     device: &mut R,
     sources: &[Source],
 ) -> Result<(), Stop>
+    requires departures { (source : Source) → IsAmong sources.now source
+        → source.departure ≤ HORIZON }
     requires sound { IsSound lines.old }
     ensures sound { OnOk result (IsSound lines.new) }
     ensures read { MatchResult result
@@ -102,6 +108,7 @@ fn read_walk<R: ByteIn>(
     };
     let walk = WalkLine {
         line: line.number,
+        way: line.way,
         arcs,
     };
     reported.push(SaidLine {
@@ -132,7 +139,7 @@ fn read_node<R: ByteIn>(
         return Err(Stop::Report(CheckFault::BadLine(0)));
     };
     let number = line.number;
-    let Some(time) = time_said(line.text, node) else {
+    let Some(time) = time_said(line.way, line.text, node) else {
         return Err(Stop::Report(CheckFault::BadLine(number)));
     };
     lines.find(device)?;
@@ -173,6 +180,8 @@ pub(crate) fn read_problem<R: ByteIn>(
     nodes: u32,
     sources: &[Source],
 ) -> Result<Reported, Stop>
+    requires departures { (source : Source) → IsAmong sources.now source
+        → source.departure ≤ HORIZON }
     requires sound { IsSound lines.old }
     requires nodes { nodes + 1 < 2 ^ 32 }
     ensures sound { OnOk result (IsSound lines.new) }

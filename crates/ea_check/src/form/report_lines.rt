@@ -5,15 +5,17 @@ ghost use Rattle.ea_bytes.specs.Taking.{HasRoom, IsStopped, StopsTaking};
 ghost use Rattle.ea_bytes.specs.Text.{fields_of, is_silent, lines_of};
 ghost use Rattle.ea_check.specs.Streams.{Begins, BeginsWithLine, FindsLine, IsReady, IsSound, Leads, Skips, TakesLine, behind, line_of, most_bytes, rest_of, size_left, spoken};
 
+use ea_base::Direction;
 use ea_bytes::{Blocks, ByteIn, ReadFault, first_field, is_comment, without_return};
 use memchr::memchr;
 use std::alloc::{AllocError, Global};
 use std::mem;
 
-/// A line that is neither blank nor a comment, and its number.
+/// A line that is neither blank nor a comment, its number, and the direction of its report's run.
 #[derive(Clone, Copy)]
 pub(crate) struct SpokenLine<'a> {
     pub number: u64,
+    pub way: Direction,
     pub text: &'a [u8],
 }
 
@@ -21,6 +23,8 @@ pub(crate) struct SpokenLine<'a> {
 /// bytes and the line that was found last are in memory.
 #[derive(Drop)]
 pub(crate) struct ReportLines {
+    /// The direction of the report's run.
+    pub way: Direction,
     pub blocks: Blocks,
     /// Bytes of the device.
     pub block: Vec<u8>,
@@ -62,14 +66,19 @@ fn line_end(text: &[u8]) -> Option<usize>
 
 impl ReportLines {
     /// The lines of a device that was not read yet; the first one is found.
-    pub(crate) fn open<R: ByteIn>(alloc: Global, device: &mut R) -> Result<ReportLines, ReadFault>
+    pub(crate) fn open<R: ByteIn>(
+        alloc: Global,
+        way: Direction,
+        device: &mut R,
+    ) -> Result<ReportLines, ReadFault>
         ensures sound { IfOk result IsSound }
         ensures begins { IfOk result
-            (Begins most_bytes (R.seen device.old) (R.seen device.new)) }
+            (Begins way most_bytes (R.seen device.old) (R.seen device.new)) }
         ensures fault { IfErr result
             (IsStopped most_bytes (R.seen device.old) (R.seen device.new)) }
     {
         let mut lines = ReportLines {
+            way,
             blocks: Blocks::new(alloc, u64::MAX)?,
             block: Vec::new(alloc),
             start: 0,
@@ -91,6 +100,7 @@ impl ReportLines {
         if self.found {
             Some(SpokenLine {
                 number: self.count,
+                way: self.way,
                 text: &self.line,
             })
         } else {
@@ -114,6 +124,7 @@ impl ReportLines {
         ensures leads { OnOk result (Leads (λ text next. text ≡ next)
             (R.seen device.old) self.old (R.seen device.new) self.new) }
         ensures count { self.new.count ≡ self.old.count }
+        ensures way { self.new.way ≡ self.old.way }
         ensures size { OnOk result (size_left self.new ≡ size_left self.old) }
         ensures less { OnOk result (self.new.blocks.left ≤ self.old.blocks.left) }
         ensures on { OnOk result
@@ -143,6 +154,7 @@ impl ReportLines {
         ensures count { OnOk result (self.new.count ≡ self.old.count + 1) }
         ensures blocks { self.new.blocks ≡ self.old.blocks }
         ensures ended { self.new.ended ≡ self.old.ended }
+        ensures way { self.new.way ≡ self.old.way }
     {
         let rest = &self.block[self.start..];
         let text = without_return(&rest[..len]);
@@ -163,6 +175,7 @@ impl ReportLines {
         ensures some { IfOk result (λ some. some ≡ true →
             (self.new.count ≡ self.old.count + 1) × (size_left self.new < size_left self.old)) }
         ensures none { IfOk result (λ some. some ≡ false → self.new.ended ≡ true) }
+        ensures way { self.new.way ≡ self.old.way }
         ensures fault { IfErr result
             (StopsTaking (R.seen device.old) self.old.blocks (R.seen device.new)) }
     {

@@ -8,13 +8,15 @@ ghost use Rattle.ea_check.specs.Verdicts.{IsSaid, Said, reported_time, times_of}
 ghost use Rattle.ea_check.specs.Views.{IsInside, kept_walk, part, said_of, walk_of};
 
 use crate::fault::CheckFault;
+use ea_base::Direction;
 use std::alloc::Global;
 use std::marker::Model;
 
-/// The text of a walk's arcs, and the number of its line.
+/// The text of a walk's arcs, the number of its line, and the direction of its report's run.
 #[derive(Clone, Copy)]
 pub(crate) struct WalkLine<'a> {
     pub line: u64,
+    pub way: Direction,
     pub arcs: &'a [u8],
 }
 
@@ -26,10 +28,12 @@ pub(crate) struct SaidLine<'a> {
     pub walk: Option<WalkLine<'a>>,
 }
 
-/// Where a walk is kept: the number of its line, and where the text of its arcs begins and ends.
+/// Where a walk is kept: the number of its line, the direction of its report's run, and where the text of its
+/// arcs begins and ends.
 #[derive(Clone, Copy)]
 pub(crate) struct KeptWalk {
     pub line: u64,
+    pub way: Direction,
     pub start: usize,
     pub end: usize,
 }
@@ -65,6 +69,7 @@ fn keep_walk(arcs: &mut Vec<u8>, walk: Option<WalkLine<'_>>) -> Result<Option<Ke
     arcs.extend_from_slice(walk.arcs)?;
     Ok(Some(KeptWalk {
         line: walk.line,
+        way: walk.way,
         start,
         end: arcs.len(),
     }))
@@ -161,17 +166,18 @@ impl Reported {
         walks
     }
 
-    /// The number of a node's `w` line and the text of its arcs, if it has one.
-    pub(crate) fn walk(&self, node: u32) -> Option<(u64, &[u8])>
+    /// A node's `w` line, if it has one.
+    pub(crate) fn walk(&self, node: u32) -> Option<WalkLine<'_>>
         requires { IsNode (length self.now) node }
-        ensures { MatchOption result
-            ((said : Said) → IsSaid self.now node said → said.walk ≡ None)
-            (λ walk. (said : Said) → IsSaid self.now node said → said.walk
-            ≡ Some (record { line = walk.0; arcs = arcs_of (fields_of walk.1.now) })) }
+        ensures { (said : Said) → IsSaid self.now node said → said.walk ≡ walk_of result }
     {
         let Some(walk) = self.said[node as usize - 1].walk else {
             return None;
         };
-        Some((walk.line, bytes_between(&self.arcs, walk.start, walk.end)))
+        Some(WalkLine {
+            line: walk.line,
+            way: walk.way,
+            arcs: bytes_between(&self.arcs, walk.start, walk.end),
+        })
     }
 }

@@ -4,10 +4,12 @@ ghost use Rattle.ea_road.specs.Roads.{IsNode};
 ghost use Rattle.ea_search.specs.declared.link.TheConstants.{NO_LEVEL};
 ghost use Rattle.ea_search.specs.Links.{link, linked_walk};
 ghost use Rattle.ea_paths.specs.Stored.{AreFollowable};
-ghost use Rattle.ea_bytes.specs.Text.{fields_of};
-ghost use Rattle.ea_check.specs.Form.{AreShort, arcs_of};
+ghost use Rattle.ea_check.specs.Form.{AreShort};
+ghost use Rattle.ea_check.specs.Views.{arcs_said};
 
+use crate::form::reported::WalkLine;
 use crate::form::walk_arcs::read_arcs;
+use ea_base::Direction;
 use ea_report::ArcTexts;
 use ea_search::Link;
 use std::alloc::{AllocError, Global};
@@ -65,15 +67,12 @@ impl<'a> Comparing<'a> {
         }
     }
 
-    /// Whether the text of a walk has the arcs along the links of a node. If it differs, its arcs are kept.
-    /// The texts are compared first; the arcs only if the texts differ.
-    ///
-    /// Takes time in proportion to the text.
-    pub(crate) fn is_canonical(
+    /// Whether a walk's text is that of the arcs along the links of a node, from its source on.
+    fn is_written(
         &mut self,
         links: &[Link],
         node: u32,
-        text: &[u8],
+        walk: WalkLine<'_>,
     ) -> Result<bool, AllocError>
         requires links { self.old.texts.links ≡ links.now }
         requires short { AreShort (linked_walk links.now node) }
@@ -82,18 +81,46 @@ impl<'a> Comparing<'a> {
         requires level { (link links.now node).level < NO_LEVEL }
         ensures links { self.new.texts.links ≡ links.now }
         ensures same { IfOk result
-            (λ same. IsTrue same ↔ (arcs_of (fields_of text.now) ≡ linked_walk links.now node)) }
-        ensures arcs { IfOk result
-            (λ same. same ≡ false → self.new.arcs.items ≡ arcs_of (fields_of text.now)) }
+            (λ same. IsTrue same → arcs_said walk.entry ≡ linked_walk links.now node) }
     {
-        // A walk's text is no shorter than its number of arcs, so a shorter text can't be the walk.
-        if links[node as usize - 1].level as usize <= text.len() {
-            self.texts.go_to(node)?;
-            if is_spaced(text, self.texts.text()) {
-                return Ok(true);
+        match walk.way {
+            // A walk's text is no shorter than its number of arcs, so a shorter text can't be the walk.
+            Direction::Forward if links[node as usize - 1].level as usize <= walk.arcs.len() => {
+                self.texts.go_to(node)?;
+                Ok(is_spaced(walk.arcs, self.texts.text()))
             }
+            _ => Ok(false),
         }
-        read_arcs(text, &mut self.arcs)?;
+    }
+
+    /// Whether a walk has the arcs along the links of a node. If it differs, its arcs are kept. The texts are
+    /// compared first if the walk is written from its source on; the arcs only if the texts differ.
+    ///
+    /// Takes time in proportion to the text.
+    pub(crate) fn is_canonical(
+        &mut self,
+        links: &[Link],
+        node: u32,
+        walk: WalkLine<'_>,
+    ) -> Result<bool, AllocError>
+        requires links { self.old.texts.links ≡ links.now }
+        requires short { AreShort (linked_walk links.now node) }
+        requires node { IsNode (length links.now) node }
+        requires followable { AreFollowable links.now }
+        requires level { (link links.now node).level < NO_LEVEL }
+        ensures links { self.new.texts.links ≡ links.now }
+        ensures same { IfOk result
+            (λ same. IsTrue same ↔ (arcs_said walk.entry ≡ linked_walk links.now node)) }
+        ensures arcs { IfOk result
+            (λ same. same ≡ false → self.new.arcs.items ≡ arcs_said walk.entry) }
+    {
+        if self.is_written(links, node, walk)? {
+            return Ok(true);
+        }
+        read_arcs(walk.arcs, &mut self.arcs)?;
+        if walk.way == Direction::Turned {
+            self.arcs.reverse();
+        }
         Ok(is_linked_walk(links, node, &self.arcs))
     }
 }

@@ -49,16 +49,16 @@ fn other_at<T: TravelTimes>(
     if links[node as usize - 1].level == NO_LEVEL {
         return Err(CheckFault::NotAttained(reported.line(node)));
     }
-    let Some((line, text)) = reported.walk(node) else {
+    let Some(walk) = reported.walk(node) else {
         return Ok(None);
     };
-    if walks.is_canonical(links, node, text)? {
+    if walks.is_canonical(links, node, walk)? {
         return Ok(None);
     }
     if attains(network, times, query, ordered, node, time, &walks.arcs) {
-        Ok(Some(line))
+        Ok(Some(walk.line))
     } else {
-        Err(CheckFault::NotAttained(line))
+        Err(CheckFault::NotAttained(walk.line))
     }
 }
 

@@ -108,3 +108,8 @@ returns-in-Some g c =
     (λ text next left. wrong_checked roads answers queries (ahead before text) (BadLine c.in-Some.line.number) (omega arith) small
     (form_too_long roads.nodes c.args.queries.now c.loop-query.query-index (spoken now) (line_of c.in-Some.line) (behind now next) (ReportWrong roads.nodes queries (ahead before text)) c.loop-query-test.false c.in-Some.ensures left.wrong))
     _ _ before now c.loop-query.invariant.leads
+
+pub read_problem-requires-clause-departures : goal.read_problem-requires-clause-departures
+read_problem-requires-clause-departures g c =
+    let task = task_of c.args.network.now (g.T.TravelTimes.classes c.args.times.now) c.query-item.result c.nodes-nodes.ensures.network (c.requires.checkable c.query-item.result (c.loop-query.query-index, (c.loop-query-test.true, c.query-item.is))).0 in
+    rw c.sources.ensures.sources (λ source among. (task.starts source among).1)

@@ -27,7 +27,7 @@ returns-in_err-skip_rest-clause-fault g c =
     let begun = g.R.Device.seen c.open.new.device in
     let read = g.R.Device.seen c.check_lines-judged.new.device in
     let leads = verdict_leads Has begun read start after c.in_ok-verdict.verdict (subst (λ (r : Result (Unit {0}) Stop). JudgesTo Has begun start read after r) c.in_ok-verdict.ensures c.check_lines-judged.ensures) in
-    rw (p.1, p.2) (whole_stops _ begun read _ start after c.in_ok-lines.ensures.begins (λ text next. Has (ahead start text) c.in_ok-verdict.verdict) _ leads c.in_err-skip_rest.ensures.fault)
+    rw (p.1, p.2) (whole_stops c.args.way _ begun read _ start after c.in_ok-lines.ensures.begins (λ text next. Has (ahead start text) c.in_ok-verdict.verdict) _ leads c.in_err-skip_rest.ensures.fault)
 
 pub returns-clause-checked : goal.returns-clause-checked
 returns-clause-checked g c =
@@ -39,4 +39,4 @@ returns-clause-checked g c =
     let begun = g.R.Device.seen c.open.new.device in
     let read = g.R.Device.seen c.check_lines-judged.new.device in
     let leads = verdict_leads (IsChecked roads answers queries) begun read start after c.in_ok-verdict.verdict (subst (λ (r : Result (Unit {0}) Stop). JudgesTo (IsChecked roads answers queries) begun start read after r) c.in_ok-verdict.ensures c.check_lines-judged.ensures) in
-    whole_checked _ begun read _ start after c.in_ok-lines.ensures.begins roads answers queries c.in_ok-verdict.verdict _ leads c.in_ok-skip_rest.ensures.rest
+    whole_checked c.args.way _ begun read _ start after c.in_ok-lines.ensures.begins roads answers queries c.in_ok-verdict.verdict _ leads c.in_ok-skip_rest.ensures.rest

@@ -34,7 +34,7 @@ is_canonical-requires-clause-short g c =
 pub returns-then-branch-clause-other : goal.returns-then-branch-clause-other
 returns-then-branch-clause-other g c =
     let read = read_level c.args.network.now _ (g.T.TravelTimes.classes c.args.times.now) c.args.query.now.sources c.args.reported.now c.requires.task (g.met.T.TravelTimes.fifo c.args.times.now) c.requires.formed c.args.links.now c.requires.links c.args.node c.requires.node in
-    right_linked c.args.network.now _ (g.T.TravelTimes.classes c.args.times.now) c.args.query.now.sources c.args.reported.now c.requires.task (g.met.T.TravelTimes.fifo c.args.times.now) c.requires.formed c.args.links.now c.requires.links c.args.node c.requires.node c.in-Some.line _ (λ none. c.if-time.false (c.time-time.ensures ∙ none)) (λ none. c.if-links-node.false (read ∙ none)) c.in-Some.ensures (c.in_ok-is_canonical.ensures.same.0 c.if-branch.true)
+    right_linked c.args.network.now _ (g.T.TravelTimes.classes c.args.times.now) c.args.query.now.sources c.args.reported.now c.requires.task (g.met.T.TravelTimes.fifo c.args.times.now) c.requires.formed c.args.links.now c.requires.links c.args.node c.requires.node c.in-Some.walk.line _ (λ none. c.if-time.false (c.time-time.ensures ∙ none)) (λ none. c.if-links-node.false (read ∙ none)) c.in-Some.ensures (c.in_ok-is_canonical.ensures.same.0 c.if-branch.true)
 
 pub attains-requires-clause-time : goal.attains-requires-clause-time
 attains-requires-clause-time g c =
@@ -45,12 +45,12 @@ returns-then-attains-clause-other g c =
     let read = read_level c.args.network.now _ (g.T.TravelTimes.classes c.args.times.now) c.args.query.now.sources c.args.reported.now c.requires.task (g.met.T.TravelTimes.fifo c.args.times.now) c.requires.formed c.args.links.now c.requires.links c.args.node c.requires.node in
     let arcs = c.deref.ensures.value ∙ c.in_ok-is_canonical.ensures.arcs c.if-branch.false in
     let attains = c.attains.ensures.0 c.if-attains.true in (
-      attained_by c.args.network.now _ (g.T.TravelTimes.classes c.args.times.now) c.args.query.now.sources c.args.reported.now c.requires.task (g.met.T.TravelTimes.fifo c.args.times.now) c.requires.formed c.args.links.now c.requires.links c.args.node c.requires.node c.in-Some.line _ (λ none. c.if-links-node.false (read ∙ none)) c.in-Some.ensures (rw (sym c.time-time.ensures, sym arcs) attains),
-      faults_other_walk c.args.network.now _ (g.T.TravelTimes.classes c.args.times.now) c.args.query.now.sources c.args.reported.now c.requires.task (g.met.T.TravelTimes.fifo c.args.times.now) c.requires.formed c.args.links.now c.requires.links c.args.node c.requires.node c.in-Some.line _ c.in-Some.ensures (λ canonical. false≢true (sym c.if-branch.false ∙ c.in_ok-is_canonical.ensures.same.1 (linked_canonical c.args.network.now _ (g.T.TravelTimes.classes c.args.times.now) c.args.query.now.sources c.args.reported.now c.requires.task (g.met.T.TravelTimes.fifo c.args.times.now) c.requires.formed c.args.links.now c.requires.links c.args.node c.requires.node _ (λ none. c.if-links-node.false (read ∙ none)) canonical))),
+      attained_by c.args.network.now _ (g.T.TravelTimes.classes c.args.times.now) c.args.query.now.sources c.args.reported.now c.requires.task (g.met.T.TravelTimes.fifo c.args.times.now) c.requires.formed c.args.links.now c.requires.links c.args.node c.requires.node c.in-Some.walk.line _ (λ none. c.if-links-node.false (read ∙ none)) c.in-Some.ensures (rw (sym c.time-time.ensures, sym arcs) attains),
+      faults_other_walk c.args.network.now _ (g.T.TravelTimes.classes c.args.times.now) c.args.query.now.sources c.args.reported.now c.requires.task (g.met.T.TravelTimes.fifo c.args.times.now) c.requires.formed c.args.links.now c.requires.links c.args.node c.requires.node c.in-Some.walk.line _ c.in-Some.ensures (λ canonical. false≢true (sym c.if-branch.false ∙ c.in_ok-is_canonical.ensures.same.1 (linked_canonical c.args.network.now _ (g.T.TravelTimes.classes c.args.times.now) c.args.query.now.sources c.args.reported.now c.requires.task (g.met.T.TravelTimes.fifo c.args.times.now) c.requires.formed c.args.links.now c.requires.links c.args.node c.requires.node _ (λ none. c.if-links-node.false (read ∙ none)) canonical))),
     )
 
 pub returns-else-attains-clause-other : goal.returns-else-attains-clause-other
 returns-else-attains-clause-other g c =
     let read = read_level c.args.network.now _ (g.T.TravelTimes.classes c.args.times.now) c.args.query.now.sources c.args.reported.now c.requires.task (g.met.T.TravelTimes.fifo c.args.times.now) c.requires.formed c.args.links.now c.requires.links c.args.node c.requires.node in
     let arcs = c.deref.ensures.value ∙ c.in_ok-is_canonical.ensures.arcs c.if-branch.false in
-    faults_astray c.args.network.now _ (g.T.TravelTimes.classes c.args.times.now) c.args.query.now.sources c.args.reported.now c.requires.task (g.met.T.TravelTimes.fifo c.args.times.now) c.requires.formed c.args.links.now c.requires.links c.args.node c.requires.node c.in-Some.line _ (λ none. c.if-links-node.false (read ∙ none)) c.in-Some.ensures (λ attains. false≢true (sym c.if-attains.false ∙ c.attains.ensures.1 (rw (c.time-time.ensures, arcs) attains)))
+    faults_astray c.args.network.now _ (g.T.TravelTimes.classes c.args.times.now) c.args.query.now.sources c.args.reported.now c.requires.task (g.met.T.TravelTimes.fifo c.args.times.now) c.requires.formed c.args.links.now c.requires.links c.args.node c.requires.node c.in-Some.walk.line _ (λ none. c.if-links-node.false (read ∙ none)) c.in-Some.ensures (λ attains. false≢true (sym c.if-attains.false ∙ c.attains.ensures.1 (rw (c.time-time.ensures, arcs) attains)))

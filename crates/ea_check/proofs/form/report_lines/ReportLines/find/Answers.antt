@@ -20,8 +20,8 @@ returns-then-speaks-clause-found g c =
     let count = (c.in_ok-take_line.ensures.some c.if-branch.true).0 in
     let taken = subst (λ (b : Bool). Leads (TakesLine b line) (g.R.Device.seen c.lines.device) mid (g.R.Device.seen c.take_line.new.device) now) c.if-branch.true c.in_ok-take_line.ensures.taken in
     leads_moved _ _ (λ text next holds. holds) _ _ before now _ refl refl refl
-    (leads_on (λ text next. behind before text ≡ behind mid next) (TakesLine true line) (λ text next. behind before text ≡ record { number = now.count; fields = fields_of line } ∷ behind now next)
-    (λ text middle next here there. here ∙ spoken_line mid.count now.count (fields_of line) middle next count speaks there) _ _ _ before mid now c.lines.invariant.leads taken)
+    (leads_on (λ text next. behind before text ≡ behind mid next) (TakesLine true line) (λ text next. behind before text ≡ record { number = now.count; fields = fields_of line; way = now.way } ∷ behind now next)
+    (λ text middle next here there. here ∙ spoken_line mid.way now.way mid.count now.count (fields_of line) middle next c.take_line.ensures.way count speaks there) _ _ _ before mid now c.lines.invariant.leads taken)
 
 pub lines-preserved : goal.lines-preserved
 lines-preserved g c =
@@ -35,7 +35,7 @@ lines-preserved g c =
     record {
       ready = c.in_ok-take_line.ensures.ready;
       leads = leads_on (λ text next. behind before text ≡ behind mid next) (TakesLine true line) (λ text next. behind before text ≡ behind now next)
-          (λ text middle next here there. here ∙ silent_line mid.count now.count (fields_of line) middle next count quiet there) _ _ _ before mid now c.lines.invariant.leads taken;
+          (λ text middle next here there. here ∙ silent_line mid.way now.way mid.count now.count (fields_of line) middle next c.take_line.ensures.way count quiet there) _ _ _ before mid now c.lines.invariant.leads taken;
     }
 
 pub returns-clause-found : goal.returns-clause-found
@@ -47,4 +47,4 @@ returns-clause-found g c =
     let taken = subst (λ (b : Bool). Leads (TakesLine b line) (g.R.Device.seen c.lines.device) mid (g.R.Device.seen c.take_line.new.device) now) c.if-branch.false c.in_ok-take_line.ensures.taken in
     leads_moved _ _ (λ text next holds. holds) _ _ before now _ refl refl refl
     (leads_on (λ text next. behind before text ≡ behind mid next) (TakesLine false line) (λ text next. behind before text ≡ [])
-    (λ text middle next here there. here ∙ no_line_left _ middle there.0) _ _ _ before mid now c.lines.invariant.leads taken)
+    (λ text middle next here there. here ∙ no_line_left mid.way _ middle there.0) _ _ _ before mid now c.lines.invariant.leads taken)

@@ -13,5 +13,5 @@ returns-clause-begins g c =
       got = found.got;
       taken = found.taken most_bytes (g.R.Device.seen c.args.device.now) [] first;
       end = found.end (λ was. absurd (false≢true was));
-      begins = λ later none. ap (λ (b : List ℕ). spoken_from 1 (field_lines (b ++ (found.got ++ later)))) (sym c.new-2.ensures.items) ∙ found.holds later none;
+      begins = λ later none. ap (λ (b : List ℕ). spoken_from c.args.way 1 (field_lines (b ++ (found.got ++ later)))) (sym c.new-2.ensures.items) ∙ found.holds later none;
     }

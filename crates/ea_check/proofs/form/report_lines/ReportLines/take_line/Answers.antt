@@ -40,6 +40,7 @@ pulls-preserved g c =
       ready = went.ready;
       leads = leads_same (λ text next. text ≡ next) _ _ _ _ c.pulls.self _ c.pulls.invariant.leads went.leads;
       count = went.count ∙ c.pulls.invariant.count;
+      way = went.way ∙ c.pulls.invariant.way;
       size = went.size ∙ c.pulls.invariant.size;
     }
 

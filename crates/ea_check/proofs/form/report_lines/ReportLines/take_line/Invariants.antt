@@ -8,6 +8,7 @@ invariant-pulls g l = record {
   ready : IsReady l.self;
   leads : Leads (λ text next. text ≡ next) (g.R.Device.seen l.fn.device) l.fn.self (g.R.Device.seen l.device) l.self;
   count : l.self.count ≡ l.fn.self.count;
+  way : l.self.way ≡ l.fn.self.way;
   size : size_left l.self ≡ size_left l.fn.self;
 }
 

@@ -19,7 +19,7 @@ returns c =
     let size : length inside.said.items ≡ length c.args.self.now = sym (length-map inside.said.items _) ∙ ap (λ (r : List Said). length r) c.self.view_is in
     λ said is.
     said_walk inside.arcs.items c.args.self.now inside.said.items c.args.node c.index.result.now (Some c.in-Some.walk) c.self.view_is c.requires.from_one c.requires.to_last size c.index.ensures c.in-Some.is said is
-    ∙ ap (λ (text : List ℕ). kept_as c.in-Some.walk.line text) (ap (λ (text : List ℕ). part text c.in-Some.walk.start c.in-Some.walk.end) (sym c.deref.ensures.value) ∙ sym c.bytes_between.ensures)
+    ∙ ap (λ (text : List ℕ). kept_as c.in-Some.walk.way c.in-Some.walk.line text) (ap (λ (text : List ℕ). part text c.in-Some.walk.start c.in-Some.walk.end) (sym c.deref.ensures.value) ∙ sym c.bytes_between.ensures)
 
 inside_walk : (c : goal.After-deref) → IsInside c.self.inside.arcs.items (Some c.in-Some.walk)
 inside_walk c =
