@@ -25,3 +25,4 @@ pub mod TurnedWalks
 pub mod TurnedArrivals
 pub mod TurnedLevels
 pub mod TwoSides
+pub mod Existing

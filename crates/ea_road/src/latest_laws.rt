@@ -1,13 +1,14 @@
 //! Laws of latest departures, as functions that do nothing.
 ghost use Rattle.std.specs.Prelude.{◌≡◌, ◌≤◌, ◌-◌, ◌↔◌, ◌∷◌, [], ℕ};
 ghost use Rattle.std.specs.Prelude.{IsSomeAnd, List, None, Option, Some, reverse};
+ghost use Rattle.std.specs.List.{IsAmong};
 ghost use Rattle.ea_base.specs.declared.limits.TheConstants.{HORIZON};
 ghost use Rattle.ea_travel_times.specs.TurnedTimes.{IsTurned};
 ghost use Rattle.ea_road.specs.declared.target.Target.{Target};
 ghost use Rattle.ea_road.specs.Arrivals.{IsLeast, IsLeastAt};
 ghost use Rattle.ea_road.specs.LatestDepartures.{AreTargets, AttainsInTime, IsCanonicalTo, IsLatestAt, IsLatestDeparture, turned_targets};
 ghost use Rattle.ea_road.specs.Levels.{IsCanonical};
-ghost use Rattle.ea_road.specs.Roads.{top_class};
+ghost use Rattle.ea_road.specs.Roads.{IsNode, top_class};
 ghost use Rattle.ea_road.specs.Turned.{turned_roads};
 
 use crate::network::Network;
@@ -44,6 +45,18 @@ pub fn latest_departures_are_one<T: TravelTimes>(network: &Network, times: &T, t
         → this ≡ that }
 {}
 
+/// Each node has a latest departure, a time or none, if the targets are nodes of the network.
+pub fn latest_departures_exist<T: TravelTimes>(network: &Network, times: &T, targets: &[Target])
+    requires classes { top_class network.now.arcs ≤ T.classes times.now }
+    requires targets { AreTargets targets.now }
+    requires nodes { (target : Target) → IsAmong targets.now target
+        → IsNode network.now.nodes target.node }
+    ensures { (node : ℕ) → (departure : Option ℕ)
+        × IsLatestDeparture network.now (T.answers times.now) targets.now node departure }
+{
+    network.keeps_limits();
+}
+
 /// Who leaves a node at a departure is at a target by its time exactly if the latest departure for this target is no earlier.
 pub fn two_sides_of_one_question<T: TravelTimes>(
     network: &Network,
@@ -52,9 +65,16 @@ pub fn two_sides_of_one_question<T: TravelTimes>(
     target: Target,
 )
     requires classes { top_class network.now.arcs ≤ T.classes times.now }
-    requires source { source.departure ≤ HORIZON }
-    requires target { target.time ≤ HORIZON }
-    ensures { (arrival departure : Option ℕ)
+    requires source { IsNode network.now.nodes source.node × (source.departure ≤ HORIZON) }
+    requires target { IsNode network.now.nodes target.node × (target.time ≤ HORIZON) }
+    ensures times { ((arrival : ℕ)
+        × IsLeast network.now (T.answers times.now) (source ∷ []) target.node (Some arrival)
+        × (arrival ≤ target.time))
+        ↔ ((departure : ℕ) × IsLatestDeparture network.now (T.answers times.now) (target ∷ [])
+        source.node (Some departure) × (source.departure ≤ departure)) }
+
+    // The same of answers, each of which is a time or none.
+    ensures answers { (arrival departure : Option ℕ)
         → IsLeast network.now (T.answers times.now) (source ∷ []) target.node arrival
         → IsLatestDeparture network.now (T.answers times.now) (target ∷ []) source.node departure
         → (IsSomeAnd arrival (λ time. time ≤ target.time)

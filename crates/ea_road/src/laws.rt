@@ -32,6 +32,15 @@ pub fn least_arrivals_are_one<T: TravelTimes>(network: &Network, times: &T, quer
         → this ≡ that }
 {}
 
+/// Each node has a least arrival, a time or none.
+pub fn least_arrivals_exist<T: TravelTimes>(network: &Network, times: &T, query: &Query)
+    requires { IsProblem network.now (T.classes times.now) query.now }
+    ensures { (node : ℕ) → (arrival : Option ℕ)
+        × IsLeast network.now (T.answers times.now) query.now.sources node arrival }
+{
+    network.keeps_limits();
+}
+
 /// Labels are the least arrivals if they are at most the departures at the sources, are reached, and satisfy
 /// each node. In a pair query a node may also have a label above the target's; then each label up to the
 /// target's is the least arrival.
