@@ -9,5 +9,5 @@ mod Judged
 mod Listing
 mod Timely
 mod TurnedRound
-mod Ending
+mod Stopping
 mod QueryingUntil

@@ -12,19 +12,19 @@ use Rattle.ea_capi.specs.Sessions.{answers_on}
 use Rattle.ea_capi.specs.States.{road_behind}
 
 -- A target for this number of nodes: one of these, to be reached within the horizon.
-pub record IsEnd (nodes : ℕ) (target : Target) : Type 0 where
+pub record IsStop (nodes : ℕ) (target : Target) : Type 0 where
   pub node : IsNode nodes target.node
   pub time : target.time ≤ HORIZON
 
 -- Each target is valid for this number of nodes.
-pub record AreEnds (nodes : ℕ) (targets : List Target) : Type 0 where
-  pub each : (target : Target) → IsAmong targets target → IsEnd nodes target
+pub record AreStops (nodes : ℕ) (targets : List Target) : Type 0 where
+  pub each : (target : Target) → IsAmong targets target → IsStop nodes target
 
 -- Nodes with the times by which they have to be reached.
-abbrev pub ends : List ℕ → List ℕ → List Target
-ends [] times = []
-ends (node ∷ nodes) [] = []
-ends (node ∷ nodes) (time ∷ times) = record { node = node; time = time } ∷ ends nodes times
+abbrev pub stops : List ℕ → List ℕ → List Target
+stops [] times = []
+stops (node ∷ nodes) [] = []
+stops (node ∷ nodes) (time ∷ times) = record { node = node; time = time } ∷ stops nodes times
 
 -- A time of the turned question as a departure.
 abbrev pub turned_back : Option ℕ → Option ℕ

@@ -7,7 +7,7 @@ use Rattle.ea_road.specs.Queries.{IsAskedBy}
 use Rattle.ea_load.specs.declared.road.Road.{Road}
 use Rattle.ea_capi.specs.declared.handle.content.Content.{Content}
 use Rattle.ea_capi.specs.declared.handle.content.LatestSearch.{LatestSearch}
-use Rattle.ea_capi.specs.Latest.{AreEnds, IsEnd, IsSameLatest, IsTimely, departure_of, ends, walk_to}
+use Rattle.ea_capi.specs.Latest.{AreStops, IsStop, IsSameLatest, IsTimely, departure_of, stops, walk_to}
 use Rattle.ea_capi.specs.States.{latest_in, road_behind, turned_in}
 
 -- The handle holds the road turned round; or it is unchanged, as there is no road, or memory was refused.
@@ -50,12 +50,12 @@ IsQueriedUntil Good IsBorne targets asked (Some search) old new number =
     (number ≡ 0 → (next : LatestSearch) × (latest_in new ≡ Some next) × IsFoundUntil targets asked search next) × (number ≢ 0 → new ≡ old) × (Good search → IsBorne number)
 
 -- Lists of one length whose members make targets on the road.
-abbrev pub AreGoodEnds : List ℕ → List ℕ → LatestSearch → Type 0
-AreGoodEnds nodes times search = (length nodes ≡ length times) × AreEnds (road_behind search).network.nodes (ends nodes times)
+abbrev pub AreGoodStops : List ℕ → List ℕ → LatestSearch → Type 0
+AreGoodStops nodes times search = (length nodes ≡ length times) × AreStops (road_behind search).network.nodes (stops nodes times)
 
 -- A node of the road, and a target on it.
 abbrev pub IsGoodPair : ℕ → Target → LatestSearch → Type 0
-IsGoodPair source target search = IsNode (road_behind search).network.nodes source × IsEnd (road_behind search).network.nodes target
+IsGoodPair source target search = IsNode (road_behind search).network.nodes source × IsStop (road_behind search).network.nodes target
 
 -- The last answer's latest departure of an asked node; none if it can't be left in time.
 abbrev pub IsToldUntil : Option LatestSearch → ℕ → ℕ → ℕ → ℕ → Type 0

@@ -3,8 +3,8 @@ ghost use Rattle.std.specs.Prelude.{◌≡◌, ◌≢◌, ◌↔◌, ◌∷◌, 
 ghost use Rattle.ea_road.specs.declared.target.Target.{Target};
 ghost use Rattle.ea_road.specs.Roads.{IsNode};
 ghost use Rattle.ea_capi.specs.Calls.{IsDone, IsDoneOrScarce};
-ghost use Rattle.ea_capi.specs.Latest.{AreEnds, IsEnd, ends};
-ghost use Rattle.ea_capi.specs.LatestCalls.{AreGoodEnds, IsFoundUntil, IsGoodPair, IsQueriedUntil};
+ghost use Rattle.ea_capi.specs.Latest.{AreStops, IsStop, stops};
+ghost use Rattle.ea_capi.specs.LatestCalls.{AreGoodStops, IsFoundUntil, IsGoodPair, IsQueriedUntil};
 ghost use Rattle.ea_capi.specs.States.{latest_in, road_behind};
 
 use crate::fault_numbers::{
@@ -17,18 +17,18 @@ use ea_road::{Query, Source, Target, turned_targets};
 use std::alloc::{AllocError, Global};
 
 /// Whether a target is valid for this number of nodes.
-fn is_end(nodes: u32, target: Target) -> bool
-    ensures { IsTrue result ↔ IsEnd nodes target }
+fn is_stop(nodes: u32, target: Target) -> bool
+    ensures { IsTrue result ↔ IsStop nodes target }
 {
     0 < target.node && target.node <= nodes && target.time <= HORIZON
 }
 
 /// Whether all targets are valid for this number of nodes.
-fn are_ends(nodes: u32, targets: &[Target]) -> bool
-    ensures { IsTrue result ↔ AreEnds nodes targets.now }
+fn are_stops(nodes: u32, targets: &[Target]) -> bool
+    ensures { IsTrue result ↔ AreStops nodes targets.now }
 {
     for target in targets {
-        if !is_end(nodes, *target) {
+        if !is_stop(nodes, *target) {
             return false;
         }
     }
@@ -38,7 +38,7 @@ fn are_ends(nodes: u32, targets: &[Target]) -> bool
 /// Targets from nodes and the times by which they have to be reached.
 fn targets_of(alloc: Global, nodes: &[u32], times: &[u64]) -> Result<Vec<Target>, AllocError>
     requires { length nodes.now ≡ length times.now }
-    ensures { IfOk result (λ targets. targets.items ≡ ends nodes.now times.now) }
+    ensures { IfOk result (λ targets. targets.items ≡ stops nodes.now times.now) }
 {
     let mut targets = Vec::with_capacity(alloc, nodes.len())?;
     for i in 0..nodes.len() {
@@ -70,11 +70,11 @@ impl LatestSearch {
     fn find_for(self, alloc: Global, targets: &[Target]) -> (LatestSearch, u32)
         ensures found { result.1 ≡ 0 → IsFoundUntil targets.now None self result.0 }
         ensures refused { result.1 ≢ 0 → result.0 ≡ self }
-        ensures good { AreEnds (road_behind self).network.nodes targets.now
+        ensures good { AreStops (road_behind self).network.nodes targets.now
             → IsDoneOrScarce result.1 }
     {
         let nodes = self.nodes();
-        if !are_ends(nodes, targets) {
+        if !are_stops(nodes, targets) {
             return (self, refusal_of(nodes, targets));
         }
         match turned_targets(alloc, targets) {
@@ -87,11 +87,11 @@ impl LatestSearch {
     }
 
     /// Answers a query for nodes that have to be reached by these times.
-    fn find_ends(self, alloc: Global, nodes: &[u32], times: &[u64]) -> (LatestSearch, u32)
+    fn find_stops(self, alloc: Global, nodes: &[u32], times: &[u64]) -> (LatestSearch, u32)
         ensures found { result.1 ≡ 0 →
-            IsFoundUntil (ends nodes.now times.now) None self result.0 }
+            IsFoundUntil (stops nodes.now times.now) None self result.0 }
         ensures refused { result.1 ≢ 0 → result.0 ≡ self }
-        ensures good { AreGoodEnds nodes.now times.now self → IsDoneOrScarce result.1 }
+        ensures good { AreGoodStops nodes.now times.now self → IsDoneOrScarce result.1 }
     {
         if nodes.len() != times.len() {
             return (self, LENGTHS_DIFFER);
@@ -114,7 +114,7 @@ impl LatestSearch {
         if source == 0 || source > nodes {
             return (self, NO_SUCH_NODE);
         }
-        if !is_end(nodes, target) {
+        if !is_stop(nodes, target) {
             return (self, refusal_of(nodes, &targets));
         }
         let from = Source {
@@ -128,13 +128,13 @@ impl LatestSearch {
 
 /// Answers a query for nodes at times, if the content is a search for latest departures; other contents are refused.
 fn until_of(alloc: Global, content: Content, nodes: &[u32], times: &[u64]) -> (Content, u32)
-    ensures { IsQueriedUntil (AreGoodEnds nodes.now times.now) IsDoneOrScarce
-        (ends nodes.now times.now) None (latest_in (Some content))
+    ensures { IsQueriedUntil (AreGoodStops nodes.now times.now) IsDoneOrScarce
+        (stops nodes.now times.now) None (latest_in (Some content))
         (Some content) (Some result.0) result.1 }
 {
     match content {
         Content::Latest(search) => {
-            let (search, number) = search.find_ends(alloc, nodes, times);
+            let (search, number) = search.find_stops(alloc, nodes, times);
             (Content::Latest(search), number)
         }
         other => (other, NO_SEARCH),
@@ -167,8 +167,8 @@ pub extern "C" fn earliest_search_until(
     nodes: &[u32],
     times: &[u64],
 ) -> u32
-    ensures { IsQueriedUntil (AreGoodEnds nodes.now times.now) IsDoneOrScarce
-        (ends nodes.now times.now) None (latest_in search.old.value)
+    ensures { IsQueriedUntil (AreGoodStops nodes.now times.now) IsDoneOrScarce
+        (stops nodes.now times.now) None (latest_in search.old.value)
         search.old.value search.new.value result }
 {
     let Some((room, content)) = search.empty_out(alloc) else {

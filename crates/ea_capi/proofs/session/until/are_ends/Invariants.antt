@@ -1,7 +1,0 @@
-use Rattle.std.proofs.Common.{ℕ, ◌<◌, get_or}
-use Rattle.ea_capi.specs.Latest.{IsEnd}
-use Rattle.ea_capi.proofs.session.until.are_ends.Given as goal
-
--- the targets so far are valid
-abbrev pub invariant-loop-target : goal.invariant-loop-target
-invariant-loop-target l = (place : ℕ) → place < l.target-index → IsEnd l.nodes (get_or l.targets place (record { node = 0; time = 0 }))
