@@ -1,6 +1,7 @@
 -- The verdict on a report whose lines are read as its bytes come.
 use Rattle.std.proofs.Common.{◌≡◌, ◌∙◌, refl, Bool, true, false, ℕ, ◌+◌, ◌<◌, List, [], ◌++◌, arith, ap, sym, subst, append_assoc}
-use Rattle.std.specs.Prelude.{Result, Ok, Err, Some, None, if◌then◌else◌}
+use Rattle.std.proofs.lemmas.Bool.{false≢true}
+use Rattle.std.specs.Prelude.{IfErr, OnOk, Result, Ok, Err, Some, None, if◌then◌else◌}
 use Rattle.ea_base.specs.declared.direction.Direction.{Direction}
 use Rattle.ea_bytes.proofs.Taken.{all_taken, was_borne, within_limit}
 use Rattle.ea_bytes.specs.Device.{Seen}
@@ -18,7 +19,7 @@ use Rattle.ea_check.specs.Form.{AreInOrder, Line, spoken_from}
 use Rattle.ea_check.specs.Judging.{HasVerdict, JudgesTo, judged_as}
 use Rattle.ea_check.specs.Reads.{IsWrong}
 use Rattle.ea_check.specs.Stops.{IsStop}
-use Rattle.ea_check.specs.Streams.{Begins, IsSound, Leads, LeadsTo, Skips, ahead, found_then, most_bytes}
+use Rattle.ea_check.specs.Streams.{Begins, IsSound, IsUnread, IsWholeText, Leads, LeadsTo, Skips, ahead, found_then, most_bytes}
 use Rattle.ea_check.proofs.Composing.{spoken_in_order}
 use Rattle.ea_check.proofs.Stopping.{then_lines}
 use Rattle.ea_check.proofs.Streaming.{stops_on}
@@ -66,3 +67,22 @@ module _ (way : Direction) (first begun read last : Seen) (start after : ReportL
         };
         checked = subst (λ (ls : List Line). IsChecked roads answers queries ls verdict) (sym (begins.begins behind none)) (leads.holds skips.got skips.ended);
       }
+
+-- a device that was only read to its end
+module _ {X : Type 0} {way : Direction} (first last : Seen) (start : ReportLines) where
+  pub skipped_whole : (end : ReportLines) (result : Result X ReadFault) → IsUnread way start → OnOk result (Skips first start last end) → OnOk result ((text : List ℕ) × IsWholeText first last text)
+  skipped_whole end (Ok _) new skips =
+      let text = skips.got in
+      let taken = skips.taken most_bytes first [] (new.taken first) in (
+        text,
+        record {
+          all = all_taken most_bytes first last text end.blocks.left end.blocks.interruptions taken (skips.end (λ was. absurd (false≢true (sym new.ended ∙ was))));
+          few = omega (arith, within_limit most_bytes first last text end.blocks.left end.blocks.interruptions taken);
+          borne = was_borne most_bytes first last text end.blocks.left end.blocks.interruptions taken;
+        },
+      )
+  skipped_whole end (Err fault) new skips = tt
+
+  pub skipped_stops : (result : Result X ReadFault) → IsUnread way start → IfErr result (StopsTaking first start.blocks last) → IfErr result (IsStopped most_bytes first last)
+  skipped_stops (Ok _) new stops = tt
+  skipped_stops (Err fault) new stops = stops most_bytes first [] (new.taken first)

@@ -56,6 +56,15 @@ pub record IsReady (lines : ReportLines) : Type 0 where
   pub inside : lines.start ≤ length lines.block.items
   pub few : lines.count + size_left lines < 2 ^ 64
 
+-- No byte was read.
+pub record IsUnread (way : Direction) (lines : ReportLines) : Type 0 where
+  pub ready : IsReady lines
+  pub taken : (first : Seen) → IsTakenBy lines.blocks most_bytes first first []
+  pub rest : rest_of lines ≡ []
+  pub ended : lines.ended ≡ false
+  pub count : lines.count ≡ 0
+  pub way_is : lines.way ≡ way
+
 -- And a line that was found has a number; if none was, none is left.
 pub record IsSound (lines : ReportLines) : Type 0 where
   pub ready : IsReady lines

@@ -1,5 +1,5 @@
 //! Whether a report is right.
-ghost use Rattle.std.specs.Prelude.{◌≡◌, ◌↔◌, Err, IfErr, IfOk, IsTrue, None, MatchResult, OnOk};
+ghost use Rattle.std.specs.Prelude.{◌≡◌, ◌↔◌, ℕ, Err, IfErr, IfOk, IsTrue, List, None, MatchResult, OnOk};
 ghost use Rattle.std.specs.Io.KnownBytes.{IsAtEnd};
 ghost use Rattle.ea_bytes.specs.Taking.{IsStopped};
 ghost use Rattle.std.specs.List.{IsAmong};
@@ -8,7 +8,7 @@ ghost use Rattle.ea_check.specs.Checked.{IsChecked, sources_of, AreCheckable};
 ghost use Rattle.ea_check.specs.declared.form.stop.Stop.TheVariants.{Device};
 ghost use Rattle.ea_check.specs.Form.{lines_of_report};
 ghost use Rattle.ea_check.specs.Judging.{HasVerdict, JudgesTo, judged_as};
-ghost use Rattle.ea_check.specs.Streams.{IsSound, most_bytes};
+ghost use Rattle.ea_check.specs.Streams.{IsSound, IsWholeText, most_bytes};
 ghost use Rattle.ea_check.specs.Verdicts.{IsTask, IsVerdict, IsWellFormed};
 
 use crate::fault::CheckFault;
@@ -160,6 +160,19 @@ pub fn check_stream<T: TravelTimes, R: ByteIn, V: Watch>(
     let verdict = verdict_of(judged)?;
     lines.skip_rest(report)?;
     Ok(verdict)
+}
+
+/// Reads a report to its end and forgets it, for a caller that has to read it and can't check it.
+///
+/// Fails as `check_stream` does.
+pub fn skip_report<R: ByteIn>(alloc: Global, report: &mut R) -> Result<(), ReadFault>
+    ensures read { OnOk result
+        ((text : List ℕ) × IsWholeText (R.seen report.old) (R.seen report.new) text) }
+    ensures end { OnOk result (IsAtEnd (R.seen report.new).bytes) }
+    ensures fault { IfErr result (IsStopped most_bytes (R.seen report.old) (R.seen report.new)) }
+{
+    let mut lines = ReportLines::unread(alloc, Direction::Forward)?;
+    lines.skip_rest(report)
 }
 
 /// Like `check_stream` for a report of earliest arrivals in memory. Refused memory is a `CheckFault`.

@@ -8,5 +8,5 @@ mod judge;
 pub mod laws;
 mod text_in;
 
-pub use checking::{check, check_stream, check_watched, is_checkable};
+pub use checking::{check, check_stream, check_watched, is_checkable, skip_report};
 pub use fault::CheckFault;

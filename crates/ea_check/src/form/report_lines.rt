@@ -3,7 +3,7 @@ ghost use Rattle.std.specs.Prelude.{◌≡◌, ◌+◌, ◌<◌, ◌≤◌, ◌�
 ghost use Rattle.std.specs.Str.Lines.{strip_carriage_return};
 ghost use Rattle.ea_bytes.specs.Taking.{HasRoom, IsStopped, StopsTaking};
 ghost use Rattle.ea_bytes.specs.Text.{fields_of, is_silent, lines_of};
-ghost use Rattle.ea_check.specs.Streams.{Begins, BeginsWithLine, FindsLine, IsReady, IsSound, Leads, Skips, TakesLine, behind, line_of, most_bytes, rest_of, size_left, spoken};
+ghost use Rattle.ea_check.specs.Streams.{Begins, BeginsWithLine, FindsLine, IsReady, IsSound, IsUnread, Leads, Skips, TakesLine, behind, line_of, most_bytes, rest_of, size_left, spoken};
 
 use ea_base::Direction;
 use ea_bytes::{Blocks, ByteIn, ReadFault, first_field, is_comment, without_return};
@@ -65,7 +65,24 @@ fn line_end(text: &[u8]) -> Option<usize>
 }
 
 impl ReportLines {
-    /// The lines of a device that was not read yet; the first one is found.
+    /// The lines of a device that was not read yet.
+    pub(crate) fn unread(alloc: Global, way: Direction) -> Result<ReportLines, AllocError>
+        ensures { IfOk result (IsUnread way) }
+    {
+        Ok(ReportLines {
+            way,
+            blocks: Blocks::new(alloc, u64::MAX)?,
+            block: Vec::new(alloc),
+            start: 0,
+            spare: Vec::new(alloc),
+            ended: false,
+            count: 0,
+            found: false,
+            line: Vec::new(alloc),
+        })
+    }
+
+    /// The same; the first line is found.
     pub(crate) fn open<R: ByteIn>(
         alloc: Global,
         way: Direction,
@@ -77,17 +94,7 @@ impl ReportLines {
         ensures fault { IfErr result
             (IsStopped most_bytes (R.seen device.old) (R.seen device.new)) }
     {
-        let mut lines = ReportLines {
-            way,
-            blocks: Blocks::new(alloc, u64::MAX)?,
-            block: Vec::new(alloc),
-            start: 0,
-            spare: Vec::new(alloc),
-            ended: false,
-            count: 0,
-            found: false,
-            line: Vec::new(alloc),
-        };
+        let mut lines = ReportLines::unread(alloc, way)?;
         lines.find(device)?;
         Ok(lines)
     }
