@@ -10,4 +10,6 @@ mod ranks;
 #[cfg(test)]
 mod reports;
 #[cfg(test)]
+mod streamed;
+#[cfg(test)]
 mod turning;
