@@ -99,9 +99,6 @@ spoken_in_order way number low [] less = tt
 spoken_in_order way number low (fields ∷ lines) less =
     either_order (is_silent fields) low (record { number = number; fields = fields; way = way }) (spoken_from way (number + 1) lines) less (spoken_in_order way (number + 1) low lines (omega arith)) (spoken_in_order way (number + 1) number lines (omega arith))
 
-pub order_behind : {nodes : ℕ} {sources : List Source} {reported : List Said} {lines others : List Line} → ReadsProblem nodes sources reported lines others → AreInOrder lines → AreInOrder others
-order_behind {others} reads order = let front = front_problem reads in after_behind front.first others 0 (subst AreInOrder front.cut order)
-
 pub formed_of : {nodes : ℕ} {sources : List Source} {reported : List Said} {lines others : List Line} → ReadsProblem nodes sources reported lines others → AreInOrder lines → IsWellFormed nodes reported
 formed_of {nodes} {sources} {reported} {others} reads order =
     let front = front_problem reads in

@@ -9,12 +9,6 @@ pub record NodesLeft (node nodes : ℕ) (kept : List Said) (lines next : List Li
   pub reads : (later : List Said) (others : List Line) → ReadsNodes node later next others → ReadsNodes 1 (kept ++ later) lines others
   pub wrong : (count number : ℕ) → node + count ≡ nodes + 1 → NodesWrong node count next number → NodesWrong 1 nodes lines number
 
-pub no_node_read : (nodes : ℕ) (kept : List Said) (lines : List Line) → kept ≡ [] → NodesLeft 1 nodes kept lines lines
-no_node_read nodes kept lines none = record {
-  reads = λ later others reads. subst (λ (k : List Said). ReadsNodes 1 (k ++ later) lines others) (sym none) reads;
-  wrong = λ count number same wrong. subst (λ n. NodesWrong 1 n lines number) (omega (arith, same)) wrong;
-}
-
 module _ (node nodes : ℕ) (kept more : List Said) (said : Said) (lines next others : List Line) where
   pub node_more : NodesLeft node nodes kept lines next → more ≡ kept ++ said ∷ [] → ReadsNode node said next others → NodesLeft (node + 1) nodes more lines others
   node_more left grown here = record {

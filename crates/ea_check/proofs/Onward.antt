@@ -24,9 +24,6 @@ pub record ProblemsLeft (roads : Roads) (answers : ℕ → ℕ → ℕ → ℕ �
   pub wrong : (number : ℕ) → ReportWrong roads.nodes left next number → ReportWrong roads.nodes queries lines number
   pub onward : Onward roads answers queries lines left next verdict
 
-pub no_problem_read : (roads : Roads) (answers : ℕ → ℕ → ℕ → ℕ → Type 0) (queries : List (List Source)) (lines : List Line) → ProblemsLeft roads answers queries queries (Ok tt) lines lines
-no_problem_read roads answers queries lines = record { wrong = λ number wrong. wrong; onward = λ result form checked. checked }
-
 module _ (roads : Roads) (answers : ℕ → ℕ → ℕ → ℕ → Type 0) (queries : List (List Source)) (lines : List Line) where
   -- One more problem is read.
   pub onward_more : {sources : List Source} {reported : List Said} {here : List Line} (left : List (List Source)) (others : List Line) (old new : Result (Unit {0}) CheckFault) → ReadsProblem roads.nodes sources reported here others → (IsFaultless roads answers sources reported → IsRight roads answers sources reported) → MatchResult old (λ _. IsVerdict roads answers sources reported new) (λ fault. new ≡ Err fault) → Onward roads answers queries lines (sources ∷ left) here old → Onward roads answers queries lines left others new

@@ -1,15 +1,14 @@
 -- What the lines that are read say, step by step.
-use Rattle.std.proofs.Common.{◌≡◌, ◌≢◌, ◌∙◌, refl, ℕ, ◌+◌, ◌<◌, ◌≤◌, List, [], ◌∷◌, length, drop, get_or, ap, sym, subst, inl, inr}
+use Rattle.std.proofs.Common.{◌≡◌, ◌≢◌, ◌∙◌, refl, ℕ, ◌+◌, ◌<◌, List, [], ◌∷◌, length, drop, get_or, ap, sym, subst, inl, inr}
 use Rattle.std.proofs.Math.Numerals.{add-one}
 use Rattle.std.proofs.Math.Seq.{drop-cons}
-use Rattle.std.proofs.lemmas.List.{drop_all}
 use Rattle.std.specs.Prelude.{Option, Some, None}
 use Rattle.ea_road.specs.declared.source.Source.{Source}
 use Rattle.ea_road.specs.declared.TheConstants.{NONE}
 use Rattle.ea_check.specs.declared.fault.CheckFault.{CheckFault}
 use Rattle.ea_check.specs.declared.fault.CheckFault.TheVariants.{BadLine, NotAttained, NotLeast, OutOfMemory, NotCanonical}
 use Rattle.ea_check.specs.Verdicts.{WrittenWalk}
-use Rattle.ea_check.specs.Form.{Line, IsWalkLine, SaysSource, SaysTime, SaysWalk}
+use Rattle.ea_check.specs.Form.{Line, IsWalkLine, SaysTime, SaysWalk}
 use Rattle.ea_check.specs.Streams.{found_then}
 use Rattle.ea_check.specs.Reads.{ReadsSources, SourcesWrong, IsWrong, NoWalkNext, ReadsWalk, WalkWrong, ReadsNode, without_walk, and_walk, NodeWrong, no_line, no_time, no_such_walk}
 
@@ -17,9 +16,6 @@ use Rattle.ea_check.specs.Reads.{ReadsSources, SourcesWrong, IsWrong, NoWalkNext
 pub record SourcesLeft (sources left : List Source) (lines next : List Line) : Type 0 where
   pub reads : (others : List Line) → ReadsSources left next others → ReadsSources sources lines others
   pub wrong : (number : ℕ) → SourcesWrong left next number → SourcesWrong sources lines number
-
-pub no_source_read : (sources : List Source) (lines : List Line) → SourcesLeft sources sources lines lines
-no_source_read sources lines = record { reads = λ others reads. reads; wrong = λ number wrong. wrong }
 
 next_source : (sources rest : List Source) (source : Source) (lines next others : List Line) → SourcesLeft sources (source ∷ rest) lines next → ReadsSources (source ∷ []) next others → SourcesLeft sources rest lines others
 next_source sources rest source lines [] others left here = absurd here
@@ -50,20 +46,6 @@ module _ (sources : List Source) (place : ℕ) (inside : place < length sources)
 
   pub source_wrong : SourcesLeft sources (drop place sources) lines next → (number : ℕ) → SourcesWrong (source ∷ []) next number → SourcesWrong sources lines number
   source_wrong left number wrong = left.wrong number (subst (λ (ss : List Source). SourcesWrong ss next number) (sym here) (only (drop (place + 1) sources) next number wrong))
-
-pub all_sources : (sources : List Source) (place : ℕ) (lines next : List Line) → length sources ≤ place → SourcesLeft sources (drop place sources) lines next → ReadsSources sources lines next
-all_sources sources place lines next long left = left.reads next (rw (drop_all place sources long) refl)
-
--- a source without a line
-pub source_missing : (source : Source) (found : Option Line) (behind : List Line) → found ≡ None → SourcesWrong (source ∷ []) (found_then found behind) 0
-source_missing source found behind none = rw none refl
-
--- a source's line, and another line in its place
-pub source_read : (source : Source) (found : Option Line) (line : Line) (behind others : List Line) → found ≡ Some line → SaysSource line.way line.fields source.node source.departure → behind ≡ others → ReadsSources (source ∷ []) (found_then found behind) others
-source_read source found line behind others is says same = rw is (says, same)
-
-pub source_other : (source : Source) (found : Option Line) (line : Line) (behind : List Line) → found ≡ Some line → (SaysSource line.way line.fields source.node source.departure → ⊥) → SourcesWrong (source ∷ []) (found_then found behind) line.number
-source_other source found line behind is other = rw is (inl (refl, other))
 
 -- a walk is read, or there is none
 module _ (node : ℕ) (found : Option Line) (behind : List Line) where

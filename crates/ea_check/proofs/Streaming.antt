@@ -90,19 +90,6 @@ memory_stops seen blocks = λ limit first bytes is. record {
   too_large = λ e. cc;
 }
 
--- The bytes that were not read, and further ones behind them.
-pub refilled : (old new : Seen) (before after : ReportLines) (front grown : List ℕ) → front ≡ rest_of before → GoesOnTaking old before.blocks new after.blocks front grown → rest_of after ≡ grown
-    → HasRoom after.blocks → before.ended ≡ false → (after.ended ≡ true → IsAtEnd new.bytes) → Leads (λ text next. text ≡ next) old before new after
-refilled old new before after front grown same goes rest room more end = record {
-  got = goes.0;
-  room = room;
-  taken = goes.2;
-  ended = λ was. absurd (false≢true (sym more ∙ was));
-  end = λ at. end;
-  holds = λ later none.
-      sym (append_assoc (rest_of before) goes.0 later) ∙ ap (λ (l : List ℕ). l ++ later) (ap (λ (l : List ℕ). l ++ goes.0) (sym same) ∙ sym goes.1 ∙ sym rest);
-}
-
 -- ---- lines
 
 -- The first line feed ends the first line, whatever follows the text.

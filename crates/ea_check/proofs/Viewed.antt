@@ -1,7 +1,7 @@
 -- What the lines of a report that were read say.
 use Rattle.std.proofs.Common.{◌≡◌, ◌∙◌, refl, ℕ, zero, suc, ◌-◌, ◌<◌, ◌≤◌, List, [], ◌∷◌, ◌++◌, length, map, take, drop, get_or, arith, ap, sym, subst, length-append, length-drop}
-use Rattle.std.proofs.lemmas.List.{drop-append-le, length-map, map-append, take-append-le, take_all}
-use Rattle.std.proofs.Math.Seq.{drop-append_seam, take-append_seam}
+use Rattle.std.proofs.lemmas.List.{drop-append-le, length-map, map-append, take-append-le}
+use Rattle.std.proofs.Math.Seq.{take-append_seam}
 use Rattle.std.specs.Prelude.{if◌then◌else◌, false, true, is_err, is_ok, Result, Ok, Err, Option, Some, None, slice_get}
 use Rattle.ea_base.specs.declared.direction.Direction.{Direction}
 use Rattle.ea_bytes.specs.Text.{fields_of}
@@ -70,11 +70,6 @@ module _ (arcs : List ℕ) where
     pub inside_more : (lines : List KeptLine) → AreInside arcs lines → AreInside (arcs ++ more) lines
     inside_more [] all = tt
     inside_more (line ∷ lines) all = (one_inside line.walk all.0, inside_more lines all.1)
-
-    -- the arcs that were appended
-    pub part_last : (end : ℕ) → end ≡ length (arcs ++ more) → part (arcs ++ more) (length arcs) end ≡ more
-    part_last end same =
-        ap (take (end - length arcs)) (drop-append_seam arcs more) ∙ take_all (end - length arcs) more (omega (arith, same, length-append arcs more))
 
 inside_last : (arcs : List ℕ) (lines : List KeptLine) (line : KeptLine) → AreInside arcs lines → IsInside arcs line.walk → AreInside arcs (lines ++ line ∷ [])
 inside_last arcs [] line all here = (here, tt)
