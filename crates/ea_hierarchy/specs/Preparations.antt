@@ -19,6 +19,7 @@ AreCovered roads answers ranks firsts heads ups downs =
 
 -- The upward arcs are those of the network.
 pub record IsPreparedOver (roads : Roads) (hierarchy : Hierarchy) : Type 0 where
+  pub ranked : length hierarchy.ranks ≡ roads.nodes
   pub nodes : length hierarchy.firsts ≡ roads.nodes + 1
   pub joined : AreJoined roads hierarchy.ranks hierarchy.firsts hierarchy.heads
 

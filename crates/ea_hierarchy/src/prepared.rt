@@ -172,6 +172,13 @@ impl Prepared {
         relax(&self.upward, &mut self.numbers);
     }
 
+    /// The number of nodes.
+    pub fn nodes(&self) -> u32
+        ensures { result ≡ length self.now.ranks }
+    {
+        self.ranks.len() as u32
+    }
+
     /// For proofs: the upward arcs and their numbers are in order. Does nothing at run time.
     pub fn keeps_order(&self)
         ensures { IsHierarchy self.now }

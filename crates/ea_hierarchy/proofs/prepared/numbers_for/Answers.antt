@@ -18,7 +18,7 @@ returns g c =
     let few = c.keeps_limits.ensures.nodes_limit in
     let same : c.args.network.now.nodes ≡ length firsts - 1 = omega (arith, c.requires.nodes) in (
       record {
-        over = record { nodes = c.requires.nodes; joined = c.requires.joined };
+        over = record { ranked = c.requires.ranks.count; nodes = c.requires.nodes; joined = c.requires.joined };
         covered = λ number arc is. stays_covered (g.T.TravelTimes.answers c.args.times.now) c.args.ranks.now firsts heads 0 before.ups.items before.downs.items after.ups.items after.downs.items arc c.relax.ensures.lowers (c.cover.ensures.covered number arc is);
       },
       record {

@@ -20,6 +20,6 @@ returns g c =
     let over = subst (λ (h : Hierarchy). IsPreparedOver c.args.network.now h) (sym c.self.view_is) c.requires.over in
     let covered = subst (λ (xs : List ℕ). AreCovered c.args.network.now answers xs inside.upward.firsts.items inside.upward.heads.items before.ups.items before.downs.items) c.deref.ensures.value c.cover.ensures.covered in
     record {
-      over = record { nodes = over.nodes; joined = over.joined };
+      over = record { ranked = over.ranked; nodes = over.nodes; joined = over.joined };
       covered = λ number arc is. stays_covered answers inside.ranks.items inside.upward.firsts.items inside.upward.heads.items 0 before.ups.items before.downs.items after.ups.items after.downs.items arc c.relax.ensures.lowers (covered number arc is);
     }

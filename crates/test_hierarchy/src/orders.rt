@@ -1,0 +1,242 @@
+//! Bounds over orders of every sort, in networks of every sort.
+ghost use Rattle.ea_hierarchy.specs.Bounds.{IsRoomFor};
+
+use crate::bounds::{first_wrong, plain_sums};
+use crate::random::{number_to, random_network, times_of_all_kinds};
+use ea_hierarchy::{Bounds, Prepared, Unprepared};
+use ea_road::{Arc, Network};
+use ea_travel_times::Timetables;
+use rand_core::{Rng, SeedableRng};
+use rand_xoshiro::Xoshiro256PlusPlus;
+use std::alloc::{AllocError, Global};
+use std::process::Abort;
+use std::test::Fail;
+
+/// How many bounds were compared, and how many targets had a wrong one.
+#[derive(Clone, Copy, PartialEq, Eq, Debug)]
+struct Count {
+    targets: u32,
+    wrong: u32,
+}
+
+/// Fails the test unless this many targets had right bounds.
+fn assert_right<H: Abort>(rt: &H, count: Count, targets: u32) {
+    let wanted = Count { targets, wrong: 0 };
+    assert_eq!(*rt; count, wanted);
+}
+
+/// Compares the bounds of all nodes to a target, and counts.
+fn compare(
+    alloc: Global,
+    network: &Network,
+    times: &Timetables,
+    prepared: &Prepared,
+    bounds: &mut Bounds,
+    target: u32,
+    count: &mut Count,
+) -> Result<(), AllocError>
+    requires { IsRoomFor prepared.now bounds.old }
+    ensures { IsRoomFor prepared.now bounds.new }
+{
+    let sums = plain_sums(alloc, network, times, target)?;
+    if target == 0 || target > prepared.nodes() {
+        return Ok(());
+    }
+    bounds.begin(prepared, target);
+    count.targets = count.targets.wrapping_add(1);
+    if first_wrong(prepared, bounds, &sums, true) != None {
+        count.wrong = count.wrong.wrapping_add(1);
+    }
+    Ok(())
+}
+
+/// Compares the bounds to three targets over a preparation, one after another, and counts.
+fn compare_all(
+    alloc: Global,
+    network: &Network,
+    times: &Timetables,
+    prepared: &Prepared,
+    count: &mut Count,
+) -> Result<(), AllocError> {
+    let nodes = network.nodes();
+    let mut bounds = Bounds::new(alloc, prepared)?;
+    compare(alloc, network, times, prepared, &mut bounds, 1, count)?;
+    compare(alloc, network, times, prepared, &mut bounds, nodes, count)?;
+    compare(
+        alloc,
+        network,
+        times,
+        prepared,
+        &mut bounds,
+        nodes / 2 + 1,
+        count,
+    )
+}
+
+/// Compares the bounds over an order, and over one of its own.
+fn over_order(
+    alloc: Global,
+    network: &Network,
+    order: &[u32],
+    count: &mut Count,
+) -> Result<(), Unprepared> {
+    let Some(times) = times_of_all_kinds(alloc)? else {
+        return Ok(());
+    };
+    if network.top_class() as usize > times.classes() {
+        return Ok(());
+    }
+    let given = Prepared::with_order(alloc, network, &times, order)?;
+    compare_all(alloc, network, &times, &given, count)?;
+    let own = Prepared::of(alloc, network, &times)?;
+    Ok(compare_all(alloc, network, &times, &own, count)?)
+}
+
+/// The nodes in their order.
+fn in_turn(alloc: Global, nodes: u32) -> Result<Vec<u32>, AllocError> {
+    let mut order = Vec::new(alloc);
+    for node in 0..nodes {
+        order.push(node.saturating_add(1))?;
+    }
+    Ok(order)
+}
+
+/// The nodes in an order by chance.
+fn by_chance<R: Rng>(alloc: Global, words: &mut R, nodes: u32) -> Result<Vec<u32>, AllocError> {
+    let mut order = in_turn(alloc, nodes)?;
+    for place in 0..order.len() {
+        let other = number_to(words, nodes) as usize - 1;
+        if other < order.len() {
+            order.swap(place, other);
+        }
+    }
+    Ok(order)
+}
+
+/// Compares the bounds of random networks of so many nodes and arcs.
+fn over_random(alloc: Global, seed: u64, nodes: u32, arcs: u32) -> Result<Count, Unprepared> {
+    let mut words = Xoshiro256PlusPlus::seed_from_u64(seed);
+    let mut count = Count {
+        targets: 0,
+        wrong: 0,
+    };
+    for _ in 0..20 {
+        if let Some(network) = random_network(alloc, &mut words, nodes, arcs)? {
+            let order = by_chance(alloc, &mut words, nodes)?;
+            over_order(alloc, &network, &order, &mut count)?;
+        }
+    }
+    Ok(count)
+}
+
+#[test]
+fn random_networks(rt: HostRuntime) -> Result<(), Fail> {
+    let count = over_random(rt.alloc(), 1, 60, 150).map_err(|_| "prepared")?;
+    assert_right(&rt, count, 120);
+    Ok(())
+}
+
+#[test]
+fn sparse_networks_of_many_parts(rt: HostRuntime) -> Result<(), Fail> {
+    let count = over_random(rt.alloc(), 2, 60, 40).map_err(|_| "prepared")?;
+    assert_right(&rt, count, 120);
+    Ok(())
+}
+
+#[test]
+fn dense_networks(rt: HostRuntime) -> Result<(), Fail> {
+    let count = over_random(rt.alloc(), 3, 24, 600).map_err(|_| "prepared")?;
+    assert_right(&rt, count, 120);
+    Ok(())
+}
+
+#[test]
+fn one_node(rt: HostRuntime) -> Result<(), Fail> {
+    let count = over_random(rt.alloc(), 4, 1, 2).map_err(|_| "prepared")?;
+    assert_right(&rt, count, 120);
+    Ok(())
+}
+
+/// A path, or a star round its first node, or a clique; arcs lead both ways.
+#[derive(Clone, Copy)]
+enum Shape {
+    Path,
+    Star,
+    Clique,
+}
+
+/// Whether a shape joins two nodes, the first below the second.
+fn are_joined(shape: Shape, low: u32, high: u32) -> bool {
+    match shape {
+        Shape::Path => low.saturating_add(1) == high,
+        Shape::Star => low == 1,
+        Shape::Clique => true,
+    }
+}
+
+/// A network of this shape; none if its nodes are none.
+fn network_of_shape(
+    alloc: Global,
+    shape: Shape,
+    nodes: u32,
+) -> Result<Option<Network>, AllocError> {
+    let mut arcs = Vec::new(alloc);
+    for high in 1..nodes.saturating_add(1) {
+        for low in 1..high {
+            if are_joined(shape, low, high) {
+                let weight = low % 7;
+                let class = high % 7;
+                arcs.push(Arc {
+                    tail: low,
+                    head: high,
+                    weight,
+                    class,
+                })?;
+                arcs.push(Arc {
+                    tail: high,
+                    head: low,
+                    weight: class,
+                    class: weight,
+                })?;
+            }
+        }
+    }
+    if !Network::fits(nodes, &arcs) {
+        return Ok(None);
+    }
+    Ok(Some(Network::new(alloc, nodes, arcs)?))
+}
+
+/// Compares the bounds in a network of a shape, over its nodes in turn, which is a star's worst order.
+fn over_shape(alloc: Global, shape: Shape, nodes: u32) -> Result<Count, Unprepared> {
+    let mut count = Count {
+        targets: 0,
+        wrong: 0,
+    };
+    if let Some(network) = network_of_shape(alloc, shape, nodes)? {
+        let order = in_turn(alloc, nodes)?;
+        over_order(alloc, &network, &order, &mut count)?;
+    }
+    Ok(count)
+}
+
+#[test]
+fn paths(rt: HostRuntime) -> Result<(), Fail> {
+    let count = over_shape(rt.alloc(), Shape::Path, 400).map_err(|_| "prepared")?;
+    assert_right(&rt, count, 6);
+    Ok(())
+}
+
+#[test]
+fn stars(rt: HostRuntime) -> Result<(), Fail> {
+    let count = over_shape(rt.alloc(), Shape::Star, 80).map_err(|_| "prepared")?;
+    assert_right(&rt, count, 6);
+    Ok(())
+}
+
+#[test]
+fn cliques(rt: HostRuntime) -> Result<(), Fail> {
+    let count = over_shape(rt.alloc(), Shape::Clique, 40).map_err(|_| "prepared")?;
+    assert_right(&rt, count, 6);
+    Ok(())
+}
