@@ -1,0 +1,4 @@
+pub mod Frontiers
+pub mod Led
+pub mod Scans
+pub mod Visits
