@@ -8,12 +8,18 @@ use std::mem;
 /// How many costs are told apart; dearer nodes share the last one.
 const COSTS: usize = 4096;
 
+/// A list that is shorter is always in order.
+const SHORT: usize = 64;
+
 /// Nodes are eliminated one after the other: the neighbours of one become neighbours of one another. Nodes
 /// count from 0 here.
 #[derive(Drop)]
 pub(crate) struct Elimination {
-    /// The neighbours of each node that are left; of an eliminated node those that were.
+    /// The neighbours of each node that are left, and in a long list some that are gone or stand twice; of an
+    /// eliminated node those that were left.
     pub(crate) around: Vec<Vec<u32>>,
+    /// The length of each list when it was last put in order.
+    sizes: Vec<usize>,
     /// One above the highest eliminated neighbour's.
     levels: Vec<u32>,
     gone: Vec<bool>,
@@ -76,6 +82,7 @@ impl Elimination {
         }
         Ok(Elimination {
             around,
+            sizes: vec![in alloc; 0; nodes]?,
             levels: vec![in alloc; 0; nodes]?,
             gone: vec![in alloc; false; nodes]?,
             waiting,
@@ -139,36 +146,66 @@ impl Elimination {
         None
     }
 
-    /// Joins a neighbour of an eliminated node with the others.
-    fn join_all(&mut self, node: u32, others: &[u32], neighbour: u32) -> Result<(), AllocError> {
+    /// The neighbours of a node that are left, each once, taken from their place.
+    fn taken_around(&mut self, alloc: Global, node: u32) -> Vec<u32> {
+        let place = node as usize;
+        if place >= self.around.len() {
+            return Vec::new(alloc);
+        }
+        let mut list = mem::replace(&mut self.around[place], Vec::new(alloc));
+        once(&mut list);
+        list.retain(|other| *other != node && self.is_left(*other));
+        list
+    }
+
+    /// Keeps neighbours of a node.
+    fn keep_around(&mut self, node: u32, list: Vec<u32>) {
+        let place = node as usize;
+        if place < self.around.len() {
+            self.around[place] = list;
+        }
+    }
+
+    /// Joins a neighbour of an eliminated node with the others. A long list is put in order only when it has
+    /// doubled, so that a node of many neighbours isn't looked through for each of them.
+    fn join_all(
+        &mut self,
+        alloc: Global,
+        node: u32,
+        others: &[u32],
+        neighbour: u32,
+    ) -> Result<(), AllocError> {
         let place = neighbour as usize;
-        if place >= self.around.len() || place >= self.levels.len() {
+        if place >= self.around.len() || place >= self.levels.len() || place >= self.sizes.len() {
             return Ok(());
         }
-        let list = &mut self.around[place];
-        list.extend_from_slice(others)?;
-        once(list);
-        list.retain(|other| *other != neighbour && *other != node);
         self.levels[place] = self.levels[place].max(self.level(node).saturating_add(1));
+        self.around[place].extend_from_slice(others)?;
+        let length = self.around[place].len();
+        if length < SHORT || length / 2 >= self.sizes[place] {
+            let list = self.taken_around(alloc, neighbour);
+            let size = list.len();
+            self.keep_around(neighbour, list);
+            if place < self.sizes.len() {
+                self.sizes[place] = size;
+            }
+        }
         self.put(neighbour)
     }
 
     /// Eliminates a node. Returns its degree.
     fn eliminate(&mut self, alloc: Global, node: u32) -> Result<usize, AllocError> {
+        let others = self.taken_around(alloc, node);
         let place = node as usize;
-        if place >= self.around.len() || place >= self.gone.len() {
-            return Ok(0);
+        if place < self.gone.len() {
+            self.gone[place] = true;
         }
-        self.gone[place] = true;
         self.order.push(node.saturating_add(1))?;
-        let others = mem::replace(&mut self.around[place], Vec::new(alloc));
         for neighbour in &others {
-            self.join_all(node, &others, *neighbour)?;
+            self.join_all(alloc, node, &others, *neighbour)?;
         }
         let degree = others.len();
-        if place < self.around.len() {
-            self.around[place] = others;
-        }
+        self.keep_around(node, others);
         Ok(degree)
     }
 }
