@@ -1,9 +1,11 @@
-//! Tests of prepared roads: bounds compared with those of a plain search.
+//! Tests of prepared roads: bounds and least arrivals compared with those of plain searches.
 #![tactic(auto)]
 
 #[cfg(test)]
 mod bounds;
 #[cfg(test)]
 mod orders;
+#[cfg(test)]
+mod pairs;
 #[cfg(test)]
 mod random;
