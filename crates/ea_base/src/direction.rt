@@ -5,6 +5,6 @@
 pub enum Direction {
     /// Earliest arrivals from sources.
     Forward,
-    /// Latest departures to targets, found as earliest arrivals of the network turned round, whose time t stands for HORIZON - t.
+    /// Latest departures to targets, found as earliest arrivals of the network turned round, whose time t is HORIZON - t of the question.
     Turned,
 }

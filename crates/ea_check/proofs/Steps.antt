@@ -20,7 +20,7 @@ no_number : (way : Direction) {n : ℕ} → number_of (none_word way) ≡ Some n
 no_number Forward same = cc
 no_number Turned same = cc
 
--- one time is told in this way
+-- one time is written in this way
 one_told : (way : Direction) (time other : ℕ) → time ≤ HORIZON → other ≤ HORIZON → told_time way time ≡ told_time way other → time ≡ other
 one_told Forward time other this that same = same
 one_told Turned time other this that same = omega (arith, same)
@@ -108,7 +108,7 @@ pub without_walk_line : {nodes walked node count : ℕ} {more : List (List Sourc
 without_walk_line lines none (no_walk ends) = ends
 without_walk_line lines none (walk_line {walked} {line} arcs says ends) = absurd (none (walk_begins line.way line.fields walked arcs says))
 
--- what is told of what is told is the walk itself
+-- a walk written twice is the walk itself
 pub told_twice : (way : Direction) (arcs : List ℕ) → told_walk way (told_walk way arcs) ≡ arcs
 told_twice Forward arcs = refl
 told_twice Turned arcs = reverse-reverse arcs

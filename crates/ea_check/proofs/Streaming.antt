@@ -110,7 +110,7 @@ fields_begin_at text line rest begins more = ap (λ (ls : List (List ℕ)). map 
 pub last_fields : (text : List ℕ) → lines_of text ≡ text ∷ [] → field_lines text ≡ fields_of (strip_carriage_return text) ∷ []
 last_fields text is = ap (λ (ls : List (List ℕ)). map (λ line. fields_of (strip_carriage_return line)) ls) is
 
--- Where the first line of a text ends.
+-- The end of the first line of a text.
 pub cut_by : (text : List ℕ) (end : Option ℕ) → IsFirstByte (is_byte 10) text end
     → MatchOption end (0 < length text → lines_of text ≡ text ∷ []) (λ end. (end < length text) × BeginsWithLine text (take end text) (drop (end + 1) text))
 cut_by text None none = λ some. lines_end text some (λ k low. no_feed text k (none k (omega arith) low))
@@ -176,7 +176,7 @@ not_true false both none = absurd (none refl)
 pub is_quiet : (says : Bool) (fields : List (List ℕ)) → (IsTrue says → is_silent fields ≡ false) × (is_silent fields ≡ false → IsTrue says) → says ≡ false → is_silent fields ≡ true
 is_quiet says fields means none = not_true (is_silent fields) (λ this that. false≢true (sym this ∙ that)) (λ speaks. false≢true (sym none ∙ means.1 speaks))
 
--- More bytes were taken, which nobody looks at.
+-- More bytes were taken, which are not looked at.
 pub skips_more : (old mid new : Seen) (before between after : ReportLines) (block grown : List ℕ) → Leads (λ text next. Unit {0}) old before mid between → HasRoom after.blocks
     → GoesOnTaking mid between.blocks new after.blocks block grown → between.ended ≡ false → (after.ended ≡ true → IsAtEnd new.bytes) → Leads (λ text next. Unit {0}) old before new after
 skips_more old mid new before between after block grown front room goes more end =

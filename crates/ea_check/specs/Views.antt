@@ -23,7 +23,7 @@ said_of said = record { line = said.line; time = said.time; walk = walk_of said.
 abbrev pub part : List ℕ → ℕ → ℕ → List ℕ
 part text start end = take (end - start) (drop start text)
 
--- A walk whose arcs stand in a text.
+-- A walk whose arcs are in a text.
 abbrev pub kept_walk : List ℕ → Option KeptWalk → Option WrittenWalk
 kept_walk arcs None = None
 kept_walk arcs (Some walk) = Some (record { line = walk.line; arcs = told_walk walk.way (arcs_of (fields_of (part arcs walk.start walk.end))) })
@@ -31,7 +31,7 @@ kept_walk arcs (Some walk) = Some (record { line = walk.line; arcs = told_walk w
 abbrev pub kept_of : List ℕ → KeptLine → Said
 kept_of arcs said = record { line = said.line; time = said.time; walk = kept_walk arcs said.walk }
 
--- Walks that stand in a text.
+-- Walks in a text.
 abbrev pub IsInside : List ℕ → Option KeptWalk → Type 0
 IsInside arcs None = Unit {0}
 IsInside arcs (Some walk) = (walk.start ≤ walk.end) × (walk.end ≤ length arcs)
@@ -40,7 +40,7 @@ abbrev pub AreInside : List ℕ → List KeptLine → Type 0
 AreInside arcs [] = Unit {0}
 AreInside arcs (line ∷ lines) = IsInside arcs line.walk × AreInside arcs lines
 
--- The lines and the table have the same times, and the walks stand in the text.
+-- The lines and the table have the same times, and the walks are in the text.
 pub record AreKept (arcs : List ℕ) (lines : List KeptLine) (table : List ℕ) : Type 0 where
   pub times : map (λ said. said.time) lines ≡ table
   pub walks : AreInside arcs lines

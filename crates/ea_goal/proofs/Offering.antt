@@ -115,7 +115,7 @@ module _ (bound : ℕ → ℕ) (table : List ℕ) (entries after : List Entry) (
     came = λ at other waits. inl waits;
   }
 
--- no bound was told
+-- there was no bound
 pub told_none : (bound : ℕ) → told bound ≡ None → NO_WALK ≤ bound
 told_none bound none = elim (eqb_tells bound NO_WALK) [
   | inl same ↦ omega (arith, same.1)

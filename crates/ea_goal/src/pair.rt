@@ -48,7 +48,7 @@ pub fn least_arrival<T: TravelTimes>(
     Ok(underway.arrival(target))
 }
 
-/// No label for any of so many nodes.
+/// No label for any of this many nodes.
 fn no_labels(alloc: Global, nodes: u32) -> Result<Vec<u64>, AllocError>
     ensures { IfOk result (λ table. table.items ≡ replicate nodes NONE) }
 {

@@ -32,7 +32,7 @@ least_more of base first place bound value from so_far is =
     let here : first + (place - first) ≡ place = omega (arith, from) in
     rw next (omega (arith, so_far, is, ap of here))
 
--- what the cell of a rank tells
+-- what the cell of a rank says
 tells : ℕ → Cell → ℕ
 tells stamp cell = if nat_le stamp cell.stamp then cell.reach else NONE
 

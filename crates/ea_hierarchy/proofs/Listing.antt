@@ -12,7 +12,7 @@ use Rattle.ea_road.specs.declared.arc.Arc.{Arc}
 use Rattle.ea_hierarchy.specs.Hierarchies.{AreRanks, rank_of}
 use Rattle.ea_hierarchy.specs.Waiting.{Adds, Appends, AreAbove, AreListed, HandsOn, IsListed, ListsArc, Sorts, Waits, list_at}
 
--- a number stands in a list
+-- a number is in a list
 abbrev Stands : List ℕ → ℕ → Type 0
 Stands list x = (place : ℕ) × (place < length list) × (slice_index list place ≡ x)
 

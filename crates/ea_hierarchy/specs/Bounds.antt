@@ -30,7 +30,7 @@ pub record AreBoundsTo (hierarchy : Hierarchy) (target : ℕ) (bounds : Bounds) 
 abbrev pub bound_of : Hierarchy → Bounds → ℕ → ℕ
 bound_of hierarchy bounds node = worth_of hierarchy.firsts hierarchy.heads hierarchy.ups bounds.cells.stamp bounds.cells.list.items (rank_of hierarchy.ranks node)
 
--- What a caller is told.
+-- What a caller learns.
 abbrev pub told : ℕ → Option ℕ
 told bound = if bound == NONE then None else Some bound
 

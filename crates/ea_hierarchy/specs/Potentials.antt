@@ -4,13 +4,13 @@ use Rattle.ea_hierarchy.specs.Hierarchies.{IsFrom}
 use Rattle.ea_hierarchy.specs.Numbers.{plus}
 use Rattle.ea_hierarchy.specs.declared.numbers.TheConstants.{NONE}
 
--- The least of a number and of what a function gives to so many places from one on.
+-- The least of a number and of what a function gives to this many places from one on.
 abbrev pub least_over : (ℕ → ℕ) → ℕ → ℕ → ℕ → ℕ
 least_over of base first zero = base
 least_over of base first (suc count) = min (least_over of base first count) (of (first + count))
 
 -- The potential of a rank: the least of what is reached at it from the target downward, and over its upward arcs of the arc's number and
--- the potential of its head; looked at over so many arcs.
+-- the potential of its head; looked at over this many arcs.
 unfoldable pub potential : List ℕ → List ℕ → List ℕ → (ℕ → ℕ) → ℕ → ℕ → ℕ
 potential firsts heads ups reach zero rank = reach rank
 potential firsts heads ups reach (suc steps) rank =

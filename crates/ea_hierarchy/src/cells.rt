@@ -29,7 +29,7 @@ pub(crate) struct Cells {
 impl Cells {
     ghost use Rattle.ea_hierarchy.specs.Cells.{AreFound, AreReached, AreStale, FindsMore, IsBegun, IsFinal, IsPath, IsTopFound, IsWayFrom, LowersReach, RelaxesReach, reach_of};
 
-    /// Stale cells of so many ranks.
+    /// Stale cells of this many ranks.
     pub(crate) fn new(alloc: Global, ranks: usize) -> Result<Cells, AllocError>
         ensures count { IfOk result (λ cells. length cells.list.items ≡ ranks) }
         ensures stamps { IfOk result (λ cells. AreReached (cells.stamp + 1) cells.list.items) }

@@ -15,7 +15,7 @@ pub(crate) struct Numbers {
 }
 
 impl Numbers {
-    /// No walk over any of so many arcs.
+    /// No walk over any of this many arcs.
     pub(crate) fn none(alloc: Global, arcs: usize) -> Result<Numbers, AllocError>
         ensures { IfOk result (λ numbers. (length numbers.ups.items ≡ arcs)
             × (length numbers.downs.items ≡ arcs)) }

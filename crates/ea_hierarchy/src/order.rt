@@ -5,7 +5,7 @@ use std::alloc::{AllocError, Global};
 use std::collections::VecDeque;
 use std::mem;
 
-/// How many costs are told apart; dearer nodes share the last one.
+/// How many costs differ; dearer nodes share the last one.
 const COSTS: usize = 4096;
 
 /// A list that is shorter is always in order.
@@ -15,7 +15,7 @@ const SHORT: usize = 64;
 /// count from 0 here.
 #[derive(Drop)]
 pub(crate) struct Elimination {
-    /// The neighbours of each node that are left, and in a long list some that are gone or stand twice; of an
+    /// The neighbours of each node that are left, and in a long list some that are gone or there twice; of an
     /// eliminated node those that were left.
     pub(crate) around: Vec<Vec<u32>>,
     /// The length of each list when it was last put in order.

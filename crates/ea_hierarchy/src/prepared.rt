@@ -118,7 +118,7 @@ fn numbers_for<T: TravelTimes>(
 }
 
 impl Prepared {
-    /// A preparation of a network over an order of its own: the nodes are eliminated by least degree and level.
+    /// A preparation of a network over a separate order: the nodes are eliminated by least degree and level.
     /// `NotWorth` comes if there are too many upward arcs or triangles for the network's size, `OutOfMemory` if
     /// memory was refused.
     pub fn of<T: TravelTimes>(

@@ -73,7 +73,7 @@ fn compare_all(
     )
 }
 
-/// Compares the bounds over an order, and over one of its own.
+/// Compares the bounds over an order, and over a separate one.
 fn over_order(
     alloc: Global,
     network: &Network,
@@ -113,7 +113,7 @@ fn by_chance<R: Rng>(alloc: Global, words: &mut R, nodes: u32) -> Result<Vec<u32
     Ok(order)
 }
 
-/// Compares the bounds of random networks of so many nodes and arcs.
+/// Compares the bounds of random networks of this many nodes and arcs.
 fn over_random(alloc: Global, seed: u64, nodes: u32, arcs: u32) -> Result<Count, Unprepared> {
     let mut words = Xoshiro256PlusPlus::seed_from_u64(seed);
     let mut count = Count {

@@ -22,7 +22,7 @@ struct Count {
     differ: u32,
 }
 
-/// Fails the test unless so many pairs were searched, some were reached, and none differs.
+/// Fails the test unless this many pairs were searched, some were reached, and none differs.
 fn assert_alike<H: Abort>(rt: &H, count: Count, pairs: u32) {
     assert_eq!(*rt;
         (count.pairs, count.differ, count.reached > 0),
@@ -96,7 +96,7 @@ fn search_pairs<R: Rng>(
     Ok(())
 }
 
-/// Searches pairs in random networks of so many nodes and arcs.
+/// Searches pairs in random networks of this many nodes and arcs.
 fn in_random(alloc: Global, seed: u64, nodes: u32, arcs: u32) -> Result<Count, Unprepared> {
     let mut words = Xoshiro256PlusPlus::seed_from_u64(seed);
     let mut count = Count {

@@ -148,7 +148,7 @@ impl ReportLines {
         Ok(())
     }
 
-    /// Reads a line of `len` bytes, and goes on after `past` bytes.
+    /// Reads a line of `len` bytes, and continues after `past` bytes.
     fn take(&mut self, len: usize, past: usize) -> Result<(), AllocError>
         requires ready { IsReady self.old }
         requires some { 0 < past }

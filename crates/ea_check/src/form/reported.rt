@@ -28,7 +28,7 @@ pub(crate) struct SaidLine<'a> {
     pub walk: Option<WalkLine<'a>>,
 }
 
-/// Where a walk is kept: the number of its line, the direction of its report's run, and where the text of its
+/// A walk that is kept: the number of its line, the direction of its report's run, and the place of the text of its
 /// arcs begins and ends.
 #[derive(Clone, Copy)]
 pub(crate) struct KeptWalk {
