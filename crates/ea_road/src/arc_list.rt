@@ -1,6 +1,7 @@
 //! The arcs of a network in the order of their numbers, as they are stored.
-ghost use Rattle.std.specs.Prelude.{◌≡◌, ◌<◌, IfOk, Some, length, slice_get};
+ghost use Rattle.std.specs.Prelude.{◌≡◌, ◌<◌, IfOk, Some, length, map, slice_get};
 ghost use Rattle.ea_road.specs.Assigned.{AreAssigned, arcs_with};
+ghost use Rattle.ea_road.specs.Turned.{turned_arc, turned_raw};
 
 use crate::arc::Arc;
 use crate::arcs_of_graph::{class_at, classed_arc, classes_of};
@@ -59,6 +60,16 @@ impl ArcList {
         Ok(ArcList { raw, classes })
     }
 
+    /// The list with every arc turned round: from its head to its tail, with its number, weight and class.
+    /// Takes no memory.
+    pub fn turned(self) -> ArcList
+        ensures { result ≡ map turned_arc self }
+    {
+        let ArcList { mut raw, classes } = self;
+        turn(&mut raw);
+        ArcList { raw, classes }
+    }
+
     /// The number of arcs.
     pub fn len(&self) -> usize
         ensures { result ≡ length self.now }
@@ -73,5 +84,18 @@ impl ArcList {
         ensures { slice_get self.now place ≡ Some result }
     {
         classed_arc(self.raw[place], class_at(&self.classes, place))
+    }
+}
+
+/// Turns arcs round.
+fn turn(arcs: &mut [RawArc])
+    ensures { arcs.new ≡ map turned_raw arcs.old }
+{
+    for arc in arcs.iter_mut() {
+        *arc = RawArc {
+            tail: arc.head,
+            head: arc.tail,
+            weight: arc.weight,
+        };
     }
 }

@@ -3,6 +3,8 @@ pub mod Departures
 pub mod LastSteps
 pub mod TurnedTimes
 pub mod TurnedLaws
+pub mod Directed
+pub mod DirectedLaws
 pub mod Speeds
 pub mod Trips
 pub mod SpeedLaws
