@@ -1,15 +1,17 @@
--- The laws of the four grammars, and what their readers answer.
-use Rattle.std.proofs.Common.{◌≡◌, ◌⊎◌, inl, inr, ℕ, ◌<◌, ◌^◌, refl, subst, cond, ltb, List, [], ◌∷◌, length, arith, tests}
+-- The laws of the grammars, and what their readers answer.
+use Rattle.std.proofs.Common.{◌≡◌, ◌⊎◌, inl, inr, ℕ, ◌<◌, ◌^◌, refl, subst, cond, ltb, List, [], ◌∷◌, length, arith, tests, lit<}
 use Rattle.std.specs.Prelude.{false, ◌==◌, Result, Ok, Err, IfErr, IfOk, MatchResult}
 use Rattle.ea_blocks.specs.Fault.{◌>>=◌, Gives, out_of_memory}
 use Rattle.ea_blocks.specs.Reading.{text_after}
 use Rattle.ea_input.specs.Listing.{only_number, list_end, nothing_listed}
 use Rattle.ea_input.specs.Sources.{DenotesSources, source_of, source_step}
+use Rattle.ea_base.specs.declared.limits.TheConstants.{HORIZON}
 use Rattle.ea_input.specs.Pairs.{DenotesPairs, pair_of, pair_read, pair_step}
+use Rattle.ea_input.specs.Times.{DenotesTimes, time_of, time_step}
 use Rattle.ea_input.specs.Graph.{Graph, DenotesGraph, graph_of, graph_step, graph_end, no_graph}
 use Rattle.ea_input.specs.Table.{Table, DenotesTable, table_step, table_end, no_table}
 use Rattle.ea_input.specs.Checks.{Line, Format, value_of, first_failing, IsFaultOf, IsFaultTold}
-use Rattle.ea_input.specs.Formats.{graph_format, source_format, pair_format, table_format}
+use Rattle.ea_input.specs.Formats.{graph_format, source_format, pair_format, table_format, time_format}
 use Rattle.ea_bytes.specs.Device.{Seen}
 use Rattle.ea_bytes.specs.Text.{field_lines}
 use Rattle.ea_input.specs.Grammar.{IsGrammar}
@@ -20,7 +22,7 @@ use Rattle.ea_blocks.specs.declared.stream.StreamFault.TheVariants.{Read, Input}
 use Rattle.ea_input.proofs.Denoted as graphs
 use Rattle.ea_input.proofs.Items as items
 use Rattle.ea_input.proofs.TableDenoted as tables
-use Rattle.ea_input.proofs.Sorts.{of_sources, of_pairs}
+use Rattle.ea_input.proofs.Sorts.{of_sources, of_pairs, of_times}
 use Rattle.ea_input.proofs.Forms.{one_form, pair_form}
 use Rattle.ea_input.proofs.Matching.{count_matches, item_matches}
 use Rattle.ea_input.proofs.Faults.{Matches, Outcome, Follows, text_outcome, one_fault, sound_text}
@@ -98,7 +100,7 @@ whole_fault g view limit old new (Ok y) given = tt
 whole_fault g view limit old new (Err (Read fault)) given = given
 whole_fault g view limit old new (Err (Input fault)) given = (given.0, given.1, told g fault (field_lines given.0) given.2)
 
--- ---- the four files
+-- ---- the files
 
 abbrev pub graph_grammar : Grammar Graph
 graph_grammar = record {
@@ -111,7 +113,7 @@ graph_grammar = record {
   sound = sound_reading graph_format graph_step graph_end no_graph graph_follows;
 }
 
-pub source_checked : (nodes : ℕ) (small : nodes < 2 ^ 64) (others : Line) (size count : ℕ) → (a : ℕ) × Matches (first_failing (item_checks 1 nodes others size count)) (source_of nodes others >>= λ a. cond (ltb count size) (Ok (Item a)) (Err TooManyLines)) (Item a)
+pub source_checked : (nodes : ℕ) (small : nodes < 2 ^ 64) (others : Line) (size count : ℕ) → (a : ℕ) × Matches (first_failing (item_checks 1 (1, nodes) others size count)) (source_of nodes others >>= λ a. cond (ltb count size) (Ok (Item a)) (Err TooManyLines)) (Item a)
 unfolding only_number
 source_checked nodes small [] size count = (0, refl)
 source_checked nodes small (s ∷ []) size count = (value_of s, item_matches _ _ size count (only_number 1 nodes (s ∷ [])) _ Item (one_form 1 nodes s small))
@@ -119,7 +121,7 @@ source_checked nodes small (s ∷ x ∷ rest) size count =
     let long : (length ([] ∷ s ∷ x ∷ rest) == 2) ≡ false = grind (arith, tests) in
     (0, count_matches _ _ _ long)
 
-pub pair_checked : (nodes : ℕ) (small : nodes < 2 ^ 64) (others : Line) (size count : ℕ) → (a : ℕ × ℕ) × Matches (first_failing (item_checks 2 nodes others size count)) (pair_of nodes others >>= λ a. cond (ltb count size) (Ok (Item a)) (Err TooManyLines)) (Item a)
+pub pair_checked : (nodes : ℕ) (small : nodes < 2 ^ 64) (others : Line) (size count : ℕ) → (a : ℕ × ℕ) × Matches (first_failing (item_checks 2 (1, nodes) others size count)) (pair_of nodes others >>= λ a. cond (ltb count size) (Ok (Item a)) (Err TooManyLines)) (Item a)
 unfolding pair_of
 pair_checked nodes small [] size count = ((0, 0), refl)
 pair_checked nodes small (s ∷ []) size count = ((0, 0), refl)
@@ -130,7 +132,7 @@ pair_checked nodes small (s ∷ t ∷ x ∷ rest) size count =
 
 abbrev pub source_grammar : (nodes : ℕ) → nodes < 2 ^ 64 → Grammar (List ℕ)
 source_grammar nodes small =
-    let follows = list_follows (of_sources nodes small) 1 (record { item = source_checked nodes small }) in
+    let follows = list_follows (of_sources nodes small) 1 (1, nodes) (record { item = source_checked nodes small }) in
     record {
       Denotes = DenotesSources nodes;
       format = source_format nodes;
@@ -143,7 +145,7 @@ source_grammar nodes small =
 
 abbrev pub pair_grammar : (nodes : ℕ) → nodes < 2 ^ 64 → Grammar (List (ℕ × ℕ))
 pair_grammar nodes small =
-    let follows = list_follows (of_pairs nodes small) 2 (record { item = pair_checked nodes small }) in
+    let follows = list_follows (of_pairs nodes small) 2 (1, nodes) (record { item = pair_checked nodes small }) in
     record {
       Denotes = DenotesPairs nodes;
       format = pair_format nodes;
@@ -152,6 +154,27 @@ pair_grammar nodes small =
       taken = items.read_of_denoted (of_pairs nodes small);
       faulty = faulty_text (pair_format nodes) pair_step list_end (nothing_listed nodes) follows;
       sound = sound_reading (pair_format nodes) pair_step list_end (nothing_listed nodes) follows;
+    }
+
+pub time_checked : (n : ℕ) (others : Line) (size count : ℕ) → (a : ℕ) × Matches (first_failing (item_checks 1 (0, HORIZON) others size count)) (time_of n others >>= λ a. cond (ltb count size) (Ok (Item a)) (Err TooManyLines)) (Item a)
+unfolding only_number
+time_checked n [] size count = (0, refl)
+time_checked n (t ∷ []) size count = (value_of t, item_matches _ _ size count (only_number 0 HORIZON (t ∷ [])) _ Item (one_form 0 HORIZON t (lit< tt)))
+time_checked n (t ∷ x ∷ rest) size count =
+    let long : (length ([] ∷ t ∷ x ∷ rest) == 2) ≡ false = grind (arith, tests) in
+    (0, count_matches _ _ _ long)
+
+abbrev pub time_grammar : (count : ℕ) → count < 2 ^ 64 → Grammar (List ℕ)
+time_grammar count small =
+    let follows = list_follows (of_times count small) 1 (0, HORIZON) (record { item = time_checked count }) in
+    record {
+      Denotes = DenotesTimes count;
+      format = time_format count;
+      read = text_after time_step list_end (nothing_listed count);
+      denoted = items.denoted (of_times count small);
+      taken = items.read_of_denoted (of_times count small);
+      faulty = faulty_text (time_format count) time_step list_end (nothing_listed count) follows;
+      sound = sound_reading (time_format count) time_step list_end (nothing_listed count) follows;
     }
 
 abbrev pub table_grammar : (arcs : ℕ) → arcs < 2 ^ 64 → Grammar Table

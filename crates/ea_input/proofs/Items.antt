@@ -26,6 +26,8 @@ pub record Sort (A : Type 0) : Type 1 where
   pub plain : is_comment word ≡ false
   pub other : bytes_eq word (codes "p") ≡ false
   pub nodes : ℕ
+  pub counts : ℕ → ℕ × ℕ
+  pub few : (counts nodes).1 < 2 ^ 64
   pub item_of : ℕ → List (List ℕ) → Result A FaultKind
   pub IsItem : List (List ℕ) → A → Type 0
   pub taken : (fields : List (List ℕ)) (item : A) → item_of nodes fields ≡ Ok item → IsItem fields item
@@ -57,34 +59,34 @@ pub only_number_of : (low high : ℕ) (field : List ℕ) (n : ℕ) → high < 2 
 unfolding only_number
 only_number_of low high field n small is = rw (numeral_of low high field n small is) (within_of low high n is.1 is.2)
 
-count_ok : (kind word : List ℕ) (fields : List (List ℕ)) (n : ℕ) → word ≡ codes "p" → announced kind fields ≡ Ok n → IsCountLine kind (word ∷ fields) n
+count_ok : (kind word : List ℕ) (counts : ℕ × ℕ) (fields : List (List ℕ)) (n : ℕ) → counts.1 < 2 ^ 64 → word ≡ codes "p" → announced kind counts fields ≡ Ok n → IsCountLine kind counts (word ∷ fields) n
 unfolding announced
-count_ok kind word fields n e h =
-    let numbers = bind_ok (after_kinds (codes "aux" ∷ codes "sp" ∷ kind ∷ []) fields) (λ numbers. only_number 0 1000000 numbers) n h in
+count_ok kind word counts fields n few e h =
+    let numbers = bind_ok (after_kinds (codes "aux" ∷ codes "sp" ∷ kind ∷ []) fields) (λ numbers. only_number counts.0 counts.1 numbers) n h in
     let front = after_kinds_ok (codes "aux" ∷ codes "sp" ∷ kind ∷ []) fields numbers.0 numbers.1 in
-    let last = only_number_ok 0 1000000 numbers.0 n (lit< tt) numbers.2 in
+    let last = only_number_ok counts.0 counts.1 numbers.0 n few numbers.2 in
     let all : fields ≡ codes "aux" ∷ codes "sp" ∷ kind ∷ last.0 ∷ [] = front ∙ ap (λ (xs : List (List ℕ)). codes "aux" ∷ codes "sp" ∷ kind ∷ xs) last.1 in
-    subst (λ (xs : List (List ℕ)). IsCountLine kind (word ∷ xs) n) (sym all) (e, refl, refl, refl, last.2)
+    subst (λ (xs : List (List ℕ)). IsCountLine kind counts (word ∷ xs) n) (sym all) (e, refl, refl, refl, last.2)
 
-announced_of : (kind aux sp third n : List ℕ) (count : ℕ) → aux ≡ codes "aux" → sp ≡ codes "sp" → third ≡ kind → IsNumberIn 0 1000000 n count → announced kind (aux ∷ sp ∷ third ∷ n ∷ []) ≡ Ok count
+announced_of : (kind aux sp third n : List ℕ) (counts : ℕ × ℕ) (count : ℕ) → counts.1 < 2 ^ 64 → aux ≡ codes "aux" → sp ≡ codes "sp" → third ≡ kind → IsNumberIn counts.0 counts.1 n count → announced kind counts (aux ∷ sp ∷ third ∷ n ∷ []) ≡ Ok count
 unfolding announced
-announced_of kind aux sp third n count a s t is =
-    rw (a, s, t) (ap (λ r. r >>= λ numbers. only_number 0 1000000 numbers) (after_kinds_of (codes "aux" ∷ codes "sp" ∷ kind ∷ []) (n ∷ [])) ∙ only_number_of 0 1000000 n count (lit< tt) is)
+announced_of kind aux sp third n counts count few a s t is =
+    rw (a, s, t) (ap (λ r. r >>= λ numbers. only_number counts.0 counts.1 numbers) (after_kinds_of (codes "aux" ∷ codes "sp" ∷ kind ∷ []) (n ∷ [])) ∙ only_number_of counts.0 counts.1 n count few is)
 
 -- What a line says, by the grammar, after a problem line or none, and this many items.
 abbrev pub Says : {A : Type 0} → Sort A → Option ℕ → ℕ → List (List ℕ) → ListLine A → Type 0
 Says f size count fields Silent = is_silent fields ≡ true
-Says f size count fields (Problem new) = (is_silent fields ≡ false) × (size ≡ None) × IsCountLine f.kind fields new
+Says f size count fields (Problem new) = (is_silent fields ≡ false) × (size ≡ None) × IsCountLine f.kind (f.counts f.nodes) fields new
 Says f size count fields (Item item) = (is_silent fields ≡ false) × ((old : ℕ) × (size ≡ Some old) × (count < old) × IsItemLine f.word f.IsItem fields item)
 
-problem_line_says : {A : Type 0} (f : Sort A) (size : Option ℕ) (count : ℕ) (word : List ℕ) (fields : List (List ℕ)) (said : ListLine A) → is_comment word ≡ false → word ≡ codes "p" → problem_line f.kind size fields ≡ Ok said → Says f size count (word ∷ fields) said
+problem_line_says : {A : Type 0} (f : Sort A) (size : Option ℕ) (count : ℕ) (word : List ℕ) (fields : List (List ℕ)) (said : ListLine A) → is_comment word ≡ false → word ≡ codes "p" → problem_line f.kind (f.counts f.nodes) size fields ≡ Ok said → Says f size count (word ∷ fields) said
 unfolding problem_line
 problem_line_says f (Some old) count word fields said plain e h = cc
 problem_line_says {A = A} f None count word fields said plain e h =
-    let s = bind_ok (announced f.kind fields) (λ size. Ok (Problem size)) said h in
+    let s = bind_ok (announced f.kind (f.counts f.nodes) fields) (λ size. Ok (Problem size)) said h in
     let same : Problem s.0 ≡ said = cc (s.2) in
     let P : ListLine A → Type 0 = λ l. Says f None count (word ∷ fields) l in
-    subst P same (plain, refl, count_ok f.kind word fields s.0 e s.1)
+    subst P same (plain, refl, count_ok f.kind word (f.counts f.nodes) fields s.0 f.few e s.1)
 
 item_line_says : {A : Type 0} (f : Sort A) (size : Option ℕ) (count : ℕ) (word : List ℕ) (fields : List (List ℕ)) (said : ListLine A) → is_comment word ≡ false → word ≡ f.word → item_line (f.item_of f.nodes) size count fields ≡ Ok said → Says f size count (word ∷ fields) said
 unfolding item_line
@@ -101,7 +103,7 @@ silent_says {A = A} f size count fields said silent e =
     let P : ListLine A → Type 0 = λ l. Says f size count fields l in
     subst P same silent
 
-pub line_says : {A : Type 0} (f : Sort A) (size : Option ℕ) (count : ℕ) (fields : List (List ℕ)) (said : ListLine A) → list_line f.kind f.word (f.item_of f.nodes) size count fields ≡ Ok said → Says f size count fields said
+pub line_says : {A : Type 0} (f : Sort A) (size : Option ℕ) (count : ℕ) (fields : List (List ℕ)) (said : ListLine A) → list_line f.kind f.word (f.counts f.nodes) (f.item_of f.nodes) size count fields ≡ Ok said → Says f size count fields said
 unfolding list_line
 line_says f size count [] said h = silent_says f size count [] said refl h
 line_says f size count (word ∷ fields) said h = elim (choice_ok (is_comment word) _ _ (Ok said) h) [
@@ -117,22 +119,22 @@ line_says f size count (word ∷ fields) said h = elim (choice_ok (is_comment wo
 
 -- ---- and back
 
-silent_line : {A : Type 0} (f : Sort A) (size : Option ℕ) (count : ℕ) (fields : List (List ℕ)) → is_silent fields ≡ true → list_line f.kind f.word (f.item_of f.nodes) size count fields ≡ Ok Silent
+silent_line : {A : Type 0} (f : Sort A) (size : Option ℕ) (count : ℕ) (fields : List (List ℕ)) → is_silent fields ≡ true → list_line f.kind f.word (f.counts f.nodes) (f.item_of f.nodes) size count fields ≡ Ok Silent
 unfolding list_line
 silent_line f size count [] e = refl
 silent_line f size count (word ∷ fields) e = rw e refl
 
-count_line_of : {A : Type 0} (f : Sort A) (count : ℕ) (fields : List (List ℕ)) (n : ℕ) → IsCountLine f.kind fields n → list_line f.kind f.word (f.item_of f.nodes) None count fields ≡ Ok (Problem n)
+count_line_of : {A : Type 0} (f : Sort A) (count : ℕ) (fields : List (List ℕ)) (n : ℕ) → IsCountLine f.kind (f.counts f.nodes) fields n → list_line f.kind f.word (f.counts f.nodes) (f.item_of f.nodes) None count fields ≡ Ok (Problem n)
 unfolding list_line problem_line
 count_line_of f count [] n is = absurd is
 count_line_of f count (word ∷ []) n is = absurd is
 count_line_of f count (word ∷ aux ∷ []) n is = absurd is
 count_line_of f count (word ∷ aux ∷ sp ∷ []) n is = absurd is
 count_line_of f count (word ∷ aux ∷ sp ∷ third ∷ []) n is = absurd is
-count_line_of f count (word ∷ aux ∷ sp ∷ third ∷ m ∷ []) n is = rw (is.0) (ap (λ r. r >>= λ s. Ok (Problem s)) (announced_of f.kind aux sp third m n is.1 is.2 is.3 is.4))
+count_line_of f count (word ∷ aux ∷ sp ∷ third ∷ m ∷ []) n is = rw (is.0) (ap (λ r. r >>= λ s. Ok (Problem s)) (announced_of f.kind aux sp third m (f.counts f.nodes) n f.few is.1 is.2 is.3 is.4))
 count_line_of f count (word ∷ aux ∷ sp ∷ third ∷ m ∷ x ∷ rest) n is = absurd is
 
-item_line_of : {A : Type 0} (f : Sort A) (size count : ℕ) (fields : List (List ℕ)) (item : A) → count < size → IsItemLine f.word f.IsItem fields item → list_line f.kind f.word (f.item_of f.nodes) (Some size) count fields ≡ Ok (Item item)
+item_line_of : {A : Type 0} (f : Sort A) (size count : ℕ) (fields : List (List ℕ)) (item : A) → count < size → IsItemLine f.word f.IsItem fields item → list_line f.kind f.word (f.counts f.nodes) (f.item_of f.nodes) (Some size) count fields ≡ Ok (Item item)
 unfolding list_line item_line
 item_line_of f size count [] item room is = absurd is
 item_line_of f size count (word ∷ fields) item room is =
@@ -141,27 +143,27 @@ item_line_of f size count (word ∷ fields) item room is =
 -- ---- lines
 
 abbrev rest : {A : Type 0} → Sort A → ℕ → Option ℕ → List A → List (List (List ℕ)) → Result (List A) InputFault
-rest f n size items lines = rest_of (list_step f.kind f.word f.item_of) list_end n (record { nodes = f.nodes; size = size; items = items }) lines
+rest f n size items lines = rest_of (list_step f.kind f.word f.counts f.item_of) list_end n (record { nodes = f.nodes; size = size; items = items }) lines
 
 -- A line that is read says something, and the rest is read after it.
 said_line : {A : Type 0} (f : Sort A) (n : ℕ) (size : Option ℕ) (items : List A) (line : List (List ℕ)) (lines : List (List (List ℕ))) (all : List A) → rest f n size items (line ∷ lines) ≡ Ok all
-    → (said : ListLine A) × Says f size (length items) line said × (rest_of (list_step f.kind f.word f.item_of) list_end (n + 1) (with_line (record { nodes = f.nodes; size = size; items = items }) said) lines ≡ Ok all)
+    → (said : ListLine A) × Says f size (length items) line said × (rest_of (list_step f.kind f.word f.counts f.item_of) list_end (n + 1) (with_line (record { nodes = f.nodes; size = size; items = items }) said) lines ≡ Ok all)
 unfolding list_step
 said_line {A = A} f n size items line lines all e =
     let start : Listed A = record { nodes = f.nodes; size = size; items = items } in
-    let one = one_line (list_step f.kind f.word f.item_of) list_end n start line lines all e in
-    let said = bind_ok (list_line f.kind f.word (f.item_of f.nodes) size (length items) line) (λ s. Ok (with_line start s)) one.0 one.1 in
+    let one = one_line (list_step f.kind f.word f.counts f.item_of) list_end n start line lines all e in
+    let said = bind_ok (list_line f.kind f.word (f.counts f.nodes) (f.item_of f.nodes) size (length items) line) (λ s. Ok (with_line start s)) one.0 one.1 in
     let same : with_line start said.0 ≡ one.0 = cc (said.2) in
-    let P : Listed A → Type 0 = λ s. rest_of (list_step f.kind f.word f.item_of) list_end (n + 1) s lines ≡ Ok all in
+    let P : Listed A → Type 0 = λ s. rest_of (list_step f.kind f.word f.counts f.item_of) list_end (n + 1) s lines ≡ Ok all in
     (said.0, line_says f size (length items) line said.0 said.1, subst P (sym same) one.2)
 
 -- The same the other way.
-line_said : {A : Type 0} (f : Sort A) (n : ℕ) (size : Option ℕ) (items : List A) (line : List (List ℕ)) (lines : List (List (List ℕ))) (said : ListLine A) → list_line f.kind f.word (f.item_of f.nodes) size (length items) line ≡ Ok said
-    → rest f n size items (line ∷ lines) ≡ rest_of (list_step f.kind f.word f.item_of) list_end (n + 1) (with_line (record { nodes = f.nodes; size = size; items = items }) said) lines
+line_said : {A : Type 0} (f : Sort A) (n : ℕ) (size : Option ℕ) (items : List A) (line : List (List ℕ)) (lines : List (List (List ℕ))) (said : ListLine A) → list_line f.kind f.word (f.counts f.nodes) (f.item_of f.nodes) size (length items) line ≡ Ok said
+    → rest f n size items (line ∷ lines) ≡ rest_of (list_step f.kind f.word f.counts f.item_of) list_end (n + 1) (with_line (record { nodes = f.nodes; size = size; items = items }) said) lines
 unfolding list_step
 line_said {A = A} f n size items line lines said e =
     let start : Listed A = record { nodes = f.nodes; size = size; items = items } in
-    next_line (list_step f.kind f.word f.item_of) list_end n start (with_line start said) line lines (ap (λ r. r >>= λ s. Ok (with_line start s)) e)
+    next_line (list_step f.kind f.word f.counts f.item_of) list_end n start (with_line start said) line lines (ap (λ r. r >>= λ s. Ok (with_line start s)) e)
 
 record Rest {A : Type 0} (f : Sort A) (size : ℕ) (items : List A) (lines : List (List (List ℕ))) (all : List A) : Type 0 where
   more : List A
@@ -172,14 +174,14 @@ record Rest {A : Type 0} (f : Sort A) (size : ℕ) (items : List A) (lines : Lis
 ended : {A : Type 0} (f : Sort A) (n size : ℕ) (items all : List A) → length items ≤ size → rest f n (Some size) items [] ≡ Ok all → Rest f size items [] all
 unfolding list_end
 ended f n size items all few e =
-    let last = no_line (list_step f.kind f.word f.item_of) list_end n (record { nodes = f.nodes; size = Some size; items = items }) all e in
+    let last = no_line (list_step f.kind f.word f.counts f.item_of) list_end n (record { nodes = f.nodes; size = Some size; items = items }) all e in
     let passed = unless_ok (ltb (length items) size) items all TooFewLines last in
     let enough = ltb-false (length items) size passed.0 in
     let count_is : length items ≡ size = omega arith in
     record { more = []; whole = sym passed.1 ∙ sym (append-nil items); lists = tt; count = ap length (sym passed.1) ∙ count_is }
 
 some_line : {A : Type 0} (f : Sort A) (n size : ℕ) (items : List A) (line : List (List ℕ)) (lines : List (List (List ℕ))) (all : List A) (said : ListLine A) → length items ≤ size
-    → Says f (Some size) (length items) line said → rest_of (list_step f.kind f.word f.item_of) list_end (n + 1) (with_line (record { nodes = f.nodes; size = Some size; items = items }) said) lines ≡ Ok all
+    → Says f (Some size) (length items) line said → rest_of (list_step f.kind f.word f.counts f.item_of) list_end (n + 1) (with_line (record { nodes = f.nodes; size = Some size; items = items }) said) lines ≡ Ok all
     → ((m : ℕ) (known : List A) → length known ≤ size → rest f m (Some size) known lines ≡ Ok all → Rest f size known lines all) → Rest f size items (line ∷ lines) all
 some_line f n size items line lines all Silent few says e after =
     let r = after (n + 1) items few e in
@@ -201,23 +203,23 @@ after_some f (line ∷ lines) n size items all few e =
     some_line f n size items line lines all one.0 few one.1 one.2 (λ m known ok h. after_some f lines m size known all ok h)
 
 none_line : {A : Type 0} (f : Sort A) (n : ℕ) (line : List (List ℕ)) (lines : List (List (List ℕ))) (all : List A) (said : ListLine A) → Says f None 0 line said
-    → rest_of (list_step f.kind f.word f.item_of) list_end (n + 1) (with_line (record { nodes = f.nodes; size = None; items = [] }) said) lines ≡ Ok all
-    → ((m : ℕ) → rest f m None [] lines ≡ Ok all → DenotesItems f.kind f.word f.IsItem lines all) → DenotesItems f.kind f.word f.IsItem (line ∷ lines) all
+    → rest_of (list_step f.kind f.word f.counts f.item_of) list_end (n + 1) (with_line (record { nodes = f.nodes; size = None; items = [] }) said) lines ≡ Ok all
+    → ((m : ℕ) → rest f m None [] lines ≡ Ok all → DenotesItems f.kind f.word (f.counts f.nodes) f.IsItem lines all) → DenotesItems f.kind f.word (f.counts f.nodes) f.IsItem (line ∷ lines) all
 none_line f n line lines all Silent says e after =
     let r = after (n + 1) e in
     record { problem = r.problem; others = r.others; speaks = speaking_silent line lines says ∙ r.speaks; announces = r.announces; lists = r.lists }
 none_line {A = A} f n line lines all (Problem size) says e after =
     let r = after_some f lines (n + 1) size [] all (omega arith) e in
     let P : List A → Type 0 = λ items. AreItemLines f.word f.IsItem (speaking lines) items in
-    let S : ℕ → Type 0 = λ count. IsCountLine f.kind line count in
+    let S : ℕ → Type 0 = λ count. IsCountLine f.kind (f.counts f.nodes) line count in
     record { problem = line; others = speaking lines; speaks = speaking_loud line lines says.0; announces = subst S (sym r.count) says.2; lists = subst P (sym r.whole) r.lists }
 none_line f n line lines all (Item item) says e after = cc (says.1.1)
 
-none_end : {A : Type 0} (f : Sort A) (n : ℕ) (all : List A) → rest f n None [] [] ≡ Ok all → DenotesItems f.kind f.word f.IsItem [] all
+none_end : {A : Type 0} (f : Sort A) (n : ℕ) (all : List A) → rest f n None [] [] ≡ Ok all → DenotesItems f.kind f.word (f.counts f.nodes) f.IsItem [] all
 unfolding list_end
-none_end f n all e = let last = no_line (list_step f.kind f.word f.item_of) list_end n (record { nodes = f.nodes; size = None; items = [] }) all e in cc
+none_end f n all e = let last = no_line (list_step f.kind f.word f.counts f.item_of) list_end n (record { nodes = f.nodes; size = None; items = [] }) all e in cc
 
-after_none : {A : Type 0} (f : Sort A) (lines : List (List (List ℕ))) (n : ℕ) (all : List A) → rest f n None [] lines ≡ Ok all → DenotesItems f.kind f.word f.IsItem lines all
+after_none : {A : Type 0} (f : Sort A) (lines : List (List (List ℕ))) (n : ℕ) (all : List A) → rest f n None [] lines ≡ Ok all → DenotesItems f.kind f.word (f.counts f.nodes) f.IsItem lines all
 after_none f [] n all e = none_end f n all e
 after_none f (line ∷ lines) n all e =
     let one = said_line f n None [] line lines all e in
@@ -229,7 +231,7 @@ end_of : {A : Type 0} (f : Sort A) (n size : ℕ) (items more : List A) → leng
 unfolding list_end
 end_of f n size items [] count lists =
     let few : ltb (length items) size ≡ false = le-ltb (length items) size (omega (arith, count, ap length (append-nil items))) in
-    at_end (list_step f.kind f.word f.item_of) list_end n (record { nodes = f.nodes; size = Some size; items = items }) (items ++ []) (ap (λ b. cond b (Err TooFewLines) (Ok items)) few ∙ ap (λ xs. Ok xs) (sym (append-nil items)))
+    at_end (list_step f.kind f.word f.counts f.item_of) list_end n (record { nodes = f.nodes; size = Some size; items = items }) (items ++ []) (ap (λ b. cond b (Err TooFewLines) (Ok items)) few ∙ ap (λ xs. Ok xs) (sym (append-nil items)))
 end_of f n size items (item ∷ more) count lists = absurd lists
 
 after_item : {A : Type 0} (f : Sort A) (line : List (List ℕ)) (lines : List (List (List ℕ))) (n size : ℕ) (items more : List A) → length (items ++ more) ≡ size → AreItemLines f.word f.IsItem (line ∷ speaking lines) more
@@ -251,7 +253,7 @@ some_of f (line ∷ lines) n size items more count lists =
       | inr loud ↦ after_item f line lines n size items more count (subst P (speaking_loud line lines loud) lists) (λ m known others c l. some_of f lines m size known others c l)
     ]
 
-none_of : {A : Type 0} (f : Sort A) (lines : List (List (List ℕ))) (n : ℕ) (all : List A) (problem : List (List ℕ)) (others : List (List (List ℕ))) → speaking lines ≡ problem ∷ others → IsCountLine f.kind problem (length all) → AreItemLines f.word f.IsItem others all → rest f n None [] lines ≡ Ok all
+none_of : {A : Type 0} (f : Sort A) (lines : List (List (List ℕ))) (n : ℕ) (all : List A) (problem : List (List ℕ)) (others : List (List (List ℕ))) → speaking lines ≡ problem ∷ others → IsCountLine f.kind (f.counts f.nodes) problem (length all) → AreItemLines f.word f.IsItem others all → rest f n None [] lines ≡ Ok all
 none_of f [] n all problem others spoken announces lists = cc
 none_of f (line ∷ lines) n all problem others spoken announces lists = elim (two_ways (is_silent line)) [
   | inl silent ↦ line_said f n None [] line lines Silent (silent_line f None 0 line silent) ∙ none_of f lines (n + 1) all problem others (sym (speaking_silent line lines silent) ∙ spoken) announces lists
@@ -259,30 +261,30 @@ none_of f (line ∷ lines) n all problem others spoken announces lists = elim (t
       let both : line ∷ speaking lines ≡ problem ∷ others = sym (speaking_loud line lines loud) ∙ spoken in
       let head : problem ≡ line = cc in
       let tail : others ≡ speaking lines = cc in
-      let is : IsCountLine f.kind line (length all) = subst (λ (p : List (List ℕ)). IsCountLine f.kind p (length all)) head announces in
+      let is : IsCountLine f.kind (f.counts f.nodes) line (length all) = subst (λ (p : List (List ℕ)). IsCountLine f.kind (f.counts f.nodes) p (length all)) head announces in
       let are : AreItemLines f.word f.IsItem (speaking lines) all = subst (λ (ls : List (List (List ℕ))). AreItemLines f.word f.IsItem ls all) tail lists in
       line_said f n None [] line lines (Problem (length all)) (count_line_of f 0 line (length all) is) ∙ some_of f lines (n + 1) (length all) [] all refl are
 ]
 
 abbrev text_of : {A : Type 0} → Sort A → List (List (List ℕ)) → Result (List A) InputFault
-text_of f lines = text_after (list_step f.kind f.word f.item_of) list_end (nothing_listed f.nodes) lines
+text_of f lines = text_after (list_step f.kind f.word f.counts f.item_of) list_end (nothing_listed f.nodes) lines
 
 -- What is read is denoted.
-pub denoted : {A : Type 0} (f : Sort A) (lines : List (List (List ℕ))) (all : List A) → text_of f lines ≡ Ok all → DenotesItems f.kind f.word f.IsItem lines all
+pub denoted : {A : Type 0} (f : Sort A) (lines : List (List (List ℕ))) (all : List A) → text_of f lines ≡ Ok all → DenotesItems f.kind f.word (f.counts f.nodes) f.IsItem lines all
 unfolding text_after
 denoted f lines all e = after_none f lines 0 all e
 
 -- What is denoted is read.
-pub read_of_denoted : {A : Type 0} (f : Sort A) (lines : List (List (List ℕ))) (all : List A) → DenotesItems f.kind f.word f.IsItem lines all → text_of f lines ≡ Ok all
+pub read_of_denoted : {A : Type 0} (f : Sort A) (lines : List (List (List ℕ))) (all : List A) → DenotesItems f.kind f.word (f.counts f.nodes) f.IsItem lines all → text_of f lines ≡ Ok all
 unfolding text_after
 read_of_denoted f lines all is = none_of f lines 0 all is.problem is.others is.speaks is.announces is.lists
 
 -- What a reader answers, by what a text denotes.
-pub gives_denoted : {A X : Type 0} (f : Sort A) (view : X → List A) (r : Result X InputFault) (lines : List (List (List ℕ))) → Gives view r (text_of f lines) → IfOk r (λ x. DenotesItems f.kind f.word f.IsItem lines (view x))
+pub gives_denoted : {A X : Type 0} (f : Sort A) (view : X → List A) (r : Result X InputFault) (lines : List (List (List ℕ))) → Gives view r (text_of f lines) → IfOk r (λ x. DenotesItems f.kind f.word (f.counts f.nodes) f.IsItem lines (view x))
 gives_denoted f view (Ok x) lines h = denoted f lines (view x) h
 gives_denoted f view (Err fault) lines h = tt
 
-pub gives_only : {A X : Type 0} (f : Sort A) (view : X → List A) (r : Result X InputFault) (lines : List (List (List ℕ))) → Gives view r (text_of f lines) → (all : List A) → DenotesItems f.kind f.word f.IsItem lines all → MatchResult r (λ x. view x ≡ all) (λ fault. fault ≡ out_of_memory)
+pub gives_only : {A X : Type 0} (f : Sort A) (view : X → List A) (r : Result X InputFault) (lines : List (List (List ℕ))) → Gives view r (text_of f lines) → (all : List A) → DenotesItems f.kind f.word (f.counts f.nodes) f.IsItem lines all → MatchResult r (λ x. view x ≡ all) (λ fault. fault ≡ out_of_memory)
 gives_only f view (Ok x) lines h all is = let e = read_of_denoted f lines all is in cc
 gives_only f view (Err fault) lines (inl refused) all is = refused
 gives_only f view (Err fault) lines (inr said) all is = let e = read_of_denoted f lines all is in cc

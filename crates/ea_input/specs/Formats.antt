@@ -1,9 +1,10 @@
--- What each of the four files asks of its lines.
+-- What each file asks of its lines.
 use Rattle.std.specs.Prelude.{ℕ, ◌+◌, ◌-◌, ◌||◌, not, Bool, true, false, List, [], ◌∷◌, map, drop, codes, if◌then◌else◌}
 use Rattle.std.specs.Option.{option_map_or}
 use Rattle.std.specs.List.{list_any}
 use Rattle.std.specs.Str.{bytes_eq}
-use Rattle.ea_base.specs.declared.limits.TheConstants.{HORIZON, MOST_ARCS, MOST_CLASSES, MOST_NODES, MOST_PERIOD, MOST_STARTS, MOST_STEPS}
+use Rattle.ea_base.specs.declared.limits.TheConstants.{HORIZON, MOST_ARCS, MOST_CLASSES, MOST_NODES, MOST_PERIOD, MOST_STEPS}
+use Rattle.ea_input.specs.Listing.{any_count, this_count}
 use Rattle.ea_input.specs.Checks.{Line, Format, begins_with, value_of, lies_in, words_fit}
 use Rattle.ea_input.specs.StepLines.{Run, due, least_time, most_time, least_value, most_value}
 
@@ -39,31 +40,36 @@ graph_format = record {
   announced = λ problem word. graph_arcs problem;
 }
 
--- ---- sources and pairs: `p aux sp KIND N`, and N lines of a word and as many nodes as the kind has
+-- ---- sources, pairs and times: `p aux sp KIND N`, and N lines of a word and as many numbers as the kind has
 
 abbrev pub list_count : Line → ℕ
 list_count (p ∷ aux ∷ sp ∷ kind ∷ n ∷ []) = value_of n
 list_count _ = 0
 
-abbrev pub list_format : List ℕ → List ℕ → ℕ → ℕ → Format
-list_format kind word fields nodes = record {
+-- `counts` has the least and the greatest N, `numbers` those of the numbers.
+abbrev pub list_format : List ℕ → List ℕ → ℕ → ℕ × ℕ → ℕ × ℕ → Format
+list_format kind word fields counts numbers = record {
   words = word ∷ [];
   is_step = λ line. false;
   due = λ before. 0;
   kind_fits = λ line. not (is_problem line) || words_fit (codes "aux" ∷ codes "sp" ∷ kind ∷ []) (drop 1 line);
   field_count = λ line. if is_problem line then 5 else (1 + fields);
   numbers = λ line. drop (if is_problem line then 4 else 1) line;
-  in_range = λ before line. if is_problem line then map (lies_in 0 MOST_STARTS) (drop 4 line) else map (lies_in 1 nodes) (drop 1 line);
+  in_range = λ before line. if is_problem line then map (lies_in counts.0 counts.1) (drop 4 line) else map (lies_in numbers.0 numbers.1) (drop 1 line);
   announced = λ problem w. list_count problem;
 }
 
 -- `p aux sp ss N`, and N lines `s S`
 abbrev pub source_format : ℕ → Format
-source_format nodes = list_format (codes "ss") (codes "s") 1 nodes
+source_format nodes = list_format (codes "ss") (codes "s") 1 (any_count nodes) (1, nodes)
 
 -- `p aux sp p2p N`, and N lines `q S T`
 abbrev pub pair_format : ℕ → Format
-pair_format nodes = list_format (codes "p2p") (codes "q") 2 nodes
+pair_format nodes = list_format (codes "p2p") (codes "q") 2 (any_count nodes) (1, nodes)
+
+-- `p aux sp at N` with N the number of sources or pairs, and N lines `t D`
+abbrev pub time_format : ℕ → Format
+time_format count = list_format (codes "at") (codes "t") 1 (this_count count) (0, HORIZON)
 
 -- ---- a timetable: `p tp K T`, and K lines `k J ..`, some with lines `v T X` behind them, and T lines `t E J`
 

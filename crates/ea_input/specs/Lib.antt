@@ -5,6 +5,7 @@ pub mod GraphFronts
 pub mod Views
 pub mod Listing
 pub mod Sources
+pub mod Times
 pub mod Pairs
 pub mod Fronts
 pub mod StepLines

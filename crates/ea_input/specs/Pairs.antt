@@ -3,7 +3,7 @@ use Rattle.std.specs.Prelude.{ℕ, List, [], ◌∷◌, codes, Result, Ok, Err}
 use Rattle.ea_input.specs.Range.{IsNumberIn}
 use Rattle.ea_blocks.specs.Fault.{◌>>=◌, numeral, within}
 use Rattle.ea_blocks.specs.Reading.{text_after}
-use Rattle.ea_input.specs.Listing.{DenotesItems, Listed, nothing_listed, list_step, list_end}
+use Rattle.ea_input.specs.Listing.{DenotesItems, any_count, Listed, nothing_listed, list_step, list_end}
 use Rattle.ea_blocks.specs.declared.fault.FaultKind.{FaultKind}
 use Rattle.ea_blocks.specs.declared.fault.FaultKind.TheVariants.{FieldCount}
 use Rattle.ea_blocks.specs.declared.fault.InputFault.{InputFault}
@@ -15,7 +15,7 @@ IsPair nodes _ pair = ⊥
 
 -- Lines denote pairs: `p aux sp p2p N`, and N lines `q S T` of nodes up to `nodes`.
 abbrev pub DenotesPairs : ℕ → List (List (List ℕ)) → List (ℕ × ℕ) → Type 0
-DenotesPairs nodes lines pairs = DenotesItems (codes "p2p") (codes "q") (IsPair nodes) lines pairs
+DenotesPairs nodes lines pairs = DenotesItems (codes "p2p") (codes "q") (any_count nodes) (IsPair nodes) lines pairs
 
 -- A pair whose numbers these fields are.
 unfoldable pub pair_read : ℕ → List ℕ → List ℕ → Result (ℕ × ℕ) FaultKind
@@ -31,7 +31,7 @@ pair_of nodes (s ∷ t ∷ []) = pair_read nodes s t
 pair_of nodes _ = Err FieldCount
 
 abbrev pub pair_step : Listed (ℕ × ℕ) → List (List ℕ) → Result (Listed (ℕ × ℕ)) FaultKind
-pair_step = list_step (codes "p2p") (codes "q") pair_of
+pair_step = list_step (codes "p2p") (codes "q") any_count pair_of
 
 -- What a reader finds: the pairs of a text, or a fault.
 abbrev pub pairs_of : ℕ → List (List (List ℕ)) → Result (List (ℕ × ℕ)) InputFault

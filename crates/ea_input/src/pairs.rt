@@ -7,7 +7,7 @@ ghost use Rattle.ea_input.specs.Grammar.{IsGrammar};
 ghost use Rattle.ea_blocks.specs.declared.fault.InputFault.{InputFault as FaultType};
 ghost use Rattle.ea_input.specs.Fronts.{pair_step-front};
 ghost use Rattle.ea_input.specs.Listing as spec;
-ghost use Rattle.ea_input.specs.Listing.{Listed, list_end, nothing_listed};
+ghost use Rattle.ea_input.specs.Listing.{Listed, any_count, list_end, nothing_listed};
 ghost use Rattle.ea_input.specs.Pairs.{DenotesPairs, pair_step, pairs_of};
 ghost use Rattle.ea_bytes.specs.Text.{field_lines};
 ghost use Rattle.ea_blocks.specs.Reading.{GivesLine};
@@ -17,6 +17,7 @@ ghost use Rattle.ea_input.specs.StreamFaults.{IsStreamFault};
 
 use crate::number_ranges::{numeral, within};
 use crate::problem_line::{ListLine, problem_line};
+use ea_base::MOST_STARTS;
 use ea_blocks::{
     BlockReader, FaultKind, InputFault, LineReader, StreamFault, read_device, read_text, way_of,
 };
@@ -72,7 +73,7 @@ fn line_says(
     count: usize,
     fields: &[&[u8]],
 ) -> Result<ListLine<(u32, u32)>, FaultKind>
-    ensures { result ≡ spec.list_line (codes "p2p") (codes "q")
+    ensures { result ≡ spec.list_line (codes "p2p") (codes "q") (any_count nodes)
         (Rattle.ea_input.specs.Pairs.pair_of nodes) size count (texts_now fields.now) }
 {
     let [word, others @ ..] = fields else {
@@ -81,7 +82,7 @@ fn line_says(
     if text::is_comment(word) {
         Ok(ListLine::Silent)
     } else if *word == b"p".as_slice() {
-        problem_line(b"p2p", size, others)
+        problem_line(b"p2p", (0, MOST_STARTS), size, others)
     } else if *word == b"q".as_slice() {
         pair_line(nodes, size, count, others)
     } else {

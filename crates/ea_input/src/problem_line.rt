@@ -4,7 +4,6 @@ ghost use Rattle.ea_input.specs.Listing as spec;
 ghost use Rattle.ea_blocks.specs.Borrowed.{result_now, texts_now};
 
 use crate::number_ranges::{numeral, within};
-use ea_base::MOST_STARTS;
 use ea_blocks::FaultKind;
 
 /// What a line says.
@@ -57,23 +56,24 @@ fn after_kinds<'a, 'b>(kind: &[u8], fields: &'a [&'b [u8]]) -> Result<&'a [&'b [
 }
 
 #[tactic(auto, unfolding(crate::specs::Listing::announced))]
-fn announced(kind: &[u8], fields: &[&[u8]]) -> Result<u32, FaultKind>
-    ensures { result ≡ spec.announced kind.now (texts_now fields.now) }
+fn announced(kind: &[u8], counts: (u32, u32), fields: &[&[u8]]) -> Result<u32, FaultKind>
+    ensures { result ≡ spec.announced kind.now counts (texts_now fields.now) }
 {
     let numbers = after_kinds(kind, fields)?;
-    only_number(0, MOST_STARTS, numbers)
+    only_number(counts.0, counts.1, numbers)
 }
 
 #[tactic(auto, unfolding(crate::specs::Listing::problem_line))]
 pub(crate) fn problem_line<T: Copy>(
     kind: &[u8],
+    counts: (u32, u32),
     size: Option<u32>,
     fields: &[&[u8]],
 ) -> Result<ListLine<T>, FaultKind>
-    ensures { result ≡ spec.problem_line kind.now size (texts_now fields.now) }
+    ensures { result ≡ spec.problem_line kind.now counts size (texts_now fields.now) }
 {
     if size.is_some() {
         return Err(FaultKind::SecondProblemLine);
     }
-    Ok(ListLine::Problem(announced(kind, fields)?))
+    Ok(ListLine::Problem(announced(kind, counts, fields)?))
 }

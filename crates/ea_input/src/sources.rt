@@ -7,7 +7,7 @@ ghost use Rattle.ea_input.specs.Grammar.{IsGrammar};
 ghost use Rattle.ea_blocks.specs.declared.fault.InputFault.{InputFault as FaultType};
 ghost use Rattle.ea_input.specs.Fronts.{source_step-front};
 ghost use Rattle.ea_input.specs.Listing as spec;
-ghost use Rattle.ea_input.specs.Listing.{Listed, list_end, nothing_listed};
+ghost use Rattle.ea_input.specs.Listing.{Listed, any_count, list_end, nothing_listed};
 ghost use Rattle.ea_input.specs.Sources.{DenotesSources, source_of, source_step, sources_of};
 ghost use Rattle.ea_bytes.specs.Text.{field_lines};
 ghost use Rattle.ea_blocks.specs.Reading.{GivesLine};
@@ -16,6 +16,7 @@ ghost use Rattle.ea_blocks.specs.Streams.{DenotesWhole, GivesWhole};
 ghost use Rattle.ea_input.specs.StreamFaults.{IsStreamFault};
 
 use crate::problem_line::{ListLine, only_number, problem_line};
+use ea_base::MOST_STARTS;
 use ea_blocks::{
     BlockReader, FaultKind, InputFault, LineReader, StreamFault, read_device, read_text, way_of,
 };
@@ -49,7 +50,7 @@ fn line_says(
     count: usize,
     fields: &[&[u8]],
 ) -> Result<ListLine<u32>, FaultKind>
-    ensures { result ≡ spec.list_line (codes "ss") (codes "s") (source_of nodes) size count
+    ensures { result ≡ spec.list_line (codes "ss") (codes "s") (any_count nodes) (source_of nodes) size count
         (texts_now fields.now) }
 {
     let [word, others @ ..] = fields else {
@@ -58,7 +59,7 @@ fn line_says(
     if text::is_comment(word) {
         Ok(ListLine::Silent)
     } else if *word == b"p".as_slice() {
-        problem_line(b"ss", size, others)
+        problem_line(b"ss", (0, MOST_STARTS), size, others)
     } else if *word == b"s".as_slice() {
         source_line(nodes, size, count, others)
     } else {
