@@ -5,12 +5,12 @@ import itertools
 # The words of each command with its files, in the order in which they are opened: the file's word, and its
 # name.
 COMMANDS = {
-    "run": (["run", "{gr}", "{ss}", "--tp", "{tp}"], ("gr", "ss", "tp")),
-    "pairs": (["pairs", "{gr}", "{p2p}", "--tp", "{tp}"], ("gr", "p2p", "tp")),
+    "run": (["run", "{gr}", "{ss}", "--nodes", "{nodes}", "--departs", "{times}", "--tp", "{tp}"], ("gr", "ss", "tp", "times", "nodes")),
+    "pairs": (["pairs", "{gr}", "{p2p}", "--arrives", "{times}", "--tp", "{tp}"], ("gr", "p2p", "tp", "times")),
     "rank": (["rank", "{gr}", "{ss}", "--tp", "{tp}"], ("gr", "ss", "tp")),
-    "check": (["check", "{gr}", "{ss}", "{report}", "--tp", "{tp}"], ("gr", "ss", "tp", "report")),
+    "check": (["check", "{gr}", "{ss}", "{report}", "--tp", "{tp}", "--departs", "{times}"], ("gr", "ss", "tp", "times", "report")),
 }
-THERE = {"gr": "every-ten.gr", "ss": "four-nodes.ss", "p2p": "every-ten.p2p", "tp": "every-ten.tp", "report": "every-ten.report"}
+THERE = {"gr": "every-ten.gr", "ss": "four-nodes.ss", "p2p": "every-ten.p2p", "tp": "every-ten.tp", "times": "one-time.times", "nodes": "four-nodes.ss", "report": "every-ten.report"}
 
 
 def cases():

@@ -123,7 +123,11 @@ MISTAKES = (
     (b"", "run four-nodes.gr four-nodes.ss --depart 8:00", 2, "earliest: 14 BadOption\n  --depart 8:00: it has to be a whole number from 0 to 281474976710655\n  times are counted in the units of the weights: 8:00 is 28800 where these are seconds\n"),
     (b"", "rank four-nodes.gr four-nodes.ss --workers 17", 2, "earliest: 14 BadOption\n  --workers 17: it has to be a whole number from 1 to 16\n"),
     (b"", "run - -", 2, "earliest: 14 BadOption\n  - is standard input, which one file alone can be\n"),
-    (b"", "run joint-gap.gr joint-gap.ss --depart 281474976710655 --gap 1", 2, "earliest: 14 BadOption\n  a departure, --depart and so many times --gap, is above 281474976710655: make these less\n"),
+    (b"", "run four-nodes.gr four-nodes.ss --depart 1 --arrive=6", 2, "earliest: 14 BadOption\n  one of --depart, --departs, --arrive and --arrives can be given, and --gap with neither file\n"),
+    (b"", "run four-nodes.gr own-departures.ss --departs own-departures.times --gap 5", 2, "earliest: 14 BadOption\n  one of --depart, --departs, --arrive and --arrives can be given, and --gap with neither file\n"),
+    (b"p aux sp at 2\nt 0\nt 8:00\n", "run four-nodes.gr own-departures.ss --departs {}", 1, "earliest: times 3: 5 BadNumber\n  {}, line 3: t 8:00\n  a time is `t D`: a whole number, 0 to 281474976710655, for the source or pair of the same number\n"),
+    (b"p aux sp at 1\nt 0\n", "run four-nodes.gr own-departures.ss --departs {}", 1, "earliest: times 1: 6 OutOfRange\n  {}, line 1: p aux sp at 1\n  the problem line is `p aux sp at N`: N times, exactly as many as there are sources or pairs\n"),
+    (b"", "run joint-gap.gr joint-gap.ss --depart 281474976710655 --gap 1", 2, "earliest: 14 BadOption\n  a time, --depart or --arrive and so many times --gap, is above 281474976710655: make these less\n"),
 )
 
 

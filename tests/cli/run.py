@@ -16,6 +16,7 @@ import commuter_network
 import documents
 import explained
 import large
+import latest
 import opening
 import outputs
 import people
@@ -151,6 +152,7 @@ def run_each(program):
     results += explained.results(program)
     results += road_network.results(program)
     results += travel_times.results(program)
+    results += latest.results(program)
     results += commuter_network.results(program)
     results += at_once.results(program)
     results += threads.results(program)

@@ -1,10 +1,11 @@
 -- Sending problem after problem.
-use Rattle.std.proofs.Common.{◌<◌, ℕ, Bool, List, [], ◌∷◌, length, refl, inl, arith}
+use Rattle.std.proofs.Common.{◌<◌, ℕ, List, [], ◌∷◌, length, refl, inl, arith}
 use Rattle.ea_bytes.specs.Device.{Seen}
 use Rattle.ea_road.specs.Roads.{Roads}
 use Rattle.ea_road.specs.Queries.{Asking}
 use Rattle.ea_load.specs.declared.answer_fault.AnswerFault.{AnswerFault}
 use Rattle.ea_load.specs.declared.answer_fault.AnswerFault.TheVariants.{OutOfMemory}
+use Rattle.ea_report.specs.Asked.{Shape}
 use Rattle.ea_batch.specs.declared.draft.Job.{Job}
 use Rattle.ea_batch.specs.Drafts.{GoesOn, StopsAfter}
 use Rattle.ea_batch.specs.Sent.{AreCutShort}
@@ -24,7 +25,7 @@ module _ (job : Job) (from mid : ℕ) (old between now : Seen) (before written :
   stops_later fault stop = record { cut = λ first fits sent. stop.cut first fits (went.sent first fits sent) }
 
 -- Nothing was sent, since memory was refused.
-pub stops_at_once : (walks : Bool) (roads : Roads) (answers : ℕ → ℕ → ℕ → ℕ → Type 0) (all : List Asking) (first : Seen) → 0 < length all → AreCutShort walks roads answers all first first (OutOfMemory 0)
-stops_at_once walks roads answers [] first some = absurd (omega (arith, some))
-stops_at_once walks roads answers (query ∷ rest) first some =
-    stops walks roads answers (query ∷ rest) 0 query some refl first first first 0 (sent_none walks roads answers first) (OutOfMemory 0) (inl (refl, refl))
+pub stops_at_once : (shape : Shape) (roads : Roads) (answers : ℕ → ℕ → ℕ → ℕ → Type 0) (all : List Asking) (first : Seen) → 0 < length all → AreCutShort shape roads answers all first first (OutOfMemory 0)
+stops_at_once shape roads answers [] first some = absurd (omega (arith, some))
+stops_at_once shape roads answers (query ∷ rest) first some =
+    stops shape roads answers (query ∷ rest) 0 query some refl first first first 0 (sent_none shape roads answers first) (OutOfMemory 0) (inl (refl, refl))

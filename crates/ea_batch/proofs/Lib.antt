@@ -1,5 +1,6 @@
 pub mod Placing
 pub mod Piling
+pub mod Counts
 pub mod Going
 pub mod Held
 pub mod Sent

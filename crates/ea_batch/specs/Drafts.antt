@@ -1,5 +1,5 @@
 -- Drafts: reports of problems that are made before their turn.
-use Rattle.std.specs.Prelude.{◌≡◌, ◌↔◌, ℕ, ◌+◌, ◌*◌, ◌<◌, ◌≤◌, ◌^◌, Bool, true, List, IfSome, Some, length, take, slice_get, slice_index_or}
+use Rattle.std.specs.Prelude.{◌≡◌, ◌↔◌, ℕ, ◌+◌, ◌*◌, ◌<◌, ◌≤◌, ◌^◌, true, List, IfSome, Some, length, take, slice_get, slice_index_or}
 use Rattle.ea_bytes.specs.Device.{Seen}
 use Rattle.ea_road.specs.Queries.{Asking}
 use Rattle.ea_load.specs.declared.road.Road.{Road}
@@ -14,36 +14,37 @@ use Rattle.ea_batch.specs.declared.draft.Made.{Made}
 use Rattle.ea_batch.specs.declared.progress.Progress.{Progress}
 use Rattle.ea_batch.specs.Sent.{AreCutShort, AreSent}
 use Rattle.ea_batch.specs.Reported.{IsReportOf}
-use Rattle.ea_batch.specs.Solved.{AnswersOn, ArrivesOn, Serves}
+use Rattle.ea_report.specs.Asked.{Shape, shape_of}
+use Rattle.ea_batch.specs.Solved.{AnswersOn, ArrivesOn, IsShown, Serves}
 
--- The problems are problems on the road, not too many, their drafts are as the options say, and threads take
--- several at once.
+-- The problems are problems on the road, not too many, the nodes that are shown are its nodes, and threads take
+-- several problems at once.
 pub record IsJob (job : Job) : Type 0 where
   pub problems : AreProblems job.road.now job.queries.now
   pub few : length job.queries.now ≤ MOST_STARTS
   pub nodes : job.road.now.network.nodes ≤ MOST_NODES
-  pub walks : job.plan.walks ≡ job.options.now.walks
+  pub shown : IsShown job.road.now.network (shape_of job.shown)
   pub part : 0 < job.plan.part
 
 -- A draft is the text of a problem's report, or has its answer, or is nothing.
-abbrev pub IsDraftOf : Bool → Road → Asking → Draft → Type 0
-IsDraftOf walks road query draft.Nothing = Unit {0}
-IsDraftOf walks road query (draft.Text text) = IsReportOf walks road.network (times_on road) query text.items
-IsDraftOf walks road query (draft.Answer search) =
-    Serves road.network walks search × ArrivesOn road query search.answer × (walks ≡ true → AnswersOn road query search.answer)
+abbrev pub IsDraftOf : Shape → Road → Asking → Draft → Type 0
+IsDraftOf shape road query draft.Nothing = Unit {0}
+IsDraftOf shape road query (draft.Text text) = IsReportOf shape road.network (times_on road) query text.items
+IsDraftOf shape road query (draft.Answer search) =
+    Serves road.network shape.style.walks search × ArrivesOn road query search.answer × (shape.style.walks ≡ true → AnswersOn road query search.answer)
 
 -- A draft of the problem with this number, from 0, if there is one.
-abbrev pub IsDraftAt : Bool → Road → List Asking → ℕ → Draft → Type 0
-IsDraftAt walks road queries number draft = (query : Asking) → slice_get queries number ≡ Some query → IsDraftOf walks road query draft
+abbrev pub IsDraftAt : Shape → Road → List Asking → ℕ → Draft → Type 0
+IsDraftAt shape road queries number draft = (query : Asking) → slice_get queries number ≡ Some query → IsDraftOf shape road query draft
 
 -- These are drafts of the problems from this one on.
-abbrev pub AreDraftsAt : Bool → Road → List Asking → ℕ → List Draft → Type 0
-AreDraftsAt walks road queries = AllFrom (IsDraftAt walks road queries)
+abbrev pub AreDraftsAt : Shape → Road → List Asking → ℕ → List Draft → Type 0
+AreDraftsAt shape road queries = AllFrom (IsDraftAt shape road queries)
 
 -- The same for the elements of a list from place k on.
-abbrev pub AreUnsent : Bool → Road → List Asking → ℕ → ℕ → List Draft → Type 0
-AreUnsent walks road queries from k drafts =
-    (j : ℕ) (d : Draft) → k ≤ j → j < length drafts → IsDraftAt walks road queries (from + j) (slice_index_or drafts j d)
+abbrev pub AreUnsent : Shape → Road → List Asking → ℕ → ℕ → List Draft → Type 0
+AreUnsent shape road queries from k drafts =
+    (j : ℕ) (d : Draft) → k ≤ j → j < length drafts → IsDraftAt shape road queries (from + j) (slice_index_or drafts j d)
 
 -- These are named drafts of the problems from the first on.
 abbrev pub IsFit : (ℕ → Draft → Type 0) → Made → Type 0
@@ -51,18 +52,18 @@ IsFit fits made = AllFrom fits made.from made.drafts.items
 
 -- What is named a draft of a problem is one of the job's.
 pub record IsFor (fits : ℕ → Draft → Type 0) (job : Job) : Type 0 where
-  pub same : (number : ℕ) (draft : Draft) → fits number draft ↔ IsDraftAt job.plan.walks job.road.now job.queries.now number draft
+  pub same : (number : ℕ) (draft : Draft) → fits number draft ↔ IsDraftAt (shape_of job.shown) job.road.now job.queries.now number draft
 
 -- The reports of the problems from one up to another were sent, if those before them were.
 pub record GoesOn (job : Job) (from to : ℕ) (before : Seen) (written : ℕ) (now : Seen) (after : ℕ) : Type 0 where
   pub sent : (first : Seen) → first.interrupted < 2 ^ 64
-      → AreSent job.options.now.walks job.road.now.network (times_on job.road.now) (take from job.queries.now) first before written
-      → AreSent job.options.now.walks job.road.now.network (times_on job.road.now) (take to job.queries.now) first now after
+      → AreSent (shape_of job.shown) job.road.now.network (times_on job.road.now) (take from job.queries.now) first before written
+      → AreSent (shape_of job.shown) job.road.now.network (times_on job.road.now) (take to job.queries.now) first now after
 
 -- Each of these is a list of drafts of the job's problems from its first on.
 abbrev pub ArePiled : Job → List Made → Type 0
 ArePiled job pile = (k : ℕ) (d : Made) → k < length pile
-    → AreDraftsAt job.plan.walks job.road.now job.queries.now (slice_index_or pile k d).from (slice_index_or pile k d).drafts.items
+    → AreDraftsAt (shape_of job.shown) job.road.now job.queries.now (slice_index_or pile k d).from (slice_index_or pile k d).drafts.items
 
 -- The reports of the problems from one on can be sent: this many bytes were sent, the arrays fit, and the
 -- pile has drafts of them.
@@ -70,7 +71,7 @@ pub record CanSend (job : Job) (from : ℕ) (progress : Progress) (pile : List M
   pub is_job : IsJob job
   pub inside : from ≤ length job.queries.now
   pub room : progress.written ≤ from * 2 ^ 90
-  pub search : IfSome progress.search (Serves job.road.now.network job.options.now.walks)
+  pub search : IfSome progress.search (Serves job.road.now.network job.shown.style.walks)
   pub piled : ArePiled job pile
 
 -- The reports of the problems from one up to another were sent, and those from there on can be.
@@ -83,5 +84,5 @@ pub record HaveGone (job : Job) (from to : ℕ) (old : Seen) (before : Progress)
 -- cut short.
 pub record StopsAfter (job : Job) (from : ℕ) (before : Seen) (written : ℕ) (now : Seen) (fault : AnswerFault) : Type 0 where
   pub cut : (first : Seen) → first.interrupted < 2 ^ 64
-      → AreSent job.options.now.walks job.road.now.network (times_on job.road.now) (take from job.queries.now) first before written
-      → AreCutShort job.options.now.walks job.road.now.network (times_on job.road.now) job.queries.now first now fault
+      → AreSent (shape_of job.shown) job.road.now.network (times_on job.road.now) (take from job.queries.now) first before written
+      → AreCutShort (shape_of job.shown) job.road.now.network (times_on job.road.now) job.queries.now first now fault

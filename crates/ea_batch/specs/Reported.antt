@@ -1,14 +1,15 @@
 -- The reports of problems.
-use Rattle.std.specs.Prelude.{◌≡◌, ℕ, Bool, true, List, [], ◌∷◌, ◌++◌}
+use Rattle.std.specs.Prelude.{◌≡◌, ℕ, true, List, [], ◌∷◌, ◌++◌}
 use Rattle.ea_road.specs.Roads.{Roads}
 use Rattle.ea_road.specs.Queries.{Asking}
 use Rattle.ea_search.specs.Answers.{Answered, HasArrivals, IsAnswer}
-use Rattle.ea_report.specs.Report.{problem_text}
+use Rattle.ea_report.specs.Asked.{Shape}
+use Rattle.ea_report.specs.Report.{report_text}
 
 -- A text is the report of a problem: for each asked node its least arrival and, with walks, its canonical
--- walk.
+-- walk, in the shape that is asked.
 pub record IsReportOf
-    (walks : Bool)
+    (shape : Shape)
     (roads : Roads)
     (answers : ℕ → ℕ → ℕ → ℕ → Type 0)
     (query : Asking)
@@ -16,11 +17,11 @@ pub record IsReportOf
     : Type 0 where
   pub answer : Answered
   pub least : HasArrivals roads answers query answer
-  pub canonical : walks ≡ true → IsAnswer roads answers query answer
-  pub says : text ≡ problem_text walks roads.nodes query answer
+  pub canonical : shape.style.walks ≡ true → IsAnswer roads answers query answer
+  pub says : text ≡ report_text shape.style shape.chosen roads.nodes query answer
 
 -- The reports of problems, one after another.
-abbrev pub AreReported : Bool → Roads → (ℕ → ℕ → ℕ → ℕ → Type 0) → List Asking → List ℕ → Type 0
-AreReported walks roads answers [] text = text ≡ []
-AreReported walks roads answers (query ∷ queries) text =
-    (first : List ℕ) × (others : List ℕ) × IsReportOf walks roads answers query first × AreReported walks roads answers queries others × (text ≡ first ++ others)
+abbrev pub AreReported : Shape → Roads → (ℕ → ℕ → ℕ → ℕ → Type 0) → List Asking → List ℕ → Type 0
+AreReported shape roads answers [] text = text ≡ []
+AreReported shape roads answers (query ∷ queries) text =
+    (first : List ℕ) × (others : List ℕ) × IsReportOf shape roads answers query first × AreReported shape roads answers queries others × (text ≡ first ++ others)

@@ -1,11 +1,13 @@
 -- The answer of a problem on a road.
-use Rattle.std.specs.Prelude.{◌≡◌, Bool}
+use Rattle.std.specs.Prelude.{◌≡◌, ◌≤◌, Bool, IfSome, length}
+use Rattle.ea_base.specs.declared.limits.TheConstants.{MOST_STARTS}
 use Rattle.ea_road.specs.Queries.{Asking}
 use Rattle.ea_road.specs.Roads.{Roads}
 use Rattle.ea_load.specs.declared.road.Road.{Road}
 use Rattle.ea_search.specs.Answers.{Answered, HasArrivals, IsAnswer}
 use Rattle.ea_search.specs.Listings.{Searched}
 use Rattle.ea_load.specs.Posed.{times_on}
+use Rattle.ea_report.specs.Asked.{AreChosen, Shape}
 
 -- The answer has the least arrivals of the query on the road.
 abbrev pub ArrivesOn : Road → Asking → Answered → Type 0
@@ -18,3 +20,8 @@ AnswersOn road query answer = IsAnswer road.network (times_on road) query answer
 -- The arrays of the search fit the road's nodes, with room for walks if they are asked for.
 abbrev pub Serves : Roads → Bool → Searched → Type 0
 Serves roads walks search = (search.nodes ≡ roads.nodes) × (search.walks ≡ walks)
+
+-- The nodes that a report shows are nodes of the network, and no more than a file has.
+pub record IsShown (roads : Roads) (shape : Shape) : Type 0 where
+  pub chosen : AreChosen roads.nodes shape.chosen
+  pub few : IfSome shape.chosen (λ nodes. length nodes ≤ MOST_STARTS)

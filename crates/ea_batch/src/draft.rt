@@ -3,13 +3,13 @@ ghost use Rattle.std.specs.Prelude.{◌≡◌, ◌≤◌, ◌<◌, [], IfSome, S
 ghost use Rattle.ea_base.specs.declared.limits.TheConstants.{MOST_NODES, MOST_STARTS};
 ghost use Rattle.ea_road.specs.Queries.{Asking, IsProblem};
 ghost use Rattle.ea_batch.specs.Drafts.{AreDraftsAt, IsDraftOf, IsJob};
-ghost use Rattle.ea_batch.specs.Solved.{Serves};
+ghost use Rattle.ea_batch.specs.Solved.{IsShown, Serves};
+ghost use Rattle.ea_report.specs.Asked.{shape_of};
 
 use crate::one_search::search;
 use crate::sheet::Sheet;
 use crossbeam_deque::{Steal, Stealer, Worker};
 use ea_load::Road;
-use ea_options::RunOptions;
 use ea_paths::Search;
 use ea_report::{ReportOptions, write_problem};
 use ea_road::Query;
@@ -29,8 +29,6 @@ pub(crate) enum Draft {
 /// How drafts are made.
 #[derive(Clone, Copy)]
 pub(crate) struct Plan {
-    /// Whether reports show walks.
-    pub walks: bool,
     /// The number of problems that a thread takes at once.
     pub part: usize,
     /// The most problems that are taken before the first of them is sent.
@@ -47,7 +45,8 @@ pub(crate) struct Job<'a> {
     pub alloc: Global,
     pub road: &'a Road,
     pub queries: &'a [Query],
-    pub options: &'a RunOptions,
+    /// What the reports show.
+    pub shown: ReportOptions<'a>,
     pub plan: Plan,
     /// The source of memory from texts that were sent.
     pub spare: &'a Stealer<Vec<u8>>,
@@ -77,31 +76,32 @@ fn take_memory(job: Job<'_>) -> Vec<u8> {
 /// unless they become the draft. A text reuses the memory of an earlier one.
 fn make_draft(job: Job<'_>, query: &Query, last: &mut Option<Search>) -> Draft
     requires problem { IsProblem job.road.now.network
-        (length job.road.now.times.list.items) query.now }
+        (length job.road.now.times.tables.list.items) query.now }
     requires few { (length query.now.sources ≤ MOST_STARTS)
         × (job.road.now.network.nodes ≤ MOST_NODES) }
-    requires search { IfSome last.old (Serves job.road.now.network job.plan.walks) }
-    ensures draft { IsDraftOf job.entry.plan.walks job.entry.road.now query.now result }
-    ensures search { IfSome last.new (Serves job.entry.road.now.network job.entry.plan.walks) }
+    requires shown { IsShown job.road.now.network (shape_of job.shown) }
+    requires search { IfSome last.old (Serves job.road.now.network job.shown.style.walks) }
+    ensures draft { IsDraftOf (shape_of job.entry.shown) job.entry.road.now query.now result }
+    ensures search { IfSome last.new (Serves job.entry.road.now.network job.entry.shown.style.walks) }
 {
     let Job {
         alloc,
         road,
         plan,
+        shown,
         ..
     } = job;
-    let found = match search(alloc, road, query, plan.walks, last.take()) {
+    let found = match search(alloc, road, query, shown.style.walks, last.take()) {
         Ok(found) => found,
         Err(_) => return Draft::Nothing,
     };
     let mut sheet = Sheet::over(take_memory(job), plan.most);
-    let options = ReportOptions { walks: plan.walks };
     match write_problem(
         alloc,
         &road.network,
         query,
         found.answer(),
-        options,
+        shown,
         &mut sheet,
     ) {
         Ok(_) => {
@@ -116,10 +116,10 @@ fn make_draft(job: Job<'_>, query: &Query, last: &mut Option<Search>) -> Draft
 /// only if arrays are left.
 fn make_draft_at(job: Job<'_>, at: usize, is_first: bool, last: &mut Option<Search>) -> Draft
     requires job { IsJob job }
-    requires search { IfSome last.old (Serves job.road.now.network job.plan.walks) }
+    requires search { IfSome last.old (Serves job.road.now.network job.shown.style.walks) }
     ensures draft { (query : Asking) → slice_get job.entry.queries.now at ≡ Some query
-        → IsDraftOf job.entry.plan.walks job.entry.road.now query result }
-    ensures search { IfSome last.new (Serves job.entry.road.now.network job.entry.plan.walks) }
+        → IsDraftOf (shape_of job.entry.shown) job.entry.road.now query result }
+    ensures search { IfSome last.new (Serves job.entry.road.now.network job.entry.shown.style.walks) }
 {
     match job.queries.get(at) {
         Some(query) => {
@@ -151,10 +151,10 @@ pub(crate) struct Span {
 /// after a draft that is too long to be kept, or if memory for the list is refused.
 pub(crate) fn make_drafts(job: Job<'_>, span: Span, last: &mut Option<Search>) -> Made
     requires job { IsJob job }
-    requires search { IfSome last.old (Serves job.road.now.network job.plan.walks) }
-    ensures drafts { AreDraftsAt job.entry.plan.walks job.entry.road.now
+    requires search { IfSome last.old (Serves job.road.now.network job.shown.style.walks) }
+    ensures drafts { AreDraftsAt (shape_of job.entry.shown) job.entry.road.now
         job.entry.queries.now result.from result.drafts.items }
-    ensures search { IfSome last.new (Serves job.entry.road.now.network job.entry.plan.walks) }
+    ensures search { IfSome last.new (Serves job.entry.road.now.network job.entry.shown.style.walks) }
 {
     let mut made = Made {
         from: span.from,

@@ -1,5 +1,6 @@
 //! Passing drafts from the threads that make them to the one that sends them.
 ghost use Rattle.ea_batch.specs.Drafts.{AreDraftsAt, IsFit, IsFor};
+ghost use Rattle.ea_report.specs.Asked.{shape_of};
 ghost use Rattle.std.specs.Prelude.{IfSome};
 
 use crate::draft::{Job, Made};
@@ -61,7 +62,7 @@ pub(crate) type Taker<J> = Stealer<Made, Global, (), Fitting<J>>;
 /// Leaves drafts of a job for the sending thread. Returns false if memory was refused.
 pub(crate) fn give<J: Asks>(giver: &mut Giver<J>, job: Job<'_>, made: Made) -> bool
     requires named { IsFor J.fits job }
-    requires drafts { AreDraftsAt job.plan.walks job.road.now job.queries.now
+    requires drafts { AreDraftsAt (shape_of job.shown) job.road.now job.queries.now
         made.from made.drafts.items }
 {
     giver.push_as::<Gives>(made).is_ok()
@@ -70,7 +71,7 @@ pub(crate) fn give<J: Asks>(giver: &mut Giver<J>, job: Job<'_>, made: Made) -> b
 /// Takes drafts of a job that were left there, if there are any.
 pub(crate) fn get<J: Asks>(taker: &Taker<J>, job: Job<'_>) -> Option<Made>
     requires named { IsFor J.fits job }
-    ensures { IfSome result (λ made. AreDraftsAt job.entry.plan.walks job.entry.road.now
+    ensures { IfSome result (λ made. AreDraftsAt (shape_of job.entry.shown) job.entry.road.now
         job.entry.queries.now made.from made.drafts.items) }
 {
     let mut pass = taker.pass();

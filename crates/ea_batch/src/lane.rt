@@ -1,6 +1,7 @@
 //! Threads that make reports before their turn, and what they leave for the sending thread.
 ghost use Rattle.std.specs.Prelude.{◌≡◌, [], IfOk, IfSome};
 ghost use Rattle.ea_batch.specs.Drafts.{AreDraftsAt, ArePiled, IsFor, IsJob};
+ghost use Rattle.ea_report.specs.Asked.{shape_of};
 ghost use Rattle.ea_batch.specs.Solved.{Serves};
 
 use crate::draft::{Draft, Job, Made, make_drafts};
@@ -36,8 +37,8 @@ fn make_next<J: Asks>(
 ) -> bool
     requires job { IsJob job }
     requires named { IsFor J.fits job }
-    requires search { IfSome last.old (Serves job.road.now.network job.plan.walks) }
-    ensures search { IfSome last.new (Serves job.entry.road.now.network job.entry.plan.walks) }
+    requires search { IfSome last.old (Serves job.road.now.network job.shown.style.walks) }
+    ensures search { IfSome last.new (Serves job.entry.road.now.network job.entry.shown.style.walks) }
 {
     match round.take(job) {
         Some(span) => {
@@ -152,7 +153,7 @@ impl<J: Asks> Desk<J> {
     pub(crate) fn take(&mut self, job: Job<'_>, from: usize) -> Option<Vec<Draft>>
         requires named { IsFor J.fits job }
         requires pile { ArePiled job self.old.pile.items }
-        ensures drafts { IfSome result (λ drafts. AreDraftsAt job.entry.plan.walks job.entry.road.now
+        ensures drafts { IfSome result (λ drafts. AreDraftsAt (shape_of job.entry.shown) job.entry.road.now
             job.entry.queries.now from drafts.items) }
         ensures pile { ArePiled job.entry self.new.pile.items }
     {
@@ -174,9 +175,9 @@ impl<J: Asks> Desk<J> {
     pub(crate) fn help(&mut self, job: Job<'_>, round: &Round, last: &mut Option<Search>) -> bool
         requires job { IsJob job }
         requires pile { ArePiled job self.old.pile.items }
-        requires search { IfSome last.old (Serves job.road.now.network job.plan.walks) }
+        requires search { IfSome last.old (Serves job.road.now.network job.shown.style.walks) }
         ensures pile { ArePiled job.entry self.new.pile.items }
-        ensures search { IfSome last.new (Serves job.entry.road.now.network job.entry.plan.walks) }
+        ensures search { IfSome last.new (Serves job.entry.road.now.network job.entry.shown.style.walks) }
     {
         if round.is_left() {
             return false;

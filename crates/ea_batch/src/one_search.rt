@@ -28,7 +28,8 @@ pub(crate) fn search(
     walks: bool,
     last: Option<Search>,
 ) -> Result<Search, AllocError>
-    requires problem { IsProblem road.now.network (length road.now.times.list.items) query.now }
+    requires problem { IsProblem road.now.network
+        (length road.now.times.tables.list.items) query.now }
     requires serves { IfSome last (Serves road.now.network walks) }
     ensures arrivals { IfOk result (λ search. ArrivesOn road.now query.now search.answer) }
     ensures walks { IfOk result (λ search. walks ≡ true

@@ -7,7 +7,8 @@ ghost use Rattle.ea_report.specs.Sent.{IsCutAt, IsWhole};
 ghost use Rattle.ea_load.specs.Posed.{AreProblems, times_on};
 ghost use Rattle.ea_batch.specs.Drafts.{AreDraftsAt, AreUnsent, CanSend, GoesOn, HaveGone, IsDraftAt, IsDraftOf, IsFor, IsJob, StopsAfter};
 ghost use Rattle.ea_batch.specs.Sent.{AreCutShort, AreSent, IsSent, IsStoppedBy};
-ghost use Rattle.ea_batch.specs.Solved.{Serves};
+ghost use Rattle.ea_batch.specs.Solved.{IsShown, Serves};
+ghost use Rattle.ea_report.specs.Asked.{shape_of};
 
 use crate::draft::{Draft, Job, Plan, Span, memory_of_texts};
 use crate::hand_over::Asks;
@@ -19,17 +20,16 @@ use ea_base::Watch;
 use ea_bytes::ByteOut;
 use ea_fork_join::for_each_chunk_mut_beside;
 use ea_load::{AnswerFault, Road};
-use ea_options::RunOptions;
-use ea_report::write_pieces;
+use ea_report::{ReportOptions, write_pieces};
 use ea_road::Query;
 use std::alloc::Global;
 use std::marker::Brand;
 use std::mem;
 use std::thread::Threads;
 
-/// The options of a call, and its watch.
+/// What the reports of a call show, and its watch.
 pub struct Watched<'a, V: Watch> {
-    pub options: &'a RunOptions,
+    pub shown: ReportOptions<'a>,
     pub watch: &'a mut V,
 }
 
@@ -53,8 +53,7 @@ const PARTS_AHEAD: usize = 2;
 /// and less is made ahead.
 fn plan_of(problems: usize, threads: usize, lines: usize, walks: bool) -> Plan
     requires { (1 ≤ threads) × (1 ≤ lines) × (threads ≤ 16) }
-    ensures part { 0 < result.part }
-    ensures walks { result.walks ≡ walks }
+    ensures { 0 < result.part }
 {
     let few = (problems / (threads * 4)).min(MOST_IN_PART).max(1);
     let part = (LINES_IN_PART / lines).max(1).min(few);
@@ -66,7 +65,6 @@ fn plan_of(problems: usize, threads: usize, lines: usize, walks: bool) -> Plan
         PARTS_AHEAD
     };
     Plan {
-        walks,
         part,
         ahead: part * threads * parts,
         room: length.min(most),
@@ -112,32 +110,34 @@ impl Progress {
         alloc: Global,
         road: &Road,
         query: &Query,
-        walks: bool,
+        shown: ReportOptions<'_>,
         draft: Draft,
         out: &mut W,
     ) -> Result<(), AnswerFault>
-        requires problem { IsProblem road.now.network (length road.now.times.list.items) query.now }
+        requires problem { IsProblem road.now.network
+            (length road.now.times.tables.list.items) query.now }
         requires few { (length query.now.sources ≤ MOST_STARTS)
             × (road.now.network.nodes ≤ MOST_NODES) }
+        requires shown { IsShown road.now.network (shape_of shown) }
         requires room { self.old.written ≤ MOST_STARTS * 2 ^ 90 }
-        requires search { IfSome self.old.search (Serves road.now.network walks) }
-        requires draft { IsDraftOf walks road.now query.now draft }
-        ensures ok { OnOk result (IsSent walks road.now.network (times_on road.now) query.now
+        requires search { IfSome self.old.search (Serves road.now.network shown.style.walks) }
+        requires draft { IsDraftOf (shape_of shown) road.now query.now draft }
+        ensures ok { OnOk result (IsSent (shape_of shown.entry) road.now.network (times_on road.now) query.now
             (W.seen out.old) (W.seen out.new) self.old.written self.new.written) }
-        ensures err { IfErr result (IsStoppedBy walks road.now.network (times_on road.now) query.now
+        ensures err { IfErr result (IsStoppedBy (shape_of shown.entry) road.now.network (times_on road.now) query.now
             (W.seen out.old) (W.seen out.new) self.old.written) }
         ensures bound { OnOk result (self.new.written ≤ self.old.written + 2 ^ 90) }
-        ensures search { IfSome self.new.search (Serves road.now.network walks) }
+        ensures search { IfSome self.new.search (Serves road.now.network shown.entry.style.walks) }
     {
         match draft {
-            Draft::Nothing => self.report_alone(alloc, road, query, walks, out),
+            Draft::Nothing => self.report_alone(alloc, road, query, shown, out),
             Draft::Text(text) => {
                 self.send_text(&text, out)?;
                 self.keep_memory(text);
                 Ok(())
             }
             Draft::Answer(found) => {
-                self.write(alloc, road, query, found.answer(), walks, out)?;
+                self.write(alloc, road, query, found.answer(), shown, out)?;
                 self.search = Some(found);
                 Ok(())
             }
@@ -147,10 +147,10 @@ impl Progress {
 
 /// Takes a draft out of a list; `Nothing` if the list is too short.
 fn take_draft(job: Job<'_>, span: Span, k: usize, ready: &mut [Draft]) -> Draft
-    requires left { AreUnsent job.options.now.walks job.road.now job.queries.now span.from k ready.old }
-    ensures draft { IsDraftAt job.entry.options.now.walks job.entry.road.now
+    requires left { AreUnsent (shape_of job.shown) job.road.now job.queries.now span.from k ready.old }
+    ensures draft { IsDraftAt (shape_of job.entry.shown) job.entry.road.now
         job.entry.queries.now (span.from + k) result }
-    ensures left { AreUnsent job.entry.options.now.walks job.entry.road.now
+    ensures left { AreUnsent (shape_of job.entry.shown) job.entry.road.now
         job.entry.queries.now span.from (k + 1) ready.new }
 {
     if k < ready.len() {
@@ -172,8 +172,8 @@ fn send_part<W: ByteOut>(
     requires span { (span.from ≤ span.to) × (span.to ≤ length job.queries.now) }
     requires room { progress.old.written ≤ span.from * 2 ^ 90 }
     requires search { IfSome progress.old.search
-        (Serves job.road.now.network job.options.now.walks) }
-    requires drafts { AreDraftsAt job.options.now.walks job.road.now
+        (Serves job.road.now.network job.shown.style.walks) }
+    requires drafts { AreDraftsAt (shape_of job.shown) job.road.now
         job.queries.now span.from ready.old }
     ensures ok { OnOk result (GoesOn job.entry span.from span.to
         (W.seen out.old) progress.old.written (W.seen out.new) progress.new.written) }
@@ -182,13 +182,13 @@ fn send_part<W: ByteOut>(
     ensures bound { OnOk result (progress.new.written ≤ span.to * 2 ^ 90) }
     ensures search { OnOk result
         (IfSome progress.new.search
-        (Serves job.entry.road.now.network job.entry.options.now.walks)) }
+        (Serves job.entry.road.now.network job.entry.shown.style.walks)) }
 {
     let queries = job.queries;
     for k in 0..span.to - span.from {
         let draft = take_draft(job, span, k, ready);
         let query = &queries[span.from + k];
-        progress.send_draft(job.alloc, job.road, query, job.options.walks, draft, out)?;
+        progress.send_draft(job.alloc, job.road, query, job.shown, draft, out)?;
     }
     Ok(())
 }
@@ -247,12 +247,15 @@ fn send_round<J: Asks, W: ByteOut, V: Watch>(
 }
 
 /// About how many lines a report has.
-fn lines_of(road: &Road, query: &Query) -> usize
+fn lines_of(road: &Road, query: &Query, shown: ReportOptions<'_>) -> usize
     ensures { 1 ≤ result }
 {
-    match query.target() {
+    if query.target().is_some() {
+        return 1;
+    }
+    match shown.nodes {
         None => road.network.nodes().max(1) as usize,
-        Some(_) => 1,
+        Some(chosen) => chosen.len().max(1),
     }
 }
 
@@ -308,11 +311,11 @@ fn send_all<J: Asks, H: Threads + Sync, W: ByteOut, V: Watch>(
     requires named { IsFor J.fits job }
     requires can { CanSend job 0 progress.old lanes.old.desk.pile.items }
     requires none { progress.old.written ≡ 0 }
-    ensures ok { OnOk result (AreSent job.entry.options.now.walks job.entry.road.now.network
+    ensures ok { OnOk result (AreSent (shape_of job.entry.shown) job.entry.road.now.network
         (times_on job.entry.road.now) job.entry.queries.now
         (W.seen out.old) (W.seen out.new) progress.new.written) }
     ensures err { IfErr result
-        (AreCutShort job.entry.options.now.walks job.entry.road.now.network
+        (AreCutShort (shape_of job.entry.shown) job.entry.road.now.network
         (times_on job.entry.road.now) job.entry.queries.now
         (W.seen out.old) (W.seen out.new)) }
     ensures bound { OnOk result (progress.new.written ≤ MOST_STARTS * 2 ^ 90) }
@@ -353,11 +356,11 @@ fn report_asked<J: Asks, H: Threads + Sync, W: ByteOut, V: Watch>(
     requires some { 0 < length job.queries.now }
     requires threads { 1 ≤ threads }
     ensures ok { IfOk result (λ progress.
-        AreSent job.entry.options.now.walks job.entry.road.now.network
+        AreSent (shape_of job.entry.shown) job.entry.road.now.network
         (times_on job.entry.road.now) job.entry.queries.now
         (W.seen out.old) (W.seen out.new) progress.written) }
     ensures err { IfErr result
-        (AreCutShort job.entry.options.now.walks job.entry.road.now.network
+        (AreCutShort (shape_of job.entry.shown) job.entry.road.now.network
         (times_on job.entry.road.now) job.entry.queries.now
         (W.seen out.old) (W.seen out.new)) }
     ensures bound { IfOk result (λ progress. progress.written ≤ MOST_STARTS * 2 ^ 90) }
@@ -387,17 +390,18 @@ pub fn report_ahead<H: Threads + Sync, W: ByteOut, V: Watch>(
     requires problems { AreProblems road.now queries.now }
     requires few { (length queries.now ≤ MOST_STARTS) × (road.now.network.nodes ≤ MOST_NODES) }
     requires some { 0 < length queries.now }
+    requires shown { IsShown road.now.network (shape_of watched.shown) }
     requires threads { (1 ≤ threads) × (threads ≤ MOST_AT_ONCE) }
     ensures ok { IfOk result (λ progress.
-        AreSent watched.entry.options.now.walks road.now.network (times_on road.now) queries.now
+        AreSent (shape_of watched.entry.shown) road.now.network (times_on road.now) queries.now
         (W.seen out.old) (W.seen out.new) progress.written) }
     ensures err { IfErr result
-        (AreCutShort watched.entry.options.now.walks road.now.network (times_on road.now) queries.now
+        (AreCutShort (shape_of watched.entry.shown) road.now.network (times_on road.now) queries.now
         (W.seen out.old) (W.seen out.new)) }
     ensures bound { IfOk result (λ progress. progress.written ≤ MOST_STARTS * 2 ^ 90) }
 {
-    let Watched { options, watch } = watched;
-    let lines = lines_of(road, &queries[0]);
+    let Watched { shown, watch } = watched;
+    let lines = lines_of(road, &queries[0], shown);
     let (used, spare) = match memory_of_texts(alloc) {
         Ok(ends) => ends,
         Err(_) => return Err(AnswerFault::OutOfMemory { written: 0 }),
@@ -406,8 +410,8 @@ pub fn report_ahead<H: Threads + Sync, W: ByteOut, V: Watch>(
         alloc,
         road,
         queries,
-        options,
-        plan: plan_of(queries.len(), threads, lines, options.walks),
+        shown,
+        plan: plan_of(queries.len(), threads, lines, shown.style.walks),
         spare: &spare,
     };
     report_asked::<Brand, H, W, V>(rt, job, used, threads, watch, out)

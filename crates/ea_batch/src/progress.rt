@@ -5,7 +5,8 @@ ghost use Rattle.ea_road.specs.Queries.{IsProblem};
 ghost use Rattle.ea_load.specs.Faults;
 ghost use Rattle.ea_load.specs.Posed.{times_on};
 ghost use Rattle.ea_batch.specs.Sent.{IsSent, IsStoppedBy};
-ghost use Rattle.ea_batch.specs.Solved.{AnswersOn, ArrivesOn, Serves};
+ghost use Rattle.ea_batch.specs.Solved.{AnswersOn, ArrivesOn, IsShown, Serves};
+ghost use Rattle.ea_report.specs.Asked.{shape_of};
 
 use crate::one_search::search;
 use crossbeam_deque::Worker;
@@ -61,30 +62,25 @@ impl Progress {
         road: &Road,
         query: &Query,
         answer: &Answer,
-        walks: bool,
+        shown: ReportOptions<'_>,
         out: &mut W,
     ) -> Result<(), AnswerFault>
-        requires problem { IsProblem road.now.network (length road.now.times.list.items) query.now }
+        requires problem { IsProblem road.now.network
+            (length road.now.times.tables.list.items) query.now }
+        requires shown { IsShown road.now.network (shape_of shown) }
         requires few { (length query.now.sources ≤ MOST_STARTS)
             × (road.now.network.nodes ≤ MOST_NODES) }
         requires room { self.old.written ≤ MOST_STARTS * 2 ^ 90 }
         requires arrivals { ArrivesOn road.now query.now answer.now }
-        requires canonical { walks ≡ true → AnswersOn road.now query.now answer.now }
-        ensures ok { OnOk result (IsSent walks road.now.network (times_on road.now) query.now
+        requires canonical { shown.style.walks ≡ true → AnswersOn road.now query.now answer.now }
+        ensures ok { OnOk result (IsSent (shape_of shown.entry) road.now.network (times_on road.now) query.now
             (W.seen out.old) (W.seen out.new) self.old.written self.new.written) }
-        ensures err { IfErr result (IsStoppedBy walks road.now.network (times_on road.now) query.now
+        ensures err { IfErr result (IsStoppedBy (shape_of shown.entry) road.now.network (times_on road.now) query.now
             (W.seen out.old) (W.seen out.new) self.old.written) }
         ensures bound { OnOk result (self.new.written ≤ self.old.written + 2 ^ 90) }
         ensures search { self.new.search ≡ self.old.search }
     {
-        match write_problem(
-            alloc,
-            &road.network,
-            query,
-            answer,
-            ReportOptions { walks },
-            out,
-        ) {
+        match write_problem(alloc, &road.network, query, answer, shown, out) {
             Ok(written) => {
                 self.written += written;
                 Ok(())
@@ -92,30 +88,34 @@ impl Progress {
             Err(fault) => Err(fault_after(self.written, fault)),
         }
     }
+
     /// Finds the answer of a problem by one thread, on the arrays of the last search, and writes its report.
     pub fn report_alone<W: ByteOut>(
         &mut self,
         alloc: Global,
         road: &Road,
         query: &Query,
-        walks: bool,
+        shown: ReportOptions<'_>,
         out: &mut W,
     ) -> Result<(), AnswerFault>
-        requires problem { IsProblem road.now.network (length road.now.times.list.items) query.now }
+        requires problem { IsProblem road.now.network
+            (length road.now.times.tables.list.items) query.now }
+        requires shown { IsShown road.now.network (shape_of shown) }
         requires few { (length query.now.sources ≤ MOST_STARTS)
             × (road.now.network.nodes ≤ MOST_NODES) }
         requires room { self.old.written ≤ MOST_STARTS * 2 ^ 90 }
-        requires search { IfSome self.old.search (Serves road.now.network walks) }
-        ensures ok { OnOk result (IsSent walks road.now.network (times_on road.now) query.now
+        requires search { IfSome self.old.search (Serves road.now.network shown.style.walks) }
+        ensures ok { OnOk result (IsSent (shape_of shown.entry) road.now.network (times_on road.now) query.now
             (W.seen out.old) (W.seen out.new) self.old.written self.new.written) }
-        ensures err { IfErr result (IsStoppedBy walks road.now.network (times_on road.now) query.now
+        ensures err { IfErr result (IsStoppedBy (shape_of shown.entry) road.now.network (times_on road.now) query.now
             (W.seen out.old) (W.seen out.new) self.old.written) }
         ensures bound { OnOk result (self.new.written ≤ self.old.written + 2 ^ 90) }
-        ensures search { IfSome self.new.search (Serves road.now.network walks) }
+        ensures search { IfSome self.new.search
+            (Serves road.now.network shown.entry.style.walks) }
     {
-        match search(alloc, road, query, walks, self.search.take()) {
+        match search(alloc, road, query, shown.style.walks, self.search.take()) {
             Ok(search) => {
-                self.write(alloc, road, query, search.answer(), walks, out)?;
+                self.write(alloc, road, query, search.answer(), shown, out)?;
                 self.search = Some(search);
                 Ok(())
             }

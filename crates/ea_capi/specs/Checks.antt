@@ -8,7 +8,8 @@ use Rattle.ea_check.specs.declared.fault.CheckFault.TheVariants.{BadLine, NotAtt
 use Rattle.ea_check.specs.Checked.{AreCheckable, IsChecked, sources_of}
 use Rattle.ea_check.specs.Form.{Line}
 use Rattle.ea_load.specs.declared.road.Road.{Road}
-use Rattle.ea_load.specs.Starts.{AreWithin, run_problems}
+use Rattle.ea_base.specs.declared.direction.Direction.TheVariants.{Forward}
+use Rattle.ea_load.specs.Starts.{AreWithin, Plan, run_problems}
 use Rattle.ea_capi.specs.declared.checks.Starts.{Starts}
 use Rattle.ea_capi.specs.declared.fault_numbers.Fault.{Fault}
 use Rattle.ea_capi.specs.Faults.{no_fault}
@@ -27,17 +28,21 @@ pub data IsVerdict (road : Road) (queries : List (List Source)) (lines : List Li
   right : fault ≡ no_fault → IsChecked road.network (answers_on road) queries lines (Ok tt) → IsVerdict road queries lines fault
   wrong : (found : CheckFault) → fault ≡ told_of_check found → IsChecked road.network (answers_on road) queries lines (Err found) → IsVerdict road queries lines fault
 
--- The problems of a report: the first node departs at `depart`, each next one later by the gap.
+-- The first node departs at `depart`, each next one later by the gap.
+abbrev pub plan_of : Starts → Plan
+plan_of starts = record { depart = starts.depart; gap = starts.gap; times = None; direction = Forward }
+
+-- The problems of a report.
 abbrev pub problems_of : Starts → List ℕ → List Asking
-problems_of starts nodes = run_problems (nat_lt 0 starts.joint) starts.depart starts.gap nodes
+problems_of starts nodes = run_problems (nat_lt 0 starts.joint) (plan_of starts) nodes
 
 -- The numbers are within the horizon, and so are this many departures.
 abbrev pub AreTimely : Starts → ℕ → Type 0
-AreTimely starts count = (starts.depart ≤ HORIZON) × (starts.gap ≤ HORIZON) × AreWithin starts.depart starts.gap count
+AreTimely starts count = (starts.depart ≤ HORIZON) × (starts.gap ≤ HORIZON) × AreWithin (plan_of starts) count
 
 -- The checker accepts these problems on the road.
 abbrev pub CanBeChecked : Road → List Asking → Type 0
-CanBeChecked road problems = AreCheckable road.network (length road.times.list.items) problems
+CanBeChecked road problems = AreCheckable road.network (length road.times.tables.list.items) problems
 
 -- Nodes numbered from 1, whose problems the checker accepts on the road.
 abbrev pub ArePosed : Road → Starts → List ℕ → Type 0

@@ -2,7 +2,7 @@
 use Rattle.std.specs.Prelude.{ℕ}
 use Rattle.ea_blocks.specs.FaultNames.{kind_number}
 use Rattle.ea_load.specs.declared.file_fault.FileWord.{FileWord}
-use Rattle.ea_load.specs.declared.file_fault.FileWord.TheVariants.{Gr, Ss, Tp, P2p, Report, Out}
+use Rattle.ea_load.specs.declared.file_fault.FileWord.TheVariants.{Gr, Ss, Tp, P2p, Times, Nodes, Report, Out}
 use Rattle.ea_load.specs.declared.file_fault.FileFault.{FileFault}
 use Rattle.ea_load.specs.declared.file_fault.FileFault.TheVariants.{Read, Input, OutOfMemory}
 use Rattle.ea_capi.specs.declared.fault_numbers.Fault.{Fault}
@@ -13,6 +13,8 @@ text_number Gr = 1
 text_number Ss = 0
 text_number Tp = 2
 text_number P2p = 0
+text_number Times = 0
+text_number Nodes = 0
 text_number Report = 0
 text_number Out = 0
 

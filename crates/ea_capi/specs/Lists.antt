@@ -3,6 +3,7 @@ use Rattle.std.specs.Prelude.{◌≡◌, ◌⊎◌, ◌≤◌, ℕ, zero, suc, L
 use Rattle.ea_input.specs.Table.{Table}
 use Rattle.ea_road.specs.declared.arc.Arc.{Arc}
 use Rattle.ea_road.specs.Roads.{IsNetwork, Roads, top_class}
+use Rattle.ea_base.specs.declared.direction.Direction.TheVariants.{Forward}
 use Rattle.ea_travel_times.specs.StepLists.{steps_in}
 use Rattle.ea_load.specs.declared.road.Road.{Road}
 use Rattle.ea_load.specs.declared.file_fault.FileFault.{FileFault}
@@ -54,8 +55,9 @@ pub record IsRoadWith (network : Roads) (tp : List ℕ) (road : Road) : Type 0 w
   pub same : road.network ≡ network
   pub table : Table
   pub denoted : IsTableOf 0 (text_if_any tp) table
-  pub kinds : road.times.list.items ≡ table.kinds
-  pub steps : steps_in road.times.steps ≡ table.steps
+  pub forward : road.times.direction ≡ Forward
+  pub kinds : road.times.tables.list.items ≡ table.kinds
+  pub steps : steps_in road.times.tables.steps ≡ table.steps
 
 -- Why a network and a text of timetables make no road: the text has a fault; a class is missing; or memory
 -- was refused.

@@ -2,8 +2,7 @@
 use Rattle.std.specs.Prelude.{◌≡◌, ℕ, ◌≤◌, true, List, [], ◌∷◌}
 use Rattle.ea_base.specs.declared.limits.TheConstants.{HORIZON}
 use Rattle.ea_road.specs.declared.source.Source.{Source}
-use Rattle.ea_travel_times.specs.StepLists.{steps_in}
-use Rattle.ea_travel_times.specs.TimetableLists.{TimetablesAnswer}
+use Rattle.ea_load.specs.Posed.{times_on}
 use Rattle.ea_road.specs.Roads.{IsNode}
 use Rattle.ea_road.specs.Queries.{Asking}
 use Rattle.ea_search.specs.Answers.{HasArrivals, IsAnswer}
@@ -13,7 +12,7 @@ use Rattle.ea_capi.specs.States.{road_of}
 
 -- The arrival by an arc of the road.
 abbrev pub answers_on : Road → ℕ → ℕ → ℕ → ℕ → Type 0
-answers_on road = TimetablesAnswer road.times.list.items (steps_in road.times.steps)
+answers_on road = times_on road
 
 -- A source for this number of nodes: one of these, with a departure within the horizon.
 pub record IsStart (nodes : ℕ) (source : Source) : Type 0 where

@@ -8,9 +8,9 @@ ghost use Rattle.ea_capi.specs.States.{road_in};
 use crate::fault_numbers::{BEYOND_HORIZON, DONE, Fault, NO_ROAD, NO_SUCH_NODE, OUT_OF_MEMORY};
 use crate::handle::content::Content;
 use crate::handle::handle::Handle;
-use ea_base::HORIZON;
+use ea_base::{Direction, HORIZON};
 use ea_check::{CheckFault, check, is_checkable};
-use ea_load::{Road, departures_fit, run_queries};
+use ea_load::{Road, Schedule, departures_fit, run_queries};
 use ea_road::Query;
 use std::alloc::Global;
 
@@ -72,7 +72,7 @@ pub(crate) fn refusal(number: u32) -> Fault
 
 /// The verdict on a report.
 fn verdict(alloc: Global, road: &Road, queries: &[Query], report: &[u8]) -> Fault
-    requires { AreCheckable road.now.network (length road.now.times.list.items) queries.now }
+    requires { AreCheckable road.now.network (length road.now.times.tables.list.items) queries.now }
     ensures { IsVerdict road.now (sources_of queries.now) (lines_of_report report.now) result }
 {
     match check(alloc, &road.network, &road.times, queries, report) {
@@ -85,7 +85,7 @@ fn verdict(alloc: Global, road: &Road, queries: &[Query], report: &[u8]) -> Faul
 fn judge(alloc: Global, road: &Road, queries: &[Query], report: &[u8]) -> Fault
     ensures { IsJudged road.now queries.now (lines_of_report report.now) result }
 {
-    if !is_checkable(&road.network, road.times.classes(), queries) {
+    if !is_checkable(&road.network, road.times.tables.classes(), queries) {
         return refusal(NO_SUCH_NODE);
     }
     verdict(alloc, road, queries, report)
@@ -104,13 +104,22 @@ fn judge_run(alloc: Global, road: &Road, nodes: &[u32], starts: &Starts, report:
     ensures { IsAnswerTo road.now starts.now nodes.now (lines_of_report report.now) result }
 {
     let Starts { depart, gap, joint } = *starts;
-    if depart > HORIZON || gap > HORIZON || !departures_fit(nodes.len(), depart, gap) {
+    if depart > HORIZON || gap > HORIZON {
+        return refusal(BEYOND_HORIZON);
+    }
+    let schedule = Schedule {
+        depart,
+        gap,
+        times: None,
+        direction: Direction::Forward,
+    };
+    if !departures_fit(nodes.len(), schedule) {
         return refusal(BEYOND_HORIZON);
     }
     if !are_numbered(nodes) {
         return refusal(NO_SUCH_NODE);
     }
-    match run_queries(alloc, nodes, joint > 0, depart, gap) {
+    match run_queries(alloc, nodes, joint > 0, schedule) {
         Ok(queries) => judge(alloc, road, &queries, report),
         Err(_) => refusal(OUT_OF_MEMORY),
     }

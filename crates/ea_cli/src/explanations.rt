@@ -28,9 +28,37 @@ pub(crate) fn explain_unopened(rt: &HostRuntime, unopened: &Unopened<'_>) {
     remark_on(rt, unopened.name, reason_of(unopened.reason));
 }
 
-/// Which option's value is bad, and its limits.
+/// Whether a word is this option, alone or with its value.
+fn is_option(word: &[u8], option: &[u8]) -> bool {
+    word.starts_with(option) && (word.len() == option.len() || word[option.len()] == b'=')
+}
+
+/// Whether words say in two ways when searches begin.
+fn say_when_twice(words: &[String]) -> bool {
+    let mut once = false;
+    let mut twice = false;
+    let mut is_listed = false;
+    let mut has_gap = false;
+    for word in words {
+        let word = word.as_bytes();
+        let lists = is_option(word, b"--departs") || is_option(word, b"--arrives");
+        if lists || is_option(word, b"--depart") || is_option(word, b"--arrive") {
+            twice = twice || once;
+            once = true;
+        }
+        is_listed = is_listed || lists;
+        has_gap = has_gap || is_option(word, b"--gap");
+    }
+    twice || is_listed && has_gap
+}
+
+/// Which option's value is bad, and its limits; or which options don't go together.
 pub(crate) fn explain_words(rt: &HostRuntime, words: &[String]) {
     match bad_value_of(rt.alloc(), words) {
+        None if say_when_twice(words) => remark(
+            rt,
+            "one of --depart, --departs, --arrive and --arrives can be given, and --gap with neither file",
+        ),
         None => remark(rt, "- is standard input, which one file alone can be"),
         Some(bad) => {
             let (option, value, least, most) = (bad.option, bad.value, bad.least, bad.most);
@@ -135,7 +163,7 @@ pub(crate) fn explain_outcome(
         }
         Outcome::Answer(AnswerFault::BadOption) => remark(
             rt,
-            "a departure, --depart and so many times --gap, is above 281474976710655: make these less",
+            "a time, --depart or --arrive and so many times --gap, is above 281474976710655: make these less",
         ),
         Outcome::Answer(AnswerFault::Write { .. }) => explain_write(rt, reason),
         Outcome::Answer(AnswerFault::OutOfMemory { .. }) => remark(

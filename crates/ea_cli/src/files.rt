@@ -5,7 +5,7 @@ ghost use Rattle.ea_messages.specs.Named.{HasFiles};
 use crate::output::Output;
 use crate::source::Source;
 use ea_bytes::StdIn;
-use ea_load::FileWord;
+use ea_load::{FileWord, OptionalFiles};
 use ea_messages::Opened;
 use ea_options::Command;
 use std::io::ErrorKind;
@@ -26,6 +26,8 @@ pub struct Names<'a> {
     word: FileWord,
     starts: &'a str,
     tp: Option<&'a str>,
+    times: Option<&'a str>,
+    nodes: Option<&'a str>,
     /// The report that is to be checked.
     pub report: Option<&'a str>,
     /// The file that the report goes to.
@@ -43,10 +45,21 @@ pub fn names_of<'a>(command: &Command<'a>) -> Option<Names<'a>>
             gr,
             ss,
             tp,
+            times,
+            nodes,
             output,
             ..
-        }
-        | Command::Rank {
+        } => Some(Names {
+            gr,
+            word: FileWord::Ss,
+            starts: ss,
+            tp,
+            times,
+            nodes,
+            report: None,
+            output,
+        }),
+        Command::Rank {
             gr,
             ss,
             tp,
@@ -57,6 +70,8 @@ pub fn names_of<'a>(command: &Command<'a>) -> Option<Names<'a>>
             word: FileWord::Ss,
             starts: ss,
             tp,
+            times: None,
+            nodes: None,
             report: None,
             output,
         }),
@@ -64,6 +79,7 @@ pub fn names_of<'a>(command: &Command<'a>) -> Option<Names<'a>>
             gr,
             p2p,
             tp,
+            times,
             output,
             ..
         } => Some(Names {
@@ -71,6 +87,8 @@ pub fn names_of<'a>(command: &Command<'a>) -> Option<Names<'a>>
             word: FileWord::P2p,
             starts: p2p,
             tp,
+            times,
+            nodes: None,
             report: None,
             output,
         }),
@@ -78,6 +96,7 @@ pub fn names_of<'a>(command: &Command<'a>) -> Option<Names<'a>>
             gr,
             ss,
             tp,
+            times,
             report,
             ..
         } => Some(Names {
@@ -85,6 +104,8 @@ pub fn names_of<'a>(command: &Command<'a>) -> Option<Names<'a>>
             word: FileWord::Ss,
             starts: ss,
             tp,
+            times,
+            nodes: None,
             report: Some(report),
             output: None,
         }),
@@ -98,6 +119,8 @@ pub struct Sources<'a> {
     word: FileWord,
     starts: Source<'a>,
     tp: Option<Source<'a>>,
+    times: Option<Source<'a>>,
+    nodes: Option<Source<'a>>,
     report: Option<Source<'a>>,
 }
 
@@ -133,12 +156,16 @@ pub fn open_all<'a>(rt: &HostRuntime, names: &Names<'a>) -> Result<Sources<'a>, 
     let gr = open(rt, FileWord::Gr, names.gr)?;
     let starts = open(rt, names.word, names.starts)?;
     let tp = open_if_named(rt, FileWord::Tp, names.tp)?;
+    let times = open_if_named(rt, FileWord::Times, names.times)?;
+    let nodes = open_if_named(rt, FileWord::Nodes, names.nodes)?;
     let report = open_if_named(rt, FileWord::Report, names.report)?;
     Ok(Sources {
         gr,
         word: names.word,
         starts,
         tp,
+        times,
+        nodes,
         report,
     })
 }
@@ -173,7 +200,11 @@ impl<'a> Sources<'a> {
         Opened {
             gr: StdIn::new(&mut self.gr),
             starts: StdIn::new(&mut self.starts),
-            tp: reader(&mut self.tp),
+            others: OptionalFiles {
+                tp: reader(&mut self.tp),
+                times: reader(&mut self.times),
+                nodes: reader(&mut self.nodes),
+            },
             report: reader(&mut self.report),
         }
     }
@@ -183,6 +214,8 @@ impl<'a> Sources<'a> {
         match word {
             FileWord::Gr => Some(&mut self.gr),
             FileWord::Tp => self.tp.as_mut(),
+            FileWord::Times => self.times.as_mut(),
+            FileWord::Nodes => self.nodes.as_mut(),
             FileWord::Report => self.report.as_mut(),
             FileWord::Out => None,
             FileWord::Ss | FileWord::P2p if word == self.word => Some(&mut self.starts),

@@ -5,7 +5,8 @@ use Rattle.std.proofs.lemmas.Option.{none-some}
 use Rattle.ea_road.proofs.Assigning.{length-arcs_from}
 use Rattle.ea_base.specs.declared.graph.RawArc.{RawArc}
 use Rattle.ea_input.specs.Graph.{Graph, DenotesGraph, IsArcLine, AreArcLines, IsProblemLine}
-use Rattle.ea_input.specs.Listing.{IsCountLine, IsItemLine, AreItemLines}
+use Rattle.ea_input.specs.Listing.{IsCountLine, IsItemLine, AreItemLines, any_count, this_count}
+use Rattle.ea_input.specs.Times.{DenotesTimes}
 use Rattle.ea_input.specs.Sources.{IsSource, DenotesSources}
 use Rattle.ea_input.specs.Pairs.{IsPair, DenotesPairs}
 use Rattle.ea_input.specs.Table.{Table, nothing, IsAssignedLine, IsTableAfter, AreTableLines}
@@ -147,14 +148,14 @@ denoting_is_sound lines tp given graph table =
 
 -- ---- sources and pairs
 
-few_items : (kind : List ℕ) (line : List (List ℕ)) (count : ℕ) → IsCountLine kind line count → count ≤ 1000000
-few_items kind [] count h = absurd h
-few_items kind (a ∷ []) count h = absurd h
-few_items kind (a ∷ b ∷ []) count h = absurd h
-few_items kind (a ∷ b ∷ c ∷ []) count h = absurd h
-few_items kind (a ∷ b ∷ c ∷ d ∷ []) count h = absurd h
-few_items kind (a ∷ b ∷ c ∷ d ∷ e ∷ f ∷ rest) count h = absurd h
-few_items kind (a ∷ b ∷ c ∷ d ∷ e ∷ []) count h = h.4.2
+few_items : (kind : List ℕ) (counts : ℕ × ℕ) (line : List (List ℕ)) (count : ℕ) → IsCountLine kind counts line count → (counts.0 ≤ count) × (count ≤ counts.1)
+few_items kind counts [] count h = absurd h
+few_items kind counts (a ∷ []) count h = absurd h
+few_items kind counts (a ∷ b ∷ []) count h = absurd h
+few_items kind counts (a ∷ b ∷ c ∷ []) count h = absurd h
+few_items kind counts (a ∷ b ∷ c ∷ d ∷ []) count h = absurd h
+few_items kind counts (a ∷ b ∷ c ∷ d ∷ e ∷ f ∷ rest) count h = absurd h
+few_items kind counts (a ∷ b ∷ c ∷ d ∷ e ∷ []) count h = (h.4.1, h.4.2)
 
 item_of : {A : Type 0} (word : List ℕ) (IsItem : List (List ℕ) → A → Type 0) (line : List (List ℕ)) (item : A) → IsItemLine word IsItem line item → (fields : List (List ℕ)) × IsItem fields item
 item_of word IsItem [] item h = absurd h
@@ -181,8 +182,14 @@ pair_is_nodes nodes (s ∷ t ∷ []) pair h = (record { from_one = h.0.1; to_las
 
 pub sources_are_nodes : (nodes : ℕ) (lines : List (List (List ℕ))) (sources : List ℕ) → DenotesSources nodes lines sources → All (IsNode nodes) sources × (length sources ≤ 1000000)
 sources_are_nodes nodes lines sources denoted =
-    (each_item (codes "s") (IsSource nodes) (IsNode nodes) (source_is_node nodes) denoted.others sources denoted.lists, few_items (codes "ss") denoted.problem (length sources) denoted.announces)
+    (each_item (codes "s") (IsSource nodes) (IsNode nodes) (source_is_node nodes) denoted.others sources denoted.lists, (few_items (codes "ss") (any_count nodes) denoted.problem (length sources) denoted.announces).1)
 
 pub pairs_are_nodes : (nodes : ℕ) (lines : List (List (List ℕ))) (pairs : List (ℕ × ℕ)) → DenotesPairs nodes lines pairs → All (λ pair. IsNode nodes pair.0 × IsNode nodes pair.1) pairs × (length pairs ≤ 1000000)
 pairs_are_nodes nodes lines pairs denoted =
-    (each_item (codes "q") (IsPair nodes) (λ pair. IsNode nodes pair.0 × IsNode nodes pair.1) (pair_is_nodes nodes) denoted.others pairs denoted.lists, few_items (codes "p2p") denoted.problem (length pairs) denoted.announces)
+    (each_item (codes "q") (IsPair nodes) (λ pair. IsNode nodes pair.0 × IsNode nodes pair.1) (pair_is_nodes nodes) denoted.others pairs denoted.lists, (few_items (codes "p2p") (any_count nodes) denoted.problem (length pairs) denoted.announces).1)
+
+-- A file of times has one for each start.
+pub times_are_many : (starts : ℕ) (lines : List (List (List ℕ))) (times : List ℕ) → DenotesTimes starts lines times → length times ≡ starts
+times_are_many starts lines times denoted =
+    let counted = few_items (codes "at") (this_count starts) denoted.problem (length times) denoted.announces in
+    omega (arith, counted.0, counted.1)

@@ -3,6 +3,8 @@ use Rattle.std.proofs.Common.{◌≡◌, ℕ, List, refl, ap, subst, inl, inr}
 use Rattle.std.specs.Prelude.{Option, Some, None, Result, Ok, Err, IfOk, IfErr, option_map}
 use Rattle.ea_input.specs.Checks.{Format}
 use Rattle.ea_input.specs.Formats.{table_format}
+use Rattle.ea_input.specs.Sources.{DenotesSources}
+use Rattle.ea_input.specs.Times.{DenotesTimes}
 use Rattle.ea_base.specs.declared.timetable.RawKind.{RawKind}
 use Rattle.ea_road.specs.Roads.{Roads}
 use Rattle.ea_road.specs.Queries.{Asking}
@@ -14,11 +16,15 @@ use Rattle.ea_load.specs.declared.file_fault.FileFault.{FileFault}
 use Rattle.ea_load.specs.declared.file_fault.FileFault.TheVariants as file
 use Rattle.ea_load.specs.declared.file_fault.FileWord.{FileWord}
 use Rattle.ea_load.specs.declared.file_fault.FileWord.TheVariants.{Tp}
-use Rattle.ea_load.specs.Files.{bytes_there, in_network, in_starts, in_table, IsBorne, IsBorneIfThere, IsFaultIfThere, IsFirstFault, Reading, tables}
-use Rattle.ea_load.specs.Given.{Given, AreGiven, IsRoadOf, times_of}
+use Rattle.ea_base.specs.declared.direction.Direction.{Direction}
+use Rattle.ea_road.specs.Turned.{directed_roads}
+use Rattle.ea_travel_times.specs.Directed.{IsDirected}
+use Rattle.ea_load.specs.declared.files.OptionalFiles.{OptionalFiles}
+use Rattle.ea_load.specs.Files.{AreExtras, AreUntouched, ExtraFiles, Extras, bytes_there, extra_files, in_network, in_starts, in_table, IsBorne, IsBorneIfThere, IsExtraFault, IsFaultIfThere, IsFirstFault, IsFoundIn, Reading, tables}
+use Rattle.ea_load.specs.Given.{Given, AreGiven, IsRoadOf, times_in}
 use Rattle.ea_load.specs.Sound.{IsSound}
 use Rattle.ea_load.proofs.Denoting.{denoting_is_sound}
-use Rattle.ea_load.specs.Asked.{AreAsked, AreSound, Asks, Files, files_of, IsAnswered, IsFailed, IsFault, tables_of}
+use Rattle.ea_load.specs.Asked.{AreAllRead, AreAsked, AreRoadFiles, AreSound, Asks, Files, files_of, in_extras, in_road, IsAnswered, IsFailed, IsFault, tables_of}
 use Rattle.ea_load.specs.Faults.{answer_fault}
 use Rattle.ea_load.specs.Posed.{times_on}
 use Rattle.ea_load.specs.declared.answer_fault.AnswerFault.{AnswerFault}
@@ -50,19 +56,43 @@ module _ {R : Type 0} (seen : R → Seen) where
   fault_there word format (Some old) (Some new) fault (inr there) = inr there
 
   -- The first fault of all files.
-  pub first_there : {X : Type 0} (word : FileWord) (format : ℕ → Format) (DenotesStarts : ℕ → List (List (List ℕ)) → X → Type 0) (gr starts : Reading) (old new : Option R) (fault : FileFault)
+  first_of_road : {X : Type 0} (word : FileWord) (format : ℕ → Format) (DenotesStarts : ℕ → List (List (List ℕ)) → X → Type 0) (gr starts : Reading) (old new : Option R) (fault : FileFault)
       → IsFirstFault word format DenotesStarts gr starts (tables seen old new) fault
-      → IsFirstFault word format DenotesStarts gr starts (tables_of (files_of gr starts seen old new)) fault
-  first_there word format DenotesStarts gr starts old new fault (in_network is kept untouched) = in_network is kept (ap (option_map (λ (s : Seen). s)) untouched)
-  first_there word format DenotesStarts gr starts old new fault (in_starts graph given is untouched) = in_starts graph given is (ap (option_map (λ (s : Seen). s)) untouched)
-  first_there word format DenotesStarts gr starts old new fault (in_table graph given has is) = in_table graph given has (fault_there Tp (table_format _) old new fault is)
+      → IsFirstFault word format DenotesStarts gr starts (tables (λ (s : Seen). s) (option_map seen old) (option_map seen new)) fault
+  first_of_road word format DenotesStarts gr starts old new fault (in_network is kept untouched) = in_network is kept (ap (option_map (λ (s : Seen). s)) untouched)
+  first_of_road word format DenotesStarts gr starts old new fault (in_starts graph given is untouched) = in_starts graph given is (ap (option_map (λ (s : Seen). s)) untouched)
+  first_of_road word format DenotesStarts gr starts old new fault (in_table graph given has is) = in_table graph given has (fault_there Tp (table_format _) old new fault is)
 
--- The files are sound.
-pub sound_there : {X Y R : Type 0} (asks : Asks X Y) (seen : R → Seen) (gr starts : Reading) (old new : Option R) (given : Given) (found : X)
-    → AreGiven asks.DenotesStarts gr.old.bytes starts.old.bytes (bytes_there seen old) given found → IsBorne gr → IsBorne starts → IsBorneIfThere seen old new → AreSound asks (files_of gr starts seen old new) given found
-sound_there asks seen gr starts old new given found read of_gr of_starts of_tp = record {
-  denoted = subst (λ tp. AreGiven asks.DenotesStarts gr.old.bytes starts.old.bytes tp given found) (had_there seen old) read;
-  read = record { gr = of_gr; starts = of_starts; tp = borne_there seen old new of_tp };
+  -- It is the command's, if the files of times and of nodes were not touched.
+  pub first_there : {X Y : Type 0} (asks : Asks X Y) (gr starts : Reading) (old new : OptionalFiles R) (fault : FileFault)
+      → IsFirstFault asks.word asks.format asks.DenotesStarts gr starts (tables seen old.tp new.tp) fault → new.times ≡ old.times → new.nodes ≡ old.nodes → IsFault asks (files_of gr starts seen old new) fault
+  first_there asks gr starts old new fault is times nodes =
+      in_road (first_of_road asks.word asks.format asks.DenotesStarts gr starts old.tp new.tp fault is) (ap (option_map seen) times, ap (option_map seen) nodes)
+
+-- The files of the road were read.
+pub road_there : {X Y R : Type 0} (asks : Asks X Y) (seen : R → Seen) (gr starts : Reading) (old new : OptionalFiles R) (given : Given) (found : X)
+    → AreGiven asks.DenotesStarts gr.old.bytes starts.old.bytes (bytes_there seen old.tp) given found → IsBorne gr → IsBorne starts → IsBorneIfThere seen old.tp new.tp → AreRoadFiles asks (files_of gr starts seen old new) given found
+road_there asks seen gr starts old new given found read of_gr of_starts of_tp = record {
+  denoted = subst (λ tp. AreGiven asks.DenotesStarts gr.old.bytes starts.old.bytes tp given found) (had_there seen old.tp) read;
+  read = record { gr = of_gr; starts = of_starts; tp = borne_there seen old.tp new.tp of_tp };
+}
+
+-- What was found in an optional file was read.
+found_borne : {X : Type 0} (Denotes : List (List (List ℕ)) → X → Type 0) (old new : Option Seen) (found : Option X) → IsFoundIn Denotes old new found → IsBorneIfThere (λ (s : Seen). s) old new
+found_borne Denotes None None None is = tt
+found_borne Denotes (Some old) (Some new) (Some x) is = is.1.borne
+found_borne Denotes None None (Some x) is = absurd is
+found_borne Denotes None (Some new) None is = absurd is
+found_borne Denotes None (Some new) (Some x) is = absurd is
+found_borne Denotes (Some old) None None is = absurd is
+found_borne Denotes (Some old) None (Some x) is = absurd is
+found_borne Denotes (Some old) (Some new) None is = absurd is
+
+pub all_read : {X Y : Type 0} (asks : Asks X Y) (files : Files) (given : Given) (found : X) (extras : Extras) → AreSound asks files given found extras → AreAllRead files
+all_read asks files given found extras sound = record {
+  road = sound.road.read;
+  times = found_borne (DenotesTimes (asks.count found)) files.extras.times_old files.extras.times_new extras.times sound.extra.times;
+  nodes = found_borne (DenotesSources given.graph.nodes) files.extras.nodes_old files.extras.nodes_new extras.nodes sound.extra.nodes;
 }
 
 -- ---- outcomes
@@ -80,32 +110,36 @@ module _ {X Y : Type 0} (asks : Asks X Y) (files : Files) where
   files_failed first (file.Input word fault) is = (is, refl)
   files_failed first file.OutOfMemory is = inl (refl, refl, inl is)
 
-  module _ (given : Given) (found : X) (sound : AreSound asks files given found) (within : asks.AreWithin found) (road : Road) (is_road : IsRoadOf given road) (queries : List Asking) (are : queries ≡ asks.problems found) where
+  module _ (given : Given) (found : X) (extras : Extras) (sound : AreSound asks files given found extras) (within : asks.AreWithin found extras) (road : Road) (is_road : IsRoadOf asks.direction given road)
+      (nodes : Option (List ℕ)) (chosen : nodes ≡ extras.nodes) (queries : List Asking) (are : queries ≡ asks.problems found extras) where
     -- What is true of a road and queries is true of what the files denote.
-    pub asked : (IsSo : Roads → (ℕ → ℕ → ℕ → ℕ → Type 0) → List Asking → Type 0) → IsSo road.network (times_on road) queries → AreAsked asks files IsSo
+    pub asked : (IsSo : Option (List ℕ) → Roads → (ℕ → ℕ → ℕ → ℕ → Type 0) → List Asking → Type 0) → IsSo nodes road.network (times_on road) queries → AreAsked asks files IsSo
     asked IsSo holds = record {
       given = given;
       found = found;
+      extras = extras;
       sound = sound;
       within = within;
       so =
-          subst (λ (r : Roads). IsSo r (times_of given.table) (asks.problems found)) is_road.network (
-          subst (λ (kinds : List RawKind). IsSo road.network (TimetablesAnswer kinds given.table.steps) (asks.problems found)) is_road.kinds (
-          subst (λ (steps : List (ℕ × ℕ)). IsSo road.network (TimetablesAnswer road.times.list.items steps) (asks.problems found)) is_road.steps (
-          subst (λ (qs : List Asking). IsSo road.network (times_on road) qs) are holds)));
+          subst (λ (r : Roads). IsSo extras.nodes r (times_in asks.direction given.table) (asks.problems found extras)) is_road.network (
+          subst (λ (way : Direction). IsSo extras.nodes road.network (times_in way given.table) (asks.problems found extras)) is_road.way (
+          subst (λ (kinds : List RawKind). IsSo extras.nodes road.network (IsDirected road.times.direction (TimetablesAnswer kinds given.table.steps)) (asks.problems found extras)) is_road.kinds (
+          subst (λ (steps : List (ℕ × ℕ)). IsSo extras.nodes road.network (IsDirected road.times.direction (TimetablesAnswer road.times.tables.list.items steps)) (asks.problems found extras)) is_road.steps (
+          subst (λ (qs : List Asking). IsSo extras.nodes road.network (times_on road) qs) are (
+          subst (λ (o : Option (List ℕ)). IsSo o road.network (times_on road) queries) chosen holds)))));
     }
 
     -- What went out is whole.
-    pub answered : (first now : Seen) (r : Result Y AnswerFault) → IfOk r (asks.IsWhole road.network (times_on road) queries first now) → IfOk r (IsAnswered asks files first now)
+    pub answered : (first now : Seen) (r : Result Y AnswerFault) → IfOk r (asks.IsWhole nodes road.network (times_on road) queries first now) → IfOk r (IsAnswered asks files first now)
     answered first now (Err fault) whole = tt
-    answered first now (Ok answer) whole = asked (λ roads answers problems. asks.IsWhole roads answers problems first now answer) whole
+    answered first now (Ok answer) whole = asked (λ nodes roads answers problems. asks.IsWhole nodes roads answers problems first now answer) whole
 
     -- It was cut short, by the device or for memory.
-    pub failed : ((roads : Roads) (answers : ℕ → ℕ → ℕ → ℕ → Type 0) (problems : List Asking) (first now : Seen) (fault : AnswerFault) → asks.IsCut roads answers problems first now fault → IsCutting fault)
-        → (first now : Seen) (r : Result Y AnswerFault) → IfErr r (asks.IsCut road.network (times_on road) queries first now) → IfErr r (IsFailed asks files first now)
+    pub failed : ((nodes : Option (List ℕ)) (roads : Roads) (answers : ℕ → ℕ → ℕ → ℕ → Type 0) (problems : List Asking) (first now : Seen) (fault : AnswerFault) → asks.IsCut nodes roads answers problems first now fault → IsCutting fault)
+        → (first now : Seen) (r : Result Y AnswerFault) → IfErr r (asks.IsCut nodes road.network (times_on road) queries first now) → IfErr r (IsFailed asks files first now)
     failed cuts first now (Ok answer) cut = tt
-    failed cuts first now (Err (Write written)) cut = asked (λ roads answers problems. asks.IsCut roads answers problems first now (Write written)) cut
-    failed cuts first now (Err (OutOfMemory written)) cut = inr (asked (λ roads answers problems. asks.IsCut roads answers problems first now (OutOfMemory written)) cut)
-    failed cuts first now (Err (Read word fault)) cut = absurd (cuts _ _ _ _ _ _ cut)
-    failed cuts first now (Err (Input word fault)) cut = absurd (cuts _ _ _ _ _ _ cut)
-    failed cuts first now (Err BadOption) cut = absurd (cuts _ _ _ _ _ _ cut)
+    failed cuts first now (Err (Write written)) cut = asked (λ nodes roads answers problems. asks.IsCut nodes roads answers problems first now (Write written)) cut
+    failed cuts first now (Err (OutOfMemory written)) cut = inr (asked (λ nodes roads answers problems. asks.IsCut nodes roads answers problems first now (OutOfMemory written)) cut)
+    failed cuts first now (Err (Read word fault)) cut = absurd (cuts _ _ _ _ _ _ _ cut)
+    failed cuts first now (Err (Input word fault)) cut = absurd (cuts _ _ _ _ _ _ _ cut)
+    failed cuts first now (Err BadOption) cut = absurd (cuts _ _ _ _ _ _ _ cut)

@@ -6,15 +6,17 @@ use Rattle.ea_bytes.specs.Text.{field_lines}
 use Rattle.ea_bytes.specs.declared.blocks.ReadFault.{ReadFault}
 use Rattle.ea_bytes.specs.declared.blocks.ReadFault.TheVariants.{TooLarge, ReadFailed, OutOfMemory as no_memory}
 use Rattle.ea_input.specs.Checks.{Format, IsFaultOf}
-use Rattle.ea_input.specs.Formats.{graph_format, table_format}
+use Rattle.ea_input.specs.Formats.{graph_format, source_format, table_format, time_format}
 use Rattle.ea_input.specs.Graph.{Graph, DenotesGraph}
+use Rattle.ea_input.specs.Sources.{DenotesSources}
+use Rattle.ea_input.specs.Times.{DenotesTimes}
 use Rattle.ea_blocks.specs.Fault.{out_of_memory}
 use Rattle.ea_blocks.specs.declared.fault.InputFault.{InputFault}
 use Rattle.ea_blocks.specs.declared.stream.StreamFault.{StreamFault}
 use Rattle.ea_blocks.specs.declared.stream.StreamFault.TheVariants.{Read as FromDevice, Input as FromText}
 use Rattle.ea_blocks.specs.declared.fault.FaultKind.TheVariants as kind
 use Rattle.ea_load.specs.declared.file_fault.FileWord.{FileWord}
-use Rattle.ea_load.specs.declared.file_fault.FileWord.TheVariants.{Gr, Tp}
+use Rattle.ea_load.specs.declared.file_fault.FileWord.TheVariants.{Gr, Nodes, Times, Tp}
 use Rattle.ea_load.specs.declared.file_fault.FileFault.{FileFault}
 use Rattle.ea_load.specs.declared.file_fault.FileFault.TheVariants.{Read, Input, OutOfMemory}
 
@@ -156,3 +158,45 @@ pub data IsFirstFault {X : Type 0}
       → IsFirstFault word format DenotesStarts gr starts table fault
   in_table : (graph : Graph) → IsGraphOf gr graph → HasStarts DenotesStarts graph.nodes starts
       → table.IsFault (length graph.arcs) fault → IsFirstFault word format DenotesStarts gr starts table fault
+
+-- ---- the files of times and of nodes, each of which may be left out
+
+-- An optional file was read, and its text denotes this; there is a value exactly if there is a file.
+abbrev pub IsFoundIn : {X : Type 0} → (List (List (List ℕ)) → X → Type 0) → Option Seen → Option Seen → Option X → Type 0
+IsFoundIn Denotes None None None = Unit {0}
+IsFoundIn Denotes (Some old) (Some new) (Some x) = (text : List ℕ) × IsFileText (record { old = old; new = new }) text × Denotes (field_lines text) x
+IsFoundIn Denotes _ _ _ = ⊥
+
+-- Its fault, if there is a file.
+abbrev pub IsOptionalFault : FileWord → Format → Option Seen → Option Seen → FileFault → Type 0
+IsOptionalFault word format (Some old) (Some new) fault = IsFaultIn word format (record { old = old; new = new }) fault
+IsOptionalFault word format _ _ fault = ⊥
+
+-- Both files, before and after they were read.
+pub record ExtraFiles : Type 0 where
+  pub times_old : Option Seen
+  pub times_new : Option Seen
+  pub nodes_old : Option Seen
+  pub nodes_new : Option Seen
+
+abbrev pub extra_files : {R : Type 0} → (R → Seen) → Option R → Option R → Option R → Option R → ExtraFiles
+extra_files seen times times' nodes nodes' = record { times_old = option_map seen times; times_new = option_map seen times'; nodes_old = option_map seen nodes; nodes_new = option_map seen nodes' }
+
+-- What they denote: times of the starts, and the nodes that are reported.
+pub record Extras : Type 0 where
+  pub times : Option (List ℕ)
+  pub nodes : Option (List ℕ)
+
+-- Both were read: the times are for this many starts, the nodes are some of this many.
+pub record AreExtras (starts size : ℕ) (files : ExtraFiles) (extras : Extras) : Type 0 where
+  pub times : IsFoundIn (DenotesTimes starts) files.times_old files.times_new extras.times
+  pub nodes : IsFoundIn (DenotesSources size) files.nodes_old files.nodes_new extras.nodes
+
+-- Neither was touched.
+abbrev pub AreUntouched : ExtraFiles → Type 0
+AreUntouched files = (files.times_new ≡ files.times_old) × (files.nodes_new ≡ files.nodes_old)
+
+-- The first fault of both: that of the times or, if they have none, of the nodes.
+pub data IsExtraFault (starts nodes : ℕ) (files : ExtraFiles) (fault : FileFault) : Type 0 where
+  in_times : IsOptionalFault Times (time_format starts) files.times_old files.times_new fault → files.nodes_new ≡ files.nodes_old → IsExtraFault starts nodes files fault
+  in_nodes : (times : Option (List ℕ)) → IsFoundIn (DenotesTimes starts) files.times_old files.times_new times → IsOptionalFault Nodes (source_format nodes) files.nodes_old files.nodes_new fault → IsExtraFault starts nodes files fault

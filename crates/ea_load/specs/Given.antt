@@ -12,6 +12,9 @@ use Rattle.ea_road.specs.Roads.{Roads}
 use Rattle.ea_road.specs.Assigned.{arcs_with}
 use Rattle.ea_travel_times.specs.StepLists.{steps_in}
 use Rattle.ea_travel_times.specs.TimetableLists.{TimetablesAnswer}
+use Rattle.ea_base.specs.declared.direction.Direction.{Direction}
+use Rattle.ea_road.specs.Turned.{directed_roads}
+use Rattle.ea_travel_times.specs.Directed.{IsDirected}
 use Rattle.ea_load.specs.declared.road.Road.{Road}
 use Rattle.ea_load.specs.Files.{IsAll, IsAllIfThere}
 
@@ -47,11 +50,16 @@ pub record Denotes (gr : List ℕ) (tp : Option (List ℕ)) (given : Given) : Ty
   pub graph : DenotesGraph (field_lines gr) given.graph
   pub table : IsTableOf (length given.graph.arcs) tp given.table
 
--- A network and timetables are those that were given.
-pub record IsRoadOf (given : Given) (road : Road) : Type 0 where
-  pub network : road.network ≡ roads_of given
-  pub kinds : road.times.list.items ≡ given.table.kinds
-  pub steps : steps_in road.times.steps ≡ given.table.steps
+-- The arrivals in a direction.
+abbrev pub times_in : Direction → Table → ℕ → ℕ → ℕ → ℕ → Type 0
+times_in direction table = IsDirected direction (times_of table)
+
+-- A network and timetables are those that were given, in a direction.
+pub record IsRoadOf (direction : Direction) (given : Given) (road : Road) : Type 0 where
+  pub way : road.times.direction ≡ direction
+  pub network : road.network ≡ directed_roads direction (roads_of given)
+  pub kinds : road.times.tables.list.items ≡ given.table.kinds
+  pub steps : steps_in road.times.tables.steps ≡ given.table.steps
 
 -- What readers gave, each at most MOST_BYTES, denotes this: a graph with timetables, if there is a file of
 -- them, and the starts of searches.

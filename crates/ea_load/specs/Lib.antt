@@ -3,6 +3,7 @@ pub mod Posed
 pub mod Asked
 pub mod FileNames
 pub mod Files
+pub mod Extra
 pub mod Given
 pub mod Sound
 pub mod Starts

@@ -19,6 +19,10 @@ pub enum FileWord {
     Tp,
     /// The pairs of source and target.
     P2p,
+    /// When each source or pair departs, or has to be reached.
+    Times,
+    /// The nodes that are reported.
+    Nodes,
     /// A report that is checked.
     Report,
     /// The file to which a report is written.
@@ -35,6 +39,8 @@ impl FileWord {
             FileWord::Ss => "ss",
             FileWord::Tp => "tp",
             FileWord::P2p => "p2p",
+            FileWord::Times => "times",
+            FileWord::Nodes => "nodes",
             FileWord::Report => "report",
             FileWord::Out => "out",
         }

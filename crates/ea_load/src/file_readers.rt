@@ -1,28 +1,25 @@
 //! Reading and parsing files.
-ghost use Rattle.std.specs.Prelude.{◌≡◌, ℕ, List, Option, Some, IfOk, IfErr, OnOk};
+ghost use Rattle.std.specs.Prelude.{◌≡◌, ℕ, List, Option, Some, IfOk, IfErr, OnOk, option_map};
 ghost use Rattle.std.specs.Io.KnownBytes.{IsAtEnd};
 ghost use Rattle.ea_bytes.specs.Text.{field_lines};
-ghost use Rattle.ea_input.specs.Formats.{graph_format, source_format, table_format};
+ghost use Rattle.ea_input.specs.Formats.{graph_format, source_format, table_format, time_format};
 ghost use Rattle.ea_input.specs.Graph.{DenotesGraph};
 ghost use Rattle.ea_input.specs.Sources.{DenotesSources};
+ghost use Rattle.ea_input.specs.Times.{DenotesTimes};
 ghost use Rattle.ea_input.specs.Views.{graph as graph_of};
 ghost use Rattle.ea_input.specs.TableViews.{table};
-ghost use Rattle.ea_load.specs.Files.{IsFaultAs, IsFaultIfThere, IsFaultIn, IsFileText, IsReadFaultAs, IsTextIfThere, IsUnreadBy, reading};
+ghost use Rattle.ea_load.specs.Files.{IsFaultAs, IsFaultIfThere, IsFaultIn, IsFileText, IsFoundIn, IsOptionalFault, IsReadFaultAs, IsTextIfThere, IsUnreadBy, reading};
 ghost use Rattle.ea_load.specs.Given.{IsTableOf, no_table as none_given};
 
 use crate::file_fault::{FileFault, FileWord};
 use ea_base::{MOST_BYTES, RawGraph, RawTable};
 use ea_blocks::{FaultKind, InputFault};
 use ea_bytes::{ByteIn, ReadFault, read_all};
-use ea_input::{read_gr, read_ss, read_tp};
+use ea_input::{read_gr, read_ss, read_times, read_tp};
 use std::alloc::Global;
 
 /// All bytes of a file.
-pub(crate) fn text_of<R: ByteIn>(
-    alloc: Global,
-    file: FileWord,
-    reader: &mut R,
-) -> Result<Vec<u8>, FileFault>
+fn text_of<R: ByteIn>(alloc: Global, file: FileWord, reader: &mut R) -> Result<Vec<u8>, FileFault>
     ensures text { IfOk result
         (λ bytes. IsFileText (reading R.seen reader.old reader.new) bytes.items) }
     ensures end { OnOk result (IsAtEnd (R.seen reader.new).bytes) }
@@ -35,7 +32,7 @@ pub(crate) fn text_of<R: ByteIn>(
 }
 
 /// The fault of a file that couldn't be read.
-pub(crate) fn read_fault_of(file: FileWord, fault: ReadFault) -> FileFault
+pub fn read_fault_of(file: FileWord, fault: ReadFault) -> FileFault
     ensures { IsReadFaultAs file fault result }
 {
     match fault {
@@ -133,13 +130,78 @@ pub(crate) fn read_table<R: ByteIn>(
     }
 }
 
-/// All bytes of a report, at most 2^33. They aren't parsed.
-pub fn read_report<R: ByteIn>(alloc: Global, report: &mut R) -> Result<Vec<u8>, FileFault>
-    ensures text { IfOk result
-        (λ bytes. IsFileText (reading R.seen report.old report.new) bytes.items) }
-    ensures end { OnOk result (IsAtEnd (R.seen report.new).bytes) }
+/// The times of a file for this many starts.
+fn read_times_of<R: ByteIn>(
+    alloc: Global,
+    times: &mut R,
+    starts: u32,
+) -> Result<Vec<u64>, FileFault>
+    ensures denoted { IfOk result
+        (λ found. (text : List ℕ) × IsFileText (reading R.seen times.old times.new) text
+        × DenotesTimes starts (field_lines text) found.items) }
     ensures fault { IfErr result
-        (IsUnreadBy FileWord.Report (reading R.seen report.old report.new)) }
+        (IsFaultIn FileWord.Times (time_format starts) (reading R.seen times.old times.new)) }
 {
-    text_of(alloc, FileWord::Report, report)
+    let text = text_of(alloc, FileWord::Times, times)?;
+    match read_times(alloc, &text, starts) {
+        Ok(times) => Ok(times),
+        Err(fault) => Err(fault_of(FileWord::Times, fault)),
+    }
+}
+
+/// The nodes of a file that says which nodes are reported.
+fn read_nodes_of<R: ByteIn>(alloc: Global, asked: &mut R, nodes: u32) -> Result<Vec<u32>, FileFault>
+    ensures denoted { IfOk result
+        (λ found. (text : List ℕ) × IsFileText (reading R.seen asked.old asked.new) text
+        × DenotesSources nodes (field_lines text) found.items) }
+    ensures fault { IfErr result
+        (IsFaultIn FileWord.Nodes (source_format nodes) (reading R.seen asked.old asked.new)) }
+{
+    let text = text_of(alloc, FileWord::Nodes, asked)?;
+    match read_ss(alloc, &text, nodes) {
+        Ok(asked) => Ok(asked),
+        Err(fault) => Err(fault_of(FileWord::Nodes, fault)),
+    }
+}
+
+/// The times of an optional file for this many starts.
+pub(crate) fn read_own_times<R: ByteIn>(
+    alloc: Global,
+    times: &mut Option<R>,
+    starts: u32,
+) -> Result<Option<Vec<u64>>, FileFault>
+    ensures found { IfOk result (λ found. IsFoundIn (DenotesTimes starts)
+        (option_map R.seen times.old) (option_map R.seen times.new)
+        (option_map (λ list. list.items) found)) }
+    ensures fault { IfErr result (IsOptionalFault FileWord.Times (time_format starts)
+        (option_map R.seen times.old) (option_map R.seen times.new)) }
+{
+    match times {
+        None => Ok(None),
+        Some(times) => match read_times_of(alloc, times, starts) {
+            Ok(times) => Ok(Some(times)),
+            Err(fault) => Err(fault),
+        },
+    }
+}
+
+/// The nodes of an optional file.
+pub(crate) fn read_chosen<R: ByteIn>(
+    alloc: Global,
+    asked: &mut Option<R>,
+    nodes: u32,
+) -> Result<Option<Vec<u32>>, FileFault>
+    ensures found { IfOk result (λ found. IsFoundIn (DenotesSources nodes)
+        (option_map R.seen asked.old) (option_map R.seen asked.new)
+        (option_map (λ list. list.items) found)) }
+    ensures fault { IfErr result (IsOptionalFault FileWord.Nodes (source_format nodes)
+        (option_map R.seen asked.old) (option_map R.seen asked.new)) }
+{
+    match asked {
+        None => Ok(None),
+        Some(asked) => match read_nodes_of(alloc, asked, nodes) {
+            Ok(asked) => Ok(Some(asked)),
+            Err(fault) => Err(fault),
+        },
+    }
 }

@@ -12,7 +12,7 @@ ghost use Rattle.ea_load.specs.Texts.{IsGraphFault, IsTableFault, IsTextFault, t
 use crate::file_fault::{FileFault, FileWord};
 use crate::file_readers::{fault_of, no_table};
 use crate::road::{Road, road_of};
-use ea_base::{RawGraph, RawTable};
+use ea_base::{Direction, RawGraph, RawTable};
 use ea_input::{read_gr, read_tp};
 use std::alloc::Global;
 
@@ -46,13 +46,13 @@ fn road_with(alloc: Global, graph: RawGraph, tp: &[u8]) -> Result<Road, FileFaul
     requires denoted { (lines : List (List (List ℕ))) × DenotesGraph lines (graph_of graph) }
     ensures road { IfOk result (λ road. (table : Table)
         × IsTableOf (length (graph_of graph).arcs) (text_if_any tp.now) table
-        × IsRoadOf (record { graph = graph_of graph; table = table }) road) }
+        × IsRoadOf Direction.Forward (record { graph = graph_of graph; table = table }) road) }
     ensures classed { IfOk result (λ road.
-        top_class road.network.arcs ≤ length road.times.list.items) }
+        top_class road.network.arcs ≤ length road.times.tables.list.items) }
     ensures fault { IfErr result (IsTableFault (length (graph_of graph).arcs) tp.now) }
 {
     let table = table_in(alloc, tp, graph.arcs.len() as u32)?;
-    let road = road_of(alloc, graph, table)?;
+    let road = road_of(alloc, graph, table, Direction::Forward)?;
     Ok(road)
 }
 
@@ -61,9 +61,9 @@ fn road_with(alloc: Global, graph: RawGraph, tp: &[u8]) -> Result<Road, FileFaul
 /// point.
 pub fn road_of_texts(alloc: Global, gr: &[u8], tp: &[u8]) -> Result<Road, FileFault>
     ensures road { IfOk result (λ road. (given : Given)
-        × Denotes gr.now (text_if_any tp.now) given × IsRoadOf given road) }
+        × Denotes gr.now (text_if_any tp.now) given × IsRoadOf Direction.Forward given road) }
     ensures classed { IfOk result (λ road.
-        top_class road.network.arcs ≤ length road.times.list.items) }
+        top_class road.network.arcs ≤ length road.times.tables.list.items) }
     ensures fault { IfErr result (IsTextFault gr.now tp.now) }
 {
     let graph = graph_in(alloc, gr)?;

@@ -16,13 +16,13 @@ ghost use Rattle.ea_load.specs.Sound.{IsSound};
 use crate::file_fault::{FileFault, FileWord};
 use crate::file_readers::{fault_of, no_table, read_fault_of};
 use crate::files::RunFiles;
-use crate::road::{Road, classed_arcs};
-use ea_base::{MOST_BYTES, RawGraph, RawTable};
+use crate::road::{Road, classed_arcs, directed_arcs};
+use ea_base::{Direction, MOST_BYTES, RawGraph, RawTable};
 use ea_blocks::StreamFault;
 use ea_bytes::ByteIn;
 use ea_input::{read_gr_from, read_p2p_from, read_ss_from, read_tp_from};
 use ea_road::Network;
-use ea_travel_times::Timetables;
+use ea_travel_times::{RoadTimes, Timetables};
 use std::alloc::{AllocError, Global};
 use std::thread::{Threads, available_parallelism};
 
@@ -148,15 +148,19 @@ fn road_of_by<H: Threads + Sync>(
     rt: &H,
     graph: RawGraph,
     table: RawTable,
+    direction: Direction,
 ) -> Result<Road, AllocError>
     requires sound { IsSound (given_by graph table) }
-    ensures { IfOk result (IsRoadOf (given_by graph table)) }
+    ensures { IfOk result (IsRoadOf direction (given_by graph table)) }
 {
     let nodes = graph.nodes;
-    let arcs = classed_arcs(alloc, graph, &table)?;
-    let times = Timetables::with_steps(alloc, table.kinds, table.steps)?;
+    let arcs = directed_arcs(classed_arcs(alloc, graph, &table)?, direction);
+    let tables = Timetables::with_steps(alloc, table.kinds, table.steps)?;
     let network = Network::of_list_by(alloc, rt, nodes, arcs)?;
-    Ok(Road { network, times })
+    Ok(Road {
+        network,
+        times: RoadTimes { tables, direction },
+    })
 }
 
 /// Like `read_road`, by two threads.
@@ -165,33 +169,35 @@ pub(crate) fn read_road_by<H: Threads + Sync, T: ByteIn>(
     rt: &H,
     graph: RawGraph,
     tp: &mut Option<T>,
+    direction: Direction,
 ) -> Result<Road, FileFault>
     requires denoted { (lines : List (List (List ℕ))) × DenotesGraph lines (graph_of graph) }
     ensures road { IfOk result (λ road. (text : Option (List ℕ)) × (table : Table)
         × IsTextIfThere T.seen tp.old tp.new text
         × IsTableOf (length (graph_of graph).arcs) text table
-        × IsRoadOf (record { graph = graph_of graph; table = table }) road) }
+        × IsRoadOf direction (record { graph = graph_of graph; table = table }) road) }
     ensures fault { IfErr result
         ((tables T.seen tp.old tp.new).IsFault (length (graph_of graph).arcs)) }
 {
     let table = read_table_by(alloc, rt, tp, graph.arcs.len() as u32)?;
-    let road = road_of_by(alloc, rt, graph, table)?;
+    let road = road_of_by(alloc, rt, graph, table, direction)?;
     Ok(road)
 }
 
-/// Like `read_run`, in blocks, and by up to five threads if there are several processors.
+/// Like `read_run`, in blocks, and by several threads if there are several processors.
 pub fn read_run_by<H: Threads + Sync, G: ByteIn, S: ByteIn, T: ByteIn>(
     alloc: Global,
     rt: &H,
     gr: &mut G,
     ss: &mut S,
     tp: &mut Option<T>,
+    direction: Direction,
 ) -> Result<RunFiles, FileFault>
     ensures given { IfOk result (λ files. (given : Given)
         × AreGiven DenotesSources (G.seen gr.old).bytes (S.seen ss.old).bytes
         (bytes_there T.seen tp.old)
         given files.sources.items
-        × IsRoadOf given files.road) }
+        × IsRoadOf direction given files.road) }
     ensures gr_borne { OnOk result (BearsOn (G.seen gr.old) (G.seen gr.new)) }
     ensures ss_borne { OnOk result (BearsOn (S.seen ss.old) (S.seen ss.new)) }
     ensures tp_borne { OnOk result (IsBorneIfThere T.seen tp.old tp.new) }
@@ -201,6 +207,6 @@ pub fn read_run_by<H: Threads + Sync, G: ByteIn, S: ByteIn, T: ByteIn>(
 {
     let graph = read_graph_by(alloc, rt, gr)?;
     let sources = read_sources_by(alloc, rt, ss, graph.nodes)?;
-    let road = read_road_by(alloc, rt, graph, tp)?;
+    let road = read_road_by(alloc, rt, graph, tp, direction)?;
     Ok(RunFiles { road, sources })
 }

@@ -5,22 +5,23 @@ ghost use Rattle.ea_input.specs.Table.{DenotesTable, Table};
 ghost use Rattle.ea_input.specs.Views.{graph as graph_of};
 ghost use Rattle.ea_load.specs.Files.{IsTextIfThere, tables};
 ghost use Rattle.ea_load.specs.Given.{IsRoadOf, IsTableOf, given_by, roads_of};
+ghost use Rattle.ea_road.specs.Turned.{arcs_in};
 ghost use Rattle.ea_load.specs.Sound.{IsSound};
 ghost use Rattle.ea_travel_times.specs.Timetables.{AreFit};
 
 use crate::file_fault::FileFault;
 use crate::file_readers::read_table;
-use ea_base::{RawGraph, RawTable};
+use ea_base::{Direction, RawGraph, RawTable};
 use ea_bytes::ByteIn;
 use ea_road::{ArcList, Network};
-use ea_travel_times::Timetables;
+use ea_travel_times::{RoadTimes, Timetables};
 use std::alloc::{AllocError, Global};
 
-/// A network and its travel times.
+/// A network and its travel times, both as their files have them or both turned round.
 #[derive(Drop)]
 pub struct Road {
     pub network: Network,
-    pub times: Timetables,
+    pub times: RoadTimes,
 }
 
 /// The arcs of a graph with their classes.
@@ -35,16 +36,34 @@ pub(crate) fn classed_arcs(
     ArcList::with_classes(alloc, graph.arcs, table)
 }
 
-/// The road of a graph and a table.
-pub(crate) fn road_of(alloc: Global, graph: RawGraph, table: RawTable) -> Result<Road, AllocError>
+/// The arcs in a direction.
+pub(crate) fn directed_arcs(arcs: ArcList, direction: Direction) -> ArcList
+    ensures { result ≡ arcs_in direction arcs }
+{
+    match direction {
+        Direction::Forward => arcs,
+        Direction::Turned => arcs.turned(),
+    }
+}
+
+/// The road of a graph and a table, in a direction.
+pub(crate) fn road_of(
+    alloc: Global,
+    graph: RawGraph,
+    table: RawTable,
+    direction: Direction,
+) -> Result<Road, AllocError>
     requires { IsSound (given_by graph table) }
-    ensures { IfOk result (IsRoadOf (given_by graph table)) }
+    ensures { IfOk result (IsRoadOf direction (given_by graph table)) }
 {
     let nodes = graph.nodes;
-    let arcs = classed_arcs(alloc, graph, &table)?;
-    let times = Timetables::with_steps(alloc, table.kinds, table.steps)?;
+    let arcs = directed_arcs(classed_arcs(alloc, graph, &table)?, direction);
+    let tables = Timetables::with_steps(alloc, table.kinds, table.steps)?;
     let network = Network::of_list(alloc, nodes, arcs)?;
-    Ok(Road { network, times })
+    Ok(Road {
+        network,
+        times: RoadTimes { tables, direction },
+    })
 }
 
 /// The road of a graph and an optional file of timetables.
@@ -52,17 +71,18 @@ pub(crate) fn read_road<T: ByteIn>(
     alloc: Global,
     graph: RawGraph,
     tp: &mut Option<T>,
+    direction: Direction,
 ) -> Result<Road, FileFault>
     requires denoted { (lines : List (List (List ℕ))) × DenotesGraph lines (graph_of graph) }
     ensures road { IfOk result (λ road. (text : Option (List ℕ)) × (table : Table)
         × IsTextIfThere T.seen tp.old tp.new text
         × IsTableOf (length (graph_of graph).arcs) text table
-        × IsRoadOf (record { graph = graph_of graph; table = table }) road) }
+        × IsRoadOf direction (record { graph = graph_of graph; table = table }) road) }
     ensures fault { IfErr result
         ((tables T.seen tp.old tp.new).IsFault (length (graph_of graph).arcs)) }
 {
     let table = read_table(alloc, tp, graph.arcs.len() as u32)?;
-    let road = road_of(alloc, graph, table)?;
+    let road = road_of(alloc, graph, table, direction)?;
     Ok(road)
 }
 

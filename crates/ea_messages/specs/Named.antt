@@ -8,5 +8,5 @@ abbrev pub HasFiles : {R : Type 0} → Command → Option R → Type 0
 HasFiles Stored report = ⊥
 HasFiles (Explain fault) report = ⊥
 HasFiles Formats report = ⊥
-HasFiles (Check gr ss tp name options) None = ⊥
+HasFiles (Check gr ss tp times name options) None = ⊥
 HasFiles _ report = Unit {0}

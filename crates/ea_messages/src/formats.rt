@@ -31,11 +31,23 @@ lines. Times are whole numbers up to 281474976710655, in whatever unit the weigh
   k J points P N    X longer than W, by straight lines from point to point, modulo P where it isn't 0; N lines v follow
   v T X             from T on the speed is X (0 to 1000000), or a trip leaves or a point lies at T with X more; T rises
 
+The times of --departs and --arrives
+  p aux sp at N     N times, exactly one for each source or pair
+  t D               the time of the source or pair of this number; N of them
+
+The nodes of --nodes are written like the sources of .ss.
+
 The report that `run` and `pairs` write
   s S D             a problem from source S, departing at D
   q S T D           a pair from S to T, departing at D
   d V A             the earliest arrival at V is A; or `inf`, where there is none
   w V k E1 .. Ek    with --walks: the k arcs of a walk that attains it
+  with --arrive or --arrives:
+  t T A             a problem to target T, to be reached by A
+  t S T A           a pair from S to T, to be reached by A
+  d V D             the latest departure from V is D; or `none`, where there is none
+  w V k E1 .. Ek    with --walks: the k arcs of a walk from V, in the order in which they are driven
+  in both:
   c NAME NUMBER     with --stats: totals of the search
 
 The rank errors that `rank` writes

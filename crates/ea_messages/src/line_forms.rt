@@ -52,13 +52,23 @@ const TP_UNDUE: &str =
 const TP_LINES: &str =
     "a file of timetables (.tp) has a line `p tp K T`, then lines `k J KIND ..`, `t E J` and `v T X`; comments begin with c";
 
+const TIMES_PROBLEM: &str =
+    "the problem line is `p aux sp at N`: N times, exactly as many as there are sources or pairs";
+
+const TIMES_TIME: &str =
+    "a time is `t D`: a whole number, 0 to 281474976710655, for the source or pair of the same number";
+
+const TIMES_LINES: &str =
+    "a file of times has a line `p aux sp at N`, then N lines `t D`, one for each source or pair; comments begin with c";
+
 /// The lines that a file has.
 fn lines_of(file: FileWord) -> &'static str {
     match file {
         FileWord::Gr => GR_LINES,
-        FileWord::Ss => SS_LINES,
+        FileWord::Ss | FileWord::Nodes => SS_LINES,
         FileWord::P2p => P2P_LINES,
         FileWord::Tp => TP_LINES,
+        FileWord::Times => TIMES_LINES,
         FileWord::Report | FileWord::Out => "see `earliest run --help` for the lines of a report",
     }
 }
@@ -67,9 +77,10 @@ fn lines_of(file: FileWord) -> &'static str {
 fn problem_of(file: FileWord) -> &'static str {
     match file {
         FileWord::Gr => GR_PROBLEM,
-        FileWord::Ss => SS_PROBLEM,
+        FileWord::Ss | FileWord::Nodes => SS_PROBLEM,
         FileWord::P2p => P2P_PROBLEM,
         FileWord::Tp => TP_PROBLEM,
+        FileWord::Times => TIMES_PROBLEM,
         FileWord::Report | FileWord::Out => lines_of(file),
     }
 }
@@ -80,10 +91,11 @@ fn shape_of(file: FileWord, letter: u8) -> &'static str {
         b'p' => problem_of(file),
         b'a' if file == FileWord::Gr => GR_ARC,
         b'e' if file == FileWord::Gr => GR_EDGE,
-        b's' if file == FileWord::Ss => SS_SOURCE,
+        b's' if file == FileWord::Ss || file == FileWord::Nodes => SS_SOURCE,
         b'q' if file == FileWord::P2p => P2P_PAIR,
         b'k' if file == FileWord::Tp => TP_KIND,
         b't' if file == FileWord::Tp => TP_ARC,
+        b't' if file == FileWord::Times => TIMES_TIME,
         b'v' if file == FileWord::Tp => TP_VALUE,
         _ => lines_of(file),
     }
@@ -109,7 +121,9 @@ fn file_of_problem(line: &[u8]) -> Option<FileWord> {
     }
     let (_, rest) = first_field(rest)?;
     let (kind, _) = first_field(rest)?;
-    if kind == b"ss".as_slice() {
+    if kind == b"at".as_slice() {
+        Some(FileWord::Times)
+    } else if kind == b"ss".as_slice() {
         Some(FileWord::Ss)
     } else if kind == b"p2p".as_slice() {
         Some(FileWord::P2p)
@@ -123,12 +137,14 @@ fn kind_wanted(file: FileWord, line: &[u8]) -> &'static str {
     match file_of_problem(line) {
         Some(FileWord::Gr) =>
             "this looks like a network (.gr), which is the first file: earliest run GR SS",
-        Some(FileWord::Ss) =>
+        Some(FileWord::Ss) if file != FileWord::Nodes =>
             "this looks like a file of sources (.ss), which is the second file: earliest run GR SS",
         Some(FileWord::P2p) =>
             "this looks like a file of pairs (.p2p), which is the second file: earliest pairs GR P2P",
         Some(FileWord::Tp) if file != FileWord::Tp =>
             "this looks like a file of timetables (.tp), which --tp names: --tp FILE",
+        Some(FileWord::Times) if file != FileWord::Times =>
+            "this looks like a file of times, which --departs or --arrives names: --departs FILE",
         _ => shape_of_line(file, line),
     }
 }

@@ -1,5 +1,5 @@
 -- The options of a command in parts, each read alone.
-use Rattle.std.specs.Prelude.{◌≤◌, IfSome, List, Option, Some, codes}
+use Rattle.std.specs.Prelude.{◌≤◌, IfSome, List, Option, Some, codes, unwrap_or}
 use Rattle.ea_base.specs.declared.limits.TheConstants.{HORIZON, LEAST_HEAPS, MOST_AT_ONCE, MOST_BATCH, MOST_HEAPS, MOST_TURNS, MOST_WORKERS}
 use Rattle.clap.specs.Words.{Row}
 use Rattle.ea_options.specs.declared.chosen.Counts.{Counts}
@@ -7,7 +7,7 @@ use Rattle.ea_options.specs.declared.chosen.Departures.{Departures}
 use Rattle.ea_options.specs.declared.chosen.Flags.{Flags}
 use Rattle.ea_options.specs.declared.chosen.Queue.{Queue}
 use Rattle.ea_options.specs.Limits.{IsUpTo}
-use Rattle.ea_options.specs.Meaning.{◌>>=◌}
+use Rattle.ea_options.specs.Meaning.{◌>>=◌, direction_of}
 use Rattle.ea_options.specs.Values.{chosen_of, option_of, is_given}
 
 -- The parts of `options_of`.
@@ -28,8 +28,10 @@ queue_of rows = do
 unfoldable pub departures_of : List Row → Option Departures
 departures_of rows = do
   depart ← option_of (codes "depart") 0 0 HORIZON rows
+  arrive ← chosen_of (codes "arrive") 0 HORIZON rows
   gap ← option_of (codes "gap") 0 0 HORIZON rows
-  Some (record { depart = depart; gap = gap })
+  direction ← direction_of rows
+  Some (record { depart = unwrap_or arrive depart; gap = gap; direction = direction })
 
 abbrev pub flags_of : List Row → Flags
 flags_of rows = record {

@@ -33,6 +33,11 @@ abbrev pub with_departures : App → App
 with_departures app = with_rule (with_rule (with_rule app
     (valued (codes "tp"))) (valued (codes "depart"))) (valued (codes "gap"))
 
+-- The other ways to say when: own departures, and times by which targets have to be reached.
+abbrev pub with_times : App → App
+with_times app = with_rule (with_rule (with_rule app
+    (valued (codes "departs"))) (valued (codes "arrive"))) (valued (codes "arrives"))
+
 -- The options for workers.
 abbrev pub with_workers : App → App
 with_workers app = with_rule (with_rule (with_rule app
@@ -44,20 +49,20 @@ with_report app = with_rule (with_rule (with_rule (with_rule (with_rule app
     (valued (codes "at-once"))) (valued (codes "batch"))) (valued (codes "turns"))) (flag (codes "walks"))) (flag (codes "stats"))
 
 unfoldable pub run_app : App
-run_app = with_telling (with_output (with_rule (with_report (with_workers (with_departures (with_rule (with_rule (new_app (codes "run"))
-    (file (codes "gr"))) (file (codes "ss")))))) (flag (codes "joint"))))
+run_app = with_telling (with_output (with_rule (with_rule (with_report (with_workers (with_times (with_departures (with_rule (with_rule (new_app (codes "run"))
+    (file (codes "gr"))) (file (codes "ss"))))))) (valued (codes "nodes"))) (flag (codes "joint"))))
 
 unfoldable pub pairs_app : App
-pairs_app = with_telling (with_output (with_report (with_workers (with_departures (with_rule (with_rule (new_app (codes "pairs"))
-    (file (codes "gr"))) (file (codes "p2p")))))))
+pairs_app = with_telling (with_output (with_report (with_workers (with_times (with_departures (with_rule (with_rule (new_app (codes "pairs"))
+    (file (codes "gr"))) (file (codes "p2p"))))))))
 
 unfoldable pub rank_app : App
 rank_app = with_telling (with_output (with_workers (with_departures (with_rule (with_rule (new_app (codes "rank"))
     (file (codes "gr"))) (file (codes "ss"))))))
 
 unfoldable pub check_app : App
-check_app = with_telling (with_rule (with_departures (with_rule (with_rule (with_rule (new_app (codes "check"))
-    (file (codes "gr"))) (file (codes "ss"))) (file (codes "report")))) (flag (codes "joint")))
+check_app = with_telling (with_rule (with_times (with_departures (with_rule (with_rule (with_rule (new_app (codes "check"))
+    (file (codes "gr"))) (file (codes "ss"))) (file (codes "report"))))) (flag (codes "joint")))
 
 -- The commands without files.
 unfoldable pub explain_app : App

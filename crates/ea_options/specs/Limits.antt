@@ -22,10 +22,10 @@ pub record AreOptions (options : RunOptions) : Type 0 where
 -- The options of a command are within the limits.
 abbrev pub HasLimits : Command → Type 0
 HasLimits Stored = Unit {0}
-HasLimits (Run gr ss tp output options) = AreOptions options
-HasLimits (Pairs gr p2p tp output options) = AreOptions options
+HasLimits (Run gr ss tp times nodes output options) = AreOptions options
+HasLimits (Pairs gr p2p tp times output options) = AreOptions options
 HasLimits (Rank gr ss tp output options) = AreOptions options
-HasLimits (Check gr ss tp report options) = AreOptions options
+HasLimits (Check gr ss tp times report options) = AreOptions options
 HasLimits (Explain fault) = Unit {0}
 HasLimits Formats = Unit {0}
 

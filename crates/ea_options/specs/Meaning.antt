@@ -1,7 +1,9 @@
 -- What words ask for. No words ask for the built-in run. Words that begin with a command's name ask for what
 -- clap makes of the others, with the defaults and limits of each option.
-use Rattle.std.specs.Prelude.{ℕ, ◌+◌, Bool, true, false, nat_le, List, codes, Option, Some, None, option_and_then, option_map, if◌then◌else◌}
+use Rattle.std.specs.Prelude.{ℕ, ◌+◌, ◌&&◌, Bool, true, false, nat_le, unwrap_or, List, codes, Option, Some, None, option_and_then, option_map, if◌then◌else◌}
 use Rattle.std.specs.Str.{bytes_eq}
+use Rattle.ea_base.specs.declared.direction.Direction.{Direction}
+use Rattle.ea_base.specs.declared.direction.Direction.TheVariants.{Forward, Turned}
 use Rattle.ea_base.specs.declared.limits.TheConstants.{HORIZON, LEAST_HEAPS, MOST_AT_ONCE, MOST_BATCH, MOST_HEAPS, MOST_TURNS, MOST_WORKERS}
 use Rattle.clap.specs.Words.{App, Row, Text, first_of, matches_of}
 use Rattle.ea_options.specs.declared.meaning.Names.{Names}
@@ -9,13 +11,26 @@ use Rattle.ea_options.specs.declared.options.RunOptions.{RunOptions}
 use Rattle.ea_options.specs.declared.options.Command.{Command}
 use Rattle.ea_options.specs.declared.options.Command.TheVariants as command
 use Rattle.ea_options.specs.Grammar.{run_app, pairs_app, rank_app, check_app}
-use Rattle.ea_options.specs.Values.{chosen_of, option_of, is_given}
+use Rattle.ea_options.specs.Values.{chosen_of, either_of, given, option_of, is_given}
 
 infixl 10 ◌>>=◌
 abbrev pub ◌>>=◌ : {A B : Type 0} → Option A → (A → Option B) → Option B
 o >>= f = option_and_then f o
 
--- The numbers of the options, if each is within its limits.
+-- At most one option says when, and a file of times leaves no gap to be said.
+abbrev pub is_clear : List Row → Bool
+is_clear rows =
+    nat_le (given (first_of (codes "depart") rows) + given (first_of (codes "departs") rows) + given (first_of (codes "arrive") rows) + given (first_of (codes "arrives") rows)) 1
+    && nat_le (given (first_of (codes "departs") rows) + given (first_of (codes "arrives") rows) + given (first_of (codes "gap") rows)) 1
+
+-- Times by which targets have to be reached turn the question round.
+abbrev pub direction_of : List Row → Option Direction
+direction_of rows =
+    if is_clear rows then
+    (if nat_le 1 (given (first_of (codes "arrive") rows) + given (first_of (codes "arrives") rows)) then Some Turned else Some Forward)
+    else None
+
+-- The numbers of the options, if each is within its limits, and none excludes another.
 unfoldable pub options_of : List Row → Option RunOptions
 options_of rows = do
   workers ← chosen_of (codes "workers") 1 MOST_WORKERS rows
@@ -25,7 +40,9 @@ options_of rows = do
   turns ← option_of (codes "turns") 1000000 0 MOST_TURNS rows
   seed ← option_of (codes "seed") 1 0 18446744073709551615 rows
   depart ← option_of (codes "depart") 0 0 HORIZON rows
+  arrive ← chosen_of (codes "arrive") 0 HORIZON rows
   gap ← option_of (codes "gap") 0 0 HORIZON rows
+  direction ← direction_of rows
   Some (record {
     joint = is_given (codes "joint") rows;
     walks = is_given (codes "walks") rows;
@@ -37,8 +54,9 @@ options_of rows = do
     heaps = heaps;
     turns = turns;
     seed = seed;
-    depart = depart;
+    depart = unwrap_or arrive depart;
     gap = gap;
+    direction = direction;
   })
 
 -- The names of a command's files. A report is checked, or an output written.
@@ -46,6 +64,8 @@ pub record Files : Type 0 where
   pub gr : Text
   pub starts : Text
   pub tp : Option Text
+  pub times : Option Text
+  pub nodes : Option Text
   pub report : Option Text
   pub output : Option Text
 
@@ -54,6 +74,8 @@ files names = record {
   gr = names.gr.now;
   starts = names.starts.now;
   tp = option_map (λ t. t.now) names.tp;
+  times = option_map (λ t. t.now) names.times;
+  nodes = option_map (λ t. t.now) names.nodes;
   report = option_map (λ t. t.now) names.report;
   output = option_map (λ t. t.now) names.output;
 }
@@ -68,7 +90,7 @@ input_if_named (Some name) = input_by name
 
 abbrev pub has_input_twice : Files → Bool
 has_input_twice files =
-    nat_le 2 (input_by files.gr + input_by files.starts + input_if_named files.tp + input_if_named files.report)
+    nat_le 2 (input_by files.gr + input_by files.starts + input_if_named files.tp + input_if_named files.times + input_if_named files.nodes + input_if_named files.report)
 
 -- A name that is required only if it is wanted.
 abbrev pub wanted : Bool → Option Text → Option (Option Text)
@@ -82,7 +104,15 @@ files_of second reported rows = do
   gr ← first_of (codes "gr") rows
   starts ← first_of second rows
   report ← wanted reported (first_of (codes "report") rows)
-  Some (record { gr = gr; starts = starts; tp = first_of (codes "tp") rows; report = report; output = first_of (codes "output") rows })
+  Some (record {
+    gr = gr;
+    starts = starts;
+    tp = first_of (codes "tp") rows;
+    times = either_of (first_of (codes "departs") rows) (first_of (codes "arrives") rows);
+    nodes = first_of (codes "nodes") rows;
+    report = report;
+    output = first_of (codes "output") rows;
+  })
 
 -- What is asked for: the built-in run, a command's files and options, what a fault means, or the formats.
 pub data Asked : Type 0 where
@@ -96,10 +126,10 @@ pub data Asked : Type 0 where
 
 abbrev pub asked : Command → Asked
 asked command.Stored = stored
-asked (command.Run gr ss tp output options) = run (record { gr = gr.now; starts = ss.now; tp = option_map (λ t. t.now) tp; report = None; output = option_map (λ t. t.now) output }) options
-asked (command.Pairs gr p2p tp output options) = pairs (record { gr = gr.now; starts = p2p.now; tp = option_map (λ t. t.now) tp; report = None; output = option_map (λ t. t.now) output }) options
-asked (command.Rank gr ss tp output options) = rank (record { gr = gr.now; starts = ss.now; tp = option_map (λ t. t.now) tp; report = None; output = option_map (λ t. t.now) output }) options
-asked (command.Check gr ss tp report options) = check (record { gr = gr.now; starts = ss.now; tp = option_map (λ t. t.now) tp; report = Some report.now; output = None }) options
+asked (command.Run gr ss tp times nodes output options) = run (record { gr = gr.now; starts = ss.now; tp = option_map (λ t. t.now) tp; times = option_map (λ t. t.now) times; nodes = option_map (λ t. t.now) nodes; report = None; output = option_map (λ t. t.now) output }) options
+asked (command.Pairs gr p2p tp times output options) = pairs (record { gr = gr.now; starts = p2p.now; tp = option_map (λ t. t.now) tp; times = option_map (λ t. t.now) times; nodes = None; report = None; output = option_map (λ t. t.now) output }) options
+asked (command.Rank gr ss tp output options) = rank (record { gr = gr.now; starts = ss.now; tp = option_map (λ t. t.now) tp; times = None; nodes = None; report = None; output = option_map (λ t. t.now) output }) options
+asked (command.Check gr ss tp times report options) = check (record { gr = gr.now; starts = ss.now; tp = option_map (λ t. t.now) tp; times = option_map (λ t. t.now) times; nodes = None; report = Some report.now; output = None }) options
 asked (command.Explain fault) = explain (option_map (λ t. t.now) fault)
 asked command.Formats = formats
 
@@ -144,16 +174,19 @@ reported_by pairs_verb = false
 reported_by rank_verb = false
 reported_by check_verb = true
 
--- A command that checks a report has no output; the others check none.
-abbrev pub named_report : Verb → Files → Files
-named_report check_verb files = record files { output = None }
-named_report _ files = record files { report = None }
+-- Each command has its own optional files: a check has no output and the others check no report; only a run
+-- has asked nodes, and rank errors have no own times.
+abbrev pub own_files : Verb → Files → Files
+own_files run_verb files = record files { report = None }
+own_files pairs_verb files = record files { nodes = None; report = None }
+own_files rank_verb files = record files { times = None; nodes = None; report = None }
+own_files check_verb files = record files { nodes = None; output = None }
 
 abbrev pub ask_by : Verb → Files → RunOptions → Asked
-ask_by run_verb files = run (named_report run_verb files)
-ask_by pairs_verb files = pairs (named_report pairs_verb files)
-ask_by rank_verb files = rank (named_report rank_verb files)
-ask_by check_verb files = check (named_report check_verb files)
+ask_by run_verb files = run (own_files run_verb files)
+ask_by pairs_verb files = pairs (own_files pairs_verb files)
+ask_by rank_verb files = rank (own_files rank_verb files)
+ask_by check_verb files = check (own_files check_verb files)
 
 -- The files and the options that clap makes of a command's words.
 abbrev pub files_by : Verb → List Text → Option Files

@@ -24,6 +24,16 @@ number_if_given low high (Some text) = option_map Some (option_and_then (within_
 abbrev pub chosen_of : Text → ℕ → ℕ → List Row → Option (Option ℕ)
 chosen_of name low high rows = number_if_given low high (first_of name rows)
 
+-- 1 if a text is given, else 0.
+abbrev pub given : Option Text → ℕ
+given None = 0
+given (Some text) = 1
+
+-- The first of two texts, if one is given.
+abbrev pub either_of : Option Text → Option Text → Option Text
+either_of (Some first) second = Some first
+either_of None second = second
+
 -- Whether a flag is set: clap gives it the text `true` then.
 abbrev pub is_true : Option Text → Bool
 is_true None = false

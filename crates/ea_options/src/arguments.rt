@@ -1,8 +1,8 @@
 //! The arguments of the commands, with their help.
-ghost use Rattle.std.specs.Prelude.{◌≡◌, false};
+ghost use Rattle.std.specs.Prelude.{◌≡◌, codes, false};
 ghost use Rattle.clap.specs.Words.{App, Rule, rule_of, with_rule};
 ghost use Rattle.ea_options.specs.Building.{Builds};
-ghost use Rattle.ea_options.specs.Grammar.{output, with_departures, with_output, with_report, with_telling, with_workers};
+ghost use Rattle.ea_options.specs.Grammar.{output, with_departures, with_output, with_report, with_telling, with_times, with_workers};
 
 use clap::{Arg, ArgAction, Command};
 use std::alloc::{AllocError, Global};
@@ -128,7 +128,7 @@ pub(crate) fn with_file<'a>(
 }
 
 /// Adds the options for departures and timetables.
-pub(crate) fn with_departures<'a>(
+fn with_departures<'a>(
     alloc: Global,
     command: Result<Command<'a>, AllocError>,
 ) -> Result<Command<'a>, AllocError>
@@ -157,8 +157,66 @@ pub(crate) fn with_departures<'a>(
     )
 }
 
+/// Adds the other options that say when: own departures, and times by which targets have to be reached.
+fn with_times<'a>(
+    alloc: Global,
+    command: Result<Command<'a>, AllocError>,
+) -> Result<Command<'a>, AllocError>
+    ensures { (app : App) → Builds app command.entry → Builds (with_times app) result }
+{
+    let command = with_valued(
+        alloc,
+        command,
+        "departs",
+        "FILE",
+        "Departures of the sources or pairs, one each, in place of --depart and --gap",
+    );
+    let command = with_valued(
+        alloc,
+        command,
+        "arrive",
+        "T",
+        "Turns the question round: the latest departures by which the first target is reached at T, 0 to 281474976710655; with --gap each next target has as much more time",
+    );
+    with_valued(
+        alloc,
+        command,
+        "arrives",
+        "FILE",
+        "The same with a time for each target or pair, in place of --arrive and --gap",
+    )
+}
+
+/// Adds the options that say when, and the timetables.
+pub(crate) fn with_all_times<'a>(
+    alloc: Global,
+    command: Result<Command<'a>, AllocError>,
+) -> Result<Command<'a>, AllocError>
+    ensures { (app : App) → Builds app command.entry
+        → Builds (with_times (with_departures app)) result }
+{
+    with_times(alloc, with_departures(alloc, command))
+}
+
+/// Adds the option for the nodes that are reported.
+pub(crate) fn with_nodes<'a>(
+    alloc: Global,
+    command: Result<Command<'a>, AllocError>,
+) -> Result<Command<'a>, AllocError>
+    ensures { (app : App) → Builds app command.entry
+        → Builds (with_rule app (Rattle.ea_options.specs.Grammar.valued (codes "nodes"))) result }
+{
+    with_valued(
+        alloc,
+        command,
+        "nodes",
+        "FILE",
+        "Writes these nodes alone, in their order: a file as that of the sources [default: all nodes]",
+    )
+}
+
 /// Adds the options for workers. They change how long `run` and `pairs` take, never their reports.
-fn with_workers<'a>(
+pub(crate) fn with_workers<'a>(
     alloc: Global,
     command: Result<Command<'a>, AllocError>,
 ) -> Result<Command<'a>, AllocError>

@@ -54,6 +54,7 @@ fn first_bad<'a>(matches: &ArgMatches<'a>) -> Option<BadValue<'a>>
         ("turns", 0, MOST_TURNS),
         ("seed", 0, u64::MAX),
         ("depart", 0, HORIZON),
+        ("arrive", 0, HORIZON),
         ("gap", 0, HORIZON),
     ] {
         if let Some(bad) = bad_value(matches, option, least, most) {
@@ -64,7 +65,8 @@ fn first_bad<'a>(matches: &ArgMatches<'a>) -> Option<BadValue<'a>>
 }
 
 /// The first option with a bad value, if `of_words` returns `BadOption` for the words. None if it doesn't, if
-/// all values are good but two files are standard input, or if memory is refused.
+/// all values are good but two options exclude each other or two files are standard input, or if memory is
+/// refused.
 pub fn bad_value_of<'a, S: AsStr>(alloc: Global, words: &'a [S]) -> Option<BadValue<'a>>
     ensures { IfSome result IsBad }
 {

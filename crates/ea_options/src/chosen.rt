@@ -1,15 +1,16 @@
 //! The options in words, part by part.
-ghost use Rattle.std.specs.Prelude.{◌≡◌, IfSome};
-ghost use Rattle.clap.specs.Words.{found_of, rows_of};
+ghost use Rattle.std.specs.Prelude.{◌≡◌, ◌≤◌, IfSome};
+ghost use Rattle.clap.specs.Words.{first_of, found_of, rows_of};
 ghost use Rattle.ea_options.specs.Chosen.{AreCounts, AreDepartures, IsQueue, counts_of, departures_of, flags_of, queue_of};
 ghost use Rattle.ea_options.specs.Limits.{AreOptions};
-ghost use Rattle.ea_options.specs.Meaning.{options_of};
+ghost use Rattle.ea_options.specs.Meaning.{direction_of, options_of};
+ghost use Rattle.ea_options.specs.Values;
 
 use crate::options::RunOptions;
-use crate::values::{chosen_number, has_flag, option_number};
+use crate::values::{chosen_number, has_flag, option_number, text_of};
 use clap::ArgMatches;
 use ea_base::{
-    HORIZON, LEAST_HEAPS, MOST_AT_ONCE, MOST_BATCH, MOST_HEAPS, MOST_TURNS, MOST_WORKERS,
+    Direction, HORIZON, LEAST_HEAPS, MOST_AT_ONCE, MOST_BATCH, MOST_HEAPS, MOST_TURNS, MOST_WORKERS,
 };
 
 /// The numbers of workers, of problems at once and of entries in a batch; None leaves the choice to the
@@ -56,11 +57,42 @@ fn queue_in(matches: &ArgMatches<'_>) -> Option<Queue>
     Some(Queue { heaps, turns, seed })
 }
 
-/// When sources depart.
+/// When sources depart, or when targets have to be reached.
 #[derive(Clone, Copy)]
 struct Departures {
     depart: u64,
     gap: u64,
+    direction: Direction,
+}
+
+/// 1 if an option is given, else 0.
+fn given(matches: &ArgMatches<'_>, name: &str) -> u8
+    ensures given { result ≡ Values.given
+        (first_of name.now (rows_of (found_of matches.now))) }
+    ensures bound { result ≤ 1 }
+{
+    match text_of(matches, name) {
+        None => 0,
+        Some(_) => 1,
+    }
+}
+
+/// The direction, if the options that say when don't exclude each other.
+fn direction_in(matches: &ArgMatches<'_>) -> Option<Direction>
+    ensures { result ≡ direction_of (rows_of (found_of matches.now)) }
+{
+    let depart = given(matches, "depart");
+    let departs = given(matches, "departs");
+    let arrive = given(matches, "arrive");
+    let arrives = given(matches, "arrives");
+    let gap = given(matches, "gap");
+    if depart + departs + arrive + arrives > 1 || departs + arrives + gap > 1 {
+        None
+    } else if arrive + arrives >= 1 {
+        Some(Direction::Turned)
+    } else {
+        Some(Direction::Forward)
+    }
 }
 
 #[tactic(auto, unfolding(crate::specs::Chosen::departures_of))]
@@ -69,8 +101,14 @@ fn departures_in(matches: &ArgMatches<'_>) -> Option<Departures>
     ensures limits { IfSome result AreDepartures }
 {
     let depart = option_number(matches, "depart", 0, 0, HORIZON)?;
+    let arrive = chosen_number(matches, "arrive", 0, HORIZON)?;
     let gap = option_number(matches, "gap", 0, 0, HORIZON)?;
-    Some(Departures { depart, gap })
+    let direction = direction_in(matches)?;
+    Some(Departures {
+        depart: arrive.unwrap_or(depart),
+        gap,
+        direction,
+    })
 }
 
 /// Which flags are set.
@@ -115,5 +153,6 @@ pub(crate) fn options_in(matches: &ArgMatches<'_>) -> Option<RunOptions>
         seed: queue.seed,
         depart: departures.depart,
         gap: departures.gap,
+        direction: departures.direction,
     })
 }

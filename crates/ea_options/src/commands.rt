@@ -6,8 +6,8 @@ ghost use Rattle.ea_options.specs.Building.{Builds, IsBuilt};
 ghost use Rattle.ea_options.specs.Grammar.{run_app, pairs_app, rank_app, check_app, explain_app, formats_app, bare_program, program};
 
 use crate::arguments::{
-    optional, with_arg, with_departures, with_file, with_flag, with_output_and_telling,
-    with_report, with_search, with_telling,
+    optional, with_all_times, with_arg, with_file, with_flag, with_nodes, with_output_and_telling,
+    with_report, with_search, with_telling, with_workers,
 };
 use clap::Command;
 use std::alloc::{AllocError, Global};
@@ -27,12 +27,12 @@ const PAIRS_FILE: &str = "The pairs of source and target (.p2p), or - for standa
 const RUN: &str = "Writes the earliest arrival at every node from each source";
 
 const RUN_MORE: &str =
-    "Example:\n  earliest run roads.gr starts.ss --tp times.tp --depart 28800 --walks\n  zcat roads.gr.gz | earliest run - starts.ss -o report\n\nA problem is a line `s S D` (source, departure), then for each node V a line `d V A`\nwith its earliest arrival A, or `d V inf`. With --walks a line `w V k e1 .. ek` follows,\nthe arcs of a walk that attains it.";
+    "Example:\n  earliest run roads.gr starts.ss --tp times.tp --depart 28800 --walks\n  zcat roads.gr.gz | earliest run - starts.ss -o report\n  earliest run roads.gr offices.ss --arrive 32400\n\nA problem is a line `s S D` (source, departure), then for each node V a line `d V A`\nwith its earliest arrival A, or `d V inf`. With --walks a line `w V k e1 .. ek` follows,\nthe arcs of a walk that attains it. With --arrive a problem is a line `t T A` (target, time),\nand each `d V D` has the latest departure D that is in time, or `none`.";
 
 const PAIRS: &str = "Writes the earliest arrival at the target of each pair";
 
 const PAIRS_MORE: &str =
-    "Example:\n  earliest pairs roads.gr trips.p2p --depart 28800 --gap 60\n\nA pair is a line `q S T D` (source, target, departure), then a line `d T A` with its\nearliest arrival A, or `d T inf`. With --walks a line `w T k e1 .. ek` follows.";
+    "Example:\n  earliest pairs roads.gr trips.p2p --depart 28800 --gap 60\n\nA pair is a line `q S T D` (source, target, departure), then a line `d T A` with its\nearliest arrival A, or `d T inf`. With --walks a line `w T k e1 .. ek` follows.\nWith --arrive a pair is a line `t S T A`, then `d S D` with its latest departure, or `none`.";
 
 const RANK: &str = "Writes how relaxed the queue was: rank errors of one thread's runs";
 
@@ -42,7 +42,7 @@ const RANK_MORE: &str =
 const CHECK: &str = "Says whether a report of a run is right, or its first fault";
 
 const CHECK_MORE: &str =
-    "Example:\n  earliest run roads.gr starts.ss --walks > report\n  earliest check roads.gr starts.ss report\n\nGive the options --tp, --depart, --gap and --joint with which the report was made. It\nprints `ok` where each arrival is the earliest and each walk the canonical one.";
+    "Example:\n  earliest run roads.gr starts.ss --walks > report\n  earliest check roads.gr starts.ss report\n\nGive --tp, --joint and the options of time with which the report was made. It prints `ok`\nwhere each arrival is the earliest, or each departure the latest, and each walk the\ncanonical one.";
 
 /// Sets the name of a command in its texts.
 fn named<'a>(command: Command<'a>, name: &str) -> Result<Command<'a>, AllocError>
@@ -72,8 +72,10 @@ pub(crate) fn run_command<'a>(alloc: Global) -> Result<Command<'a>, AllocError>
     let command = begun(alloc, "run", RUN, RUN_MORE, "earliest run");
     let command = with_file(alloc, command, "gr", "GR", NETWORK);
     let command = with_file(alloc, command, "ss", "SS", SOURCES);
-    let command = with_search(alloc, command);
+    let command = with_all_times(alloc, command);
+    let command = with_workers(alloc, command);
     let command = with_report(alloc, command);
+    let command = with_nodes(alloc, command);
     let command = with_flag(alloc, command, "joint", "Takes all sources as one problem");
     with_output_and_telling(alloc, command)
 }
@@ -85,7 +87,8 @@ pub(crate) fn pairs_command<'a>(alloc: Global) -> Result<Command<'a>, AllocError
     let command = begun(alloc, "pairs", PAIRS, PAIRS_MORE, "earliest pairs");
     let command = with_file(alloc, command, "gr", "GR", NETWORK);
     let command = with_file(alloc, command, "p2p", "P2P", PAIRS_FILE);
-    let command = with_search(alloc, command);
+    let command = with_all_times(alloc, command);
+    let command = with_workers(alloc, command);
     let command = with_report(alloc, command);
     with_output_and_telling(alloc, command)
 }
@@ -115,7 +118,7 @@ pub(crate) fn check_command<'a>(alloc: Global) -> Result<Command<'a>, AllocError
         "REPORT",
         "The report of a run on these files, or - for standard input",
     );
-    let command = with_departures(alloc, command);
+    let command = with_all_times(alloc, command);
     let command = with_flag(alloc, command, "joint", "Takes all sources as one problem");
     with_telling(alloc, command)
 }

@@ -6,6 +6,7 @@ ghost use Rattle.ea_options.specs.Building.{Builds};
 ghost use Rattle.ea_options.specs.Meaning.{Verb, run_verb, pairs_verb, rank_verb, check_verb, of_files, of_explain, of_formats, of_none};
 ghost use Rattle.ea_options.specs.Limits.{AreOptions, HasLimits};
 ghost use Rattle.ea_options.specs.Meaning;
+ghost use Rattle.ea_options.specs.Values;
 ghost use Rattle.ea_options.specs.Meaning.{files, files_of, has_input_twice, head_of, options_of};
 ghost use Rattle.ea_options.specs.Refusals.{Asks, AsksAs, AsksBy, IsAskedBy, IsReadBy, IsRefusal, IsRefusedBy, IsRefusalBy, IsFaultOf, IsComplaint, IsUnasked, is_shown};
 
@@ -97,6 +98,8 @@ struct Names<'a> {
     gr: &'a str,
     starts: &'a str,
     tp: Option<&'a str>,
+    times: Option<&'a str>,
+    nodes: Option<&'a str>,
     report: Option<&'a str>,
     output: Option<&'a str>,
 }
@@ -125,8 +128,9 @@ impl Names<'_> {
     fn has_input_twice(&self) -> bool
         ensures { result ≡ has_input_twice (files self.now) }
     {
-        let first = input_by(self.gr) + input_by(self.starts);
-        2 <= first + input_if_named(self.tp) + input_if_named(self.report)
+        let first = input_by(self.gr) + input_by(self.starts) + input_if_named(self.tp);
+        let asked = first + input_if_named(self.times) + input_if_named(self.nodes);
+        2 <= asked + input_if_named(self.report)
     }
 }
 
@@ -138,6 +142,17 @@ fn wanted(is_wanted: bool, name: Option<&str>) -> Option<Option<&str>>
     match name {
         None if is_wanted => None,
         name => Some(name),
+    }
+}
+
+/// The first of two names, if one is there.
+fn either<'a>(first: Option<&'a str>, second: Option<&'a str>) -> Option<&'a str>
+    ensures { option_map (λ t. t.now) result ≡ Values.either_of
+        (option_map (λ t. t.now) first.entry) (option_map (λ t. t.now) second.entry) }
+{
+    match first {
+        Some(first) => Some(first),
+        None => second,
     }
 }
 
@@ -155,6 +170,8 @@ fn names_in<'a>(matches: &ArgMatches<'a>, second: &str, reported: bool) -> Optio
         gr,
         starts,
         tp: text_of(matches, "tp"),
+        times: either(text_of(matches, "departs"), text_of(matches, "arrives")),
+        nodes: text_of(matches, "nodes"),
         report,
         output: text_of(matches, "output"),
     })
@@ -231,6 +248,8 @@ fn run_of_words<'a, S: AsStr>(alloc: Global, words: &'a [S]) -> Result<Command<'
         gr: names.gr,
         ss: names.starts,
         tp: names.tp,
+        times: names.times,
+        nodes: names.nodes,
         output: names.output,
         options,
     })
@@ -248,6 +267,7 @@ fn pairs_of_words<'a, S: AsStr>(alloc: Global, words: &'a [S]) -> Result<Command
         gr: names.gr,
         p2p: names.starts,
         tp: names.tp,
+        times: names.times,
         output: names.output,
         options,
     })
@@ -282,6 +302,7 @@ fn check_of_words<'a, S: AsStr>(alloc: Global, words: &'a [S]) -> Result<Command
         gr: names.gr,
         ss: names.starts,
         tp: names.tp,
+        times: names.times,
         report: names.report.unwrap(),
         options,
     })

@@ -2,6 +2,8 @@
 ghost use Rattle.std.specs.Prelude.{◌≡◌};
 ghost use Rattle.ea_options.specs.Limits.{counted_workers};
 
+use ea_base::Direction;
+
 /// The options of a run and of its report. Each number is within its limits.
 #[derive(Clone, Copy, Debug, PartialEq, Eq)]
 pub struct RunOptions {
@@ -26,10 +28,13 @@ pub struct RunOptions {
     pub turns: u64,
     /// The seed of worker 0's random words; worker i's is `seed + i`, modulo 2^64.
     pub seed: u64,
-    /// The departure of the first source: 0 to HORIZON.
+    /// The departure of the first source or, turned round, the time by which the first target has to be
+    /// reached: 0 to HORIZON. A file of times takes its place.
     pub depart: u64,
-    /// The time by which each later source departs after the one before: 0 to HORIZON.
+    /// How much later each next one is: 0 to HORIZON.
     pub gap: u64,
+    /// Earliest arrivals from sources, or latest departures to targets.
+    pub direction: Direction,
 }
 
 impl RunOptions {
@@ -46,12 +51,15 @@ impl RunOptions {
 pub enum Command<'a> {
     /// The built-in run.
     Stored,
-    /// Arrivals from the sources of the file `ss`. The report goes to the file `output`, if one is named,
-    /// else to standard output.
+    /// Arrivals from the sources of the file `ss`, or departures to them as targets. The file `times` says
+    /// when, if one is named, and the file `nodes` which nodes are reported. The report goes to the file
+    /// `output`, if one is named, else to standard output.
     Run {
         gr: &'a str,
         ss: &'a str,
         tp: Option<&'a str>,
+        times: Option<&'a str>,
+        nodes: Option<&'a str>,
         output: Option<&'a str>,
         options: RunOptions,
     },
@@ -60,6 +68,7 @@ pub enum Command<'a> {
         gr: &'a str,
         p2p: &'a str,
         tp: Option<&'a str>,
+        times: Option<&'a str>,
         output: Option<&'a str>,
         options: RunOptions,
     },
@@ -76,6 +85,7 @@ pub enum Command<'a> {
         gr: &'a str,
         ss: &'a str,
         tp: Option<&'a str>,
+        times: Option<&'a str>,
         report: &'a str,
         options: RunOptions,
     },

@@ -1,6 +1,6 @@
 -- Lines of rank errors that were sent, problem by problem.
 use Rattle.std.proofs.Common.{◌≡◌, ℕ, zero, suc, map, ◌+◌, ◌*◌, ◌≤◌, ◌<◌, false, List, [], ◌∷◌, ◌++◌, length, take, get_or, refl, ap, ap₂, sym, ◌∙◌, arith, subst, inl, inr, append-nil, append_assoc}
-use Rattle.std.specs.Prelude.{All, Option, Result, Ok, Err, IfErr, IfOk, OnOk, codes}
+use Rattle.std.specs.Prelude.{All, None, Option, Result, Ok, Err, IfErr, IfOk, OnOk, codes}
 use Rattle.std.specs.List.{flat_map}
 use Rattle.std.specs.Io.KnownBytes.{Appends}
 use Rattle.std.proofs.Math.Seq.{take-length}
@@ -9,7 +9,7 @@ use native.Mathlib.Nat.{mul-le-mul}
 use Rattle.ea_road.specs.Roads.{Roads}
 use Rattle.ea_road.specs.Queries.{Asking}
 use Rattle.ea_road.specs.declared.source.Source.{Source}
-use Rattle.ea_load.specs.Starts.{asks_all, sources_from, run_problems}
+use Rattle.ea_load.specs.Starts.{Plan, asks_all, sources_from, run_problems}
 use Rattle.ea_report.proofs.Pieces.{flat_map-map}
 use Rattle.ea_rank.specs.declared.summary.Summary.{Summary}
 use Rattle.ea_rank.specs.Summaries.{summary_of}
@@ -19,8 +19,13 @@ use Rattle.ea_report.specs.Delivery.{Delivery, all_sent}
 use Rattle.ea_report.specs.Sent.{IsCutBy, IsReason, Stops}
 use Rattle.ea_report.specs.declared.report.WriteFault.{WriteFault}
 use Rattle.ea_report.specs.declared.report.WriteFaultKind.TheVariants.{WriteFailed}
-use Rattle.ea_rank_command.specs.Ranks.{AddsRanks, AreRanks, AreRankTexts, AreDelivered, HasOneSource, IsRankFront, IsRankingCut, IsRankText, StopsRanks, rank_line}
-use Rattle.ea_load.proofs.Outcomes.{IsCutting}
+use Rattle.ea_rank_command.specs.Ranks.{AddsRanks, AreRanks, AreRankTexts, AreDelivered, HasOneSource, IsRankFront, IsRankingCut, IsRankText, StopsRanks, rank_asks, rank_files, rank_line}
+use Rattle.ea_input.specs.Sources.{DenotesSources}
+use Rattle.ea_options.specs.declared.options.RunOptions.{RunOptions}
+use Rattle.ea_load.specs.Asked.{AreSound}
+use Rattle.ea_load.specs.Files.{Extras, IsBorne, IsBorneIfThere, Reading, bytes_there}
+use Rattle.ea_load.specs.Given.{AreGiven, Given}
+use Rattle.ea_load.proofs.Outcomes.{IsCutting, road_there}
 use Rattle.ea_load.specs.declared.answer_fault.AnswerFault.{AnswerFault}
 use Rattle.ea_load.specs.declared.answer_fault.AnswerFault.TheVariants.{Read, Input, BadOption, Write, OutOfMemory}
 
@@ -134,8 +139,8 @@ each_mapped P f holds [] k d lt = absurd (omega arith)
 each_mapped P f holds (x ∷ xs) zero d lt = holds x
 each_mapped P f holds (x ∷ xs) (suc k) d lt = each_mapped P f holds xs k d (omega arith)
 
-pub each_alone : (depart gap : ℕ) (nodes : List ℕ) → All HasOneSource (run_problems false depart gap nodes)
-each_alone depart gap nodes = each_mapped HasOneSource (λ source. asks_all (source ∷ [])) (λ source. record { one = refl; all = refl }) (sources_from depart gap 0 nodes)
+pub each_alone : (plan : Plan) (nodes : List ℕ) → All HasOneSource (run_problems false plan nodes)
+each_alone plan nodes = each_mapped HasOneSource (λ source. asks_all (source ∷ [])) (λ source. record { one = refl; all = refl }) (sources_from plan 0 nodes)
 
 -- The lines are cut short by the device or by refused memory.
 pub ranking_cuts : (heaps seed : ℕ) (roads : Roads) (answers : ℕ → ℕ → ℕ → ℕ → Type 0) (queries : List Asking) (first now : Seen) (fault : AnswerFault) → IsRankingCut heaps seed roads answers queries first now fault → IsCutting fault
@@ -149,3 +154,15 @@ ranking_cuts heaps seed roads answers queries first now BadOption cut = cut
 pub on_ok : {E : Type 0} (P : Type 0) (r : Result (Unit {0}) E) → OnOk r P → IfOk r (λ done. P)
 on_ok P (Ok done) holds = holds
 on_ok P (Err fault) holds = tt
+
+-- ---- no files of times and of nodes
+
+abbrev pub alone : Extras
+alone = record { times = None; nodes = None }
+
+pub alone_sound : {R : Type 0} (options : RunOptions) (seen : R → Seen) (gr starts : Reading) (old new : Option R) (given : Given) (found : List ℕ)
+    → AreGiven DenotesSources gr.old.bytes starts.old.bytes (bytes_there seen old) given found → IsBorne gr → IsBorne starts → IsBorneIfThere seen old new → AreSound (rank_asks options) (rank_files gr starts seen old new) given found alone
+alone_sound options seen gr starts old new given found read of_gr of_starts of_tp = record {
+  road = road_there (rank_asks options) seen gr starts (record { tp = old; times = None; nodes = None }) (record { tp = new; times = None; nodes = None }) given found read of_gr of_starts of_tp;
+  extra = record { times = tt; nodes = tt };
+}

@@ -1,5 +1,5 @@
 -- The lines of rank errors, source by source.
-use Rattle.std.specs.Prelude.{◌≡◌, ◌⊎◌, ℕ, ◌*◌, List, [], ◌∷◌, ◌++◌, false, Option, Ok, codes, decimal, length, take, None}
+use Rattle.std.specs.Prelude.{◌≡◌, ◌⊎◌, ℕ, ◌*◌, List, [], ◌∷◌, ◌++◌, false, Option, Ok, codes, decimal, length, option_map, take, None}
 use Rattle.std.specs.List.{flat_map}
 use Rattle.std.specs.Io.KnownBytes.{Appends}
 use Rattle.ea_bytes.specs.Device.{Seen, BearsOn, GivesUp}
@@ -9,7 +9,9 @@ use Rattle.ea_road.specs.Roads.{Roads}
 use Rattle.ea_road.specs.Queries.{Asking}
 use Rattle.ea_road.specs.declared.source.Source.{Source}
 use Rattle.ea_load.specs.declared.file_fault.FileWord.TheVariants.{Ss}
-use Rattle.ea_load.specs.Starts.{AreWithin, run_problems}
+use Rattle.ea_base.specs.declared.direction.Direction.TheVariants.{Forward}
+use Rattle.ea_load.specs.Files.{ExtraFiles, Reading}
+use Rattle.ea_load.specs.Starts.{AreWithin, Plan, run_problems}
 use Rattle.ea_rank.specs.declared.event.Event.{Event}
 use Rattle.ea_rank.specs.declared.summary.Summary.{Summary}
 use Rattle.ea_rank.specs.Courses.{IsRunBy}
@@ -22,7 +24,7 @@ use Rattle.ea_report.specs.Sent.{Adds, Delivers, IsCutAt, Stops}
 use Rattle.ea_report.specs.declared.report.WriteFaultKind.TheVariants.{WriteFailed}
 use Rattle.ea_options.specs.Limits.{counted_workers}
 use Rattle.ea_options.specs.declared.options.RunOptions.{RunOptions}
-use Rattle.ea_load.specs.Asked.{Asks}
+use Rattle.ea_load.specs.Asked.{Asks, Files}
 use Rattle.ea_rank_command.specs.Generators.{words_from}
 use Rattle.ea_load.specs.declared.answer_fault.AnswerFault.{AnswerFault}
 use Rattle.ea_load.specs.declared.answer_fault.AnswerFault.TheVariants.{Read, Input, BadOption, Write, OutOfMemory}
@@ -107,6 +109,10 @@ module _ (heaps seed : ℕ) (roads : Roads) (answers : ℕ → ℕ → ℕ → �
 
 -- ---- from files
 
+-- Sources depart one after the other, whatever else the options say.
+abbrev pub rank_plan : RunOptions → Plan
+rank_plan options = record { depart = options.depart; gap = options.gap; times = None; direction = Forward }
+
 -- Each source is asked alone, for any `joint`; its lines are those of a run with the heaps of all workers and
 -- the words of the seed.
 abbrev pub rank_asks : RunOptions → Asks (List ℕ) (Unit {0})
@@ -114,8 +120,18 @@ rank_asks options = record {
   word = Ss;
   format = source_format;
   DenotesStarts = DenotesSources;
-  problems = run_problems false options.depart options.gap;
-  AreWithin = λ sources. AreWithin options.depart options.gap (length sources);
-  IsWhole = λ roads answers problems first now done. IsRanking (heaps_of options) options.seed roads answers problems first now;
-  IsCut = λ roads answers problems first now fault. IsRankingCut (heaps_of options) options.seed roads answers problems first now fault;
+  count = λ sources. length sources;
+  direction = Forward;
+  problems = λ sources extras. run_problems false (rank_plan options) sources;
+  AreWithin = λ sources extras. AreWithin (rank_plan options) (length sources);
+  IsWhole = λ nodes roads answers problems first now done. IsRanking (heaps_of options) options.seed roads answers problems first now;
+  IsCut = λ nodes roads answers problems first now fault. IsRankingCut (heaps_of options) options.seed roads answers problems first now fault;
 }
+
+-- There are no files of times and of nodes.
+abbrev pub no_extras : ExtraFiles
+no_extras = record { times_old = None; times_new = None; nodes_old = None; nodes_new = None }
+
+-- The files of rank errors before and after they were read.
+abbrev pub rank_files : {R : Type 0} → Reading → Reading → (R → Seen) → Option R → Option R → Files
+rank_files gr starts seen old new = record { gr = gr; starts = starts; tp_old = option_map seen old; tp_new = option_map seen new; extras = no_extras }

@@ -9,13 +9,13 @@ ghost use Rattle.ea_report.specs.Deliverers.{direct_delivery};
 ghost use Rattle.ea_report.specs.Sent.{Adds, Stops};
 ghost use Rattle.ea_report.specs.declared.report.WriteFaultKind.TheVariants.{WriteFailed};
 ghost use Rattle.ea_options.specs.Limits.{AreOptions};
-ghost use Rattle.ea_load.specs.Asked.{IsAnswered, IsFailed, files_of};
+ghost use Rattle.ea_load.specs.Asked.{IsAnswered, IsFailed};
 ghost use Rattle.ea_load.specs.Posed.{AreProblems, times_on};
-ghost use Rattle.ea_rank_command.specs.Ranks.{AddsRanks, AreRanks, HasOneSource, IsRanking, IsRankingCut, StopsRanks, heaps_of, rank_asks, rank_line};
+ghost use Rattle.ea_rank_command.specs.Ranks.{AddsRanks, AreRanks, HasOneSource, IsRanking, IsRankingCut, StopsRanks, heaps_of, rank_asks, rank_files, rank_line};
 
-use ea_base::{Silent, Watch};
+use ea_base::{Direction, Silent, Watch};
 use ea_bytes::{ByteIn, ByteOut};
-use ea_load::{AnswerFault, Road, departures_fit, read_run, run_queries};
+use ea_load::{AnswerFault, Road, Schedule, departures_fit, read_run, run_queries};
 use ea_options::RunOptions;
 use ea_rank::{Summary, ranks, record_run};
 use ea_report::{Direct, WriteFault};
@@ -42,7 +42,7 @@ fn ranks_of(
     heaps: usize,
     seed: u64,
 ) -> Result<Vec<u64>, AllocError>
-    requires problem { IsProblem road.now.network (length road.now.times.list.items) query.now }
+    requires problem { IsProblem road.now.network (length road.now.times.tables.list.items) query.now }
     requires all { query.now.target ≡ None }
     requires heaps { (2 ≤ heaps) × (heaps ≤ 128) }
     ensures { IfOk result (λ found.
@@ -103,7 +103,7 @@ fn rank_one<W: ByteOut>(
     direct: &mut Direct,
     out: &mut W,
 ) -> Result<(), AnswerFault>
-    requires problem { IsProblem road.now.network (length road.now.times.list.items) query.now }
+    requires problem { IsProblem road.now.network (length road.now.times.tables.list.items) query.now }
     requires one { HasOneSource query.now }
     requires heaps { (2 ≤ heaps) × (heaps ≤ 128) }
     requires room { direct.old.written ≤ MOST_STARTS * 2 ^ 70 }
@@ -169,7 +169,7 @@ fn rank_each<W: ByteOut, V: Watch>(
 /// without pops), and the sum of all. The run has `workers * heaps` heaps and the words of the generator
 /// seeded with `seed`, anew for each source.
 ///
-/// Source i, from 0, departs at `depart + i * gap`; `joint`, `walks`, `stats` and `turns` have no effect.
+/// Source i, from 0, departs at `depart + i * gap`; `joint`, `walks`, `stats`, `turns` and `direction` have no effect.
 /// Files are read as by `answer`, before anything is written. Up to 1,000 interruptions over the whole text
 /// are retried.
 ///
@@ -186,11 +186,11 @@ pub fn rank_report<G: ByteIn, S: ByteIn, T: ByteIn, W: ByteOut>(
 ) -> Result<(), AnswerFault>
     requires options { AreOptions options.now }
     ensures ranked { IfOk result (IsAnswered (rank_asks options.now)
-        (files_of (reading G.seen gr.old gr.new)
+        (rank_files (reading G.seen gr.old gr.new)
         (reading S.seen ss.old ss.new) T.seen tp.old tp.new)
         (W.seen out.old) (W.seen out.new)) }
     ensures unranked { IfErr result (IsFailed (rank_asks options.now)
-        (files_of (reading G.seen gr.old gr.new)
+        (rank_files (reading G.seen gr.old gr.new)
         (reading S.seen ss.old ss.new) T.seen tp.old tp.new)
         (W.seen out.old) (W.seen out.new)) }
 {
@@ -209,21 +209,27 @@ pub fn rank_watched<G: ByteIn, S: ByteIn, T: ByteIn, W: ByteOut, V: Watch>(
 ) -> Result<(), AnswerFault>
     requires options { AreOptions options.now }
     ensures ranked { IfOk result (IsAnswered (rank_asks options.now)
-        (files_of (reading G.seen gr.old gr.new)
+        (rank_files (reading G.seen gr.old gr.new)
         (reading S.seen ss.old ss.new) T.seen tp.old tp.new)
         (W.seen out.old) (W.seen out.new)) }
     ensures unranked { IfErr result (IsFailed (rank_asks options.now)
-        (files_of (reading G.seen gr.old gr.new)
+        (rank_files (reading G.seen gr.old gr.new)
         (reading S.seen ss.old ss.new) T.seen tp.old tp.new)
         (W.seen out.old) (W.seen out.new)) }
 {
     let heaps = heaps_of_run(options);
-    let files = read_run(alloc, gr, ss, tp)?;
-    if !departures_fit(files.sources.len(), options.depart, options.gap) {
+    let files = read_run(alloc, gr, ss, tp, Direction::Forward)?;
+    let schedule = Schedule {
+        depart: options.depart,
+        gap: options.gap,
+        times: None,
+        direction: Direction::Forward,
+    };
+    if !departures_fit(files.sources.len(), schedule) {
         return Err(AnswerFault::BadOption);
     }
     // Each source is a separate problem, for any `joint`.
-    let queries = run_queries(alloc, &files.sources, false, options.depart, options.gap)?;
+    let queries = run_queries(alloc, &files.sources, false, schedule)?;
     rank_each(
         alloc,
         &files.road,

@@ -1,8 +1,9 @@
 -- The text of walks along links.
 use Rattle.std.proofs.Common.{◌≡◌, ◌≢◌, ℕ, zero, suc, ◌+◌, ◌-◌, ◌<◌, ◌≤◌, List, [], ◌∷◌, ◌++◌, length, take, set, get_or, refl, ap, sym, ◌∙◌, subst, inl, inr, arith, append-nil, append_assoc, eqb-true, eq-eqb}
-use Rattle.std.specs.Prelude.{decimal, slice_index, Bool, true, false, ◌==◌, if◌then◌else◌, Some, None}
-use Rattle.std.proofs.lemmas.Bool.{cases_eq}
-use Rattle.std.proofs.lemmas.List.{length-set, length-append, length-take-le, take-set, take-take, take_all, take-append-le, get_or_append_left, get_or-append_right, get_or-take, get_or-set_same, get_or-set_other}
+use Rattle.std.specs.Prelude.{decimal, reverse, slice_index, Bool, true, false, ◌==◌, if◌then◌else◌, Option, Some, None, Result, Ok, Err, OnOk}
+use Rattle.std.specs.Option.{is_some}
+use Rattle.std.proofs.lemmas.Bool.{cases_eq, false≢true}
+use Rattle.std.proofs.lemmas.List.{reverse-append, length-set, length-append, length-take-le, take-set, take-take, take_all, take-append-le, get_or_append_left, get_or-append_right, get_or-take, get_or-set_same, get_or-set_other}
 use Rattle.ea_road.specs.Roads.{IsNode}
 use Rattle.ea_search.specs.declared.link.Link.{Link}
 use Rattle.ea_search.specs.declared.link.TheConstants.{NO_LEVEL}
@@ -11,8 +12,8 @@ use Rattle.ea_paths.specs.Stored.{AreFollowable}
 use Rattle.ea_paths.proofs.Followed.{along-zero, along-back, linked-walk}
 use Rattle.ea_search.specs.Answers.{Answered, walk_of}
 use Rattle.ea_road.specs.declared.TheConstants.{NONE}
-use Rattle.ea_road.specs.Labels.{label_of}
-use Rattle.ea_report.specs.Report.{spaced, walk_line, walk_text}
+use Rattle.ea_road.specs.Labels.{label_of, time_of}
+use Rattle.ea_report.specs.Report.{driven_text, spaced, walk_line, walk_text}
 use Rattle.ea_report.specs.Walks.{arcs_text, AreFronts, IsPath}
 
 -- one arc more
@@ -226,3 +227,42 @@ walk_text_of answer node some = by_test (label_of answer.labels node == NONE) re
 
 pub no_walk_text : (answer : Answered) (node : ℕ) → label_of answer.labels node ≡ NONE → walk_text node (walk_of answer node) ≡ []
 no_walk_text answer node none = rw (eq-eqb (label_of answer.labels node) NONE none) refl
+
+pub driven_text_of : (answer : Answered) (node : ℕ) → label_of answer.labels node ≢ NONE → driven_text node (walk_of answer node) ≡ walk_line node (reverse (linked_walk answer.links node))
+driven_text_of answer node some = by_test (label_of answer.labels node == NONE) refl
+  where
+    by_test : (b : Bool) → (label_of answer.labels node == NONE) ≡ b → driven_text node (if b then None else Some (linked_walk answer.links node)) ≡ walk_line node (reverse (linked_walk answer.links node))
+    by_test true same = absurd (some (eqb-true _ _ same))
+    by_test false differs = refl
+
+pub no_driven_text : (answer : Answered) (node : ℕ) → label_of answer.labels node ≡ NONE → driven_text node (walk_of answer node) ≡ []
+no_driven_text answer node none = rw (eq-eqb (label_of answer.labels node) NONE none) refl
+
+-- a node with an arrival has a label
+pub labelled : (found : Option ℕ) (label : ℕ) → is_some found ≡ true → found ≡ time_of label → label ≢ NONE
+labelled found label some same = λ none. false≢true (sym (rw (eq-eqb label NONE none) refl) ∙ ap (λ (o : Option ℕ). is_some o) (sym same) ∙ some)
+
+pub ok_then : {T E P Q : Type 0} (r : Result T E) → OnOk r P → (P → Q) → OnOk r Q
+ok_then (Ok x) p f = f p
+ok_then (Err e) p f = tt
+
+-- the last arc comes first in the walk the other way round
+pub arc_back : (links : List Link) (node : ℕ) → (link links (link links node).from).level + 1 ≡ (link links node).level
+    → arcs_text (reverse (linked_walk links node)) ≡ spaced (decimal (link links node).arc) ++ arcs_text (reverse (linked_walk links (link links node).from))
+arc_back links node below =
+    let front = linked_walk links (link links node).from in
+    ap (λ (walk : List ℕ). arcs_text (reverse walk)) (one_more links node below) ∙ ap arcs_text (reverse-append front ((link links node).arc ∷ []))
+
+pub no_arc_back : (links : List Link) (node : ℕ) → (link links node).level ≡ 0 → arcs_text (reverse (linked_walk links node)) ≡ []
+no_arc_back links node same = ap (λ (walk : List ℕ). arcs_text (reverse walk)) (linked-walk links node ∙ along-zero links (link links node).level node same)
+
+-- the line of a walk, part by part
+pub walk_line_of : (old word known counted pushed new : List ℕ) (node count : ℕ) (walk : List ℕ) → count ≡ length walk
+    → word ≡ old ++ 119 ∷ [] → known ≡ word ++ spaced (decimal node) → counted ≡ known ++ spaced (decimal count) → pushed ≡ counted ++ arcs_text walk → new ≡ pushed ++ 10 ∷ [] → new ≡ old ++ walk_line node walk
+walk_line_of old word known counted pushed new node count walk same a b c d e =
+    rw (e, d, c, b, a, same) (lines_up (119 ∷ []) (spaced (decimal node)) (spaced (decimal (length walk))) (arcs_text walk) (10 ∷ []))
+  where
+    lines_up : (w x y z e : List ℕ) → ((((old ++ w) ++ x) ++ y) ++ z) ++ e ≡ old ++ ((w ++ (x ++ (y ++ z))) ++ e)
+    lines_up w x y z e =
+        ap (λ t. t ++ e) (append_assoc ((old ++ w) ++ x) y z) ∙ ap (λ t. t ++ e) (append_assoc (old ++ w) x (y ++ z)) ∙ ap (λ t. t ++ e) (append_assoc old w (x ++ (y ++ z)))
+        ∙ append_assoc old (w ++ (x ++ (y ++ z))) e

@@ -1,21 +1,23 @@
 //! Reports, written to a device in large pieces.
-ghost use Rattle.std.specs.Prelude.{◌≡◌, ◌<◌, ◌≤◌, ◌+◌, ◌^◌, ◌*◌, ◌++◌, ℕ, [], List, None, OnOk, IfOk, IfErr, length, true};
+ghost use Rattle.std.specs.Prelude.{◌≡◌, ◌<◌, ◌≤◌, ◌+◌, ◌^◌, ◌*◌, ◌++◌, ℕ, [], All, List, None, OnOk, IfOk, IfErr, length, option_map, true};
 ghost use Rattle.std.specs.List.{flat_map};
-ghost use Rattle.ea_report.specs.Report.{source_line, pair_line, node_text, each_node, problem_text, text_of_all, text_of_target};
+ghost use Rattle.ea_report.specs.Report.{asked_line, each_node, node_count, report_text, reported_node, reported_nodes, start_line};
 ghost use Rattle.ea_report.specs.Delivery.{all_sent};
 ghost use Rattle.ea_report.specs.Deliverers.{delivery_of};
 ghost use Rattle.ea_report.specs.Sent.{Adds, Cuts, GoesOn, IsCutBy, IsWhole, Stops};
-ghost use Rattle.ea_report.specs.Asked.{IsOf};
+ghost use Rattle.ea_report.specs.Asked.{AreChosen, IsOf, chosen_by};
 ghost use Rattle.ea_report.specs.FaultNumbers.{kind_number};
 ghost use Rattle.ea_report.specs.declared.report.TheConstants.{PIECE};
 ghost use Rattle.ea_bytes.specs.Device.{HasGivenUp};
 ghost use Rattle.ea_road.specs.Queries.{IsAskedBy};
 ghost use Rattle.ea_road.specs.Roads.{IsNode};
 
-use crate::lines::{push_node, push_pair, push_source};
+use crate::lines::{push_asked, push_node, push_start};
 use crate::pending_text::Pending;
 use crate::sender::send;
+use crate::style::Style;
 use crate::walk_texts::ArcTexts;
+use ea_base::Direction;
 use ea_bytes::ByteOut;
 use ea_paths::Answer;
 use ea_road::{Network, Query, Source};
@@ -114,42 +116,48 @@ impl Pending {
         }
     }
 
-    /// Adds the line of a source.
-    fn put_source<W: ByteOut>(&mut self, source: Source, out: &mut W) -> Result<(), WriteFault>
+    /// Adds the line of a source or, turned round, of a target.
+    fn put_start<W: ByteOut>(
+        &mut self,
+        source: Source,
+        direction: Direction,
+        out: &mut W,
+    ) -> Result<(), WriteFault>
         requires { self.old.written + 2 ^ 63 < 2 ^ 128 }
         ensures ok { OnOk result (Adds (W.seen out.old) (delivery_of self.old)
-            (W.seen out.new) (delivery_of self.new) (source_line source)) }
+            (W.seen out.new) (delivery_of self.new) (start_line direction source)) }
         ensures err { IfErr result (λ fault. Stops (W.seen out.old) (delivery_of self.old)
-            (W.seen out.new) fault (source_line source)) }
+            (W.seen out.new) fault (start_line direction source)) }
         ensures bound { self.new.written ≤ self.old.written + 2 ^ 63 }
         ensures small { IfErr result (λ fault. fault.written ≤ self.old.written + 2 ^ 63) }
         // Less than a piece is pending.
         ensures held { OnOk result (length self.new.text.items < PIECE) }
     {
-        match push_source(&mut self.text, source) {
+        match push_start(&mut self.text, source, direction) {
             Ok(()) => self.flush_large(out),
             Err(_) => Err(self.fault(WriteFaultKind::OutOfMemory)),
         }
     }
 
-    /// Adds the line of a source and a target.
-    fn put_pair<W: ByteOut>(
+    /// Adds the line of a pair.
+    fn put_asked<W: ByteOut>(
         &mut self,
         source: Source,
         target: u32,
+        direction: Direction,
         out: &mut W,
     ) -> Result<(), WriteFault>
         requires { self.old.written + 2 ^ 63 < 2 ^ 128 }
         ensures ok { OnOk result (Adds (W.seen out.old) (delivery_of self.old)
-            (W.seen out.new) (delivery_of self.new) (pair_line target source)) }
+            (W.seen out.new) (delivery_of self.new) (asked_line direction target source)) }
         ensures err { IfErr result (λ fault. Stops (W.seen out.old) (delivery_of self.old)
-            (W.seen out.new) fault (pair_line target source)) }
+            (W.seen out.new) fault (asked_line direction target source)) }
         ensures bound { self.new.written ≤ self.old.written + 2 ^ 63 }
         ensures small { IfErr result (λ fault. fault.written ≤ self.old.written + 2 ^ 63) }
         // Less than a piece is pending.
         ensures held { OnOk result (length self.new.text.items < PIECE) }
     {
-        match push_pair(&mut self.text, source, target) {
+        match push_asked(&mut self.text, source, target, direction) {
             Ok(()) => self.flush_large(out),
             Err(_) => Err(self.fault(WriteFaultKind::OutOfMemory)),
         }
@@ -161,25 +169,25 @@ impl Pending {
         arcs: &mut ArcTexts<'_>,
         answer: &Answer,
         node: u32,
-        walks: bool,
+        style: Style,
         out: &mut W,
     ) -> Result<(), WriteFault>
         requires room { self.old.written + 2 ^ 63 < 2 ^ 128 }
         requires node { IsNode answer.now.nodes node }
         requires asked { IsAskedBy answer.now.target node }
-        requires walks { walks ≡ true → answer.now.walks ≡ true }
+        requires walks { style.walks ≡ true → answer.now.walks ≡ true }
         requires links { arcs.old.links ≡ answer.now.links }
         ensures links { arcs.new.links ≡ arcs.old.links }
         ensures ok { OnOk result (Adds (W.seen out.old) (delivery_of self.old)
-            (W.seen out.new) (delivery_of self.new) (node_text walks answer.now node)) }
+            (W.seen out.new) (delivery_of self.new) (reported_node style answer.now node)) }
         ensures err { IfErr result (λ fault. Stops (W.seen out.old) (delivery_of self.old)
-            (W.seen out.new) fault (node_text walks answer.now node)) }
+            (W.seen out.new) fault (reported_node style answer.now node)) }
         ensures bound { self.new.written ≤ self.old.written + 2 ^ 63 }
         ensures small { IfErr result (λ fault. fault.written ≤ self.old.written + 2 ^ 63) }
         // Less than a piece is pending.
         ensures held { OnOk result (length self.new.text.items < PIECE) }
     {
-        match push_node(&mut self.text, arcs, answer, node, walks) {
+        match push_node(&mut self.text, arcs, answer, node, style) {
             Ok(()) => self.flush_large(out),
             Err(_) => Err(self.fault(WriteFaultKind::OutOfMemory)),
         }
@@ -191,34 +199,39 @@ impl Pending {
         alloc: Global,
         answer: &Answer,
         node: u32,
-        walks: bool,
+        style: Style,
         out: &mut W,
     ) -> Result<(), WriteFault>
         requires room { self.old.written + 2 ^ 63 < 2 ^ 128 }
         requires node { IsNode answer.now.nodes node }
         requires asked { IsAskedBy answer.now.target node }
-        requires walks { walks ≡ true → answer.now.walks ≡ true }
+        requires walks { style.walks ≡ true → answer.now.walks ≡ true }
         ensures ok { OnOk result (Adds (W.seen out.old) (delivery_of self.old)
-            (W.seen out.new) (delivery_of self.new) (node_text walks answer.now node)) }
+            (W.seen out.new) (delivery_of self.new) (reported_node style answer.now node)) }
         ensures err { IfErr result (λ fault. Stops (W.seen out.old) (delivery_of self.old)
-            (W.seen out.new) fault (node_text walks answer.now node)) }
+            (W.seen out.new) fault (reported_node style answer.now node)) }
         ensures bound { self.new.written ≤ self.old.written + 2 ^ 63 }
         ensures small { IfErr result (λ fault. fault.written ≤ self.old.written + 2 ^ 63) }
         // Less than a piece is pending.
         ensures held { OnOk result (length self.new.text.items < PIECE) }
     {
         let mut arcs = ArcTexts::new(alloc, answer.links());
-        self.put_node(&mut arcs, answer, node, walks, out)
+        self.put_node(&mut arcs, answer, node, style, out)
     }
 
-    /// Adds the lines of sources.
-    fn put_sources<W: ByteOut>(&mut self, sources: &[Source], out: &mut W) -> Result<(), WriteFault>
+    /// Adds the lines of sources or, turned round, of targets.
+    fn put_starts<W: ByteOut>(
+        &mut self,
+        sources: &[Source],
+        direction: Direction,
+        out: &mut W,
+    ) -> Result<(), WriteFault>
         requires room { self.old.written + length sources.now * 2 ^ 63 + 2 ^ 63 < 2 ^ 128 }
         requires held { length self.old.text.items < PIECE }
         ensures ok { OnOk result (Adds (W.seen out.old) (delivery_of self.old)
-            (W.seen out.new) (delivery_of self.new) (flat_map source_line sources.now)) }
+            (W.seen out.new) (delivery_of self.new) (flat_map (start_line direction) sources.now)) }
         ensures err { IfErr result (λ fault. Stops (W.seen out.old) (delivery_of self.old)
-            (W.seen out.new) fault (flat_map source_line sources.now)) }
+            (W.seen out.new) fault (flat_map (start_line direction) sources.now)) }
         ensures bound { self.new.written ≤ self.old.written + length sources.now * 2 ^ 63 }
         ensures small { IfErr result
             (λ fault. fault.written ≤ self.old.written + length sources.now * 2 ^ 63) }
@@ -226,24 +239,25 @@ impl Pending {
         ensures held { OnOk result (length self.new.text.items < PIECE) }
     {
         for source in sources {
-            self.put_source(*source, out)?;
+            self.put_start(*source, direction, out)?;
         }
         Ok(())
     }
 
     /// Adds the lines of sources and their target.
-    fn put_pairs<W: ByteOut>(
+    fn put_all_asked<W: ByteOut>(
         &mut self,
         sources: &[Source],
         target: u32,
+        direction: Direction,
         out: &mut W,
     ) -> Result<(), WriteFault>
         requires room { self.old.written + length sources.now * 2 ^ 63 + 2 ^ 63 < 2 ^ 128 }
         requires held { length self.old.text.items < PIECE }
         ensures ok { OnOk result (Adds (W.seen out.old) (delivery_of self.old)
-            (W.seen out.new) (delivery_of self.new) (flat_map (pair_line target) sources.now)) }
+            (W.seen out.new) (delivery_of self.new) (flat_map (asked_line direction target) sources.now)) }
         ensures err { IfErr result (λ fault. Stops (W.seen out.old) (delivery_of self.old)
-            (W.seen out.new) fault (flat_map (pair_line target) sources.now)) }
+            (W.seen out.new) fault (flat_map (asked_line direction target) sources.now)) }
         ensures bound { self.new.written ≤ self.old.written + length sources.now * 2 ^ 63 }
         ensures small { IfErr result
             (λ fault. fault.written ≤ self.old.written + length sources.now * 2 ^ 63) }
@@ -251,30 +265,30 @@ impl Pending {
         ensures held { OnOk result (length self.new.text.items < PIECE) }
     {
         for source in sources {
-            self.put_pair(*source, target, out)?;
+            self.put_asked(*source, target, direction, out)?;
         }
         Ok(())
     }
 
     /// Adds the lines of each node, all of which are asked.
-    fn put_nodes<W: ByteOut>(
+    fn put_each<W: ByteOut>(
         &mut self,
         alloc: Global,
         answer: &Answer,
         nodes: u32,
-        walks: bool,
+        style: Style,
         out: &mut W,
     ) -> Result<(), WriteFault>
         requires room { self.old.written + nodes * 2 ^ 63 + 2 ^ 63 < 2 ^ 128 }
         requires nodes { answer.now.nodes ≡ nodes }
         requires all { answer.now.target ≡ None }
-        requires walks { walks ≡ true → answer.now.walks ≡ true }
+        requires walks { style.walks ≡ true → answer.now.walks ≡ true }
         requires held { length self.old.text.items < PIECE }
         ensures ok { OnOk result (Adds (W.seen out.old) (delivery_of self.old)
             (W.seen out.new) (delivery_of self.new)
-            (each_node (node_text walks answer.now) nodes)) }
+            (each_node (reported_node style answer.now) nodes)) }
         ensures err { IfErr result (λ fault. Stops (W.seen out.old) (delivery_of self.old)
-            (W.seen out.new) fault (each_node (node_text walks answer.now) nodes)) }
+            (W.seen out.new) fault (each_node (reported_node style answer.now) nodes)) }
         ensures bound { self.new.written ≤ self.old.written + nodes * 2 ^ 63 }
         ensures small { IfErr result (λ fault. fault.written ≤ self.old.written + nodes * 2 ^ 63) }
         // Less than a piece is pending.
@@ -282,17 +296,88 @@ impl Pending {
     {
         let mut arcs = ArcTexts::new(alloc, answer.links());
         for i in 0..nodes {
-            self.put_node(&mut arcs, answer, i + 1, walks, out)?;
+            self.put_node(&mut arcs, answer, i + 1, style, out)?;
         }
         Ok(())
     }
 }
 
+impl Pending {
+    /// Adds the lines of some nodes, in their order.
+    fn put_chosen<W: ByteOut>(
+        &mut self,
+        alloc: Global,
+        answer: &Answer,
+        chosen: &[u32],
+        style: Style,
+        out: &mut W,
+    ) -> Result<(), WriteFault>
+        requires room { self.old.written + length chosen.now * 2 ^ 63 + 2 ^ 63 < 2 ^ 128 }
+        requires nodes { All (IsNode answer.now.nodes) chosen.now }
+        requires all { answer.now.target ≡ None }
+        requires walks { style.walks ≡ true → answer.now.walks ≡ true }
+        requires held { length self.old.text.items < PIECE }
+        ensures ok { OnOk result (Adds (W.seen out.old) (delivery_of self.old)
+            (W.seen out.new) (delivery_of self.new)
+            (flat_map (reported_node style answer.now) chosen.now)) }
+        ensures err { IfErr result (λ fault. Stops (W.seen out.old) (delivery_of self.old)
+            (W.seen out.new) fault (flat_map (reported_node style answer.now) chosen.now)) }
+        ensures bound { self.new.written ≤ self.old.written + length chosen.now * 2 ^ 63 }
+        ensures small { IfErr result
+            (λ fault. fault.written ≤ self.old.written + length chosen.now * 2 ^ 63) }
+        // Less than a piece is pending.
+        ensures held { OnOk result (length self.new.text.items < PIECE) }
+    {
+        let mut arcs = ArcTexts::new(alloc, answer.links());
+        for node in chosen {
+            self.put_node(&mut arcs, answer, *node, style, out)?;
+        }
+        Ok(())
+    }
+
+    /// Adds the lines of the chosen nodes or, if none are chosen, of all.
+    fn put_nodes<W: ByteOut>(
+        &mut self,
+        alloc: Global,
+        answer: &Answer,
+        nodes: u32,
+        options: ReportOptions<'_>,
+        out: &mut W,
+    ) -> Result<(), WriteFault>
+        requires room { self.old.written
+            + node_count (chosen_by options) nodes * 2 ^ 63 + 2 ^ 63 < 2 ^ 128 }
+        requires nodes { answer.now.nodes ≡ nodes }
+        requires chosen { AreChosen nodes (chosen_by options) }
+        requires all { answer.now.target ≡ None }
+        requires walks { options.style.walks ≡ true → answer.now.walks ≡ true }
+        requires held { length self.old.text.items < PIECE }
+        ensures ok { OnOk result (Adds (W.seen out.old) (delivery_of self.old)
+            (W.seen out.new) (delivery_of self.new)
+            (reported_nodes options.entry.style (chosen_by options.entry) nodes answer.now)) }
+        ensures err { IfErr result (λ fault. Stops (W.seen out.old) (delivery_of self.old)
+            (W.seen out.new) fault
+            (reported_nodes options.entry.style (chosen_by options.entry) nodes answer.now)) }
+        ensures bound { self.new.written
+            ≤ self.old.written + node_count (chosen_by options.entry) nodes * 2 ^ 63 }
+        ensures small { IfErr result (λ fault. fault.written
+            ≤ self.old.written + node_count (chosen_by options.entry) nodes * 2 ^ 63) }
+        // Less than a piece is pending.
+        ensures held { OnOk result (length self.new.text.items < PIECE) }
+    {
+        match options.nodes {
+            None => self.put_each(alloc, answer, nodes, options.style, out),
+            Some(chosen) => self.put_chosen(alloc, answer, chosen, options.style, out),
+        }
+    }
+}
+
 /// What a report has beyond arrivals.
-#[derive(Clone, Copy, Debug, PartialEq, Eq)]
-pub struct ReportOptions {
-    /// Whether the walk of each reached node follows its arrival.
-    pub walks: bool,
+#[derive(Clone, Copy, Debug)]
+pub struct ReportOptions<'a> {
+    /// How its lines are written.
+    pub style: Style,
+    /// The nodes that it has, in their order; all nodes if there is no list. A pair has its target alone.
+    pub nodes: Option<&'a [u32]>,
 }
 
 impl Pending {
@@ -303,28 +388,34 @@ impl Pending {
         sources: &[Source],
         answer: &Answer,
         nodes: u32,
-        walks: bool,
+        options: ReportOptions<'_>,
         out: &mut W,
     ) -> Result<(), WriteFault>
         requires start { self.old.written ≡ 0 }
         requires nodes { answer.now.nodes ≡ nodes }
+        requires chosen { AreChosen nodes (chosen_by options) }
         requires all { answer.now.target ≡ None }
-        requires walks { walks ≡ true → answer.now.walks ≡ true }
+        requires walks { options.style.walks ≡ true → answer.now.walks ≡ true }
         requires held { length self.old.text.items < PIECE }
         ensures ok { OnOk result (Adds (W.seen out.old) (delivery_of self.old)
             (W.seen out.new) (delivery_of self.new)
-            (text_of_all walks nodes sources.now answer.now)) }
+            (flat_map (start_line options.entry.style.direction) sources.now
+            ++ reported_nodes options.entry.style (chosen_by options.entry) nodes answer.now)) }
         ensures err { IfErr result (λ fault. Stops (W.seen out.old) (delivery_of self.old)
-            (W.seen out.new) fault (text_of_all walks nodes sources.now answer.now)) }
-        ensures bound { self.new.written ≤ (length sources.now + nodes) * 2 ^ 63 }
+            (W.seen out.new) fault
+            (flat_map (start_line options.entry.style.direction) sources.now
+            ++ reported_nodes options.entry.style (chosen_by options.entry) nodes answer.now)) }
+        ensures bound { self.new.written ≤ (length sources.now
+            + node_count (chosen_by options.entry) nodes) * 2 ^ 63 }
         ensures room { self.new.written < 2 ^ 127 + 2 ^ 96 }
         ensures small { IfErr result
-            (λ fault. fault.written ≤ (length sources.now + nodes) * 2 ^ 63) }
+            (λ fault. fault.written ≤ (length sources.now
+            + node_count (chosen_by options.entry) nodes) * 2 ^ 63) }
         // Less than a piece is pending.
         ensures held { OnOk result (length self.new.text.items < PIECE) }
     {
-        match self.put_sources(sources, out) {
-            Ok(()) => self.put_nodes(alloc, answer, nodes, walks, out),
+        match self.put_starts(sources, options.style.direction, out) {
+            Ok(()) => self.put_nodes(alloc, answer, nodes, options, out),
             Err(fault) => Err(fault),
         }
     }
@@ -336,27 +427,29 @@ impl Pending {
         sources: &[Source],
         answer: &Answer,
         target: u32,
-        walks: bool,
+        style: Style,
         out: &mut W,
     ) -> Result<(), WriteFault>
         requires start { self.old.written ≡ 0 }
         requires node { IsNode answer.now.nodes target }
         requires asked { IsAskedBy answer.now.target target }
-        requires walks { walks ≡ true → answer.now.walks ≡ true }
+        requires walks { style.walks ≡ true → answer.now.walks ≡ true }
         requires held { length self.old.text.items < PIECE }
         ensures ok { OnOk result (Adds (W.seen out.old) (delivery_of self.old)
             (W.seen out.new) (delivery_of self.new)
-            (text_of_target walks target sources.now answer.now)) }
+            (flat_map (asked_line style.direction target) sources.now
+            ++ reported_node style answer.now target)) }
         ensures err { IfErr result (λ fault. Stops (W.seen out.old) (delivery_of self.old)
-            (W.seen out.new) fault (text_of_target walks target sources.now answer.now)) }
+            (W.seen out.new) fault (flat_map (asked_line style.direction target) sources.now
+            ++ reported_node style answer.now target)) }
         ensures bound { self.new.written ≤ (length sources.now + 1) * 2 ^ 63 }
         ensures room { self.new.written < 2 ^ 127 + 2 ^ 96 }
         ensures small { IfErr result (λ fault. fault.written ≤ (length sources.now + 1) * 2 ^ 63) }
         // Less than a piece is pending.
         ensures held { OnOk result (length self.new.text.items < PIECE) }
     {
-        match self.put_pairs(sources, target, out) {
-            Ok(()) => self.put_alone(alloc, answer, target, walks, out),
+        match self.put_all_asked(sources, target, style.direction, out) {
+            Ok(()) => self.put_alone(alloc, answer, target, style, out),
             Err(fault) => Err(fault),
         }
     }
@@ -368,30 +461,35 @@ impl Pending {
         network: &Network,
         query: &Query,
         answer: &Answer,
-        walks: bool,
+        options: ReportOptions<'_>,
         out: &mut W,
     ) -> Result<(), WriteFault>
         requires start { self.old.written ≡ 0 }
         requires of { IsOf network.now query.now answer.now }
-        requires walks { walks ≡ true → answer.now.walks ≡ true }
+        requires chosen { AreChosen network.now.nodes (chosen_by options) }
+        requires walks { options.style.walks ≡ true → answer.now.walks ≡ true }
         requires held { length self.old.text.items < PIECE }
         ensures ok { OnOk result (Adds (W.seen out.old) (delivery_of self.old)
             (W.seen out.new) (delivery_of self.new)
-            (problem_text walks network.now.nodes query.now answer.now)) }
+            (report_text options.entry.style (chosen_by options.entry) network.now.nodes
+            query.now answer.now)) }
         ensures err { IfErr result (λ fault. Stops (W.seen out.old) (delivery_of self.old)
-            (W.seen out.new) fault (problem_text walks network.now.nodes query.now answer.now)) }
+            (W.seen out.new) fault (report_text options.entry.style (chosen_by options.entry) network.now.nodes
+            query.now answer.now)) }
         ensures bound { self.new.written ≤
-            (network.now.nodes + length query.now.sources + 1) * 2 ^ 63 }
+            (node_count (chosen_by options.entry) network.now.nodes
+            + length query.now.sources + 1) * 2 ^ 63 }
         ensures room { self.new.written < 2 ^ 127 + 2 ^ 96 }
         ensures small { IfErr result
-            (λ fault. fault.written ≤ (network.now.nodes + length query.now.sources + 1) * 2 ^ 63) }
+            (λ fault. fault.written ≤ (node_count (chosen_by options.entry) network.now.nodes
+            + length query.now.sources + 1) * 2 ^ 63) }
         // Less than a piece is pending.
         ensures held { OnOk result (length self.new.text.items < PIECE) }
     {
         let sources = query.sources();
         match query.target() {
-            None => self.put_all(alloc, sources, answer, network.nodes(), walks, out),
-            Some(target) => self.put_target(alloc, sources, answer, target, walks, out),
+            None => self.put_all(alloc, sources, answer, network.nodes(), options, out),
+            Some(target) => { self.put_target(alloc, sources, answer, target, options.style, out) }
         }
     }
 }
@@ -402,32 +500,38 @@ fn send_problem<W: ByteOut>(
     network: &Network,
     query: &Query,
     answer: &Answer,
-    walks: bool,
+    options: ReportOptions<'_>,
     out: &mut W,
 ) -> Result<u128, WriteFault>
     requires of { IsOf network.now query.now answer.now }
-    requires walks { walks ≡ true → answer.now.walks ≡ true }
+    requires chosen { AreChosen network.now.nodes (chosen_by options) }
+    requires walks { options.style.walks ≡ true → answer.now.walks ≡ true }
     ensures ok { let before = W.seen out.old in
         let after = W.seen out.new in
         IfOk result (IsWhole before after
-        (problem_text walks network.now.nodes query.now answer.now)) }
+        (report_text options.entry.style (chosen_by options.entry) network.now.nodes
+        query.now answer.now)) }
     ensures err { let before = W.seen out.old in
         let after = W.seen out.new in
         IfErr result (IsCutBy before after
-        (problem_text walks network.now.nodes query.now answer.now)) }
+        (report_text options.entry.style (chosen_by options.entry) network.now.nodes
+        query.now answer.now)) }
     ensures bound { IfOk result
-        (λ written. written ≤ (network.now.nodes + length query.now.sources + 2) * 2 ^ 63) }
+        (λ written. written ≤ (node_count (chosen_by options.entry) network.now.nodes
+        + length query.now.sources + 2) * 2 ^ 63) }
     ensures small { IfErr result
-        (λ fault. fault.written ≤ (network.now.nodes + length query.now.sources + 2) * 2 ^ 63) }
+        (λ fault. fault.written ≤ (node_count (chosen_by options.entry) network.now.nodes
+        + length query.now.sources + 2) * 2 ^ 63) }
 {
     let mut pending = Pending::new(alloc);
-    pending.put_problem(alloc, network, query, answer, walks, out)?;
+    pending.put_problem(alloc, network, query, answer, options, out)?;
     pending.flush(out)?;
     Ok(pending.written)
 }
 
-/// Writes a problem: its sources and each node's arrival, or the pair and the target's arrival, with walks if
-/// they are asked for. Returns the number of bytes written.
+/// Writes a problem: its sources and each node's arrival, or those of chosen nodes, or the pair and the
+/// target's arrival, with walks if they are asked for; turned round, its targets and latest departures. Returns
+/// the number of bytes written.
 ///
 /// Fails with `WriteFailed` if a write failed, took none of the bytes left, or was interrupted for the
 /// 1,001st time; with `OutOfMemory` if memory for the text or a walk was refused. The bytes written before
@@ -441,23 +545,28 @@ pub fn write_problem<W: ByteOut>(
     out: &mut W,
 ) -> Result<u128, WriteFault>
     requires of { IsOf network.now query.now answer.now }
-    requires walks { options.walks ≡ true → answer.now.walks ≡ true }
+    requires chosen { AreChosen network.now.nodes (chosen_by options) }
+    requires walks { options.style.walks ≡ true → answer.now.walks ≡ true }
     ensures ok { let before = W.seen out.old in
         let after = W.seen out.new in
         IfOk result (IsWhole before after
-        (problem_text options.walks network.now.nodes query.now answer.now)) }
+        (report_text options.entry.style (chosen_by options.entry) network.now.nodes
+        query.now answer.now)) }
     ensures err { let before = W.seen out.old in
         let after = W.seen out.new in
         IfErr result (IsCutBy before after
-        (problem_text options.walks network.now.nodes query.now answer.now)) }
+        (report_text options.entry.style (chosen_by options.entry) network.now.nodes
+        query.now answer.now)) }
     // A line has fewer than 2^63 bytes, so a sum over a million problems is below 2^128.
     ensures bound { IfOk result
-        (λ written. written ≤ (network.now.nodes + length query.now.sources + 2) * 2 ^ 63) }
+        (λ written. written ≤ (node_count (chosen_by options.entry) network.now.nodes
+        + length query.now.sources + 2) * 2 ^ 63) }
     ensures small { IfErr result
-        (λ fault. fault.written ≤ (network.now.nodes + length query.now.sources + 2) * 2 ^ 63) }
+        (λ fault. fault.written ≤ (node_count (chosen_by options.entry) network.now.nodes
+        + length query.now.sources + 2) * 2 ^ 63) }
     // WriteFailed only if the device's counts show a reason.
     ensures device { IfErr result (λ fault. fault.kind ≡ WriteFaultKind.WriteFailed →
         HasGivenUp (W.seen out.old) (W.seen out.new)) }
 {
-    send_problem(alloc, network, query, answer, options.walks, out)
+    send_problem(alloc, network, query, answer, options, out)
 }

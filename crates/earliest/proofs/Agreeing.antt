@@ -1,15 +1,18 @@
 -- Two calls with the same answer sent one report.
-use Rattle.std.proofs.Common.{◌≡◌, ℕ, List, ◌++◌, refl, ap, subst}
-use Rattle.std.specs.Prelude.{Option, Some, None, option_map}
+use Rattle.std.proofs.Common.{◌≡◌, ℕ, List, ◌++◌, length, refl, ap, sym, ◌∙◌, subst}
+use Rattle.std.specs.Prelude.{IfSome, Option, Some, None, option_map, unwrap_or}
 use Rattle.std.specs.Io.KnownBytes.{Appends}
+use Rattle.std.proofs.lemmas.Option.{none-some}
+use Rattle.ea_bytes.specs.Device.{Seen}
 use Rattle.ea_bytes.specs.Text.{field_lines}
 use Rattle.ea_input.specs.Sources.{DenotesSources}
 use Rattle.ea_input.specs.Pairs.{DenotesPairs}
-use Rattle.ea_load.specs.Files.{IsAllIfThere}
+use Rattle.ea_input.specs.Times.{DenotesTimes}
+use Rattle.ea_load.specs.Files.{AreExtras, Extras, IsAll, IsAllIfThere, IsFoundIn}
 use Rattle.ea_load.specs.Given.{AreGiven, Denotes, Given}
 use Rattle.earliest.specs.Fronts.{totals_text}
 use Rattle.ea_load.specs.Asked.{Files, tp_had}
-use Rattle.earliest.specs.SameBytes.{AnsweredPairsAgree, AnsweredRunsAgree, Answering, AnswersPairs, AnswersRun, HadTexts, IsPairReport, IsRunReport}
+use Rattle.earliest.specs.SameBytes.{AnsweredPairsAgree, AnsweredRunsAgree, Answering, AnswersPairs, AnswersRun, DenoteExtras, DenotesOptional, HadTexts, IsPairReport, IsRunReport, Sends, Texts, Wanted, wanted_by}
 use Rattle.earliest.proofs.OneReport.{pairs_have_one_report, runs_have_one_report}
 
 -- A known text, if there is one.
@@ -28,36 +31,74 @@ denoted_by DenotesStarts gr starts tp given found read = (
 )
 
 -- The same for readers that had them.
-denoted_had : {X : Type 0} (DenotesStarts : ℕ → List (List (List ℕ)) → X → Type 0) (gr starts : List ℕ) (tp : Option (List ℕ)) (files : Files) (given : Given) (found : X) → HadTexts gr starts tp files → AreGiven DenotesStarts files.gr.old.bytes files.starts.old.bytes (tp_had files) given found
-    → Denotes gr tp given × DenotesStarts given.graph.nodes (field_lines starts) found
-denoted_had {X} DenotesStarts gr starts tp files given found had read =
-    denoted_by DenotesStarts gr starts tp given found (
-    subst (λ (o : Option (List ℕ)). AreGiven DenotesStarts o (Some starts) (option_map Some tp) given found) had.of_gr (
-    subst (λ (o : Option (List ℕ)). AreGiven DenotesStarts files.gr.old.bytes o (option_map Some tp) given found) had.of_starts (
+denoted_had : {X : Type 0} (DenotesStarts : ℕ → List (List (List ℕ)) → X → Type 0) (texts : Texts) (files : Files) (given : Given) (found : X) → HadTexts texts files → AreGiven DenotesStarts files.gr.old.bytes files.starts.old.bytes (tp_had files) given found
+    → Denotes texts.gr texts.tp given × DenotesStarts given.graph.nodes (field_lines texts.starts) found
+denoted_had {X} DenotesStarts texts files given found had read =
+    denoted_by DenotesStarts texts.gr texts.starts texts.tp given found (
+    subst (λ (o : Option (List ℕ)). AreGiven DenotesStarts o (Some texts.starts) (option_map Some texts.tp) given found) had.of_gr (
+    subst (λ (o : Option (List ℕ)). AreGiven DenotesStarts files.gr.old.bytes o (option_map Some texts.tp) given found) had.of_starts (
     subst (λ (o : Option (Option (List ℕ))). AreGiven DenotesStarts files.gr.old.bytes files.starts.old.bytes o given found) had.of_tp read)))
 
-run_report : (gr ss : List ℕ) (tp : Option (List ℕ)) (call : Answering) → (answers : AnswersRun gr ss tp call) → IsRunReport gr ss tp call.options.joint call.options.depart call.options.gap call.options.walks answers.answered.so.report
-run_report gr ss tp call answers =
-    let answered = answers.answered in
-    let denoted = denoted_had DenotesSources gr ss tp call.files answered.given answered.found answers.texts answered.sound.denoted in
-    record { given = answered.given; sources = answered.found; denoted = denoted.0; starts = denoted.1; reported = answered.so.are_reported }
+-- What the known text of an optional file denotes.
+optional_had : {X : Type 0} (IsMeant : List (List (List ℕ)) → X → Type 0) (old new : Option Seen) (text : Option (List ℕ)) (x : Option X) → option_map (λ (seen : Seen). seen.bytes) old ≡ option_map Some text → IsFoundIn IsMeant old new x → DenotesOptional IsMeant text x
+optional_had IsMeant None None None None had found = tt
+optional_had IsMeant None None (Some text) None had found = absurd (none-some _ had)
+optional_had IsMeant (Some old) (Some new) None (Some x) had found = absurd (none-some _ (sym had))
+optional_had IsMeant (Some old) (Some new) (Some text) (Some x) had found =
+    let left : old.bytes ≡ Some text = ap (λ o. unwrap_or o None) had in
+    let all = subst (λ (o : Option (List ℕ)). IsAll o found.0) left found.1.all in
+    subst (λ (t : List ℕ). IsMeant (field_lines t) x) all found.2
+optional_had IsMeant None None text (Some x) had found = absurd found
+optional_had IsMeant None (Some new) text None had found = absurd found
+optional_had IsMeant None (Some new) text (Some x) had found = absurd found
+optional_had IsMeant (Some old) None text None had found = absurd found
+optional_had IsMeant (Some old) None text (Some x) had found = absurd found
+optional_had IsMeant (Some old) (Some new) text None had found = absurd found
 
-pair_report : (gr p2p : List ℕ) (tp : Option (List ℕ)) (call : Answering) → (answers : AnswersPairs gr p2p tp call) → IsPairReport gr p2p tp call.options.depart call.options.gap call.options.walks answers.answered.so.report
-pair_report gr p2p tp call answers =
+extras_had : (texts : Texts) (files : Files) (starts nodes : ℕ) (extras : Extras) → HadTexts texts files → AreExtras starts nodes files.extras extras → DenoteExtras texts starts nodes extras
+extras_had texts files starts nodes extras had are = record {
+  times = optional_had (DenotesTimes starts) files.extras.times_old files.extras.times_new texts.times extras.times had.of_times are.times;
+  nodes = optional_had (DenotesSources nodes) files.extras.nodes_old files.extras.nodes_new texts.nodes extras.nodes had.of_nodes are.nodes;
+}
+
+run_report : (texts : Texts) (call : Answering) → (answers : AnswersRun texts call) → IsRunReport texts (wanted_by call.options) answers.answered.so.report
+run_report texts call answers =
     let answered = answers.answered in
-    let denoted = denoted_had DenotesPairs gr p2p tp call.files answered.given answered.found answers.texts answered.sound.denoted in
-    record { given = answered.given; pairs = answered.found; denoted = denoted.0; starts = denoted.1; reported = answered.so.are_reported }
+    let denoted = denoted_had DenotesSources texts call.files answered.given answered.found answers.had answered.sound.road.denoted in
+    record {
+      given = answered.given;
+      sources = answered.found;
+      extras = answered.extras;
+      denoted = denoted.0;
+      starts = denoted.1;
+      extra = extras_had texts call.files (length answered.found) answered.given.graph.nodes answered.extras answers.had answered.sound.extra;
+      reported = answered.so.are_reported;
+    }
+
+pair_report : (texts : Texts) (call : Answering) → (answers : AnswersPairs texts call) → IsPairReport texts (wanted_by call.options) answers.answered.so.report
+pair_report texts call answers =
+    let answered = answers.answered in
+    let denoted = denoted_had DenotesPairs texts call.files answered.given answered.found answers.had answered.sound.road.denoted in
+    record {
+      given = answered.given;
+      pairs = answered.found;
+      extras = answered.extras;
+      denoted = denoted.0;
+      starts = denoted.1;
+      extra = extras_had texts call.files (length answered.found) answered.given.graph.nodes answered.extras answers.had answered.sound.extra;
+      reported = answered.so.are_reported;
+    }
 
 pub answered_runs_agree : AnsweredRunsAgree
-answered_runs_agree gr ss tp this that alike joint a b =
-    let mine = run_report gr ss tp this a in
-    let yours : IsRunReport gr ss tp this.options.joint this.options.depart this.options.gap this.options.walks b.answered.so.report = rw (joint, alike.depart, alike.gap, alike.walks) (run_report gr ss tp that b) in
-    let same : b.answered.so.report ≡ a.answered.so.report = runs_have_one_report gr ss tp this.options.joint this.options.depart this.options.gap this.options.walks b.answered.so.report a.answered.so.report yours mine in
-    (a.answered.so.report, mine, a.answered.so.appended, subst (λ report. Appends that.first.bytes that.now.bytes (report ++ totals_text that.options that.totals)) same b.answered.so.appended)
+answered_runs_agree texts this that alike a b =
+    let mine = run_report texts this a in
+    let yours = subst (λ (wanted : Wanted). IsRunReport texts wanted b.answered.so.report) (sym alike) (run_report texts that b) in
+    let same : b.answered.so.report ≡ a.answered.so.report = runs_have_one_report texts (wanted_by this.options) b.answered.so.report a.answered.so.report yours mine in
+    (a.answered.so.report, mine, a.answered.so.appended, subst (λ (report : List ℕ). Sends that report) same b.answered.so.appended)
 
 pub answered_pairs_agree : AnsweredPairsAgree
-answered_pairs_agree gr p2p tp this that alike a b =
-    let mine = pair_report gr p2p tp this a in
-    let yours : IsPairReport gr p2p tp this.options.depart this.options.gap this.options.walks b.answered.so.report = rw (alike.depart, alike.gap, alike.walks) (pair_report gr p2p tp that b) in
-    let same : b.answered.so.report ≡ a.answered.so.report = pairs_have_one_report gr p2p tp this.options.depart this.options.gap this.options.walks b.answered.so.report a.answered.so.report yours mine in
-    (a.answered.so.report, mine, a.answered.so.appended, subst (λ report. Appends that.first.bytes that.now.bytes (report ++ totals_text that.options that.totals)) same b.answered.so.appended)
+answered_pairs_agree texts this that alike a b =
+    let mine = pair_report texts this a in
+    let yours = subst (λ (wanted : Wanted). IsPairReport texts wanted b.answered.so.report) (sym alike) (pair_report texts that b) in
+    let same : b.answered.so.report ≡ a.answered.so.report = pairs_have_one_report texts (wanted_by this.options) b.answered.so.report a.answered.so.report yours mine in
+    (a.answered.so.report, mine, a.answered.so.appended, subst (λ (report : List ℕ). Sends that report) same b.answered.so.appended)

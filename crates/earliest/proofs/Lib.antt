@@ -1,4 +1,5 @@
 pub mod Copied
+pub mod Extras
 pub mod Counting
 pub mod Sending
 pub mod Verdicts

@@ -5,17 +5,17 @@ use Rattle.ea_road.specs.Queries.{Asking}
 use Rattle.ea_load.specs.declared.road.Road.{Road}
 use Rattle.ea_load.specs.declared.file_fault.FileFault.{FileFault}
 use Rattle.ea_load.specs.declared.file_fault.FileFault.TheVariants as file
-use Rattle.ea_load.specs.Files.{Reading}
+use Rattle.ea_load.specs.Files.{Extras, Reading}
 use Rattle.ea_load.specs.Given.{Given, IsRoadOf}
 use Rattle.ea_check.specs.Checked.{IsChecked, sources_of}
-use Rattle.ea_check.specs.Form.{lines_of_report}
+use Rattle.ea_check.specs.Form.{report_lines}
 use Rattle.ea_check.specs.declared.fault.CheckFault.{CheckFault}
 use Rattle.ea_load.specs.Asked.{AreSound, Files}
 use Rattle.ea_load.specs.Faults.{answer_fault}
 use Rattle.ea_load.specs.Posed.{times_on}
 use Rattle.ea_load.proofs.Outcomes.{asked}
 use Rattle.ea_options.specs.declared.options.RunOptions.{RunOptions}
-use Rattle.earliest.specs.Checks.{IsReadWhole, IsFirstAtFault, IsJudged, IsUnjudged}
+use Rattle.earliest.specs.Checks.{HasReport, IsFirstAtFault, IsJudged, IsUnjudged}
 use Rattle.earliest.specs.Runs.{run_asks}
 
 module _ (options : RunOptions) (files : Files) (report : Reading) where
@@ -26,12 +26,11 @@ module _ (options : RunOptions) (files : Files) (report : Reading) where
   unread file.OutOfMemory is = (refl, inl is)
 
   -- A verdict on a road is one on what the files denote.
-  pub judged : (given : Given) (found text : List ℕ) → AreSound (run_asks options) files given found → (run_asks options).AreWithin found → IsReadWhole report text → (road : Road) → IsRoadOf given road → (queries : List Asking) → queries ≡ (run_asks options).problems found → (said : List ℕ) → said ≡ text
-      → (verdict : Result (Unit {0}) CheckFault) → IsChecked road.network (times_on road) (sources_of queries) (lines_of_report said) verdict → IsJudged options files report verdict
-  judged given found text sound within whole road is_road queries are said same verdict checked = record {
-    text = text;
-    whole = whole;
-    checked = asked (run_asks options) files given found sound within road is_road queries are
-        (λ roads answers problems. IsChecked roads answers (sources_of problems) (lines_of_report text) verdict)
-        (subst (λ (t : List ℕ). IsChecked road.network (times_on road) (sources_of queries) (lines_of_report t) verdict) same checked);
+  pub judged : (given : Given) (found : List ℕ) (extras : Extras) → AreSound (run_asks options) files given found extras → (run_asks options).AreWithin found extras → (road : Road) → IsRoadOf options.direction given road
+      → (queries : List Asking) → queries ≡ (run_asks options).problems found extras → (verdict : Result (Unit {0}) CheckFault) → HasReport options.direction road.network (times_on road) (sources_of queries) report verdict → IsJudged options files report verdict
+  judged given found extras sound within road is_road queries are verdict has = record {
+    text = has.0;
+    whole = has.1;
+    checked = asked (run_asks options) files given found extras sound within road is_road extras.nodes refl queries are
+        (λ nodes roads answers problems. IsChecked roads answers (sources_of problems) (report_lines options.direction has.0) verdict) has.2;
   }

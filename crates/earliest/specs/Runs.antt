@@ -1,14 +1,18 @@
 -- The problems of runs and pairs, and what is sent.
-use Rattle.std.specs.Prelude.{ℕ, List, length}
+use Rattle.std.specs.Prelude.{ℕ, List, Option, length}
 use Rattle.ea_input.specs.Formats.{source_format, pair_format}
 use Rattle.ea_input.specs.Sources.{DenotesSources}
 use Rattle.ea_input.specs.Pairs.{DenotesPairs}
 use Rattle.ea_load.specs.declared.file_fault.FileWord.TheVariants.{Ss, P2p}
-use Rattle.ea_load.specs.Starts.{AreWithin, run_problems, pair_problems}
+use Rattle.ea_load.specs.Starts.{AreWithin, Plan, run_problems, pair_problems}
 use Rattle.ea_load.specs.Asked.{Asks}
 use Rattle.ea_report.specs.declared.stats.Totals.{Totals}
 use Rattle.ea_options.specs.declared.options.RunOptions.{RunOptions}
 use Rattle.earliest.specs.Fronts.{IsCutShort, IsWritten}
+
+-- When starts depart or have to be reached, by the options and, if there is one, a list of times.
+abbrev pub plan_by : RunOptions → Option (List ℕ) → Plan
+plan_by options times = record { depart = options.depart; gap = options.gap; times = times; direction = options.direction }
 
 -- A run asks each source alone, or all together: the report of its problems and, with statistics, the totals.
 abbrev pub run_asks : RunOptions → Asks (List ℕ) Totals
@@ -16,8 +20,10 @@ run_asks options = record {
   word = Ss;
   format = source_format;
   DenotesStarts = DenotesSources;
-  problems = run_problems options.joint options.depart options.gap;
-  AreWithin = λ sources. AreWithin options.depart options.gap (length sources);
+  count = λ sources. length sources;
+  direction = options.direction;
+  problems = λ sources extras. run_problems options.joint (plan_by options extras.times) sources;
+  AreWithin = λ sources extras. AreWithin (plan_by options extras.times) (length sources);
   IsWhole = IsWritten options;
   IsCut = IsCutShort options;
 }
@@ -28,8 +34,10 @@ pair_asks options = record {
   word = P2p;
   format = pair_format;
   DenotesStarts = DenotesPairs;
-  problems = pair_problems options.depart options.gap 0;
-  AreWithin = λ pairs. AreWithin options.depart options.gap (length pairs);
+  count = λ pairs. length pairs;
+  direction = options.direction;
+  problems = λ pairs extras. pair_problems (plan_by options extras.times) 0 pairs;
+  AreWithin = λ pairs extras. AreWithin (plan_by options extras.times) (length pairs);
   IsWhole = IsWritten options;
   IsCut = IsCutShort options;
 }

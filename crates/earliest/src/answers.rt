@@ -1,19 +1,55 @@
 //! From files to a report.
-ghost use Rattle.std.specs.Prelude.{IfOk, IfErr};
+ghost use Rattle.std.specs.Prelude.{◌≡◌, ◌≤◌, IfOk, IfErr};
+ghost use Rattle.ea_base.specs.declared.limits.TheConstants.{HORIZON};
+ghost use Rattle.ea_load.specs.Extra.{extras_in};
 ghost use Rattle.ea_load.specs.Files.{reading};
 ghost use Rattle.ea_load.specs.Asked.{IsAnswered, IsFailed, files_of};
 ghost use Rattle.ea_options.specs.Limits.{AreOptions};
-ghost use Rattle.earliest.specs.Runs.{run_asks, pair_asks};
+ghost use Rattle.ea_load.specs.Starts.{plan_of};
+ghost use Rattle.ea_report.specs.Asked.{shape_of};
+ghost use Rattle.earliest.specs.Fronts.{shape_by};
+ghost use Rattle.earliest.specs.Runs.{plan_by, run_asks, pair_asks};
 
 use crate::reports::report_all;
 use ea_base::{Silent, Watch};
 use ea_batch::Watched;
 use ea_bytes::{ByteIn, ByteOut};
-use ea_load::{AnswerFault, departures_fit, pair_queries, read_pairs, read_run_by, run_queries};
+use ea_load::{
+    AnswerFault, ExtraLists, OptionalFiles, Schedule, departures_fit, pair_queries, read_extras,
+    read_pairs, read_run_by, run_queries,
+};
 use ea_options::RunOptions;
-use ea_report::Totals;
+use ea_report::{ReportOptions, Style, Totals};
 use std::alloc::Global;
 use std::thread::Threads;
+
+/// When starts depart or have to be reached.
+pub(crate) fn schedule_by<'a>(options: &RunOptions, extras: &'a ExtraLists) -> Schedule<'a>
+    requires { AreOptions options.now }
+    ensures plan { plan_of result ≡ plan_by options.now (extras_in extras.now).times }
+    ensures depart { result.depart ≤ HORIZON }
+    ensures gap { result.gap ≤ HORIZON }
+{
+    Schedule {
+        depart: options.depart,
+        gap: options.gap,
+        times: extras.times(),
+        direction: options.direction,
+    }
+}
+
+/// What a report shows.
+fn shown_by<'a>(options: &RunOptions, extras: &'a ExtraLists) -> ReportOptions<'a>
+    ensures { shape_of result ≡ shape_by options.now (extras_in extras.now).nodes }
+{
+    ReportOptions {
+        style: Style {
+            walks: options.walks,
+            direction: options.direction,
+        },
+        nodes: extras.nodes(),
+    }
+}
 
 /// Answers a run: reads the network, the sources and the timetables, if there are any, and writes the report.
 /// For each source, or with `joint` for all together, it has the earliest arrival at each node; with `walks`
@@ -31,25 +67,21 @@ pub fn answer<H: Threads + Sync, G: ByteIn, S: ByteIn, T: ByteIn, W: ByteOut>(
     rt: &H,
     gr: &mut G,
     ss: &mut S,
-    tp: &mut Option<T>,
+    others: &mut OptionalFiles<T>,
     options: &RunOptions,
     out: &mut W,
 ) -> Result<Totals, AnswerFault>
     requires options { AreOptions options.now }
     ensures answered { IfOk result (IsAnswered (run_asks options.now)
         (files_of (reading G.seen gr.old gr.new)
-        (reading S.seen ss.old ss.new) T.seen tp.old tp.new)
+        (reading S.seen ss.old ss.new) T.seen others.old others.new)
         (W.seen out.old) (W.seen out.new)) }
     ensures failed { IfErr result (IsFailed (run_asks options.now)
         (files_of (reading G.seen gr.old gr.new)
-        (reading S.seen ss.old ss.new) T.seen tp.old tp.new)
+        (reading S.seen ss.old ss.new) T.seen others.old others.new)
         (W.seen out.old) (W.seen out.new)) }
 {
-    let watched = Watched {
-        options,
-        watch: &mut Silent,
-    };
-    answer_watched(alloc, rt, gr, ss, tp, watched, out)
+    answer_watched(alloc, rt, gr, ss, others, options, out, &mut Silent)
 }
 
 /// Like `answer`; calls a watch as problems are done.
@@ -65,33 +97,37 @@ pub(crate) fn answer_watched<
     rt: &H,
     gr: &mut G,
     ss: &mut S,
-    tp: &mut Option<T>,
-    watched: Watched<'_, V>,
+    others: &mut OptionalFiles<T>,
+    options: &RunOptions,
     out: &mut W,
+    watch: &mut V,
 ) -> Result<Totals, AnswerFault>
-    requires options { AreOptions watched.options.now }
-    ensures answered { IfOk result (IsAnswered (run_asks watched.entry.options.now)
+    requires options { AreOptions options.now }
+    ensures answered { IfOk result (IsAnswered (run_asks options.now)
         (files_of (reading G.seen gr.old gr.new)
-        (reading S.seen ss.old ss.new) T.seen tp.old tp.new)
+        (reading S.seen ss.old ss.new) T.seen others.old others.new)
         (W.seen out.old) (W.seen out.new)) }
-    ensures failed { IfErr result (IsFailed (run_asks watched.entry.options.now)
+    ensures failed { IfErr result (IsFailed (run_asks options.now)
         (files_of (reading G.seen gr.old gr.new)
-        (reading S.seen ss.old ss.new) T.seen tp.old tp.new)
+        (reading S.seen ss.old ss.new) T.seen others.old others.new)
         (W.seen out.old) (W.seen out.new)) }
 {
-    let Watched { options, watch } = watched;
-    let files = read_run_by(alloc, rt, gr, ss, tp)?;
-    if !departures_fit(files.sources.len(), options.depart, options.gap) {
+    let files = read_run_by(alloc, rt, gr, ss, &mut others.tp, options.direction)?;
+    let extras = read_extras(
+        alloc,
+        &mut others.times,
+        &mut others.nodes,
+        files.sources.len() as u32,
+        files.road.network.nodes(),
+    )?;
+    let schedule = schedule_by(options, &extras);
+    if !departures_fit(files.sources.len(), schedule) {
         return Err(AnswerFault::BadOption);
     }
-    let queries = run_queries(
-        alloc,
-        &files.sources,
-        options.joint,
-        options.depart,
-        options.gap,
-    )?;
-    report_all(alloc, rt, &files.road, &queries, options, out, watch)
+    let queries = run_queries(alloc, &files.sources, options.joint, schedule)?;
+    let shown = shown_by(options, &extras);
+    let watched = Watched { shown, watch };
+    report_all(alloc, rt, &files.road, &queries, options, watched, out)
 }
 
 /// Answers pairs: like `answer`, with the earliest arrival at the target of each pair alone. Pair i, from 0,
@@ -101,25 +137,21 @@ pub fn answer_pairs<H: Threads + Sync, G: ByteIn, P: ByteIn, T: ByteIn, W: ByteO
     rt: &H,
     gr: &mut G,
     p2p: &mut P,
-    tp: &mut Option<T>,
+    others: &mut OptionalFiles<T>,
     options: &RunOptions,
     out: &mut W,
 ) -> Result<Totals, AnswerFault>
     requires options { AreOptions options.now }
     ensures answered { IfOk result (IsAnswered (pair_asks options.now)
         (files_of (reading G.seen gr.old gr.new)
-        (reading P.seen p2p.old p2p.new) T.seen tp.old tp.new)
+        (reading P.seen p2p.old p2p.new) T.seen others.old others.new)
         (W.seen out.old) (W.seen out.new)) }
     ensures failed { IfErr result (IsFailed (pair_asks options.now)
         (files_of (reading G.seen gr.old gr.new)
-        (reading P.seen p2p.old p2p.new) T.seen tp.old tp.new)
+        (reading P.seen p2p.old p2p.new) T.seen others.old others.new)
         (W.seen out.old) (W.seen out.new)) }
 {
-    let watched = Watched {
-        options,
-        watch: &mut Silent,
-    };
-    pairs_watched(alloc, rt, gr, p2p, tp, watched, out)
+    pairs_watched(alloc, rt, gr, p2p, others, options, out, &mut Silent)
 }
 
 /// Like `answer_pairs`; calls a watch as problems are done.
@@ -135,25 +167,35 @@ pub(crate) fn pairs_watched<
     rt: &H,
     gr: &mut G,
     p2p: &mut P,
-    tp: &mut Option<T>,
-    watched: Watched<'_, V>,
+    others: &mut OptionalFiles<T>,
+    options: &RunOptions,
     out: &mut W,
+    watch: &mut V,
 ) -> Result<Totals, AnswerFault>
-    requires options { AreOptions watched.options.now }
-    ensures answered { IfOk result (IsAnswered (pair_asks watched.entry.options.now)
+    requires options { AreOptions options.now }
+    ensures answered { IfOk result (IsAnswered (pair_asks options.now)
         (files_of (reading G.seen gr.old gr.new)
-        (reading P.seen p2p.old p2p.new) T.seen tp.old tp.new)
+        (reading P.seen p2p.old p2p.new) T.seen others.old others.new)
         (W.seen out.old) (W.seen out.new)) }
-    ensures failed { IfErr result (IsFailed (pair_asks watched.entry.options.now)
+    ensures failed { IfErr result (IsFailed (pair_asks options.now)
         (files_of (reading G.seen gr.old gr.new)
-        (reading P.seen p2p.old p2p.new) T.seen tp.old tp.new)
+        (reading P.seen p2p.old p2p.new) T.seen others.old others.new)
         (W.seen out.old) (W.seen out.new)) }
 {
-    let Watched { options, watch } = watched;
-    let files = read_pairs(alloc, rt, gr, p2p, tp)?;
-    if !departures_fit(files.pairs.len(), options.depart, options.gap) {
+    let files = read_pairs(alloc, rt, gr, p2p, &mut others.tp, options.direction)?;
+    let extras = read_extras(
+        alloc,
+        &mut others.times,
+        &mut others.nodes,
+        files.pairs.len() as u32,
+        files.road.network.nodes(),
+    )?;
+    let schedule = schedule_by(options, &extras);
+    if !departures_fit(files.pairs.len(), schedule) {
         return Err(AnswerFault::BadOption);
     }
-    let queries = pair_queries(alloc, &files.pairs, options.depart, options.gap)?;
-    report_all(alloc, rt, &files.road, &queries, options, out, watch)
+    let queries = pair_queries(alloc, &files.pairs, schedule)?;
+    let shown = shown_by(options, &extras);
+    let watched = Watched { shown, watch };
+    report_all(alloc, rt, &files.road, &queries, options, watched, out)
 }

@@ -1,46 +1,83 @@
 //! Checking reports.
-ghost use Rattle.std.specs.Prelude.{IfOk, IfErr};
+ghost use Rattle.std.specs.Prelude.{IfOk, IfErr, length};
+ghost use Rattle.ea_check.specs.Checked.{AreCheckable, sources_of};
 ghost use Rattle.ea_load.specs.Files.{reading};
 ghost use Rattle.ea_load.specs.Asked.{files_of};
 ghost use Rattle.ea_options.specs.Limits.{AreOptions};
-ghost use Rattle.earliest.specs.Checks.{IsJudged, IsUnjudged};
+ghost use Rattle.ea_load.specs.Posed.{times_on};
+ghost use Rattle.earliest.specs.Checks.{HasReport, IsJudged, IsReportFault, IsUnjudged};
 
-use ea_base::{Silent, Watch};
+use crate::answers::schedule_by;
+use ea_base::{Direction, Silent, Watch};
 use ea_bytes::ByteIn;
-use ea_check::CheckFault;
-use ea_load::{AnswerFault, departures_fit, read_report, read_run, run_queries};
+use ea_check::{CheckFault, check_stream};
+use ea_load::{
+    AnswerFault, FileFault, FileWord, OptionalFiles, Road, departures_fit, read_extras,
+    read_fault_of, read_run, run_queries,
+};
 use ea_options::RunOptions;
+use ea_road::Query;
 use std::alloc::Global;
 
-/// Checks a report of a run: reads the network, the sources, the timetables, if there are any, and the
-/// report. Returns whether it is right: its form, each time the least arrival, and each walk the canonical
-/// one; otherwise its first fault.
+/// The verdict on a report of these searches, which run in a direction.
+fn judge<R: ByteIn, V: Watch>(
+    alloc: Global,
+    road: &Road,
+    queries: &[Query],
+    way: Direction,
+    report: &mut R,
+    watch: &mut V,
+) -> Result<Result<(), CheckFault>, FileFault>
+    requires { AreCheckable road.now.network
+        (length road.now.times.tables.list.items) queries.now }
+    ensures judged { IfOk result (HasReport way road.now.network (times_on road.now)
+        (sources_of queries.now) (reading R.seen report.old report.new)) }
+    ensures fault { IfErr result (IsReportFault (reading R.seen report.old report.new)) }
+{
+    match check_stream(
+        alloc,
+        &road.network,
+        &road.times,
+        queries,
+        way,
+        report,
+        watch,
+    ) {
+        Ok(verdict) => Ok(verdict),
+        Err(fault) => Err(read_fault_of(FileWord::Report, fault)),
+    }
+}
+
+/// Checks a report of a run: reads the network, the sources, the timetables, if there are any, their times, and
+/// the report. Returns whether it is right: its form, each time the least arrival or, turned round, the latest
+/// departure, and each walk the canonical one; otherwise its first fault.
 ///
-/// Source i, from 0, departs at `depart + i * gap`. Files are read in this order, each to its end and at most
-/// 2^33 bytes. With `joint` the sources are one problem; no other option has an effect.
+/// Source i, from 0, departs at `depart + i * gap`, or at its own time. Files are read in this order, each to
+/// its end and at most 2^33 bytes; the report may have any size, and is checked as its bytes come. With `joint`
+/// the sources are one problem; beyond that only `depart`, `gap` and `direction` have an effect.
 ///
 /// Fails with `Read` or `Input` for the first fault of the files in their order, and with `BadOption` for a
-/// departure above 2^48 - 1 if no file has a fault. `OutOfMemory` means that memory was refused before the
-/// check began; during the check it is a `CheckFault`.
+/// departure above 2^48 - 1 if no file has a fault. `OutOfMemory` means that memory was refused while files
+/// were read, the report among them; for the check itself it is a `CheckFault`.
 pub fn check_report<G: ByteIn, S: ByteIn, T: ByteIn, R: ByteIn>(
     alloc: Global,
     gr: &mut G,
     ss: &mut S,
-    tp: &mut Option<T>,
+    others: &mut OptionalFiles<T>,
     options: &RunOptions,
     report: &mut R,
 ) -> Result<Result<(), CheckFault>, AnswerFault>
     requires options { AreOptions options.now }
     ensures judged { IfOk result (IsJudged options.now
         (files_of (reading G.seen gr.old gr.new)
-        (reading S.seen ss.old ss.new) T.seen tp.old tp.new)
+        (reading S.seen ss.old ss.new) T.seen others.old others.new)
         (reading R.seen report.old report.new)) }
     ensures unjudged { IfErr result (IsUnjudged options.now
         (files_of (reading G.seen gr.old gr.new)
-        (reading S.seen ss.old ss.new) T.seen tp.old tp.new)
+        (reading S.seen ss.old ss.new) T.seen others.old others.new)
         (reading R.seen report.old report.new)) }
 {
-    check_watched(alloc, gr, ss, tp, options, report, &mut Silent)
+    check_watched(alloc, gr, ss, others, options, report, &mut Silent)
 }
 
 /// Like `check_report`; calls a watch after each problem.
@@ -48,7 +85,7 @@ pub(crate) fn check_watched<G: ByteIn, S: ByteIn, T: ByteIn, R: ByteIn, V: Watch
     alloc: Global,
     gr: &mut G,
     ss: &mut S,
-    tp: &mut Option<T>,
+    others: &mut OptionalFiles<T>,
     options: &RunOptions,
     report: &mut R,
     watch: &mut V,
@@ -56,33 +93,42 @@ pub(crate) fn check_watched<G: ByteIn, S: ByteIn, T: ByteIn, R: ByteIn, V: Watch
     requires options { AreOptions options.now }
     ensures judged { IfOk result (IsJudged options.now
         (files_of (reading G.seen gr.old gr.new)
-        (reading S.seen ss.old ss.new) T.seen tp.old tp.new)
+        (reading S.seen ss.old ss.new) T.seen others.old others.new)
         (reading R.seen report.old report.new)) }
     ensures unjudged { IfErr result (IsUnjudged options.now
         (files_of (reading G.seen gr.old gr.new)
-        (reading S.seen ss.old ss.new) T.seen tp.old tp.new)
+        (reading S.seen ss.old ss.new) T.seen others.old others.new)
         (reading R.seen report.old report.new)) }
 {
-    let files = read_run(alloc, gr, ss, tp)?;
-    let text = read_report(alloc, report)?;
-    if !departures_fit(files.sources.len(), options.depart, options.gap) {
+    let files = read_run(alloc, gr, ss, &mut others.tp, options.direction)?;
+    let extras = read_extras(
+        alloc,
+        &mut others.times,
+        &mut others.nodes,
+        files.sources.len() as u32,
+        files.road.network.nodes(),
+    )?;
+    let schedule = schedule_by(options, &extras);
+    if !departures_fit(files.sources.len(), schedule) {
+        // The report's own fault comes before.
+        let _ = judge(
+            alloc,
+            &files.road,
+            &[],
+            options.direction,
+            report,
+            &mut Silent,
+        )?;
         return Err(AnswerFault::BadOption);
     }
-    let queries = run_queries(
+    let queries = run_queries(alloc, &files.sources, options.joint, schedule)?;
+    let verdict = judge(
         alloc,
-        &files.sources,
-        options.joint,
-        options.depart,
-        options.gap,
-    )?;
-    let road = &files.road;
-    let verdict = ea_check::check_watched(
-        alloc,
-        &road.network,
-        &road.times,
+        &files.road,
         &queries,
-        &text,
+        options.direction,
+        report,
         watch,
-    );
+    )?;
     Ok(verdict)
 }

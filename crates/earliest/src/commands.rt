@@ -7,7 +7,6 @@ ghost use Rattle.earliest.specs.Performed.{IsPerformed, outcome_by, performed_on
 use crate::answers::{answer_watched, pairs_watched};
 use crate::checks::check_watched;
 use ea_base::Watch;
-use ea_batch::Watched;
 use ea_bytes::{ByteIn, ByteOut};
 use ea_check::CheckFault;
 use ea_load::AnswerFault;
@@ -53,9 +52,10 @@ pub fn perform<H: Threads + Sync, R: ByteIn, W: ByteOut, V: Watch>(
                 rt,
                 gr,
                 &mut files.starts,
-                &mut files.tp,
-                Watched { options, watch },
+                &mut files.others,
+                options,
                 out,
+                watch,
             ) {
                 Ok(totals) => Ok(Performed::Reported(totals)),
                 Err(fault) => Err(fault),
@@ -68,9 +68,10 @@ pub fn perform<H: Threads + Sync, R: ByteIn, W: ByteOut, V: Watch>(
                 rt,
                 gr,
                 &mut files.starts,
-                &mut files.tp,
-                Watched { options, watch },
+                &mut files.others,
+                options,
                 out,
+                watch,
             ) {
                 Ok(totals) => Ok(Performed::Reported(totals)),
                 Err(fault) => Err(fault),
@@ -78,7 +79,7 @@ pub fn perform<H: Threads + Sync, R: ByteIn, W: ByteOut, V: Watch>(
         }
         Command::Rank { options, .. } => {
             let gr = &mut files.gr;
-            let tp = &mut files.tp;
+            let tp = &mut files.others.tp;
             match rank_watched(alloc, gr, &mut files.starts, tp, options, out, watch) {
                 Ok(()) => Ok(Performed::Ranked),
                 Err(fault) => Err(fault),
@@ -92,7 +93,7 @@ pub fn perform<H: Threads + Sync, R: ByteIn, W: ByteOut, V: Watch>(
                         alloc,
                         gr,
                         &mut files.starts,
-                        &mut files.tp,
+                        &mut files.others,
                         options,
                         report,
                         watch,

@@ -10,7 +10,9 @@ ghost use Rattle.ea_report.specs.declared.stats.Totals.{Totals};
 ghost use Rattle.ea_options.specs.Limits.{AreOptions};
 ghost use Rattle.ea_load.specs.Posed.{AreProblems, times_on};
 ghost use Rattle.ea_batch.specs.Sent.{AreSent, IsSent, IsStoppedBy};
-ghost use Rattle.ea_batch.specs.Solved.{AnswersOn, ArrivesOn, Serves};
+ghost use Rattle.ea_batch.specs.Solved.{AnswersOn, ArrivesOn, IsShown, Serves};
+ghost use Rattle.ea_report.specs.Asked.{chosen_by, shape_of};
+ghost use Rattle.earliest.specs.Fronts.{shape_by};
 ghost use Rattle.earliest.specs.Counted.{AreBalanced, AreSmall, AreTotals, IsTotal, plus, totals_of};
 ghost use Rattle.earliest.specs.Fronts.{IsCutShort, IsWritten};
 ghost use Rattle.earliest.specs.Workers.{settings_by};
@@ -22,7 +24,7 @@ use ea_batch::{Progress, Watched, report_ahead};
 use ea_bytes::ByteOut;
 use ea_load::{AnswerFault, Road};
 use ea_options::RunOptions;
-use ea_report::{Totals, write_stats};
+use ea_report::{ReportOptions, Totals, write_stats};
 use ea_road::Query;
 use std::alloc::Global;
 use std::thread::Threads;
@@ -58,22 +60,26 @@ impl Reports {
         road: &Road,
         query: &Query,
         found: &Found,
-        walks: bool,
+        shown: ReportOptions<'_>,
         out: &mut W,
     ) -> Result<(), AnswerFault>
-        requires problem { IsProblem road.now.network (length road.now.times.list.items) query.now }
+        requires problem { IsProblem road.now.network (length road.now.times.tables.list.items) query.now }
         requires few { (length query.now.sources ≤ MOST_STARTS)
             × (road.now.network.nodes ≤ MOST_NODES) }
         requires arrivals { ArrivesOn road.now query.now found.now.answer }
-        requires canonical { walks ≡ true → AnswersOn road.now query.now found.now.answer }
+        requires shown { IsShown road.now.network (shape_of shown) }
+        requires canonical { shown.style.walks ≡ true
+            → AnswersOn road.now query.now found.now.answer }
         requires room { self.old.progress.written ≤ MOST_STARTS * 2 ^ 90 }
         requires small { ((problems : ℕ) × (problems < MOST_STARTS)
             × AreSmall problems self.old.totals)
             × AreSmall 1 found.now.totals }
         requires balanced { AreBalanced self.old.totals × AreBalanced found.now.totals }
-        ensures ok { OnOk result (IsSent walks road.now.network (times_on road.now) query.now
+        ensures ok { OnOk result (IsSent
+            (shape_of shown.entry) road.now.network (times_on road.now) query.now
             (W.seen out.old) (W.seen out.new) self.old.progress.written self.new.progress.written) }
-        ensures err { IfErr result (IsStoppedBy walks road.now.network (times_on road.now) query.now
+        ensures err { IfErr result (IsStoppedBy
+            (shape_of shown.entry) road.now.network (times_on road.now) query.now
             (W.seen out.old) (W.seen out.new) self.old.progress.written) }
         ensures bound { OnOk result (self.new.progress.written ≤ self.old.progress.written + 2 ^ 90) }
         ensures totals { OnOk result (self.new.totals ≡ plus self.old.totals found.now.totals) }
@@ -83,7 +89,7 @@ impl Reports {
         ensures search { self.new.progress.search ≡ self.old.progress.search }
     {
         self.progress
-            .write(alloc, road, query, &found.answer, walks, out)?;
+            .write(alloc, road, query, &found.answer, shown, out)?;
         add_totals(&mut self.totals, &found.totals);
         Ok(())
     }
@@ -97,22 +103,26 @@ impl Reports {
         road: &Road,
         query: &Query,
         options: &RunOptions,
+        shown: ReportOptions<'_>,
         out: &mut W,
     ) -> Result<(), AnswerFault>
-        requires problem { IsProblem road.now.network (length road.now.times.list.items) query.now }
+        requires problem { IsProblem road.now.network (length road.now.times.tables.list.items) query.now }
         requires few { (length query.now.sources ≤ MOST_STARTS)
             × (road.now.network.nodes ≤ MOST_NODES) }
         requires options { AreOptions options.now }
+        requires walks { shown.style.walks ≡ options.now.walks }
+        requires shown { IsShown road.now.network (shape_of shown) }
         requires room { self.old.progress.written ≤ MOST_STARTS * 2 ^ 90 }
         requires small { (problems : ℕ) × (problems < MOST_STARTS)
             × AreSmall problems self.old.totals }
         requires balanced { AreBalanced self.old.totals }
-        requires search { IfSome self.old.progress.search (Serves road.now.network options.now.walks) }
+        requires search { IfSome self.old.progress.search
+            (Serves road.now.network shown.style.walks) }
         ensures ok { OnOk result (IsSent
-            options.now.walks road.now.network (times_on road.now) query.now
+            (shape_of shown.entry) road.now.network (times_on road.now) query.now
             (W.seen out.old) (W.seen out.new) self.old.progress.written self.new.progress.written) }
         ensures err { IfErr result (IsStoppedBy
-            options.now.walks road.now.network (times_on road.now) query.now
+            (shape_of shown.entry) road.now.network (times_on road.now) query.now
             (W.seen out.old) (W.seen out.new) self.old.progress.written) }
         ensures bound { OnOk result (self.new.progress.written ≤ self.old.progress.written + 2 ^ 90) }
         ensures counted { OnOk result (options.now.stats ≡ true →
@@ -121,16 +131,15 @@ impl Reports {
         ensures balanced { OnOk result (AreBalanced self.new.totals) }
         ensures small { OnOk result ((problems : ℕ) →
             AreSmall problems self.old.totals → AreSmall (problems + 1) self.new.totals) }
-        ensures search { IfSome self.new.progress.search (Serves road.now.network options.now.walks) }
+        ensures search { IfSome self.new.progress.search
+            (Serves road.now.network shown.entry.style.walks) }
     {
         let workers = workers_of(rt, road, query, options);
         if workers == 1 && !options.stats {
-            return self
-                .progress
-                .report_alone(alloc, road, query, options.walks, out);
+            return self.progress.report_alone(alloc, road, query, shown, out);
         }
         match find(alloc, rt, road, query, options, workers) {
-            Ok(found) => self.write_found(alloc, road, query, &found, options.walks, out),
+            Ok(found) => self.write_found(alloc, road, query, &found, shown, out),
             Err(_) => Err(AnswerFault::OutOfMemory {
                 written: self.progress.written,
             }),
@@ -145,29 +154,34 @@ fn report_each<H: Threads + Sync, W: ByteOut, V: Watch>(
     road: &Road,
     queries: &[Query],
     options: &RunOptions,
+    watched: Watched<'_, V>,
     out: &mut W,
-    watch: &mut V,
 ) -> Result<Reports, AnswerFault>
     requires problems { AreProblems road.now queries.now }
     requires few { (length queries.now ≤ MOST_STARTS) × (road.now.network.nodes ≤ MOST_NODES) }
     requires options { AreOptions options.now }
+    requires asked { shape_of watched.shown
+        ≡ shape_by options.now (chosen_by watched.shown) }
+    requires shown { IsShown road.now.network (shape_of watched.shown) }
     ensures ok { IfOk result (λ reports.
-        AreSent options.now.walks road.now.network (times_on road.now) queries.now
+        AreSent (shape_of watched.entry.shown) road.now.network (times_on road.now) queries.now
         (W.seen out.old) (W.seen out.new) reports.progress.written) }
     ensures err { IfErr result
-        (IsCutShort options.now road.now.network (times_on road.now) queries.now
+        (IsCutShort options.now (chosen_by watched.entry.shown)
+        road.now.network (times_on road.now) queries.now
         (W.seen out.old) (W.seen out.new)) }
     ensures bound { IfOk result (λ reports. reports.progress.written ≤ MOST_STARTS * 2 ^ 90) }
     ensures counted { IfOk result (λ reports. options.now.stats ≡ true
         → AreTotals (settings_by options.now) queries.now reports.totals) }
     ensures balanced { IfOk result (λ reports. AreBalanced reports.totals) }
 {
+    let Watched { shown, watch } = watched;
     let mut reports = Reports::begin();
     // Proof hint: the count fits in u64.
     let _ = out.interruptions();
     let mut done = 0;
     for query in queries {
-        reports.report(alloc, rt, road, query, options, out)?;
+        reports.report(alloc, rt, road, query, options, shown, out)?;
         done += 1;
         watch.did(done, queries.len());
     }
@@ -182,28 +196,33 @@ fn report_problems<H: Threads + Sync, W: ByteOut, V: Watch>(
     road: &Road,
     queries: &[Query],
     options: &RunOptions,
+    watched: Watched<'_, V>,
     out: &mut W,
-    watch: &mut V,
 ) -> Result<Reports, AnswerFault>
     requires problems { AreProblems road.now queries.now }
     requires few { (length queries.now ≤ MOST_STARTS) × (road.now.network.nodes ≤ MOST_NODES) }
     requires options { AreOptions options.now }
+    requires asked { shape_of watched.shown
+        ≡ shape_by options.now (chosen_by watched.shown) }
+    requires shown { IsShown road.now.network (shape_of watched.shown) }
     ensures ok { IfOk result (λ reports.
-        AreSent options.now.walks road.now.network (times_on road.now) queries.now
+        AreSent (shape_of watched.entry.shown) road.now.network (times_on road.now) queries.now
         (W.seen out.old) (W.seen out.new) reports.progress.written) }
     ensures err { IfErr result
-        (IsCutShort options.now road.now.network (times_on road.now) queries.now
+        (IsCutShort options.now (chosen_by watched.entry.shown)
+        road.now.network (times_on road.now) queries.now
         (W.seen out.old) (W.seen out.new)) }
     ensures bound { IfOk result (λ reports. reports.progress.written ≤ MOST_STARTS * 2 ^ 90) }
     ensures counted { IfOk result (λ reports. options.now.stats ≡ true
         → AreTotals (settings_by options.now) queries.now reports.totals) }
     ensures balanced { IfOk result (λ reports. AreBalanced reports.totals) }
 {
+    let Watched { shown, watch } = watched;
+    let watched = Watched { shown, watch };
     let threads = threads_at_once(rt, options);
     if options.stats || options.workers.unwrap_or(1) > 1 || threads == 1 || queries.len() < 2 {
-        report_each(alloc, rt, road, queries, options, out, watch)
+        report_each(alloc, rt, road, queries, options, watched, out)
     } else {
-        let watched = Watched { options, watch };
         match report_ahead(alloc, rt, road, queries, watched, threads, out) {
             Ok(progress) => Ok(Reports {
                 totals: no_totals(),
@@ -245,19 +264,26 @@ pub(crate) fn report_all<H: Threads + Sync, W: ByteOut, V: Watch>(
     road: &Road,
     queries: &[Query],
     options: &RunOptions,
+    watched: Watched<'_, V>,
     out: &mut W,
-    watch: &mut V,
 ) -> Result<Totals, AnswerFault>
     requires problems { AreProblems road.now queries.now }
     requires few { (length queries.now ≤ MOST_STARTS) × (road.now.network.nodes ≤ MOST_NODES) }
     requires options { AreOptions options.now }
-    ensures ok { IfOk result (IsWritten options.now road.now.network (times_on road.now) queries.now
+    requires asked { shape_of watched.shown
+        ≡ shape_by options.now (chosen_by watched.shown) }
+    requires shown { IsShown road.now.network (shape_of watched.shown) }
+    ensures ok { IfOk result (IsWritten options.now (chosen_by watched.entry.shown)
+        road.now.network (times_on road.now) queries.now
         (W.seen out.old) (W.seen out.new)) }
     ensures err { IfErr result
-        (IsCutShort options.now road.now.network (times_on road.now) queries.now
+        (IsCutShort options.now (chosen_by watched.entry.shown)
+        road.now.network (times_on road.now) queries.now
         (W.seen out.old) (W.seen out.new)) }
 {
-    let reports = report_problems(alloc, rt, road, queries, options, out, watch)?;
+    let Watched { shown, watch } = watched;
+    let watched = Watched { shown, watch };
+    let reports = report_problems(alloc, rt, road, queries, options, watched, out)?;
     match write_totals(&reports, options.stats, out) {
         Ok(()) => Ok(reports.totals),
         Err(fault) => Err(fault),

@@ -257,7 +257,7 @@ fn find_walks<H: Threads + Sync, R: Rng + Send + Drop, T: FnMut(Turn) -> Flow + 
     rngs: Vec<R>,
     tracers: Vec<T>,
 ) -> Result<Found, AllocError>
-    requires problem { IsProblem road.now.network (length road.now.times.list.items) query.now }
+    requires problem { IsProblem road.now.network (length road.now.times.tables.list.items) query.now }
     requires few { length query.now.sources ≤ MOST_STARTS }
     requires settings { AreSettings settings }
     requires workers { (vec_len rngs ≡ settings.workers) × (vec_len tracers ≡ settings.workers) }
@@ -303,7 +303,7 @@ fn find_arrivals<H: Threads + Sync, R: Rng + Send + Drop, T: FnMut(Turn) -> Flow
     rngs: Vec<R>,
     tracers: Vec<T>,
 ) -> Result<Found, AllocError>
-    requires problem { IsProblem road.now.network (length road.now.times.list.items) query.now }
+    requires problem { IsProblem road.now.network (length road.now.times.tables.list.items) query.now }
     requires few { length query.now.sources ≤ MOST_STARTS }
     requires settings { AreSettings settings }
     requires workers { (vec_len rngs ≡ settings.workers) × (vec_len tracers ≡ settings.workers) }
@@ -350,7 +350,7 @@ fn find_by<H: Threads + Sync, R: Rng + Send + Drop, T: FnMut(Turn) -> Flow + Sen
     tracer: T,
 ) -> Result<Found, AllocError>
     requires problem { IsProblem asked.road.now.network
-        (length asked.road.now.times.list.items) asked.query.now }
+        (length asked.road.now.times.tables.list.items) asked.query.now }
     requires few { length asked.query.now.sources ≤ MOST_STARTS }
     requires settings { AreSettings settings }
     requires workers { vec_len rngs ≡ settings.workers }
@@ -382,7 +382,7 @@ pub(crate) fn find<H: Threads + Sync>(
     options: &RunOptions,
     workers: u32,
 ) -> Result<Found, AllocError>
-    requires problem { IsProblem road.now.network (length road.now.times.list.items) query.now }
+    requires problem { IsProblem road.now.network (length road.now.times.tables.list.items) query.now }
     requires few { length query.now.sources ≤ MOST_STARTS }
     requires options { AreOptions options.now }
     requires workers { (1 ≤ workers) × (workers ≤ MOST_WORKERS) }

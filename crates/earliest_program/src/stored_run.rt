@@ -1,7 +1,7 @@
 //! The built-in run, which is done without words.
 use ea_bytes::{StdIn, StdOut};
 use ea_cli::{Output, tell};
-use earliest::{AnswerFault, Outcome, RunOptions, answer};
+use earliest::{AnswerFault, Direction, OptionalFiles, Outcome, RunOptions, answer};
 use std::io::IsTerminal;
 use std::thread::Threads;
 
@@ -23,6 +23,7 @@ const DEFAULTS: RunOptions = RunOptions {
     seed: 1,
     depart: 0,
     gap: 0,
+    direction: Direction::Forward,
 };
 
 /// Printed after it on a terminal.
@@ -33,14 +34,14 @@ const MORE: &str =
 pub fn stored<H: Threads + Sync>(rt: &HostRuntime, threads: &H) -> u8 {
     let mut gr = StdIn::new(GRAPH);
     let mut ss = StdIn::new(SOURCES);
-    let mut tp: Option<StdIn<&[u8]>> = None;
+    let mut others: OptionalFiles<StdIn<&[u8]>> = OptionalFiles::only_tp(None);
     let mut output = Output::standard(rt);
     let answered = answer(
         rt.alloc(),
         threads,
         &mut gr,
         &mut ss,
-        &mut tp,
+        &mut others,
         &DEFAULTS,
         &mut StdOut::new(&mut output),
     );

@@ -2,7 +2,7 @@
 ghost use Rattle.ea_options.specs.Limits.{AreOptions};
 
 use ea_bytes::{StdIn, StdOut};
-use earliest::{AnswerFault, RunOptions, Totals, answer, answer_pairs};
+use earliest::{AnswerFault, Direction, OptionalFiles, RunOptions, Totals, answer, answer_pairs};
 use std::thread::Threads;
 
 /// The options by default.
@@ -19,6 +19,7 @@ pub const DEFAULTS: RunOptions = RunOptions {
     seed: 1,
     depart: 0,
     gap: 0,
+    direction: Direction::Forward,
 };
 
 pub const WALKS: RunOptions = RunOptions {
@@ -59,14 +60,14 @@ pub fn run<H: Threads + Sync>(
 {
     let mut gr = StdIn::new(texts.gr);
     let mut ss = StdIn::new(texts.starts);
-    let mut tp = texts.tp.map(StdIn::new);
+    let mut others = OptionalFiles::only_tp(texts.tp.map(StdIn::new));
     let mut out = StdOut::new(room);
     answer(
         rt.alloc(),
         threads,
         &mut gr,
         &mut ss,
-        &mut tp,
+        &mut others,
         options,
         &mut out,
     )
@@ -84,14 +85,14 @@ pub fn run_pairs<H: Threads + Sync>(
 {
     let mut gr = StdIn::new(texts.gr);
     let mut p2p = StdIn::new(texts.starts);
-    let mut tp = texts.tp.map(StdIn::new);
+    let mut others = OptionalFiles::only_tp(texts.tp.map(StdIn::new));
     let mut out = StdOut::new(room);
     answer_pairs(
         rt.alloc(),
         threads,
         &mut gr,
         &mut p2p,
-        &mut tp,
+        &mut others,
         options,
         &mut out,
     )

@@ -4,7 +4,10 @@ ghost use Rattle.ea_options.specs.Limits.{AreOptions};
 
 use ea_blocks::{FaultKind, InputFault};
 use ea_bytes::{ReadFault, StdIn, StdOut};
-use earliest::{AnswerFault, CheckFault, FileWord, RunOptions, check_report, rank_report};
+use earliest::{
+    AnswerFault, CheckFault, Direction, FileWord, OptionalFiles, RunOptions, check_report,
+    rank_report,
+};
 use std::alloc::Global;
 use std::io::{self, Error, ErrorKind, Read, Write};
 use std::test::Fail;
@@ -37,6 +40,7 @@ fn options_from(depart: u64, gap: u64) -> RunOptions
         seed: 1,
         depart,
         gap,
+        direction: Direction::Forward,
     }
 }
 
@@ -54,10 +58,10 @@ impl Read for Failing {
 fn said_of(alloc: Global, report: &[u8]) -> Result<Result<(), CheckFault>, AnswerFault> {
     let mut gr = StdIn::new(FOUR_NODES);
     let mut ss = StdIn::new(SOURCE);
-    let mut tp: Option<StdIn<&[u8]>> = None;
+    let mut others: OptionalFiles<StdIn<&[u8]>> = OptionalFiles::only_tp(None);
     let mut report = StdIn::new(report);
     let options = options_from(0, 0);
-    check_report(alloc, &mut gr, &mut ss, &mut tp, &options, &mut report)
+    check_report(alloc, &mut gr, &mut ss, &mut others, &options, &mut report)
 }
 
 #[test]
@@ -92,10 +96,12 @@ fn check_form(rt: HostRuntime) {
 fn said_of_fifteen(alloc: Global, report: &[u8]) -> Result<Result<(), CheckFault>, AnswerFault> {
     let mut gr = StdIn::new(b"p sp 4 4\na 1 2 4\na 1 3 1\na 3 2 1\na 2 4 5\n".as_slice());
     let mut ss = StdIn::new(SOURCE);
-    let mut tp = Some(StdIn::new(b"p tp 1 1\nk 1 every 10 0\nt 4 1\n".as_slice()));
+    let mut others = OptionalFiles::only_tp(Some(StdIn::new(
+        b"p tp 1 1\nk 1 every 10 0\nt 4 1\n".as_slice(),
+    )));
     let mut report = StdIn::new(report);
     let options = options_from(1, 0);
-    check_report(alloc, &mut gr, &mut ss, &mut tp, &options, &mut report)
+    check_report(alloc, &mut gr, &mut ss, &mut others, &options, &mut report)
 }
 
 #[test]
@@ -121,17 +127,17 @@ fn check_faults_come_in_order(rt: HostRuntime) {
     let late = options_from(HORIZON, 1);
     let mut gr = StdIn::new(FOUR_NODES);
     let mut ss = StdIn::new(TWO_SOURCES);
-    let mut tp: Option<StdIn<&[u8]>> = None;
+    let mut others: OptionalFiles<StdIn<&[u8]>> = OptionalFiles::only_tp(None);
     let mut failing = StdIn::new(Failing);
     assert_eq!(rt;
-        check_report(alloc, &mut gr, &mut ss, &mut tp, &late, &mut failing),
+        check_report(alloc, &mut gr, &mut ss, &mut others, &late, &mut failing),
         Err(unread)
     );
     let mut gr = StdIn::new(FOUR_NODES);
     let mut ss = StdIn::new(TWO_SOURCES);
     let mut report = StdIn::new(REPORT);
     assert_eq!(rt;
-        check_report(alloc, &mut gr, &mut ss, &mut tp, &late, &mut report),
+        check_report(alloc, &mut gr, &mut ss, &mut others, &late, &mut report),
         Err(AnswerFault::BadOption)
     );
     let mut gr = StdIn::new(b"p max 4 5\n".as_slice());
@@ -145,7 +151,7 @@ fn check_faults_come_in_order(rt: HostRuntime) {
         },
     };
     assert_eq!(rt;
-        check_report(alloc, &mut gr, &mut ss, &mut tp, &late, &mut failing),
+        check_report(alloc, &mut gr, &mut ss, &mut others, &late, &mut failing),
         Err(bad)
     );
 }

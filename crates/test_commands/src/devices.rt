@@ -2,7 +2,7 @@
 use crate::asked::{DEFAULTS, FROM_ONE, GRAPH, Texts, from_one, holds, run, run_pairs};
 use ea_blocks::{FaultKind, InputFault};
 use ea_bytes::{ReadFault, StdIn, StdOut};
-use earliest::{AnswerFault, FileWord, RunOptions, Totals, answer};
+use earliest::{AnswerFault, FileWord, OptionalFiles, RunOptions, Totals, answer};
 use std::io::{self, Error, ErrorKind, Read};
 
 const REPORT: &[u8] = b"s 1 0\nd 1 0\nd 2 5\nd 3 2\nd 4 6\n";
@@ -79,7 +79,7 @@ fn failing_readers(rt: HostRuntime) {
             left: k,
         });
         let mut ss = StdIn::new(FROM_ONE);
-        let mut tp: Option<StdIn<&[u8]>> = None;
+        let mut others: OptionalFiles<StdIn<&[u8]>> = OptionalFiles::only_tp(None);
         let mut room = [0u8; 64];
         let mut out = StdOut::new(room.as_mut_slice());
         let answered = answer(
@@ -87,7 +87,7 @@ fn failing_readers(rt: HostRuntime) {
             &rt,
             &mut gr,
             &mut ss,
-            &mut tp,
+            &mut others,
             &DEFAULTS,
             &mut out,
         );

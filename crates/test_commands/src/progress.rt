@@ -5,7 +5,7 @@ ghost use Rattle.ea_messages.specs.Named.{HasFiles};
 
 use crate::asked::{DEFAULTS, GRAPH, holds};
 use ea_bytes::{StdIn, StdOut};
-use earliest::{Command, Opened, RunOptions, Silent, Watch, perform};
+use earliest::{Command, Opened, OptionalFiles, RunOptions, Silent, Watch, perform};
 use std::thread::Threads;
 
 const THREE: &[u8] = b"p aux sp ss 3\ns 1\ns 2\ns 3\n";
@@ -92,7 +92,7 @@ fn writes<'a, H: Threads + Sync, V: Watch>(
     let mut files = Opened {
         gr: StdIn::new(GRAPH),
         starts: StdIn::new(files.0),
-        tp: None,
+        others: OptionalFiles::only_tp(None),
         report: match files.1 {
             Some(report) => Some(StdIn::new(report)),
             None => None,
@@ -130,6 +130,8 @@ fn each_problem_of_a_run_is_told(rt: HostRuntime) {
             gr: "g",
             ss: "s",
             tp: None,
+            times: None,
+            nodes: None,
             output: None,
             options: options_of(workers, at_once),
         };
@@ -152,6 +154,8 @@ fn joint_sources_are_one_problem(rt: HostRuntime) {
         gr: "g",
         ss: "s",
         tp: None,
+        times: None,
+        nodes: None,
         output: None,
         options: RunOptions {
             joint: true,
@@ -177,6 +181,7 @@ fn each_pair_is_told(rt: HostRuntime) {
         gr: "g",
         p2p: "q",
         tp: None,
+        times: None,
         output: None,
         options: DEFAULTS,
     };
@@ -224,6 +229,7 @@ fn what_is_checked_is_told(rt: HostRuntime) {
         gr: "g",
         ss: "s",
         tp: None,
+        times: None,
         report: "r",
         options: DEFAULTS,
     };
@@ -247,6 +253,8 @@ fn nothing_is_told_of_late_departures(rt: HostRuntime) {
         gr: "g",
         ss: "s",
         tp: None,
+        times: None,
+        nodes: None,
         output: None,
         options: RunOptions {
             depart: 281_474_976_710_655,

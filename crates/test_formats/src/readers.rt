@@ -81,12 +81,13 @@ fn parallel_arcs(rt: HostRuntime) {
     assert!(rt; reads_graph(rt.alloc(), text, 2, &PARALLEL) == Ok(true));
 }
 
-/// The files to read: a graph, sources and pairs of four nodes, timetables of one arc.
+/// The files to read: a graph, sources and pairs of four nodes, times of two starts, timetables of one arc.
 #[derive(Clone, Copy)]
 enum File {
     Graph,
     Sources,
     Pairs,
+    Times,
     Timetables,
 }
 
@@ -104,6 +105,7 @@ fn file_fault(alloc: Global, file: File, text: &[u8]) -> Option<InputFault> {
         File::Graph => fault_of(read_gr(alloc, text)),
         File::Sources => fault_of(read_ss(alloc, text, 4)),
         File::Pairs => fault_of(read_p2p(alloc, text, 4)),
+        File::Times => fault_of(read_times(alloc, text, 2)),
         File::Timetables => fault_of(read_tp(alloc, text, 1)),
     }
 }
@@ -240,6 +242,33 @@ fn pair_form(rt: HostRuntime) {
     let text = b"p aux sp p2p 2\nq 1 4\nq 3 3\n";
     assert!(rt; reads_pairs(rt.alloc(), text, &[(1, 4), (3, 3)]) == Ok(true));
     assert_none_wrong(&rt, wrong_fault(rt.alloc(), File::Pairs, &PAIR_FAULTS));
+}
+
+const TIME_FAULTS: [Faulty; 9] = [
+    (b"p aux sp at 1\nt 0", 1, OutOfRange),
+    (b"p aux sp at 3\nt 0\nt 0\nt 0", 1, OutOfRange),
+    (b"p aux sp at 2\nt 0", 0, TooFewLines),
+    (b"p aux sp at 2\nt 0\nt 281474976710656", 3, OutOfRange),
+    (b"p aux sp at 2\nt 1\nt 8:00", 3, BadNumber),
+    (b"p aux sp at 2\nt 1 2", 2, FieldCount),
+    (b"p aux sp ss 2\nt 1\nt 2", 1, BadKind),
+    (b"p aux sp at 2\ns 1\nt 2", 2, UnknownLine),
+    (b"p aux sp at 2\nt 1\nt 2\nt 3", 4, TooManyLines),
+];
+
+/// Whether a text is read as these times; the fault if it is not read.
+fn reads_times(alloc: Global, text: &[u8], starts: u32, times: &[u64]) -> Result<bool, InputFault> {
+    Ok(read_times(alloc, text, starts)?.as_slice() == times)
+}
+
+#[test]
+fn own_departures(rt: HostRuntime) {
+    let text = b"p aux sp at 2\nt 0\nt 7\n";
+    assert!(rt; reads_times(rt.alloc(), text, 2, &[0, 7]) == Ok(true));
+    let text = b"c x\np aux sp at 2\n\nt\t281474976710655\r\nt 007";
+    assert!(rt; reads_times(rt.alloc(), text, 2, &[281_474_976_710_655, 7]) == Ok(true));
+    assert!(rt; reads_times(rt.alloc(), b"p aux sp at 0", 0, &[]) == Ok(true));
+    assert_none_wrong(&rt, wrong_fault(rt.alloc(), File::Times, &TIME_FAULTS));
 }
 
 /// Whether a text is read as timetables of these kinds, with the arcs that are assigned and the steps; the

@@ -427,6 +427,8 @@ const SOURCES: &[u8] = b"p aux sp ss 2\ns 3\ns 1\n";
 
 const PAIRS: &[u8] = b"p aux sp p2p 2\nq 3 1\nq 1 2\n";
 
+const TIMES: &[u8] = b"p aux sp at 2\nt 0\nt 7\n";
+
 const TIMETABLES: &[u8] = b"p tp 1 2\nk 1 closed 5 9\nt 2 1\nt 1 1\n";
 
 /// Whether a device gives two items, equal to those in memory.
@@ -453,6 +455,12 @@ fn are_sources_read<H: Threads + Sync>(alloc: Global, rt: &H, threads: usize) ->
 fn are_pairs_read<H: Threads + Sync>(alloc: Global, rt: &H, threads: usize) -> bool {
     let found = read_p2p_from(alloc, rt, threads, LIMIT, &mut StdIn::new(PAIRS), 3);
     are_both(&found, &read_p2p(alloc, PAIRS, 3))
+}
+
+/// Whether this many threads read two times as they are in memory.
+fn are_times_read<H: Threads + Sync>(alloc: Global, rt: &H, threads: usize) -> bool {
+    let found = read_times_from(alloc, rt, threads, LIMIT, &mut StdIn::new(TIMES), 2);
+    are_both(&found, &read_times(alloc, TIMES, 2))
 }
 
 /// How many arcs have timetables; none if there is a fault.
@@ -484,6 +492,7 @@ fn is_far_source_found<H: Threads + Sync>(alloc: Global, rt: &H, threads: usize)
 fn are_others_read<H: Threads + Sync>(alloc: Global, rt: &H, threads: usize) -> bool {
     are_sources_read(alloc, rt, threads)
         && are_pairs_read(alloc, rt, threads)
+        && are_times_read(alloc, rt, threads)
         && are_timetables_read(alloc, rt, threads)
         && is_far_source_found(alloc, rt, threads)
 }

@@ -1,5 +1,6 @@
 //! The example `words`, and texts that no clause specifies.
 use crate::asserts::{assert_none_wrong, is_shown};
+use ea_base::Direction;
 use ea_options::*;
 use std::alloc::Global;
 
@@ -37,6 +38,8 @@ fn names_of(alloc: Global, words: Words) -> Option<Named<'static>> {
             gr,
             ss,
             tp,
+            times: None,
+            nodes: None,
             output,
             options,
         } => Some(Named {
@@ -51,6 +54,7 @@ fn names_of(alloc: Global, words: Words) -> Option<Named<'static>> {
             gr,
             p2p,
             tp,
+            times: None,
             output,
             options,
         } => Some(Named {
@@ -79,6 +83,7 @@ fn names_of(alloc: Global, words: Words) -> Option<Named<'static>> {
             gr,
             ss,
             tp,
+            times: None,
             report,
             options,
         } => Some(Named {
@@ -115,6 +120,7 @@ const UNASKED: RunOptions = RunOptions {
     seed: 1,
     depart: 0,
     gap: 0,
+    direction: Direction::Forward,
 };
 
 const RUN: [&str; 13] = [
@@ -154,6 +160,7 @@ fn a_run(rt: HostRuntime) {
             seed: 1,
             depart: 0,
             gap: 5,
+            direction: Direction::Forward,
         },
     };
     assert!(rt; asks(rt.alloc(), &RUN, wanted));
@@ -223,6 +230,7 @@ fn a_rank(rt: HostRuntime) {
             seed: 0,
             depart: 0,
             gap: 7,
+            direction: Direction::Forward,
         },
     };
     assert!(rt; asks(rt.alloc(), &RANK, wanted));
@@ -261,6 +269,7 @@ fn a_check(rt: HostRuntime) {
             seed: 1,
             depart: 281_474_976_710_655,
             gap: 0,
+            direction: Direction::Forward,
         },
     };
     assert!(rt; asks(rt.alloc(), &CHECK, wanted));

@@ -5,7 +5,7 @@ use crate::counts::{Came, Count, taken};
 use crate::devices::{Greedy, Taking};
 use crate::given::{FOUR_NODES, FROM_ONE, NO_ARCS, holds, unreached, walks_by};
 use ea_bytes::{StdIn, StdOut};
-use earliest::{AnswerFault, RunOptions, Totals, answer, answer_pairs};
+use earliest::{AnswerFault, OptionalFiles, RunOptions, Totals, answer, answer_pairs};
 use std::alloc::{AllocError, Global};
 use std::test::Fail;
 use std::thread::Threads;
@@ -53,10 +53,10 @@ fn four_nodes_with<H: Threads + Sync>(
 {
     let mut gr = StdIn::new(FOUR_NODES);
     let mut ss = StdIn::new(FROM_ONE);
-    let mut tp = tp.map(StdIn::new);
+    let mut others = OptionalFiles::only_tp(tp.map(StdIn::new));
     let mut out = StdOut::new(&mut *room);
     held.leave(piece);
-    let answered = answer(alloc, rt, &mut gr, &mut ss, &mut tp, options, &mut out);
+    let answered = answer(alloc, rt, &mut gr, &mut ss, &mut others, options, &mut out);
     came_of(answered, room, b"", WALKS)
 }
 
@@ -78,9 +78,9 @@ fn no_arcs_with<H: Threads + Sync>(
         held,
         piece: Some(piece),
     });
-    let mut tp: Option<StdIn<&[u8]>> = None;
+    let mut others: OptionalFiles<StdIn<&[u8]>> = OptionalFiles::only_tp(None);
     let mut out = StdOut::new(&mut *room);
-    let answered = answer(alloc, rt, &mut gr, &mut ss, &mut tp, options, &mut out);
+    let answered = answer(alloc, rt, &mut gr, &mut ss, &mut others, options, &mut out);
     came_of(answered, room, b"", whole)
 }
 
@@ -101,13 +101,13 @@ fn two_sources_with<H: Threads + Sync>(
 {
     let mut gr = StdIn::new(FOUR_NODES);
     let mut ss = StdIn::new(b"p aux sp ss 2\ns 1\ns 3\n".as_slice());
-    let mut tp: Option<StdIn<&[u8]>> = None;
+    let mut others: OptionalFiles<StdIn<&[u8]>> = OptionalFiles::only_tp(None);
     let mut out = StdOut::new(Greedy {
         room: &mut *room,
         held,
         piece: Some(piece),
     });
-    let answered = answer(alloc, rt, &mut gr, &mut ss, &mut tp, options, &mut out);
+    let answered = answer(alloc, rt, &mut gr, &mut ss, &mut others, options, &mut out);
     drop(out);
     came_of(answered, room, WALKS, FROM_TWO)
 }
@@ -127,13 +127,13 @@ fn two_pairs_with<H: Threads + Sync>(
     let whole = b"q 1 4 0\nd 4 6\nw 4 3 2 3 4\nq 3 2 0\nd 2 3\nw 2 1 3\n";
     let mut gr = StdIn::new(FOUR_NODES);
     let mut p2p = StdIn::new(b"p aux sp p2p 2\nq 1 4\nq 3 2\n".as_slice());
-    let mut tp: Option<StdIn<&[u8]>> = None;
+    let mut others: OptionalFiles<StdIn<&[u8]>> = OptionalFiles::only_tp(None);
     let mut out = StdOut::new(Greedy {
         room: &mut *room,
         held,
         piece: Some(piece),
     });
-    let answered = answer_pairs(alloc, rt, &mut gr, &mut p2p, &mut tp, options, &mut out);
+    let answered = answer_pairs(alloc, rt, &mut gr, &mut p2p, &mut others, options, &mut out);
     drop(out);
     came_of(answered, room, front, whole)
 }

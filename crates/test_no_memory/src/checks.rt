@@ -3,18 +3,20 @@ use crate::counts::{Came, Count, Trial, count_of};
 use crate::devices::Taking;
 use crate::given::{FOUR_NODES, FROM_ONE, NO_ARCS, unreached, walks_by};
 use ea_bytes::StdIn;
-use earliest::{AnswerFault, CheckFault, check_report};
+use earliest::{AnswerFault, CheckFault, OptionalFiles, check_report};
 use std::alloc::{AllocError, Global};
 use std::test::Fail;
 use test_support::memory::Held;
 
-/// If memory for the check itself is refused, that is its verdict, whatever the report has.
+/// If memory is refused for a line of the report, that is the outcome; if for the check itself, it is the
+/// verdict, whatever the report has.
 fn came_of(
     verdict: Result<Result<(), CheckFault>, AnswerFault>,
     wanted: Result<(), CheckFault>,
 ) -> Came {
     match verdict {
         Ok(Err(CheckFault::OutOfMemory)) => Came::Refused,
+        Err(AnswerFault::OutOfMemory { written: 0 }) => Came::Refused,
         Ok(verdict) if verdict == wanted => Came::Whole,
         _ => Came::Wrong,
     }
@@ -32,13 +34,13 @@ impl Trial for Unreached<'_> {
         let options = walks_by(false);
         let mut gr = StdIn::new(NO_ARCS);
         let mut ss = StdIn::new(FROM_ONE);
-        let mut tp: Option<StdIn<&[u8]>> = None;
+        let mut others: OptionalFiles<StdIn<&[u8]>> = OptionalFiles::only_tp(None);
         let mut report = StdIn::new(Taking {
             bytes: self.report,
             held,
             piece: Some(piece),
         });
-        let verdict = check_report(alloc, &mut gr, &mut ss, &mut tp, &options, &mut report);
+        let verdict = check_report(alloc, &mut gr, &mut ss, &mut others, &options, &mut report);
         came_of(verdict, self.wanted)
     }
 }
@@ -55,7 +57,7 @@ fn count_unreached(
         report: &report,
         wanted,
     };
-    count_of(alloc, &mut trial, 0, 110, 1_024)
+    count_of(alloc, &mut trial, 0, 110, 4_095)
 }
 
 #[test]
@@ -80,10 +82,10 @@ impl Trial for Four {
         let options = walks_by(false);
         let mut gr = StdIn::new(FOUR_NODES);
         let mut ss = StdIn::new(FROM_ONE);
-        let mut tp: Option<StdIn<&[u8]>> = None;
+        let mut others: OptionalFiles<StdIn<&[u8]>> = OptionalFiles::only_tp(None);
         let mut report = StdIn::new(b"s 1 0\nd 1 0\nd 2 5\nd 3 2\nd 4 6\n".as_slice());
         held.leave(piece);
-        match check_report(alloc, &mut gr, &mut ss, &mut tp, &options, &mut report) {
+        match check_report(alloc, &mut gr, &mut ss, &mut others, &options, &mut report) {
             Err(AnswerFault::OutOfMemory { written: 0 }) => Came::Refused,
             verdict => came_of(verdict, Ok(())),
         }

@@ -1,7 +1,7 @@
 //! Networks and options for the tests.
 ghost use Rattle.ea_options.specs.Limits.{AreOptions};
 
-use earliest::RunOptions;
+use earliest::{Direction, RunOptions};
 use itoa::Buffer;
 use std::alloc::{AllocError, Global};
 
@@ -27,6 +27,7 @@ pub fn walks_by(many: bool) -> RunOptions
         seed: 1,
         depart: 0,
         gap: 0,
+        direction: Direction::Forward,
     }
 }
 

@@ -2,11 +2,12 @@
 ghost use Rattle.ea_report.specs.Asked.{IsOf};
 
 use crate::counts::taken;
+use ea_base::Direction;
 use ea_blocks::{FaultKind, InputFault};
 use ea_bytes::StdOut;
 use ea_input::{read_gr, read_p2p, read_ss, read_tp};
 use ea_paths::{Answer, arrivals_alone, solve_alone};
-use ea_report::{ReportOptions, write_problem};
+use ea_report::{ReportOptions, Style, write_problem};
 use ea_road::{Arc, Network, Query, Source, is_problem};
 use ea_search::Open;
 use ea_travel_times::Timetables;
@@ -77,7 +78,13 @@ fn written_with_little(
     requires { IsOf network.now query.now answer.now }
 {
     let (mut small, sizes, mut large) = taken(alloc, 100_000, 4, 0)?;
-    let options = ReportOptions { walks: false };
+    let options = ReportOptions {
+        style: Style {
+            walks: false,
+            direction: Direction::Forward,
+        },
+        nodes: None,
+    };
     let mut out = StdOut::new(Counting { bytes: 0 });
     small.leave_together(sizes);
     let written = write_problem(alloc, network, query, answer, options, &mut out).ok();

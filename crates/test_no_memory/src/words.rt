@@ -15,6 +15,8 @@ fn run_with(alloc: Global, held: &mut Held, piece: Vec<u8>) -> Came {
                 gr,
                 ss,
                 tp: None,
+                times: None,
+                nodes: None,
                 output: None,
                 options,
             },

@@ -1,7 +1,7 @@
 ghost use Rattle.std.specs.Prelude.{◌≡◌, ◌<◌, ◌≤◌};
 
 use crate::asserts::{assert_none_wrong, assert_that};
-use ea_base::RawGraph;
+use ea_base::{Direction, RawGraph};
 use ea_bytes::{ByteOut, Device, StdOut};
 use ea_input::read_gr;
 use ea_paths::{Answer, solve_alone};
@@ -51,7 +51,13 @@ fn report_of<W: ByteOut>(
     if !is_problem(network, times.classes(), query) {
         return None;
     }
-    let options = ReportOptions { walks };
+    let options = ReportOptions {
+        style: Style {
+            walks,
+            direction: Direction::Forward,
+        },
+        nodes: None,
+    };
     match solve_alone(alloc, network, &times, query) {
         Ok(answer) => Some(write_problem(alloc, network, query, &answer, options, out)),
         Err(_) => None,
@@ -158,7 +164,11 @@ fn add_node(text: &mut Vec<u8>, arcs: &mut ArcTexts<'_>, answer: &Answer, node: 
     if !answer.has_walks() {
         return false;
     }
-    push_node(text, arcs, answer, node, true).is_ok()
+    let style = Style {
+        walks: true,
+        direction: Direction::Forward,
+    };
+    push_node(text, arcs, answer, node, style).is_ok()
 }
 
 /// Adds the lines of nodes with their walks, in this order, and returns whether it could.

@@ -14,7 +14,7 @@ use std::sync::Arc;
 #[derive(Drop)]
 pub struct Terrain {
     pub road: Road,
-    pub ghost classed: { top_class road.network.arcs ≤ length road.times.list.items },
+    pub ghost classed: { top_class road.network.arcs ≤ length road.times.tables.list.items },
 }
 
 /// A search by one thread, with its share of its road.

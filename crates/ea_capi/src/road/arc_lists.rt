@@ -14,12 +14,12 @@ use crate::checks::refusal;
 use crate::fault_numbers::{Fault, LENGTHS_DIFFER, OUT_OF_MEMORY, OUT_OF_RANGE, tell};
 use crate::handle::handle::Handle;
 use crate::road::roads::keep;
-use ea_base::{MOST_ARCS, RawTable};
+use ea_base::{Direction, MOST_ARCS, RawTable};
 use ea_blocks::{FaultKind, InputFault};
 use ea_input::read_tp;
 use ea_load::{FileFault, FileWord, Road};
 use ea_road::{Arc, Network};
-use ea_travel_times::Timetables;
+use ea_travel_times::{RoadTimes, Timetables};
 use std::alloc::{AllocError, Global};
 
 /// The lists of a network's arcs: tails, heads, weights, and classes, which are all 0 if their list is empty.
@@ -115,23 +115,30 @@ fn joined(alloc: Global, nodes: u32, arcs: Vec<Arc>, table: RawTable) -> Result<
     requires table { AreFit table.kinds.items table.steps.items }
     ensures network { IfOk result (λ road. road.network
         ≡ record { nodes = nodes; arcs = arcs.items }) }
-    ensures times { IfOk result (λ road. (road.times.list.items ≡ table.kinds.items)
-        × (steps_in road.times.steps ≡ table.steps.items)) }
+    ensures forward { IfOk result (λ road. road.times.direction ≡ Direction.Forward) }
+    ensures times { IfOk result (λ road. (road.times.tables.list.items ≡ table.kinds.items)
+        × (steps_in road.times.tables.steps ≡ table.steps.items)) }
 {
-    let times = Timetables::with_steps(alloc, table.kinds, table.steps)?;
+    let tables = Timetables::with_steps(alloc, table.kinds, table.steps)?;
     let network = Network::new(alloc, nodes, arcs)?;
-    Ok(Road { network, times })
+    Ok(Road {
+        network,
+        times: RoadTimes {
+            tables,
+            direction: Direction::Forward,
+        },
+    })
 }
 
 /// A road whose timetables have the class of each arc.
 fn classed(road: Road) -> Result<Road, Fault>
     ensures same { IfOk result (λ it. it ≡ road) }
-    ensures classed { IfOk result (λ it. top_class it.network.arcs ≤ length it.times.list.items) }
+    ensures classed { IfOk result (λ it. top_class it.network.arcs ≤ length it.times.tables.list.items) }
     ensures refused { IfErr result (λ fault.
-        (top_class road.network.arcs ≤ length road.times.list.items → ⊥)
+        (top_class road.network.arcs ≤ length road.times.tables.list.items → ⊥)
         × (fault ≡ record { line = 0; number = 6; text = 2 })) }
 {
-    if road.network.top_class() as usize > road.times.classes() {
+    if road.network.top_class() as usize > road.times.tables.classes() {
         return Err(Fault {
             line: 0,
             number: OUT_OF_RANGE,
@@ -145,7 +152,7 @@ fn classed(road: Road) -> Result<Road, Fault>
 fn road_with(alloc: Global, nodes: u32, arcs: Vec<Arc>, tp: &[u8]) -> Result<Road, Fault>
     requires { IsNetwork (record { nodes = nodes; arcs = arcs.items }) }
     ensures road { IfOk result (IsRoadWith (record { nodes = nodes; arcs = arcs.items }) tp.now) }
-    ensures classed { IfOk result (λ it. top_class it.network.arcs ≤ length it.times.list.items) }
+    ensures classed { IfOk result (λ it. top_class it.network.arcs ≤ length it.times.tables.list.items) }
     ensures refused { IfErr result
         (IsNoRoadWith (record { nodes = nodes; arcs = arcs.items }) tp.now) }
 {
@@ -162,7 +169,7 @@ fn road_with(alloc: Global, nodes: u32, arcs: Vec<Arc>, tp: &[u8]) -> Result<Roa
 /// The road of lists and a text of timetables.
 fn road_of(alloc: Global, nodes: u32, lists: Lists<'_>, tp: &[u8]) -> Result<Road, Fault>
     ensures road { IfOk result (IsRoadOfLists nodes (arc_lists lists.entry) tp.now) }
-    ensures classed { IfOk result (λ it. top_class it.network.arcs ≤ length it.times.list.items) }
+    ensures classed { IfOk result (λ it. top_class it.network.arcs ≤ length it.times.tables.list.items) }
     ensures refused { IfErr result (IsNoRoad nodes (arc_lists lists.entry) tp.now) }
 {
     if !are_even(lists) {

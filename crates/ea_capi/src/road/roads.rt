@@ -13,7 +13,7 @@ use std::sync::Arc;
 
 /// Puts a road into a new box.
 fn boxed(alloc: Global, road: Road) -> Result<Box<Content, Global>, AllocError>
-    requires { top_class road.network.arcs ≤ length road.times.list.items }
+    requires { top_class road.network.arcs ≤ length road.times.tables.list.items }
     ensures { IfOk result (λ it. road_in (Some it.value) ≡ Some road) }
 {
     let terrain = Arc::new(alloc, Terrain { road })?;
@@ -22,7 +22,7 @@ fn boxed(alloc: Global, road: Road) -> Result<Box<Content, Global>, AllocError>
 
 /// Puts a road into a handle.
 pub(crate) fn keep(alloc: Global, road: Road, handle: &mut Handle) -> u32
-    requires { top_class road.network.arcs ≤ length road.times.list.items }
+    requires { top_class road.network.arcs ≤ length road.times.tables.list.items }
     ensures { IsKept road handle.old.value handle.new.value result }
 {
     match boxed(alloc, road) {

@@ -24,7 +24,7 @@ use std::sync::Arc;
 /// Answers a turned question, with walks or without.
 fn search_turned(road: &TurnedRoad, search: Search, walks: bool, query: &Query) -> Search
     requires problem { IsProblem road.now.network
-        (length (arc_value road.now.terrain).road.times.list.items) query.now }
+        (length (arc_value road.now.terrain).road.times.tables.list.items) query.now }
     requires nodes { search.nodes ≡ road.now.network.nodes }
     requires room { search.walks ≡ walks }
     ensures arrivals { HasArrivals road.now.network
@@ -70,7 +70,7 @@ impl LatestSearch {
     /// Answers a query for targets, which is the turned question's.
     pub fn find(self, query: &Query, targets: &[Target]) -> LatestSearch
         requires problem { IsProblem (arc_value self.turned).network
-            (length (road_behind self).times.list.items) query.now }
+            (length (road_behind self).times.tables.list.items) query.now }
         requires sources { query.now.sources ≡ turned_targets targets.now }
         requires targets { AreTargets targets.now }
         ensures answer { IsTimely targets.now query.now.target result }

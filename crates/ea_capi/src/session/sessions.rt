@@ -30,7 +30,7 @@ pub(crate) fn room(alloc: Global, nodes: u32, walks: bool) -> Result<Search, All
 
 /// Answers a query on a road, with walks or without.
 fn search_on(road: &Road, search: Search, walks: bool, query: &Query) -> Search
-    requires problem { IsProblem road.now.network (length road.now.times.list.items) query.now }
+    requires problem { IsProblem road.now.network (length road.now.times.tables.list.items) query.now }
     requires nodes { search.nodes ≡ road.now.network.nodes }
     requires room { search.walks ≡ walks }
     ensures arrivals { HasArrivals road.now.network (answers_on road.now) query.now result.answer }
@@ -73,7 +73,7 @@ impl Session {
     /// Answers a query.
     pub fn find(self, query: &Query) -> Session
         requires { IsProblem (road_of self).network
-            (length (road_of self).times.list.items) query.now }
+            (length (road_of self).times.tables.list.items) query.now }
         ensures answer { IsAnswered query.now result }
         ensures same { IsSame self result }
     {

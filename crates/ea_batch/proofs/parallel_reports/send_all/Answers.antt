@@ -2,6 +2,7 @@ use Rattle.std.proofs.lemmas.Result.{err_from_is_err_and}
 use Rattle.std.proofs.Common.{[], sym, arith, subst}
 use Rattle.std.proofs.lemmas.List.{take_all}
 use Rattle.ea_load.specs.Posed.{times_on}
+use Rattle.ea_report.specs.Asked.{shape_of}
 use Rattle.ea_batch.specs.Sent.{AreSent}
 use Rattle.ea_batch.proofs.Sent.{sent_none}
 use Rattle.ea_batch.proofs.parallel_reports.send_all.Goals as goal
@@ -21,13 +22,13 @@ returns-in_err-send_part-clause-err g c =
 
 pub loop-sent-init : goal.loop-sent-init
 loop-sent-init g c =
-    let options = c.args.job.options.now in
+    let shape = shape_of c.args.job.shown in
     let network = c.args.job.road.now.network in
     let times = times_on c.args.job.road.now in
     let first = g.W.Device.seen c.args.out.now in
     record {
       fits = omega (arith, c.interruptions.ensures, c.interruptions.type_inv);
-      sent = subst (λ n. AreSent options.walks network times [] first first n) (sym c.requires.none) (sent_none options.walks network times first);
+      sent = subst (λ n. AreSent shape network times [] first first n) (sym c.requires.none) (sent_none shape network times first);
       can = c.requires.can;
     }
 
@@ -62,7 +63,7 @@ pub returns-clause-ok : goal.returns-clause-ok
 returns-clause-ok g c =
     let job = c.args.job in
     let all = take_all c.loop-sent.sent job.queries.now (omega (arith, c.loop-sent-test.false)) in
-    subst (λ qs. AreSent job.options.now.walks job.road.now.network (times_on job.road.now) qs (g.W.Device.seen c.args.out.now) (g.W.Device.seen c.loop-sent.out) c.loop-sent.progress.written) all c.loop-sent.invariant.sent
+    subst (λ qs. AreSent (shape_of job.shown) job.road.now.network (times_on job.road.now) qs (g.W.Device.seen c.args.out.now) (g.W.Device.seen c.loop-sent.out) c.loop-sent.progress.written) all c.loop-sent.invariant.sent
 
 pub returns-clause-bound : goal.returns-clause-bound
 returns-clause-bound g c =

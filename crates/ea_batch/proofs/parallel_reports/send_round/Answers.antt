@@ -41,7 +41,7 @@ loop-preserved g c =
           is_job = inv.can.is_job;
           inside = inv.can.inside;
           room = inv.can.room;
-          search = subst (λ walks. IfSome w.help.new.last (Serves network walks)) inv.can.is_job.walks w.help.ensures.search;
+          search = w.help.ensures.search;
           piled = w.help.ensures.pile;
         };
       })
@@ -64,7 +64,7 @@ returns-then-not-help-clause-ok g c =
         is_job = inv.can.is_job;
         inside = inv.can.inside;
         room = inv.can.room;
-        search = subst (λ walks. IfSome c.help.new.last (Serves network walks)) inv.can.is_job.walks c.help.ensures.search;
+        search = c.help.ensures.search;
         piled = c.help.ensures.pile;
       };
     }

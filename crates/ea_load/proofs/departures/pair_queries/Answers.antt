@@ -1,9 +1,10 @@
+use Rattle.ea_load.specs.Starts.{plan_of}
 use Rattle.ea_load.proofs.Departing.{pairs_next}
 use Rattle.ea_load.proofs.departures.pair_queries.Goals as goal
 
 pub loop-i-preserved : goal.loop-i-preserved
 loop-i-preserved c =
-    let next = pairs_next c.args.depart c.args.gap c.loop-i.i c.args.pairs.now (0, 0) c.loop-i-test.true in
+    let next = pairs_next (plan_of c.args.schedule) c.loop-i.i c.args.pairs.now (0, 0) c.loop-i-test.true in
     let pushed = c.in_ok-push.ensures.items in
     let front = c.loop-i.invariant in
     cc

@@ -11,15 +11,8 @@ use Rattle.ea_paths.specs.Stored.{AreFollowable}
 use Rattle.ea_paths.proofs.Followed.{linked_length}
 use Rattle.ea_paths.proofs.Linkings.{link_read}
 use Rattle.ea_report.specs.Walks.{arcs_text}
-use Rattle.ea_report.proofs.Following.{walk_text_of}
+use Rattle.ea_report.proofs.Following.{labelled, ok_then, walk_text_of}
 use Rattle.ea_report.proofs.lines.push_found_walk.Goals as goal
-
-labelled : (found : Option ℕ) (label : ℕ) → is_some found ≡ true → found ≡ time_of label → label ≢ NONE
-labelled found label some same = λ none. false≢true (sym (rw (eq-eqb label NONE none) refl) ∙ ap (λ (o : Option ℕ). is_some o) (sym same) ∙ some)
-
-ok_then : {T E P Q : Type 0} (r : Result T E) → OnOk r P → (P → Q) → OnOk r Q
-ok_then (Ok x) p f = f p
-ok_then (Err e) p f = tt
 
 pub go_to-requires-clause-node : goal.go_to-requires-clause-node
 go_to-requires-clause-node c =

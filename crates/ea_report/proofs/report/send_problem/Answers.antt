@@ -1,7 +1,8 @@
 use Rattle.std.proofs.Common.{[]}
 use Rattle.std.proofs.lemmas.Result.{err_from_is_err_and}
+use Rattle.ea_report.specs.Asked.{chosen_by}
 use Rattle.ea_report.specs.Deliverers.{delivery_of}
-use Rattle.ea_report.specs.Report.{problem_text}
+use Rattle.ea_report.specs.Report.{report_text}
 use Rattle.ea_report.proofs.Pieces.{delivery_starts, delivery_ends}
 use Rattle.ea_report.proofs.report.send_problem.Goals as goal
 
@@ -25,4 +26,4 @@ returns-clause-ok g c =
     let first = (g.W.Device.seen c.args.out.now) in
     let start = delivery_starts first (delivery_of c.new-pending.result) c.new-pending.ensures in
     let problem = c.in_ok-put_problem.ensures.ok first [] start in
-    delivery_ends first _ (delivery_of c.flush.new.self) (problem_text c.args.walks c.args.network.now.nodes c.args.query.now c.args.answer.now) c.in_ok-flush.ensures.empty c.flush.new.self.borne (c.in_ok-flush.ensures.ok first _ problem)
+    delivery_ends first _ (delivery_of c.flush.new.self) (report_text c.args.options.style (chosen_by c.args.options) c.args.network.now.nodes c.args.query.now c.args.answer.now) c.in_ok-flush.ensures.empty c.flush.new.self.borne (c.in_ok-flush.ensures.ok first _ problem)

@@ -1,28 +1,52 @@
-use Rattle.std.proofs.Common.{rules, ◌≤◌, ◌<◌, length, sym, ◌∙◌, subst, refl, ap, arith, inl, inr}
+use Rattle.std.proofs.Common.{rules, ℕ, List, ◌≡◌, ◌≤◌, ◌<◌, length, sym, ◌∙◌, subst, refl, ap, arith, inl, inr}
 use Rattle.std.specs.Prelude.{All, IsTrue}
 use Rattle.std.proofs.lemmas.Result.{err_from_is_err_and}
 use Rattle.ea_input.specs.Sources.{DenotesSources}
-use Rattle.ea_input.specs.Formats.{source_format}
-use Rattle.ea_load.specs.declared.file_fault.FileWord.TheVariants.{Ss}
-use Rattle.ea_load.specs.Files.{reading}
-use Rattle.ea_load.specs.Starts.{AreWithin, run_problems}
-use Rattle.ea_load.proofs.Denoting.{sources_are_nodes}
+use Rattle.ea_road.specs.Roads.{Roads}
+use Rattle.ea_load.specs.Asked.{AreSound, files_of, in_extras}
+use Rattle.ea_load.specs.Extra.{extras_in}
+use Rattle.ea_load.specs.Files.{extra_files, reading}
 use Rattle.ea_load.specs.Posed.{AreProblems}
-use Rattle.earliest.specs.Runs.{run_asks}
-use Rattle.ea_load.specs.Asked.{files_of}
-use Rattle.ea_load.proofs.Outcomes.{answered, failed, files_failed, first_there, given_is_sound, sound_there}
-use Rattle.earliest.proofs.Sending.{cuts_short}
+use Rattle.ea_load.specs.Starts.{AreWithin, Plan, plan_of, run_problems}
+use Rattle.ea_load.proofs.Denoting.{sources_are_nodes}
+use Rattle.ea_load.proofs.Outcomes.{all_read, answered, failed, files_failed, first_there, given_is_sound, road_there}
 use Rattle.ea_load.proofs.Posing.{run_is_posed, few_runs, few_nodes}
+use Rattle.ea_report.specs.Asked.{Shape, chosen_by, shape_of}
+use Rattle.earliest.specs.Fronts.{shape_by}
+use Rattle.earliest.specs.Runs.{run_asks, plan_by}
+use Rattle.earliest.proofs.Extras.{shown_for, extra_fault_for, extras_for, optional_files, schedule_has}
+use Rattle.earliest.proofs.Sending.{cuts_short}
 use Rattle.earliest.proofs.answers.answer_watched.Goals as goal
 
 pub returns-in_err-files-clause-failed : goal.returns-in_err-files-clause-failed
 returns-in_err-files-clause-failed g c =
     let p = err_from_is_err_and c.from_residual.result c.from_residual.ensures.1 in
-    let o = c.args.watched.options.now in
+    let o = c.args.options.now in
     let gr = reading g.G.Device.seen c.args.gr.now c.read_run_by.new.gr in
     let starts = reading g.S.Device.seen c.args.ss.now c.read_run_by.new.ss in
-    rw (p.1, p.2) (files_failed (run_asks o) (files_of gr starts g.T.Device.seen c.args.tp.now c.read_run_by.new.tp) _ _
-    (first_there g.T.Device.seen Ss source_format DenotesSources gr starts c.args.tp.now c.read_run_by.new.tp _ c.in_err-files.ensures.fault))
+    let others = optional_files c.read_run_by.new.tp c.args.others.now.times c.args.others.now.nodes in
+    rw (p.1, p.2) (files_failed (run_asks o) (files_of gr starts g.T.Device.seen c.args.others.now others) _ _ (first_there g.T.Device.seen (run_asks o) gr starts c.args.others.now others _ c.in_err-files.ensures.fault refl refl))
+
+pub returns-in_err-extras-clause-failed : goal.returns-in_err-extras-clause-failed
+returns-in_err-extras-clause-failed g c =
+    let p = err_from_is_err_and c.from_residual-in_err-extras.result c.from_residual-in_err-extras.ensures.1 in
+    let o = c.args.options.now in
+    let given = c.in_ok-files.ensures.given in
+    let found = c.in_ok-files.files in
+    let gr = reading g.G.Device.seen c.args.gr.now c.read_run_by.new.gr in
+    let starts = reading g.S.Device.seen c.args.ss.now c.read_run_by.new.ss in
+    let others = optional_files c.read_run_by.new.tp c.read_extras.new.times c.read_extras.new.asked in
+    let files = files_of gr starts g.T.Device.seen c.args.others.now others in
+    let road = road_there (run_asks o) g.T.Device.seen gr starts c.args.others.now others given.0 found.sources.items given.1 c.in_ok-files.ensures.gr_borne c.in_ok-files.ensures.ss_borne c.in_ok-files.ensures.tp_borne in
+    let many : c.len.result ≡ length found.sources.items = omega (arith, c.len.ensures, found.sources.ok.0) in
+    let size : c.nodes.result ≡ given.0.graph.nodes = c.nodes.ensures.nodes ∙ ap (λ (r : Roads). r.nodes) given.2.network in
+    rw (p.1, p.2) (files_failed (run_asks o) files _ _ (in_extras given.0 found.sources.items road (extra_fault_for _ (length found.sources.items) _ given.0.graph.nodes files.extras _ many size c.in_err-extras.ensures.fault)))
+
+pub departures_fit-requires-clause-times : goal.departures_fit-requires-clause-times
+departures_fit-requires-clause-times g c =
+    let o = c.args.options.now in
+    let found = c.in_ok-files.files in
+    schedule_has o c.schedule_by-schedule.result _ (extras_in c.in_ok-extras.extras).times _ _ c.schedule_by-schedule.ensures.plan c.in_ok-extras.ensures.extras.times _ (omega (arith, c.len.ensures, c.len-2.ensures))
 
 pub run_queries-requires-clause-nodes : goal.run_queries-requires-clause-nodes
 run_queries-requires-clause-nodes g c =
@@ -30,91 +54,145 @@ run_queries-requires-clause-nodes g c =
     let nodes = sources_are_nodes given.0.graph.nodes _ c.in_ok-files.files.sources.items given.1.starts_denoted in
     subst (All (λ node. 0 < node)) (sym c.deref.ensures.value) (λ k d lt. (nodes.0 k d lt).from_one)
 
+pub run_queries-requires-clause-times : goal.run_queries-requires-clause-times
+run_queries-requires-clause-times g c =
+    let o = c.args.options.now in
+    schedule_has o c.schedule_by-schedule.result _ (extras_in c.in_ok-extras.extras).times _ _ c.schedule_by-schedule.ensures.plan c.in_ok-extras.ensures.extras.times _ (omega (arith, c.len.ensures, c.deref.ensures.len))
+
 pub run_queries-requires-clause-within : goal.run_queries-requires-clause-within
 run_queries-requires-clause-within g c =
     let fits : IsTrue c.departures_fit.result = search rules in
-    λ i inside. c.departures_fit.ensures.0 fits i (omega (arith, inside, c.deref.ensures.len))
+    λ i inside. c.departures_fit.ensures.0 fits i (omega (arith, inside, c.deref.ensures.len, c.len-2.ensures))
 
 pub report_all-requires-clause-problems : goal.report_all-requires-clause-problems
 report_all-requires-clause-problems g c κs lent =
+    let o = c.args.options.now in
     let given = c.in_ok-files.ensures.given in
-    let files = c.in_ok-files.files in
-    let o = c.args.watched.options.now in
-    let nodes = sources_are_nodes given.0.graph.nodes _ files.sources.items given.1.starts_denoted in
-    let sound = given_is_sound DenotesSources _ _ _ given.0 files.sources.items given.1 in
+    let found = c.in_ok-files.files in
+    let gr = reading g.G.Device.seen c.args.gr.now c.read_run_by.new.gr in
+    let starts = reading g.S.Device.seen c.args.ss.now c.read_run_by.new.ss in
+    let extras = extras_in c.in_ok-extras.extras in
+    let plan = c.schedule_by-schedule.ensures.plan in
     let fits : IsTrue c.departures_fit.result = search rules in
-    let within : AreWithin o.depart o.gap (length files.sources.items) = λ i inside. c.departures_fit.ensures.0 fits i (omega (arith, inside, files.sources.ok.0)) in
-    let queries = c.deref-2.ensures.value ∙ c.in_ok-queries.ensures ∙ ap (run_problems o.joint o.depart o.gap) c.deref.ensures.value in
-    subst (AreProblems files.road) (sym queries) (run_is_posed given.0 files.road given.2 sound o.depart o.gap o.joint files.sources.items nodes within)
+    let within : AreWithin (plan_by o extras.times) (length found.sources.items) = subst (λ (p : Plan). AreWithin p (length found.sources.items)) plan (λ i inside. c.departures_fit.ensures.0 fits i (omega (arith, inside, c.len-2.ensures, found.sources.ok.0))) in
+    let nodes = sources_are_nodes given.0.graph.nodes _ found.sources.items given.1.starts_denoted in
+    let whole = given_is_sound DenotesSources _ _ _ given.0 found.sources.items given.1 in
+    let queries = c.deref-2.ensures.value ∙ c.in_ok-queries.ensures ∙ ap (λ (p : Plan). run_problems o.joint p c.deref.result.now) plan ∙ ap (λ (xs : List ℕ). run_problems o.joint (plan_by o extras.times) xs) c.deref.ensures.value in
+    subst (AreProblems found.road) (sym queries) (run_is_posed given.0 found.road o.direction given.2 whole (plan_by o extras.times) o.joint found.sources.items nodes within)
 
 pub report_all-requires-clause-few : goal.report_all-requires-clause-few
 report_all-requires-clause-few g c κs lent =
+    let o = c.args.options.now in
     let given = c.in_ok-files.ensures.given in
-    let files = c.in_ok-files.files in
-    let o = c.args.watched.options.now in
-    let nodes = sources_are_nodes given.0.graph.nodes _ files.sources.items given.1.starts_denoted in
-    let sound = given_is_sound DenotesSources _ _ _ given.0 files.sources.items given.1 in
-    let queries = c.deref-2.ensures.value ∙ c.in_ok-queries.ensures ∙ ap (run_problems o.joint o.depart o.gap) c.deref.ensures.value in
-    (subst (λ qs. length qs ≤ 1000000) (sym queries) (few_runs given.0 files.road given.2 sound o.depart o.gap o.joint files.sources.items nodes.1), few_nodes given.0 files.road given.2 sound)
+    let found = c.in_ok-files.files in
+    let gr = reading g.G.Device.seen c.args.gr.now c.read_run_by.new.gr in
+    let starts = reading g.S.Device.seen c.args.ss.now c.read_run_by.new.ss in
+    let extras = extras_in c.in_ok-extras.extras in
+    let plan = c.schedule_by-schedule.ensures.plan in
+    let nodes = sources_are_nodes given.0.graph.nodes _ found.sources.items given.1.starts_denoted in
+    let whole = given_is_sound DenotesSources _ _ _ given.0 found.sources.items given.1 in
+    let queries = c.deref-2.ensures.value ∙ c.in_ok-queries.ensures ∙ ap (λ (p : Plan). run_problems o.joint p c.deref.result.now) plan ∙ ap (λ (xs : List ℕ). run_problems o.joint (plan_by o extras.times) xs) c.deref.ensures.value in
+    (subst (λ qs. length qs ≤ 1000000) (sym queries) (few_runs given.0 found.road o.direction given.2 whole (plan_by o extras.times) o.joint found.sources.items nodes.1), few_nodes given.0 found.road o.direction given.2 whole)
+
+pub report_all-requires-clause-asked : goal.report_all-requires-clause-asked
+report_all-requires-clause-asked g c κs lent =
+    let shown = c.shown_by-shown.ensures in
+    shown ∙ ap (λ (shape : Shape). shape_by c.args.options.now shape.chosen) (sym shown)
+
+pub report_all-requires-clause-shown : goal.report_all-requires-clause-shown
+report_all-requires-clause-shown g c κs lent =
+    let found = c.in_ok-files.files in
+    let shape = shape_of c.shown_by-shown.result in
+    let chosen = ap (λ (s : Shape). s.chosen) c.shown_by-shown.ensures in
+    shown_for found.road.network shape _ _ _ _ c.nodes.ensures.nodes chosen c.in_ok-extras.ensures.extras.nodes
 
 pub returns-clause-answered : goal.returns-clause-answered
 returns-clause-answered g c =
+    let o = c.args.options.now in
     let given = c.in_ok-files.ensures.given in
     let found = c.in_ok-files.files in
-    let o = c.args.watched.options.now in
-    let fits : IsTrue c.departures_fit.result = search rules in
-    let within : AreWithin o.depart o.gap (length found.sources.items) = λ i inside. c.departures_fit.ensures.0 fits i (omega (arith, inside, found.sources.ok.0)) in
-    let queries = c.deref-2.ensures.value ∙ c.in_ok-queries.ensures ∙ ap (run_problems o.joint o.depart o.gap) c.deref.ensures.value in
     let gr = reading g.G.Device.seen c.args.gr.now c.read_run_by.new.gr in
     let starts = reading g.S.Device.seen c.args.ss.now c.read_run_by.new.ss in
-    let files = files_of gr starts g.T.Device.seen c.args.tp.now c.read_run_by.new.tp in
-    let sound = sound_there (run_asks o) g.T.Device.seen gr starts c.args.tp.now c.read_run_by.new.tp given.0 found.sources.items given.1 c.in_ok-files.ensures.gr_borne c.in_ok-files.ensures.ss_borne c.in_ok-files.ensures.tp_borne in
+    let others = optional_files c.read_run_by.new.tp c.read_extras.new.times c.read_extras.new.asked in
+    let files = files_of gr starts g.T.Device.seen c.args.others.now others in
+    let road = road_there (run_asks o) g.T.Device.seen gr starts c.args.others.now others given.0 found.sources.items given.1 c.in_ok-files.ensures.gr_borne c.in_ok-files.ensures.ss_borne c.in_ok-files.ensures.tp_borne in
+    let many : c.len.result ≡ length found.sources.items = omega (arith, c.len.ensures, found.sources.ok.0) in
+    let size : c.nodes.result ≡ given.0.graph.nodes = c.nodes.ensures.nodes ∙ ap (λ (r : Roads). r.nodes) given.2.network in
+    let extras = extras_in c.in_ok-extras.extras in
+    let extra = extras_for _ (length found.sources.items) _ given.0.graph.nodes files.extras extras many size c.in_ok-extras.ensures.extras in
+    let sound : AreSound (run_asks o) files given.0 found.sources.items extras = record { road = road; extra = extra } in
+    let plan = c.schedule_by-schedule.ensures.plan in
+    let fits : IsTrue c.departures_fit.result = search rules in
+    let within : AreWithin (plan_by o extras.times) (length found.sources.items) = subst (λ (p : Plan). AreWithin p (length found.sources.items)) plan (λ i inside. c.departures_fit.ensures.0 fits i (omega (arith, inside, c.len-2.ensures, found.sources.ok.0))) in
+    let nodes = sources_are_nodes given.0.graph.nodes _ found.sources.items given.1.starts_denoted in
+    let whole = given_is_sound DenotesSources _ _ _ given.0 found.sources.items given.1 in
+    let queries = c.deref-2.ensures.value ∙ c.in_ok-queries.ensures ∙ ap (λ (p : Plan). run_problems o.joint p c.deref.result.now) plan ∙ ap (λ (xs : List ℕ). run_problems o.joint (plan_by o extras.times) xs) c.deref.ensures.value in
     let first = g.W.Device.seen c.args.out.now in
     let now = g.W.Device.seen c.report_all.new.out in
-    answered (run_asks o) files given.0 found.sources.items sound within found.road given.2 c.deref-2.result.now queries first now c.report_all.result c.report_all.ensures.ok
+    let chosen = ap (λ (s : Shape). s.chosen) c.shown_by-shown.ensures in
+    answered (run_asks o) files given.0 found.sources.items extras sound within found.road given.2 _ chosen c.deref-2.result.now queries first now c.report_all.result c.report_all.ensures.ok
 
 pub returns-clause-failed : goal.returns-clause-failed
 returns-clause-failed g c =
+    let o = c.args.options.now in
     let given = c.in_ok-files.ensures.given in
     let found = c.in_ok-files.files in
-    let o = c.args.watched.options.now in
-    let fits : IsTrue c.departures_fit.result = search rules in
-    let within : AreWithin o.depart o.gap (length found.sources.items) = λ i inside. c.departures_fit.ensures.0 fits i (omega (arith, inside, found.sources.ok.0)) in
-    let queries = c.deref-2.ensures.value ∙ c.in_ok-queries.ensures ∙ ap (run_problems o.joint o.depart o.gap) c.deref.ensures.value in
     let gr = reading g.G.Device.seen c.args.gr.now c.read_run_by.new.gr in
     let starts = reading g.S.Device.seen c.args.ss.now c.read_run_by.new.ss in
-    let files = files_of gr starts g.T.Device.seen c.args.tp.now c.read_run_by.new.tp in
-    let sound = sound_there (run_asks o) g.T.Device.seen gr starts c.args.tp.now c.read_run_by.new.tp given.0 found.sources.items given.1 c.in_ok-files.ensures.gr_borne c.in_ok-files.ensures.ss_borne c.in_ok-files.ensures.tp_borne in
+    let others = optional_files c.read_run_by.new.tp c.read_extras.new.times c.read_extras.new.asked in
+    let files = files_of gr starts g.T.Device.seen c.args.others.now others in
+    let road = road_there (run_asks o) g.T.Device.seen gr starts c.args.others.now others given.0 found.sources.items given.1 c.in_ok-files.ensures.gr_borne c.in_ok-files.ensures.ss_borne c.in_ok-files.ensures.tp_borne in
+    let many : c.len.result ≡ length found.sources.items = omega (arith, c.len.ensures, found.sources.ok.0) in
+    let size : c.nodes.result ≡ given.0.graph.nodes = c.nodes.ensures.nodes ∙ ap (λ (r : Roads). r.nodes) given.2.network in
+    let extras = extras_in c.in_ok-extras.extras in
+    let extra = extras_for _ (length found.sources.items) _ given.0.graph.nodes files.extras extras many size c.in_ok-extras.ensures.extras in
+    let sound : AreSound (run_asks o) files given.0 found.sources.items extras = record { road = road; extra = extra } in
+    let plan = c.schedule_by-schedule.ensures.plan in
+    let fits : IsTrue c.departures_fit.result = search rules in
+    let within : AreWithin (plan_by o extras.times) (length found.sources.items) = subst (λ (p : Plan). AreWithin p (length found.sources.items)) plan (λ i inside. c.departures_fit.ensures.0 fits i (omega (arith, inside, c.len-2.ensures, found.sources.ok.0))) in
+    let nodes = sources_are_nodes given.0.graph.nodes _ found.sources.items given.1.starts_denoted in
+    let whole = given_is_sound DenotesSources _ _ _ given.0 found.sources.items given.1 in
+    let queries = c.deref-2.ensures.value ∙ c.in_ok-queries.ensures ∙ ap (λ (p : Plan). run_problems o.joint p c.deref.result.now) plan ∙ ap (λ (xs : List ℕ). run_problems o.joint (plan_by o extras.times) xs) c.deref.ensures.value in
     let first = g.W.Device.seen c.args.out.now in
     let now = g.W.Device.seen c.report_all.new.out in
-    failed (run_asks o) files given.0 found.sources.items sound within found.road given.2 c.deref-2.result.now queries (cuts_short o) first now c.report_all.result c.report_all.ensures.err
+    let chosen = ap (λ (s : Shape). s.chosen) c.shown_by-shown.ensures in
+    failed (run_asks o) files given.0 found.sources.items extras sound within found.road given.2 _ chosen c.deref-2.result.now queries (cuts_short o) first now c.report_all.result c.report_all.ensures.err
 
 pub returns-then-not-departures_fit-clause-failed : goal.returns-then-not-departures_fit-clause-failed
 returns-then-not-departures_fit-clause-failed g c =
+    let o = c.args.options.now in
     let given = c.in_ok-files.ensures.given in
     let found = c.in_ok-files.files in
-    let o = c.args.watched.options.now in
     let gr = reading g.G.Device.seen c.args.gr.now c.read_run_by.new.gr in
     let starts = reading g.S.Device.seen c.args.ss.now c.read_run_by.new.ss in
-    let late : AreWithin o.depart o.gap (length found.sources.items) → ⊥ =
-    λ within. let fits : IsTrue c.departures_fit.result = c.departures_fit.ensures.1 (λ i inside. within i (omega (arith, inside, found.sources.ok.0))) in search rules
-    in (
-      record {
-        given = given.0;
-        found = found.sources.items;
-        sound = sound_there (run_asks o) g.T.Device.seen gr starts c.args.tp.now c.read_run_by.new.tp given.0 found.sources.items given.1 c.in_ok-files.ensures.gr_borne c.in_ok-files.ensures.ss_borne c.in_ok-files.ensures.tp_borne;
-        late = late;
-      },
-      refl,
-    )
+    let others = optional_files c.read_run_by.new.tp c.read_extras.new.times c.read_extras.new.asked in
+    let files = files_of gr starts g.T.Device.seen c.args.others.now others in
+    let road = road_there (run_asks o) g.T.Device.seen gr starts c.args.others.now others given.0 found.sources.items given.1 c.in_ok-files.ensures.gr_borne c.in_ok-files.ensures.ss_borne c.in_ok-files.ensures.tp_borne in
+    let many : c.len.result ≡ length found.sources.items = omega (arith, c.len.ensures, found.sources.ok.0) in
+    let size : c.nodes.result ≡ given.0.graph.nodes = c.nodes.ensures.nodes ∙ ap (λ (r : Roads). r.nodes) given.2.network in
+    let extras = extras_in c.in_ok-extras.extras in
+    let extra = extras_for _ (length found.sources.items) _ given.0.graph.nodes files.extras extras many size c.in_ok-extras.ensures.extras in
+    let sound : AreSound (run_asks o) files given.0 found.sources.items extras = record { road = road; extra = extra } in
+    let plan = c.schedule_by-schedule.ensures.plan in
+    let late : AreWithin (plan_by o extras.times) (length found.sources.items) → ⊥ =
+    λ within. let fits : IsTrue c.departures_fit.result = c.departures_fit.ensures.1 (λ i inside. subst (λ (p : Plan). AreWithin p (length found.sources.items)) (sym plan) within i (omega (arith, inside, c.len-2.ensures, found.sources.ok.0))) in search rules
+    in (record { given = given.0; found = found.sources.items; extras = extras; sound = sound; late = late }, refl)
 
 -- all files were read
 pub returns-in_err-queries-clause-failed : goal.returns-in_err-queries-clause-failed
 returns-in_err-queries-clause-failed g c =
     let p = err_from_is_err_and c.from_residual-in_err-queries.result c.from_residual-in_err-queries.ensures.1 in
+    let o = c.args.options.now in
     let given = c.in_ok-files.ensures.given in
-    let o = c.args.watched.options.now in
+    let found = c.in_ok-files.files in
     let gr = reading g.G.Device.seen c.args.gr.now c.read_run_by.new.gr in
     let starts = reading g.S.Device.seen c.args.ss.now c.read_run_by.new.ss in
-    let sound = sound_there (run_asks o) g.T.Device.seen gr starts c.args.tp.now c.read_run_by.new.tp given.0 c.in_ok-files.files.sources.items given.1 c.in_ok-files.ensures.gr_borne c.in_ok-files.ensures.ss_borne c.in_ok-files.ensures.tp_borne in
-    rw (p.1, p.2) (inl (refl, refl, inr sound.read))
+    let others = optional_files c.read_run_by.new.tp c.read_extras.new.times c.read_extras.new.asked in
+    let files = files_of gr starts g.T.Device.seen c.args.others.now others in
+    let road = road_there (run_asks o) g.T.Device.seen gr starts c.args.others.now others given.0 found.sources.items given.1 c.in_ok-files.ensures.gr_borne c.in_ok-files.ensures.ss_borne c.in_ok-files.ensures.tp_borne in
+    let many : c.len.result ≡ length found.sources.items = omega (arith, c.len.ensures, found.sources.ok.0) in
+    let size : c.nodes.result ≡ given.0.graph.nodes = c.nodes.ensures.nodes ∙ ap (λ (r : Roads). r.nodes) given.2.network in
+    let extras = extras_in c.in_ok-extras.extras in
+    let extra = extras_for _ (length found.sources.items) _ given.0.graph.nodes files.extras extras many size c.in_ok-extras.ensures.extras in
+    let sound : AreSound (run_asks o) files given.0 found.sources.items extras = record { road = road; extra = extra } in
+    rw (p.1, p.2) (inl (refl, refl, inr (all_read (run_asks o) files given.0 found.sources.items extras sound)))

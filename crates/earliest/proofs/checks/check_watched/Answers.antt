@@ -1,20 +1,21 @@
-use Rattle.std.proofs.Common.{rules, inr, refl, ◌≡◌, ◌<◌, length, sym, ◌∙◌, subst, ap, arith}
+use Rattle.std.proofs.Common.{rules, ℕ, List, ◌≡◌, ◌≤◌, ◌<◌, length, sym, ◌∙◌, subst, refl, ap, arith, inl, inr}
 use Rattle.std.specs.Prelude.{All, IsTrue, None}
 use Rattle.std.proofs.lemmas.Result.{err_from_is_err_and}
 use Rattle.ea_input.specs.Sources.{DenotesSources}
 use Rattle.ea_road.specs.Queries.{Asking}
-use Rattle.ea_input.specs.Formats.{source_format}
-use Rattle.ea_load.specs.declared.file_fault.FileWord.TheVariants.{Ss}
+use Rattle.ea_road.specs.Roads.{Roads}
+use Rattle.ea_load.specs.Asked.{AreSound, files_of, in_extras}
+use Rattle.ea_load.specs.Extra.{extras_in}
 use Rattle.ea_load.specs.Files.{reading}
-use Rattle.ea_load.specs.Starts.{AreWithin, run_problems}
-use Rattle.ea_load.proofs.Denoting.{sources_are_nodes}
 use Rattle.ea_load.specs.Posed.{AreProblems}
+use Rattle.ea_load.specs.Starts.{AreWithin, Plan, run_problems}
 use Rattle.ea_load.proofs.Asking.{each_asked, none_aimed}
-use Rattle.ea_load.specs.Asked.{files_of}
-use Rattle.ea_load.proofs.Outcomes.{first_there, given_is_sound, sound_there}
-use Rattle.earliest.specs.Checks.{in_report, in_run}
-use Rattle.earliest.specs.Runs.{run_asks}
+use Rattle.ea_load.proofs.Denoting.{sources_are_nodes}
+use Rattle.ea_load.proofs.Outcomes.{all_read, first_there, given_is_sound, road_there}
 use Rattle.ea_load.proofs.Posing.{run_is_posed}
+use Rattle.earliest.specs.Checks.{in_report, in_run}
+use Rattle.earliest.specs.Runs.{plan_by, run_asks}
+use Rattle.earliest.proofs.Extras.{extra_fault_for, extras_for, optional_files, schedule_has}
 use Rattle.earliest.proofs.Verdicts.{judged, unread}
 use Rattle.earliest.proofs.checks.check_watched.Goals as goal
 
@@ -24,33 +25,71 @@ returns-in_err-files-clause-unjudged g c =
     let o = c.args.options.now in
     let gr = reading g.G.Device.seen c.args.gr.now c.read_run.new.gr in
     let ss = reading g.S.Device.seen c.args.ss.now c.read_run.new.ss in
-    let files = files_of gr ss g.T.Device.seen c.args.tp.now c.read_run.new.tp in
+    let others = optional_files c.read_run.new.tp c.args.others.now.times c.args.others.now.nodes in
     let report = reading g.R.Device.seen c.args.report.now c.args.report.now in
-    rw (p.1, p.2) (unread o files report _ (in_run (first_there g.T.Device.seen Ss source_format DenotesSources gr ss c.args.tp.now c.read_run.new.tp _ c.in_err-files.ensures.fault)))
+    rw (p.1, p.2) (unread o (files_of gr ss g.T.Device.seen c.args.others.now others) report _ (in_run (first_there g.T.Device.seen (run_asks o) gr ss c.args.others.now others _ c.in_err-files.ensures.fault refl refl)))
 
-pub returns-in_err-text-clause-unjudged : goal.returns-in_err-text-clause-unjudged
-returns-in_err-text-clause-unjudged g c =
-    let p = err_from_is_err_and c.from_residual-in_err-text.result c.from_residual-in_err-text.ensures.1 in
+pub returns-in_err-extras-clause-unjudged : goal.returns-in_err-extras-clause-unjudged
+returns-in_err-extras-clause-unjudged g c =
+    let p = err_from_is_err_and c.from_residual-in_err-extras.result c.from_residual-in_err-extras.ensures.1 in
+    let o = c.args.options.now in
     let given = c.in_ok-files.ensures.given in
     let found = c.in_ok-files.files in
-    let o = c.args.options.now in
     let gr = reading g.G.Device.seen c.args.gr.now c.read_run.new.gr in
     let ss = reading g.S.Device.seen c.args.ss.now c.read_run.new.ss in
-    let files = files_of gr ss g.T.Device.seen c.args.tp.now c.read_run.new.tp in
-    let report = reading g.R.Device.seen c.args.report.now c.read_report.new.report in
-    let sound = sound_there (run_asks o) g.T.Device.seen gr ss c.args.tp.now c.read_run.new.tp given.0 found.sources.items given.1 c.in_ok-files.ensures.gr_borne c.in_ok-files.ensures.ss_borne c.in_ok-files.ensures.tp_borne in
-    rw (p.1, p.2) (unread o files report _ (in_report (given.0, found.sources.items, sound) c.in_err-text.ensures.fault))
+    let others = optional_files c.read_run.new.tp c.read_extras.new.times c.read_extras.new.asked in
+    let files = files_of gr ss g.T.Device.seen c.args.others.now others in
+    let road = road_there (run_asks o) g.T.Device.seen gr ss c.args.others.now others given.0 found.sources.items given.1 c.in_ok-files.ensures.gr_borne c.in_ok-files.ensures.ss_borne c.in_ok-files.ensures.tp_borne in
+    let many : c.len.result ≡ length found.sources.items = omega (arith, c.len.ensures, found.sources.ok.0) in
+    let size : c.nodes.result ≡ given.0.graph.nodes = c.nodes.ensures.nodes ∙ ap (λ (r : Roads). r.nodes) given.2.network in
+    let report = reading g.R.Device.seen c.args.report.now c.args.report.now in
+    rw (p.1, p.2) (unread o files report _ (in_run (in_extras given.0 found.sources.items road (extra_fault_for _ (length found.sources.items) _ given.0.graph.nodes files.extras _ many size c.in_err-extras.ensures.fault))))
 
-pub returns-in_err-queries-clause-unjudged : goal.returns-in_err-queries-clause-unjudged
-returns-in_err-queries-clause-unjudged g c =
-    let p = err_from_is_err_and c.from_residual-in_err-queries.result c.from_residual-in_err-queries.ensures.1 in
+pub departures_fit-requires-clause-times : goal.departures_fit-requires-clause-times
+departures_fit-requires-clause-times g c =
+    let o = c.args.options.now in
+    schedule_has o c.schedule_by-schedule.result _ (extras_in c.in_ok-extras.extras).times _ _ c.schedule_by-schedule.ensures.plan c.in_ok-extras.ensures.extras.times _ (omega (arith, c.len.ensures, c.len-2.ensures))
+
+-- a time is beyond the horizon
+pub returns-in_err-judge-clause-unjudged : goal.returns-in_err-judge-clause-unjudged
+returns-in_err-judge-clause-unjudged g c =
+    let p = err_from_is_err_and c.from_residual-in_err-judge.result c.from_residual-in_err-judge.ensures.1 in
+    let o = c.args.options.now in
     let given = c.in_ok-files.ensures.given in
     let found = c.in_ok-files.files in
-    let o = c.args.options.now in
     let gr = reading g.G.Device.seen c.args.gr.now c.read_run.new.gr in
     let ss = reading g.S.Device.seen c.args.ss.now c.read_run.new.ss in
-    let sound = sound_there (run_asks o) g.T.Device.seen gr ss c.args.tp.now c.read_run.new.tp given.0 found.sources.items given.1 c.in_ok-files.ensures.gr_borne c.in_ok-files.ensures.ss_borne c.in_ok-files.ensures.tp_borne in
-    rw (p.1, p.2) (refl, inr (sound.read, c.in_ok-text.ensures.text.borne))
+    let others = optional_files c.read_run.new.tp c.read_extras.new.times c.read_extras.new.asked in
+    let files = files_of gr ss g.T.Device.seen c.args.others.now others in
+    let road = road_there (run_asks o) g.T.Device.seen gr ss c.args.others.now others given.0 found.sources.items given.1 c.in_ok-files.ensures.gr_borne c.in_ok-files.ensures.ss_borne c.in_ok-files.ensures.tp_borne in
+    let many : c.len.result ≡ length found.sources.items = omega (arith, c.len.ensures, found.sources.ok.0) in
+    let size : c.nodes.result ≡ given.0.graph.nodes = c.nodes.ensures.nodes ∙ ap (λ (r : Roads). r.nodes) given.2.network in
+    let extras = extras_in c.in_ok-extras.extras in
+    let extra = extras_for _ (length found.sources.items) _ given.0.graph.nodes files.extras extras many size c.in_ok-extras.ensures.extras in
+    let sound : AreSound (run_asks o) files given.0 found.sources.items extras = record { road = road; extra = extra } in
+    let report = reading g.R.Device.seen c.args.report.now c.judge.new.report in
+    rw (p.1, p.2) (unread o files report _ (in_report (given.0, found.sources.items, extras, sound) c.in_err-judge.ensures.fault))
+
+pub returns-then-not-departures_fit-clause-unjudged : goal.returns-then-not-departures_fit-clause-unjudged
+returns-then-not-departures_fit-clause-unjudged g c =
+    let o = c.args.options.now in
+    let given = c.in_ok-files.ensures.given in
+    let found = c.in_ok-files.files in
+    let gr = reading g.G.Device.seen c.args.gr.now c.read_run.new.gr in
+    let ss = reading g.S.Device.seen c.args.ss.now c.read_run.new.ss in
+    let others = optional_files c.read_run.new.tp c.read_extras.new.times c.read_extras.new.asked in
+    let files = files_of gr ss g.T.Device.seen c.args.others.now others in
+    let road = road_there (run_asks o) g.T.Device.seen gr ss c.args.others.now others given.0 found.sources.items given.1 c.in_ok-files.ensures.gr_borne c.in_ok-files.ensures.ss_borne c.in_ok-files.ensures.tp_borne in
+    let many : c.len.result ≡ length found.sources.items = omega (arith, c.len.ensures, found.sources.ok.0) in
+    let size : c.nodes.result ≡ given.0.graph.nodes = c.nodes.ensures.nodes ∙ ap (λ (r : Roads). r.nodes) given.2.network in
+    let extras = extras_in c.in_ok-extras.extras in
+    let extra = extras_for _ (length found.sources.items) _ given.0.graph.nodes files.extras extras many size c.in_ok-extras.ensures.extras in
+    let sound : AreSound (run_asks o) files given.0 found.sources.items extras = record { road = road; extra = extra } in
+    let plan = c.schedule_by-schedule.ensures.plan in
+    let late : AreWithin (plan_by o extras.times) (length found.sources.items) → ⊥ =
+    λ within. let fits : IsTrue c.departures_fit.result = c.departures_fit.ensures.1 (λ i inside. subst (λ (p : Plan). AreWithin p (length found.sources.items)) (sym plan) within i (omega (arith, inside, c.len-2.ensures, found.sources.ok.0))) in search rules in
+    let has = c.in_ok-judge.ensures.judged in
+    (record { given = given.0; found = found.sources.items; extras = extras; sound = sound; late = late }, (has.0, has.1))
 
 pub run_queries-requires-clause-nodes : goal.run_queries-requires-clause-nodes
 run_queries-requires-clause-nodes g c =
@@ -58,57 +97,91 @@ run_queries-requires-clause-nodes g c =
     let nodes = sources_are_nodes given.0.graph.nodes _ c.in_ok-files.files.sources.items given.1.starts_denoted in
     subst (All (λ node. 0 < node)) (sym c.deref.ensures.value) (λ k d lt. (nodes.0 k d lt).from_one)
 
-pub check_watched-verdict-requires : goal.check_watched-verdict-requires
-check_watched-verdict-requires g c =
-    let given = c.in_ok-files.ensures.given in
-    let files = c.in_ok-files.files in
+pub run_queries-requires-clause-times : goal.run_queries-requires-clause-times
+run_queries-requires-clause-times g c =
     let o = c.args.options.now in
-    let nodes = sources_are_nodes given.0.graph.nodes _ files.sources.items given.1.starts_denoted in
-    let sound = given_is_sound DenotesSources _ _ _ given.0 files.sources.items given.1 in
-    let fits : IsTrue c.departures_fit.result = search rules in
-    let within : AreWithin o.depart o.gap (length files.sources.items) = λ i inside. c.departures_fit.ensures.0 fits i (omega (arith, inside, files.sources.ok.0)) in
-    let queries = c.deref-2.ensures.value ∙ c.in_ok-queries.ensures ∙ ap (run_problems o.joint o.depart o.gap) c.deref.ensures.value in
-    each_asked files.road c.deref-2.result.now
-    (subst (AreProblems files.road) (sym queries) (run_is_posed given.0 files.road given.2 sound o.depart o.gap o.joint files.sources.items nodes within))
-    (subst (All (λ (query : Asking). query.target ≡ None)) (sym queries) (none_aimed o.joint o.depart o.gap files.sources.items))
-
-pub returns-clause-judged : goal.returns-clause-judged
-returns-clause-judged g c =
-    let given = c.in_ok-files.ensures.given in
-    let found = c.in_ok-files.files in
-    let o = c.args.options.now in
-    let fits : IsTrue c.departures_fit.result = search rules in
-    let within : AreWithin o.depart o.gap (length found.sources.items) = λ i inside. c.departures_fit.ensures.0 fits i (omega (arith, inside, found.sources.ok.0)) in
-    let queries = c.deref-2.ensures.value ∙ c.in_ok-queries.ensures ∙ ap (run_problems o.joint o.depart o.gap) c.deref.ensures.value in
-    let gr = reading g.G.Device.seen c.args.gr.now c.read_run.new.gr in
-    let ss = reading g.S.Device.seen c.args.ss.now c.read_run.new.ss in
-    let files = files_of gr ss g.T.Device.seen c.args.tp.now c.read_run.new.tp in
-    let report = reading g.R.Device.seen c.args.report.now c.read_report.new.report in
-    let sound = sound_there (run_asks o) g.T.Device.seen gr ss c.args.tp.now c.read_run.new.tp given.0 found.sources.items given.1 c.in_ok-files.ensures.gr_borne c.in_ok-files.ensures.ss_borne c.in_ok-files.ensures.tp_borne in
-    judged o files report given.0 found.sources.items c.in_ok-text.text.items sound within (record { is_text = c.in_ok-text.ensures.text; end = c.in_ok-text.ensures.end }) found.road given.2
-    c.deref-2.result.now queries c.deref-3.result.now c.deref-3.ensures.value c.check_watched-verdict.result c.check_watched-verdict.ensures
-
-pub returns-then-not-departures_fit-clause-unjudged : goal.returns-then-not-departures_fit-clause-unjudged
-returns-then-not-departures_fit-clause-unjudged g c =
-    let given = c.in_ok-files.ensures.given in
-    let found = c.in_ok-files.files in
-    let o = c.args.options.now in
-    let gr = reading g.G.Device.seen c.args.gr.now c.read_run.new.gr in
-    let ss = reading g.S.Device.seen c.args.ss.now c.read_run.new.ss in
-    let files = files_of gr ss g.T.Device.seen c.args.tp.now c.read_run.new.tp in
-    let late : AreWithin o.depart o.gap (length found.sources.items) → ⊥ =
-    λ within. let fits : IsTrue c.departures_fit.result = c.departures_fit.ensures.1 (λ i inside. within i (omega (arith, inside, found.sources.ok.0))) in search rules
-    in (
-      record {
-        given = given.0;
-        found = found.sources.items;
-        sound = sound_there (run_asks o) g.T.Device.seen gr ss c.args.tp.now c.read_run.new.tp given.0 found.sources.items given.1 c.in_ok-files.ensures.gr_borne c.in_ok-files.ensures.ss_borne c.in_ok-files.ensures.tp_borne;
-        late = late;
-      },
-      (c.in_ok-text.text.items, record { is_text = c.in_ok-text.ensures.text; end = c.in_ok-text.ensures.end }),
-    )
+    schedule_has o c.schedule_by-schedule.result _ (extras_in c.in_ok-extras.extras).times _ _ c.schedule_by-schedule.ensures.plan c.in_ok-extras.ensures.extras.times _ (omega (arith, c.len.ensures, c.deref.ensures.len))
 
 pub run_queries-requires-clause-within : goal.run_queries-requires-clause-within
 run_queries-requires-clause-within g c =
     let fits : IsTrue c.departures_fit.result = search rules in
-    λ i inside. c.departures_fit.ensures.0 fits i (omega (arith, inside, c.deref.ensures.len, c.len.ensures))
+    λ i inside. c.departures_fit.ensures.0 fits i (omega (arith, inside, c.deref.ensures.len, c.len-2.ensures))
+
+pub returns-in_err-queries-clause-unjudged : goal.returns-in_err-queries-clause-unjudged
+returns-in_err-queries-clause-unjudged g c =
+    let p = err_from_is_err_and c.from_residual-in_err-queries.result c.from_residual-in_err-queries.ensures.1 in
+    let o = c.args.options.now in
+    let given = c.in_ok-files.ensures.given in
+    let found = c.in_ok-files.files in
+    let gr = reading g.G.Device.seen c.args.gr.now c.read_run.new.gr in
+    let ss = reading g.S.Device.seen c.args.ss.now c.read_run.new.ss in
+    let others = optional_files c.read_run.new.tp c.read_extras.new.times c.read_extras.new.asked in
+    let files = files_of gr ss g.T.Device.seen c.args.others.now others in
+    let road = road_there (run_asks o) g.T.Device.seen gr ss c.args.others.now others given.0 found.sources.items given.1 c.in_ok-files.ensures.gr_borne c.in_ok-files.ensures.ss_borne c.in_ok-files.ensures.tp_borne in
+    let many : c.len.result ≡ length found.sources.items = omega (arith, c.len.ensures, found.sources.ok.0) in
+    let size : c.nodes.result ≡ given.0.graph.nodes = c.nodes.ensures.nodes ∙ ap (λ (r : Roads). r.nodes) given.2.network in
+    let extras = extras_in c.in_ok-extras.extras in
+    let extra = extras_for _ (length found.sources.items) _ given.0.graph.nodes files.extras extras many size c.in_ok-extras.ensures.extras in
+    let sound : AreSound (run_asks o) files given.0 found.sources.items extras = record { road = road; extra = extra } in
+    rw (p.1, p.2) (refl, inr (all_read (run_asks o) files given.0 found.sources.items extras sound, (refl, omega arith)))
+
+pub judge-requires-2 : goal.judge-requires-2
+judge-requires-2 g c =
+    let o = c.args.options.now in
+    let given = c.in_ok-files.ensures.given in
+    let found = c.in_ok-files.files in
+    let gr = reading g.G.Device.seen c.args.gr.now c.read_run.new.gr in
+    let ss = reading g.S.Device.seen c.args.ss.now c.read_run.new.ss in
+    let extras = extras_in c.in_ok-extras.extras in
+    let plan = c.schedule_by-schedule.ensures.plan in
+    let fits : IsTrue c.departures_fit.result = search rules in
+    let within : AreWithin (plan_by o extras.times) (length found.sources.items) = subst (λ (p : Plan). AreWithin p (length found.sources.items)) plan (λ i inside. c.departures_fit.ensures.0 fits i (omega (arith, inside, c.len-2.ensures, found.sources.ok.0))) in
+    let nodes = sources_are_nodes given.0.graph.nodes _ found.sources.items given.1.starts_denoted in
+    let whole = given_is_sound DenotesSources _ _ _ given.0 found.sources.items given.1 in
+    let queries = c.deref-2.ensures.value ∙ c.in_ok-queries.ensures ∙ ap (λ (p : Plan). run_problems o.joint p c.deref.result.now) plan ∙ ap (λ (xs : List ℕ). run_problems o.joint (plan_by o extras.times) xs) c.deref.ensures.value in
+    each_asked found.road c.deref-2.result.now
+    (subst (AreProblems found.road) (sym queries) (run_is_posed given.0 found.road o.direction given.2 whole (plan_by o extras.times) o.joint found.sources.items nodes within))
+    (subst (All (λ (query : Asking). query.target ≡ None)) (sym queries) (none_aimed o.joint (plan_by o extras.times) found.sources.items))
+
+pub returns-in_err-verdict-clause-unjudged : goal.returns-in_err-verdict-clause-unjudged
+returns-in_err-verdict-clause-unjudged g c =
+    let p = err_from_is_err_and c.from_residual-in_err-verdict.result c.from_residual-in_err-verdict.ensures.1 in
+    let o = c.args.options.now in
+    let given = c.in_ok-files.ensures.given in
+    let found = c.in_ok-files.files in
+    let gr = reading g.G.Device.seen c.args.gr.now c.read_run.new.gr in
+    let ss = reading g.S.Device.seen c.args.ss.now c.read_run.new.ss in
+    let others = optional_files c.read_run.new.tp c.read_extras.new.times c.read_extras.new.asked in
+    let files = files_of gr ss g.T.Device.seen c.args.others.now others in
+    let road = road_there (run_asks o) g.T.Device.seen gr ss c.args.others.now others given.0 found.sources.items given.1 c.in_ok-files.ensures.gr_borne c.in_ok-files.ensures.ss_borne c.in_ok-files.ensures.tp_borne in
+    let many : c.len.result ≡ length found.sources.items = omega (arith, c.len.ensures, found.sources.ok.0) in
+    let size : c.nodes.result ≡ given.0.graph.nodes = c.nodes.ensures.nodes ∙ ap (λ (r : Roads). r.nodes) given.2.network in
+    let extras = extras_in c.in_ok-extras.extras in
+    let extra = extras_for _ (length found.sources.items) _ given.0.graph.nodes files.extras extras many size c.in_ok-extras.ensures.extras in
+    let sound : AreSound (run_asks o) files given.0 found.sources.items extras = record { road = road; extra = extra } in
+    let report = reading g.R.Device.seen c.args.report.now c.judge-2.new.report in
+    rw (p.1, p.2) (unread o files report _ (in_report (given.0, found.sources.items, extras, sound) c.in_err-verdict.ensures.fault))
+
+pub returns-clause-judged : goal.returns-clause-judged
+returns-clause-judged g c =
+    let o = c.args.options.now in
+    let given = c.in_ok-files.ensures.given in
+    let found = c.in_ok-files.files in
+    let gr = reading g.G.Device.seen c.args.gr.now c.read_run.new.gr in
+    let ss = reading g.S.Device.seen c.args.ss.now c.read_run.new.ss in
+    let others = optional_files c.read_run.new.tp c.read_extras.new.times c.read_extras.new.asked in
+    let files = files_of gr ss g.T.Device.seen c.args.others.now others in
+    let road = road_there (run_asks o) g.T.Device.seen gr ss c.args.others.now others given.0 found.sources.items given.1 c.in_ok-files.ensures.gr_borne c.in_ok-files.ensures.ss_borne c.in_ok-files.ensures.tp_borne in
+    let many : c.len.result ≡ length found.sources.items = omega (arith, c.len.ensures, found.sources.ok.0) in
+    let size : c.nodes.result ≡ given.0.graph.nodes = c.nodes.ensures.nodes ∙ ap (λ (r : Roads). r.nodes) given.2.network in
+    let extras = extras_in c.in_ok-extras.extras in
+    let extra = extras_for _ (length found.sources.items) _ given.0.graph.nodes files.extras extras many size c.in_ok-extras.ensures.extras in
+    let sound : AreSound (run_asks o) files given.0 found.sources.items extras = record { road = road; extra = extra } in
+    let plan = c.schedule_by-schedule.ensures.plan in
+    let fits : IsTrue c.departures_fit.result = search rules in
+    let within : AreWithin (plan_by o extras.times) (length found.sources.items) = subst (λ (p : Plan). AreWithin p (length found.sources.items)) plan (λ i inside. c.departures_fit.ensures.0 fits i (omega (arith, inside, c.len-2.ensures, found.sources.ok.0))) in
+    let nodes = sources_are_nodes given.0.graph.nodes _ found.sources.items given.1.starts_denoted in
+    let whole = given_is_sound DenotesSources _ _ _ given.0 found.sources.items given.1 in
+    let queries = c.deref-2.ensures.value ∙ c.in_ok-queries.ensures ∙ ap (λ (p : Plan). run_problems o.joint p c.deref.result.now) plan ∙ ap (λ (xs : List ℕ). run_problems o.joint (plan_by o extras.times) xs) c.deref.ensures.value in
+    let report = reading g.R.Device.seen c.args.report.now c.judge-2.new.report in
+    judged o files report given.0 found.sources.items extras sound within found.road given.2 c.deref-2.result.now queries c.in_ok-verdict.verdict c.in_ok-verdict.ensures.judged

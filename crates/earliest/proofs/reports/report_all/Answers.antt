@@ -1,15 +1,23 @@
 use Rattle.ea_load.specs.Posed.{times_on}
-use Rattle.earliest.proofs.Sending.{totals_cut, all_written}
+use Rattle.ea_report.specs.Asked.{chosen_by}
+use Rattle.earliest.proofs.Sending.{all_written, sent_in, totals_cut}
 use Rattle.earliest.proofs.reports.report_all.Goals as goal
 
 pub returns-in-Ok-clause-ok : goal.returns-in-Ok-clause-ok
 returns-in-Ok-clause-ok g c =
+    let first = g.W.Device.seen c.args.out.now in
     let now = g.W.Device.seen c.write_totals.new.out in
-    all_written c.args.options.now c.args.road.now.network (times_on c.args.road.now) c.args.queries.now _ _ now _ c.in_ok-reports.reports.totals c.in_ok-reports.ensures.ok c.in-Ok.ensures.ok c.in-Ok.ensures.borne c.in_ok-reports.ensures.counted c.in_ok-reports.ensures.balanced
+    let road = c.args.road.now in
+    let problems = c.args.queries.now in
+    let sent = sent_in _ _ c.requires.asked road.network (times_on road) problems first _ _ c.in_ok-reports.ensures.ok in
+    all_written c.args.options.now (chosen_by c.args.watched.shown) road.network (times_on road) problems first _ now _ c.in_ok-reports.reports.totals sent c.in-Ok.ensures.ok c.in-Ok.ensures.borne c.in_ok-reports.ensures.counted c.in_ok-reports.ensures.balanced
 
 pub returns-clause-err : goal.returns-clause-err
 returns-clause-err g c =
     let now = g.W.Device.seen c.write_totals.new.out in
     let first = g.W.Device.seen c.args.out.now in
+    let road = c.args.road.now in
+    let problems = c.args.queries.now in
+    let sent = sent_in _ _ c.requires.asked road.network (times_on road) problems first _ _ c.in_ok-reports.ensures.ok in
     let cut = c.in-Err.ensures.err in
-    rw cut.2 (totals_cut c.args.options.now c.args.road.now.network (times_on c.args.road.now) c.args.queries.now first _ now c.in_ok-reports.reports.progress.written c.in_ok-reports.reports.totals c.in_ok-reports.ensures.ok cut.0 cut.1 (c.in_ok-reports.ensures.counted cut.1) cut.3 cut.4)
+    rw cut.2 (totals_cut c.args.options.now (chosen_by c.args.watched.shown) road.network (times_on road) problems first _ now c.in_ok-reports.reports.progress.written c.in_ok-reports.reports.totals sent cut.0 cut.1 (c.in_ok-reports.ensures.counted cut.1) cut.3 cut.4)

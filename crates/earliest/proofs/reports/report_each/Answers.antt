@@ -1,4 +1,4 @@
-use Rattle.std.proofs.Common.{[], length, refl, sym, subst, arith}
+use Rattle.std.proofs.Common.{[], length, refl, sym, subst, ap, arith}
 use Rattle.std.proofs.lemmas.Result.{err_from_is_err_and}
 use Rattle.ea_load.specs.Posed.{times_on}
 use Rattle.earliest.specs.Workers.{settings_by}
@@ -6,15 +6,19 @@ use Rattle.earliest.proofs.Counting.{totals_next}
 use Rattle.ea_batch.proofs.Sent.{stops, sent_next, sent_none}
 use Rattle.std.proofs.lemmas.List.{take_all}
 use Rattle.ea_road.specs.Queries.{Asking, IsProblem}
+use Rattle.ea_report.specs.Asked.{Shape, chosen_by, shape_of}
 use Rattle.ea_batch.specs.Sent.{AreSent}
-use Rattle.earliest.specs.Fronts.{in_problem}
+use Rattle.earliest.proofs.Sending.{cut_in_problem}
 use Rattle.earliest.proofs.reports.report_each.Goals as goal
 
 pub returns-in_err-report-clause-err : goal.returns-in_err-report-clause-err
 returns-in_err-report-clause-err g c =
     let p = err_from_is_err_and c.from_residual.result c.from_residual.ensures.1 in
     let first = g.W.Device.seen c.args.out.now in
-    rw (p.1, p.2) (in_problem (stops c.args.options.now.walks c.args.road.now.network (times_on c.args.road.now) c.args.queries.now c.loop-query.query-index c.query-item.result c.loop-query-test.true c.query-item.is first _ _ _ c.loop-query.invariant.sent _ c.in_err-report.ensures.err))
+    let shown = c.args.watched.shown in
+    let road = c.args.road.now in
+    let cut = stops (shape_of shown) road.network (times_on road) c.args.queries.now c.loop-query.query-index c.query-item.result c.loop-query-test.true c.query-item.is first _ _ _ c.loop-query.invariant.sent _ c.in_err-report.ensures.err in
+    rw (p.1, p.2) (cut_in_problem c.args.options.now (chosen_by shown) (shape_of shown) c.requires.asked road.network (times_on road) c.args.queries.now first _ _ cut)
 
 pub loop-query-preserved : goal.loop-query-preserved
 loop-query-preserved g c =
@@ -25,7 +29,7 @@ loop-query-preserved g c =
     record {
       done = omega (arith, inv.done);
       fits = inv.fits;
-      sent = sent_next c.args.options.now.walks c.args.road.now.network (times_on c.args.road.now) c.args.queries.now i c.query-item.result c.loop-query-test.true c.query-item.is first _ now _ c.report.new.self.progress.written inv.fits inv.sent c.in_ok-report.ensures.ok;
+      sent = sent_next (shape_of c.args.watched.shown) c.args.road.now.network (times_on c.args.road.now) c.args.queries.now i c.query-item.result c.loop-query-test.true c.query-item.is first _ now _ c.report.new.self.progress.written inv.fits inv.sent c.in_ok-report.ensures.ok;
       bound = omega (arith, c.in_ok-report.ensures.bound, inv.bound);
       counted = λ asked. let more = c.in_ok-report.ensures.counted asked in totals_next (settings_by c.args.options.now) c.args.queries.now i c.query-item.result c.loop-query-test.true c.query-item.is _ _ (inv.counted asked) more.0 more.1 more.2;
       small = c.in_ok-report.ensures.small i inv.small;
@@ -36,14 +40,13 @@ loop-query-preserved g c =
 pub loop-query-init : goal.loop-query-init
 loop-query-init g c =
     let begun = c.begin-reports.ensures in
-    let options = c.args.options.now in
     let network = c.args.road.now.network in
     let times = times_on c.args.road.now in
     let first = g.W.Device.seen c.args.out.now in
     record {
       done = refl;
       fits = omega (arith, c.interruptions.ensures, c.interruptions.type_inv);
-      sent = subst (λ n. AreSent options.walks network times [] first first n) (sym begun.written) (sent_none options.walks network times first);
+      sent = subst (λ n. AreSent (shape_of c.args.watched.shown) network times [] first first n) (sym begun.written) (sent_none (shape_of c.args.watched.shown) network times first);
       bound = omega (arith, begun.written);
       counted = λ asked. record { all = []; counted = tt; sums = begun.totals };
       small = begun.small;
@@ -55,9 +58,12 @@ pub returns-clause-ok : goal.returns-clause-ok
 returns-clause-ok g c =
     let road = c.args.road.now in
     let all = take_all c.loop-query.query-index c.args.queries.now (omega (arith, c.loop-query-test.false)) in
-    subst (λ qs. AreSent c.args.options.now.walks road.network (times_on road) qs (g.W.Device.seen c.args.out.now) (g.W.Device.seen c.loop-query.out) c.loop-query.reports.progress.written) all c.loop-query.invariant.sent
+    subst (λ qs. AreSent (shape_of c.args.watched.shown) road.network (times_on road) qs (g.W.Device.seen c.args.out.now) (g.W.Device.seen c.loop-query.out) c.loop-query.reports.progress.written) all c.loop-query.invariant.sent
 
 pub report-requires-clause-problem : goal.report-requires-clause-problem
 report-requires-clause-problem g c κs lent =
     let road = c.args.road.now in
-    subst (λ (query : Asking). IsProblem road.network (length road.times.list.items) query) (sym c.query-item.is) (c.requires.problems c.loop-query.query-index c.query-item.result c.loop-query-test.true).0
+    subst (λ (query : Asking). IsProblem road.network (length road.times.tables.list.items) query) (sym c.query-item.is) (c.requires.problems c.loop-query.query-index c.query-item.result c.loop-query-test.true).0
+
+pub report-requires-clause-walks : goal.report-requires-clause-walks
+report-requires-clause-walks g c κs lent = ap (λ (shape : Shape). shape.style.walks) c.requires.asked

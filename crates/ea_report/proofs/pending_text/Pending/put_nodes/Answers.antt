@@ -1,35 +1,7 @@
-use Rattle.std.proofs.Common.{arith, ◌≡◌, ◌+◌, ◌∙◌, ℕ, subst}
-use Rattle.std.proofs.lemmas.Result.{err_from_is_err_and}
-use Rattle.ea_report.specs.Deliverers.{delivery_of}
-use Rattle.ea_report.specs.Report.{each_node, node_text}
-use Rattle.ea_report.specs.Sent.{Adds}
-use Rattle.ea_report.proofs.Pieces.{stops_more, adds_none, adds_more, each_node-at, each_node-next}
 use Rattle.ea_report.proofs.pending_text.Pending.put_nodes.Goals as goal
 
-pub returns-in_err-put_node-clause-err : goal.returns-in_err-put_node-clause-err
-returns-in_err-put_node-clause-err g c =
-    let p = err_from_is_err_and c.from_residual.result c.from_residual.ensures.1 in
-    let text = node_text c.args.walks c.args.answer.now in
-    let here = each_node-at text c.args.nodes c.loop-i.i (omega arith) in
-    rw (p.1, p.2) (stops_more _ _ _ _ _ _ (each_node text c.loop-i.i) (text (c.loop-i.i + 1)) here.0 _ here.1 c.loop-i.invariant.added c.in_err-put_node.ensures.err)
+pub returns-in-None-clause-err : goal.returns-in-None-clause-err
+returns-in-None-clause-err g c = rw c.in-None.is c.put_each.ensures.err
 
-pub loop-i-preserved : goal.loop-i-preserved
-loop-i-preserved g c =
-    let text = node_text c.args.walks c.args.answer.now in
-    record { links = c.in_ok-put_node.ensures.links ∙ c.loop-i.invariant.links; added = rw (each_node-next text c.loop-i.i) (adds_more _ _ _ _ _ _ (each_node text c.loop-i.i) (text (c.loop-i.i + 1)) c.loop-i.invariant.added c.in_ok-put_node.ensures.ok); bound = omega (arith, c.in_ok-put_node.ensures.bound); held = c.in_ok-put_node.ensures.held }
-
-pub loop-i-init : goal.loop-i-init
-loop-i-init g c = record {
-  links = c.new-arcs.ensures.links ∙ c.links.ensures.links;
-  added = adds_none _ _;
-  bound = omega (arith);
-  held = c.requires.held;
-}
-
-pub returns-clause-ok : goal.returns-clause-ok
-returns-clause-ok g c =
-    let all : c.loop-i.i ≡ c.args.nodes = omega (arith, c.loop-i-test.false) in
-    subst (λ (n : ℕ). Adds (g.W.Device.seen c.args.out.now) (delivery_of c.args.self.now) (g.W.Device.seen c.loop-i.out) (delivery_of c.loop-i.self) (each_node (node_text c.args.walks c.args.answer.now) n)) all c.loop-i.invariant.added
-
-pub returns-clause-bound : goal.returns-clause-bound
-returns-clause-bound g c = omega (arith, c.loop-i.invariant.bound, c.loop-i-test.false)
+pub returns-in-Some-clause-err : goal.returns-in-Some-clause-err
+returns-in-Some-clause-err g c = rw c.in-Some.is c.put_chosen.ensures.err
