@@ -51,13 +51,14 @@ fn shown_by<'a>(options: &RunOptions, extras: &'a ExtraLists) -> ReportOptions<'
     }
 }
 
-/// Answers a run: reads the network, the sources and the timetables, if there are any, and writes the report.
-/// For each source, or with `joint` for all together, it has the earliest arrival at each node; with `walks`
-/// a walk that attains it; and with `stats` the totals of the workers.
+/// Answers a run: reads the network, the sources and, if they are there, timetables, times of the sources and
+/// nodes, and writes the report. For each source, or with `joint` for all together, it has the earliest arrival
+/// at each node, or at these nodes; with `walks` a walk that attains it; and with `stats` the totals of the
+/// workers. Turned round, sources are targets, and it has the latest departure that is in time.
 ///
-/// Source i, from 0, departs at `depart + i * gap`. Apart from the totals, the report doesn't depend on
-/// workers, heaps, turns and seed. Files are read in this order, each to its end and at most 2^33 bytes,
-/// before anything is written.
+/// Source i, from 0, departs at `depart + i * gap`, or at its own time. Apart from the totals, the report
+/// doesn't depend on workers, heaps, turns and seed. Files are read in this order, each to its end and at most
+/// 2^33 bytes, before anything is written.
 ///
 /// Fails with `Read` or `Input` for the first fault of the files in their order, and with `BadOption` for a
 /// departure above 2^48 - 1; then nothing was written. After `Write` and `OutOfMemory` the bytes written are
@@ -130,8 +131,9 @@ pub(crate) fn answer_watched<
     report_all(alloc, rt, &files.road, &queries, options, watched, out)
 }
 
-/// Answers pairs: like `answer`, with the earliest arrival at the target of each pair alone. Pair i, from 0,
-/// departs at `depart + i * gap`; `joint` has no effect.
+/// Answers pairs: like `answer`, with the earliest arrival at the target of each pair alone or, turned round,
+/// the latest departure from its source. Pair i, from 0, departs at `depart + i * gap`, or at its own time;
+/// `joint` has no effect.
 pub fn answer_pairs<H: Threads + Sync, G: ByteIn, P: ByteIn, T: ByteIn, W: ByteOut>(
     alloc: Global,
     rt: &H,
