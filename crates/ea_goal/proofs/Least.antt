@@ -38,8 +38,8 @@ module _
       | inr (inr waits) ↦ absurd (none_open (label node) node waits)
     ]
 
-    -- a label is at most each time from which the target could be reached before its label
-    label_le : {start departure node time : ℕ} {walk : List ℕ} → label start ≤ departure → Arrives roads answers start departure walk node time → time ≤ HORIZON → bound node < NO_WALK → time + bound node < label target → label node ≤ time
+    -- a label is at most each time from which the target could be reached by its label
+    pub label_le : {start departure node time : ℕ} {walk : List ℕ} → label start ≤ departure → Arrives roads answers start departure walk node time → time ≤ HORIZON → bound node < NO_WALK → time + bound node ≤ label target → label node ≤ time
     label_le first stays within some near = first
     label_le first (goes {node} {time} {number} {arrival} {arc} before in_time is_arc tail answer) within some near =
         let along = consistent.along number time arrival arc is_arc in_time within answer some in

@@ -3,4 +3,7 @@ pub mod Least
 pub mod Offering
 pub mod Scanning
 pub mod Visiting
-pub mod Beginning
+pub mod Seeding
+pub mod Reaching
+pub mod Agreeing
+pub mod Walks

@@ -101,6 +101,14 @@ falls_alike bound other table after entries last same falls = record {
   fallen = λ node from fell some. falls.fallen node from fell (omega (arith, same node, some));
 }
 
+pub offers_alike : (bound other : ℕ → ℕ) (table after : List ℕ) (entries last : List Entry) (node time : ℕ) → ((place : ℕ) → bound place ≡ other place) → Offers bound table entries after last node time → Offers other table entries after last node time
+offers_alike bound other table after entries last node time same offers = record {
+  falls = falls_alike bound other table after entries last same offers.falls;
+  here = offers.here;
+  labels = offers.labels;
+  came = offers.came;
+}
+
 pub follows_alike : (answers : ℕ → ℕ → ℕ → ℕ → Type 0) (bound other : ℕ → ℕ) (table after : List ℕ) (entries last : List Entry) (arc : Arc) (departure : ℕ) → ((node : ℕ) → bound node ≡ other node) → Follows answers bound table entries after last arc departure → Follows answers other table entries after last arc departure
 follows_alike answers bound other table after entries last arc departure same follows = record {
   falls = falls_alike bound other table after entries last same follows.falls;

@@ -32,3 +32,9 @@ pub record IsLed
   pub at_sources : (source : Source) → IsAmong sources source → label source.node ≤ source.departure
   pub reached : (node : ℕ) → IsNode roads.nodes node → label node ≢ NONE → Reaches roads answers sources node (label node)
   pub settled : (node : ℕ) → IsNode roads.nodes node → label node ≢ NONE → bound node < NO_WALK → Satisfies roads answers label node (label node) ⊎ (IsBeyond target bound label node ⊎ open_at (label node) node)
+
+-- What a led search leaves: labels that are led by consistent bounds, and no open node.
+pub record IsLedTo (roads : Roads) (answers : ℕ → ℕ → ℕ → ℕ → Type 0) (sources : List Source) (target : ℕ) (label : ℕ → ℕ) : Type 0 where
+  pub bound : ℕ → ℕ
+  pub consistent : AreConsistent roads answers target bound
+  pub led : IsLed roads answers sources target bound label (λ time node. ⊥)

@@ -2,3 +2,5 @@ pub mod Frontiers
 pub mod Led
 pub mod Scans
 pub mod Visits
+pub mod Seeds
+pub mod Guides

@@ -4,6 +4,8 @@ use Rattle.std.specs.List.{IsAmong}
 use Rattle.ea_road.specs.declared.source.Source.{Source}
 use Rattle.ea_road.specs.Labels.{label_of}
 use Rattle.ea_road.specs.Roads.{IsNode, Roads}
+use Rattle.ea_search.specs.Listings.{AreLabelsListed, IsListed}
+use Rattle.ea_search.specs.declared.labels.table.Reached.{Reached}
 use Rattle.ea_goal.specs.Frontiers.{Waits}
 use Rattle.ea_goal.specs.Led.{IsLed}
 use Rattle.ea_goal.specs.declared.frontier.Entry.{Entry}
@@ -39,3 +41,8 @@ pub record Leads (roads : Roads) (answers : ℕ → ℕ → ℕ → ℕ → Type
 pub record Ends (roads : Roads) (answers : ℕ → ℕ → ℕ → ℕ → Type 0) (target : ℕ) (bound : ℕ → ℕ) (table : List ℕ) (entries : List Entry) (new_table : List ℕ) (new_entries : List Entry) : Type 0 where
   pub leads : Leads roads answers target bound table entries new_table new_entries
   pub none : length new_entries ≡ 0
+
+-- There are as many labels as before; if each node with a label was listed, each is.
+pub record KeepsReached (table after : Reached) : Type 0 where
+  pub count : length after.labels.items ≡ length table.labels.items
+  pub listed : AreLabelsListed table.labels.items (IsListed table.listed) → AreLabelsListed after.labels.items (IsListed after.listed)

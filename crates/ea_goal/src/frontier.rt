@@ -41,6 +41,13 @@ impl Frontier {
         }
     }
 
+    /// Leaves no node open.
+    pub(crate) fn clear(&mut self)
+        ensures { self.new ≡ [] }
+    {
+        self.heap.clear();
+    }
+
     /// Opens a node with its label and its bound. An error comes only if memory was refused.
     pub(crate) fn open(&mut self, label: u64, bound: u32, node: u32) -> Result<(), AllocError>
         ensures { OnOk result (Opens self.old self.new label node) }

@@ -2,8 +2,7 @@
 #![tactic(auto)]
 
 mod frontier;
-mod pair;
+mod guide;
 mod search;
 
-pub use ea_road::OutOfMemory;
-pub use pair::least_arrival;
+pub use guide::{Guide, Led, lead};

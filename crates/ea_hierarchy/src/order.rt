@@ -8,18 +8,20 @@ use std::mem;
 /// How many costs differ; dearer nodes share the last one.
 const COSTS: usize = 4096;
 
-/// A list that is shorter is always in order.
-const SHORT: usize = 64;
+/// A list in order is merged with one of at least this part of its length; shorter ones are put behind it.
+const PART: usize = 8;
 
 /// Nodes are eliminated one after the other: the neighbours of one become neighbours of one another. Nodes
 /// count from 0 here.
 #[derive(Drop)]
 pub(crate) struct Elimination {
-    /// The neighbours of each node that are left, and in a long list some that are gone or there twice; of an
-    /// eliminated node those that were left.
+    /// The neighbours of each node that are left, ascending. Behind a long list there may be more, and then
+    /// some of it are gone or there twice. Of an eliminated node those that were left.
     pub(crate) around: Vec<Vec<u32>>,
-    /// The length of each list when it was last put in order.
+    /// The length of each list when it was last in order.
     sizes: Vec<usize>,
+    /// The last union of two lists.
+    union: Vec<u32>,
     /// One above the highest eliminated neighbour's.
     levels: Vec<u32>,
     gone: Vec<bool>,
@@ -65,6 +67,55 @@ fn around_of(alloc: Global, network: &Network) -> Result<Vec<Vec<u32>>, AllocErr
     Ok(around)
 }
 
+/// The length of each list.
+fn sizes_of(alloc: Global, lists: &[Vec<u32>]) -> Result<Vec<usize>, AllocError> {
+    let mut sizes = Vec::with_capacity(alloc, lists.len())?;
+    for list in lists {
+        sizes.push(list.len())?;
+    }
+    Ok(sizes)
+}
+
+/// The union of two ascending lists without two numbers, ascending.
+fn unite(
+    one: &[u32],
+    other: &[u32],
+    without: (u32, u32),
+    union: &mut Vec<u32>,
+) -> Result<(), AllocError> {
+    let mut at = 0usize;
+    let mut to = 0usize;
+    union.clear();
+    for _ in 0..one.len().saturating_add(other.len()) {
+        let left = next_of(one, at);
+        let right = next_of(other, to);
+        let least = left.min(right);
+        if least > u64::from(u32::MAX) {
+            return Ok(());
+        }
+        if left == least {
+            at = at.saturating_add(1);
+        }
+        if right == least {
+            to = to.saturating_add(1);
+        }
+        let number = least as u32;
+        if number != without.0 && number != without.1 {
+            union.push(number)?;
+        }
+    }
+    Ok(())
+}
+
+/// The number at a place; after the last one a number above all.
+#[inline(always)]
+fn next_of(list: &[u32], place: usize) -> u64 {
+    match list.get(place) {
+        Some(number) => u64::from(*number),
+        None => u64::MAX,
+    }
+}
+
 /// Leaves each number once, ascending.
 fn once(list: &mut Vec<u32>) {
     list.sort_unstable();
@@ -75,6 +126,7 @@ impl Elimination {
     /// No node of a network is eliminated yet.
     fn of(alloc: Global, network: &Network) -> Result<Elimination, AllocError> {
         let around = around_of(alloc, network)?;
+        let sizes = sizes_of(alloc, &around)?;
         let nodes = around.len();
         let mut waiting = Vec::new(alloc);
         for _ in 0..COSTS {
@@ -82,7 +134,8 @@ impl Elimination {
         }
         Ok(Elimination {
             around,
-            sizes: vec![in alloc; 0; nodes]?,
+            sizes,
+            union: Vec::new(alloc),
             levels: vec![in alloc; 0; nodes]?,
             gone: vec![in alloc; false; nodes]?,
             waiting,
@@ -146,6 +199,14 @@ impl Elimination {
         None
     }
 
+    /// Whether a list of this length is in order: nothing was put behind it.
+    fn is_in_order(&self, place: usize, length: usize) -> bool {
+        match self.sizes.get(place) {
+            Some(size) => *size == length,
+            None => false,
+        }
+    }
+
     /// The neighbours of a node that are left, each once, taken from their place.
     fn taken_around(&mut self, alloc: Global, node: u32) -> Vec<u32> {
         let place = node as usize;
@@ -153,15 +214,18 @@ impl Elimination {
             return Vec::new(alloc);
         }
         let mut list = mem::replace(&mut self.around[place], Vec::new(alloc));
-        once(&mut list);
-        list.retain(|other| *other != node && self.is_left(*other));
+        if !self.is_in_order(place, list.len()) {
+            once(&mut list);
+            list.retain(|other| *other != node && self.is_left(*other));
+        }
         list
     }
 
-    /// Keeps neighbours of a node.
+    /// Keeps neighbours of a node, in order.
     fn keep_around(&mut self, node: u32, list: Vec<u32>) {
         let place = node as usize;
-        if place < self.around.len() {
+        if place < self.around.len() && place < self.sizes.len() {
+            self.sizes[place] = list.len();
             self.around[place] = list;
         }
     }
@@ -180,15 +244,23 @@ impl Elimination {
             return Ok(());
         }
         self.levels[place] = self.levels[place].max(self.level(node).saturating_add(1));
-        self.around[place].extend_from_slice(others)?;
         let length = self.around[place].len();
-        if length < SHORT || length / 2 >= self.sizes[place] {
+        if self.is_in_order(place, length) && length / PART <= others.len() {
+            unite(
+                &self.around[place],
+                others,
+                (node, neighbour),
+                &mut self.union,
+            )?;
+            self.around[place].clear();
+            self.around[place].extend_from_slice(&self.union)?;
+            self.sizes[place] = self.around[place].len();
+            return self.put(neighbour);
+        }
+        self.around[place].extend_from_slice(others)?;
+        if self.around[place].len() / 2 >= self.sizes[place] {
             let list = self.taken_around(alloc, neighbour);
-            let size = list.len();
             self.keep_around(neighbour, list);
-            if place < self.sizes.len() {
-                self.sizes[place] = size;
-            }
         }
         self.put(neighbour)
     }

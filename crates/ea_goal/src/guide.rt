@@ -1,0 +1,92 @@
+//! Led searches for the targets of queries, one after another on the same arrays.
+ghost use Rattle.std.specs.Prelude.{◌≡◌, ℕ, IfOk, Some, length, replicate, true};
+ghost use Rattle.ea_road.specs.declared.TheConstants.{NONE};
+ghost use Rattle.ea_road.specs.Labels.{label_of};
+ghost use Rattle.ea_road.specs.Queries.{IsProblem};
+ghost use Rattle.ea_hierarchy.specs.Preparations.{IsPreparedFor};
+ghost use Rattle.ea_search.specs.Listings.{AreLabelsListed, IsListed};
+ghost use Rattle.ea_goal.specs.Guides.{IsGuideOver};
+ghost use Rattle.ea_goal.specs.Led.{IsLedTo};
+
+use crate::frontier::Frontier;
+use crate::search::Underway;
+use ea_hierarchy::laws::{bounds_are_below_each_walk, bounds_are_consistent};
+use ea_hierarchy::{Bounds, Prepared};
+use ea_road::{Network, Query};
+use ea_search::Reached;
+use ea_travel_times::TravelTimes;
+use std::alloc::{AllocError, Global};
+
+/// The arrays of led searches beside labels: bounds, and a heap of open nodes. They are reused from search to
+/// search; several threads with arrays of their own share one preparation.
+#[derive(Drop)]
+pub struct Guide {
+    pub(crate) bounds: Bounds,
+    pub(crate) frontier: Frontier,
+}
+
+impl Guide {
+    /// Room for searches over a preparation. Fails only if memory is refused.
+    pub fn over(alloc: Global, prepared: &Prepared) -> Result<Guide, AllocError>
+        ensures { IfOk result (IsGuideOver prepared.now) }
+    {
+        let bounds = Bounds::new(alloc, prepared)?;
+        Ok(Guide {
+            bounds,
+            frontier: Frontier::new(alloc),
+        })
+    }
+}
+
+/// What a led search leaves.
+#[derive(Drop)]
+pub struct Led {
+    pub guide: Guide,
+    /// The labels, with the reached nodes listed.
+    pub table: Reached,
+    /// Whether the search ended; false if memory was refused.
+    pub is_found: bool,
+}
+
+/// Searches from the sources of a query for its target, on reset labels. A node is left open if its label and
+/// its bound together are above the target's label. Takes time in proportion to the nodes that it reaches and
+/// the upward arcs above them and the target.
+pub fn lead<T: TravelTimes>(
+    network: &Network,
+    times: &T,
+    prepared: &Prepared,
+    query: &Query,
+    target: u32,
+    guide: Guide,
+    table: Reached,
+) -> Led
+    requires problem { IsProblem network.now (T.classes times.now) query.now }
+    requires target { query.now.target ≡ Some target }
+    requires prepared { IsPreparedFor network.now (T.answers times.now) prepared.now }
+    requires room { IsGuideOver prepared.now guide }
+    requires labels { table.labels.items ≡ replicate network.now.nodes NONE }
+    ensures room { IsGuideOver prepared.now result.guide }
+    ensures count { length result.table.labels.items ≡ network.now.nodes }
+    ensures listed { AreLabelsListed result.table.labels.items (IsListed result.table.listed) }
+    ensures led { result.is_found ≡ true → IsLedTo network.now (T.answers times.now)
+        query.now.sources target (label_of result.table.labels.items) }
+{
+    network.keeps_limits();
+    let Guide {
+        mut bounds,
+        mut frontier,
+    } = guide;
+    frontier.clear();
+    bounds.begin(prepared, target);
+    bounds_are_consistent(network, times, prepared, target, &bounds);
+    bounds_are_below_each_walk(network, prepared, target, &bounds);
+    let mut underway = Underway { table, frontier };
+    let ended = underway.seek(network, times, prepared, &mut bounds, query.sources(), target);
+    let is_found = ended.is_ok();
+    let Underway { table, frontier } = underway;
+    Led {
+        guide: Guide { bounds, frontier },
+        table,
+        is_found,
+    }
+}
