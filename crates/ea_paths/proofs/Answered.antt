@@ -2,6 +2,7 @@
 use Rattle.std.proofs.Common.{◌≡◌, ◌≢◌, ◌==◌, ℕ, ◌-◌, ◌<◌, Bool, true, false, Some, None, List, length, refl, subst, eq-eqb, arith}
 use Rattle.std.specs.Prelude.{if◌then◌else◌}
 use Rattle.ea_road.specs.declared.TheConstants.{NONE}
+use Rattle.ea_road.specs.declared.source.Source.{Source}
 use Rattle.ea_travel_times.specs.Answers.{IsFifo}
 use Rattle.ea_road.specs.Roads.{Roads, IsNode, IsNetwork}
 use Rattle.ea_road.specs.Queries.{Asking, IsAsked, IsProblem}
@@ -30,6 +31,23 @@ gives {A} label given found same = by_test (label == NONE) refl same
     by_test : (b : Bool) → (label == NONE) ≡ b → (if b then None else Some given) ≡ Some found → Gives A label given found
     by_test true is equal = cc
     by_test false differs equal = record { some = λ e. (let h : (label == NONE) ≡ true = eq-eqb label NONE e in cc); same = cc }
+
+-- the links over any times lead back to a source
+pub followable : (roads : Roads) (answers : ℕ → ℕ → ℕ → ℕ → Type 0) (sources : List Source) (label : ℕ → ℕ) → IsNetwork roads → (links : List Link) → AreLinks roads answers sources (IsLabel label) links → AreFollowable links
+followable roads answers sources label network links are node high there =
+    let at = link-node links node there in
+    let is_node : IsNode roads.nodes node = record { from_one = at.0; to_last = omega (arith, at.1, are.places) } in
+    let each = are.each node is_node in
+    let some : (link links node).level ≢ NO_LEVEL = omega arith in
+    let tight = each.tight some high in
+    let from : IsNode roads.nodes (link links node).from = subst (λ n. IsNode roads.nodes n) tight.is_tail (network.each_fits (link links node).arc tight.arc tight.is_arc).tail in
+    let below = each.below some high in
+    let before = are.each (link links node).from from in
+    let has : (link links (link links node).from).level ≢ NO_LEVEL = λ none. before.without none ((link links node).level - 1) below.chain in
+    let same = same_level roads answers sources (IsLabel label) (link links node).from (link links (link links node).from).level ((link links node).level - 1) (before.level has) below in
+    let to_last = from.to_last in
+    let count = are.places in
+    (record { from_one = from.from_one; to_last = omega arith }, omega arith)
 
 module _
     (roads : Roads)
@@ -72,27 +90,11 @@ module _
           let level : (link links node).level ≢ NO_LEVEL = λ none. each.without none chain.0 chain.1 in
           omega arith
 
-      followable : AreFollowable links
-      followable node high there =
-          let at = link-node links node there in
-          let is_node : IsNode roads.nodes node = record { from_one = at.0; to_last = omega (arith, at.1, are.places) } in
-          let each = are.each node is_node in
-          let some : (link links node).level ≢ NO_LEVEL = omega arith in
-          let tight = each.tight some high in
-          let from : IsNode roads.nodes (link links node).from = subst (λ n. IsNode roads.nodes n) tight.is_tail (network.each_fits (link links node).arc tight.arc tight.is_arc).tail in
-          let below = each.below some high in
-          let before = are.each (link links node).from from in
-          let has : (link links (link links node).from).level ≢ NO_LEVEL = λ none. before.without none ((link links node).level - 1) below.chain in
-          let same = same_level roads answers query.sources (IsLabel label) (link links node).from (link links (link links node).from).level ((link links node).level - 1) (before.level has) below in
-          let to_last = from.to_last in
-          let count = are.places in
-          (record { from_one = from.from_one; to_last = omega arith }, omega arith)
-
       pub stored : IsStoredAnswer (record { nodes = roads.nodes; target = query.target; labels = table; links = links; walks = true })
       stored = record {
         labels = places;
         links = λ same. are.places;
-        followable = λ same. followable;
+        followable = λ same. followable roads answers query.sources label network links are;
         linked = λ same node is_node asked some. linked node is_node asked some;
       }
 

@@ -6,3 +6,4 @@ pub mod Sowings
 pub mod Numbered
 pub mod Followed
 pub mod Answered
+pub mod LedAnswers

@@ -9,6 +9,8 @@ ghost use Rattle.ea_search.specs.Notes.{AreHad};
 ghost use Rattle.ea_search.specs.Scans.{AwaitsScans};
 ghost use Rattle.ea_search.specs.Underway.{IsFinished};
 
+mod led;
+
 use crate::answer::Answer;
 use crate::link_search::link_all;
 use crate::log_links::link_noted;
