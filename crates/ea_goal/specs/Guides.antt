@@ -1,8 +1,12 @@
 -- Room for led searches.
-use Rattle.ea_hierarchy.specs.Bounds.{IsRoomFor}
-use Rattle.ea_hierarchy.specs.Hierarchies.{Hierarchy}
-use Rattle.ea_goal.specs.declared.guide.Guide.{Guide}
+use Rattle.std.specs.Prelude.{◌≡◌, ℕ, ◌+◌, ◌≤◌, [], length}
+use Rattle.std.specs.Vec.{vec_capacity}
+use Rattle.ea_hierarchy.specs.Cells.{AreReached}
+use Rattle.ea_hierarchy.specs.declared.bounds.Bounds.{Bounds}
 
--- The room is for searches over a preparation.
-pub record IsGuideOver (hierarchy : Hierarchy) (guide : Guide) : Type 0 where
-  pub bounds : IsRoomFor hierarchy guide.bounds
+-- There is room for bounds of this number of nodes.
+pub record HasRoomFor (nodes : ℕ) (bounds : Bounds) : Type 0 where
+  pub count : length bounds.cells.list.items ≡ nodes
+  pub stamps : AreReached (bounds.cells.stamp + 1) bounds.cells.list.items
+  pub path_empty : bounds.path.items ≡ []
+  pub path_room : nodes ≤ vec_capacity bounds.path

@@ -5,7 +5,6 @@ ghost use Rattle.ea_road.specs.Labels.{label_of};
 ghost use Rattle.ea_road.specs.Queries.{IsProblem};
 ghost use Rattle.ea_hierarchy.specs.Preparations.{IsPreparedFor};
 ghost use Rattle.ea_search.specs.Listings.{AreLabelsListed, IsListed};
-ghost use Rattle.ea_goal.specs.Guides.{IsGuideOver};
 ghost use Rattle.ea_goal.specs.Led.{IsLedTo};
 
 use crate::frontier::Frontier;
@@ -16,22 +15,38 @@ use ea_road::{Network, Query};
 use ea_search::Reached;
 use ea_travel_times::TravelTimes;
 use std::alloc::{AllocError, Global};
+use std::marker::Model;
 
 /// The arrays of led searches beside labels: bounds, and a heap of open nodes. They are reused from search to
-/// search; several threads with arrays of their own share one preparation.
+/// search; several threads with arrays of their own share one preparation. In contracts it is the number of
+/// nodes.
 #[derive(Drop)]
 pub struct Guide {
-    pub(crate) bounds: Bounds,
-    pub(crate) frontier: Frontier,
+    nodes: u32,
+    bounds: Bounds,
+    frontier: Frontier,
+}
+
+impl Model for Guide {
+    ghost use Rattle.std.specs.Prelude.{ℕ};
+    ghost use Rattle.ea_goal.specs.Guides.{HasRoomFor};
+
+    ghost Value = { ℕ };
+
+    ghost view = { λ g. g.nodes };
+
+    ghost invariant = { λ g. HasRoomFor g.nodes g.bounds };
 }
 
 impl Guide {
     /// Room for searches over a preparation. Fails only if memory is refused.
     pub fn over(alloc: Global, prepared: &Prepared) -> Result<Guide, AllocError>
-        ensures { IfOk result (IsGuideOver prepared.now) }
+        ensures { IfOk result (λ guide. guide ≡ length prepared.now.ranks) }
     {
+        prepared.keeps_order();
         let bounds = Bounds::new(alloc, prepared)?;
         Ok(Guide {
+            nodes: prepared.nodes(),
             bounds,
             frontier: Frontier::new(alloc),
         })
@@ -63,16 +78,18 @@ pub fn lead<T: TravelTimes>(
     requires problem { IsProblem network.now (T.classes times.now) query.now }
     requires target { query.now.target ≡ Some target }
     requires prepared { IsPreparedFor network.now (T.answers times.now) prepared.now }
-    requires room { IsGuideOver prepared.now guide }
+    requires guide { guide ≡ network.now.nodes }
     requires labels { table.labels.items ≡ replicate network.now.nodes NONE }
-    ensures room { IsGuideOver prepared.now result.guide }
+    ensures guide { result.guide ≡ network.now.nodes }
     ensures count { length result.table.labels.items ≡ network.now.nodes }
     ensures listed { AreLabelsListed result.table.labels.items (IsListed result.table.listed) }
     ensures led { result.is_found ≡ true → IsLedTo network.now (T.answers times.now)
         query.now.sources target (label_of result.table.labels.items) }
 {
     network.keeps_limits();
+    prepared.keeps_order();
     let Guide {
+        nodes,
         mut bounds,
         mut frontier,
     } = guide;
@@ -85,7 +102,11 @@ pub fn lead<T: TravelTimes>(
     let is_found = ended.is_ok();
     let Underway { table, frontier } = underway;
     Led {
-        guide: Guide { bounds, frontier },
+        guide: Guide {
+            nodes,
+            bounds,
+            frontier,
+        },
         table,
         is_found,
     }

@@ -7,3 +7,4 @@ pub mod Numbered
 pub mod Followed
 pub mod Answered
 pub mod LedAnswers
+pub mod Guided

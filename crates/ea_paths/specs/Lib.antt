@@ -2,3 +2,4 @@ pub mod Offers
 pub mod Mended
 pub mod Stored
 pub mod Replayed
+pub mod Searches

@@ -1,5 +1,5 @@
 //! The arrays of searches by one thread, reused from query to query.
-ghost use Rattle.std.specs.Prelude.{◌≡◌, ℕ, [], true, false, None, Contains, length, map, replicate, if◌then◌else◌, IfOk};
+ghost use Rattle.std.specs.Prelude.{◌≡◌, ℕ, [], true, false, None, Contains, length, map, replicate, if◌then◌else◌, IfOk, IfSome};
 ghost use Rattle.ea_road.specs.Queries.{IsProblem};
 ghost use Rattle.ea_road.specs.declared.TheConstants.{NONE};
 ghost use Rattle.ea_search.specs.Answers.{HasArrivals, IsAnswer};
@@ -15,6 +15,7 @@ use crate::answer::Answer;
 use crate::link_search::link_all;
 use crate::log_links::link_noted;
 use crate::ties::Ties;
+use ea_goal::Guide;
 use ea_road::{NONE, Network, Query};
 use ea_search::{
     Frontier, Listed, NO_LINK, Noted, Open, Reached, Table, Waiting, Words, empty_lists,
@@ -35,19 +36,22 @@ pub struct Search {
     listed: Listed,
     notes: Words,
     ties: Ties,
+    /// Arrays for led searches, once there was one.
+    guide: Option<Guide>,
 }
 
 impl Model for Search {
     ghost use Rattle.std.specs.Prelude.{map};
-    ghost use Rattle.ea_search.specs.Listings.{CanSearch, Searched};
+    ghost use Rattle.ea_search.specs.Listings.{Searched};
+    ghost use Rattle.ea_paths.specs.Searches.{IsSearch};
 
     ghost Value = { Searched };
 
     ghost view = { λ s.
         record { nodes = s.waiting.nodes; walks = s.walks; answer = s.answer } };
 
-    ghost invariant = { λ s. CanSearch s.waiting s.walks s.answer s.listed
-        (map (λ l. l.items) s.lists.items) };
+    ghost invariant = { λ s. IsSearch s.waiting s.walks s.answer s.listed
+        (map (λ l. l.items) s.lists.items) s.guide };
 }
 
 /// The number of links with or without walks.
@@ -87,6 +91,7 @@ struct Arrays {
     listed: Listed,
     notes: Words,
     ties: Ties,
+    guide: Option<Guide>,
 }
 
 /// Searches from the sources until each label is least, on a reset table and empty lists.
@@ -140,6 +145,7 @@ impl Search {
             listed: Listed::new(alloc, nodes),
             notes: Words::none(alloc),
             ties: Ties::none(alloc),
+            guide: None,
         })
     }
 
@@ -184,6 +190,7 @@ impl Search {
             × HaveNone (map (λ l. l.items) result.lists.items) }
         ensures listed { result.listed ≡ nothing }
         ensures notes { result.notes ≡ [] }
+        ensures guide { IfSome result.guide (λ guide. guide ≡ self.nodes) }
     {
         let Search {
             answer,
@@ -193,6 +200,7 @@ impl Search {
             mut listed,
             mut notes,
             ties,
+            guide,
         } = self;
         let (mut table, mut links) = answer.into_arrays();
         listed.put_back(&mut table, &mut links);
@@ -204,6 +212,7 @@ impl Search {
             listed,
             notes,
             ties,
+            guide,
         }
     }
 
@@ -229,6 +238,7 @@ impl Search {
             listed,
             notes,
             ties,
+            guide,
         } = self.into_arrays();
         let mut reached = Reached {
             labels: table,
@@ -246,6 +256,7 @@ impl Search {
             listed,
             notes,
             ties,
+            guide,
         }
     }
 
@@ -280,6 +291,7 @@ impl Search {
             mut listed,
             notes,
             mut ties,
+            guide,
         } = self.into_arrays();
         let mut noted = Noted::new(table, notes);
         let width = width_with_notes(network);
@@ -305,6 +317,7 @@ impl Search {
             listed,
             notes,
             ties,
+            guide,
         }
     }
 
@@ -323,6 +336,7 @@ impl Search {
             listed,
             notes,
             ties,
+            guide,
         } = self.into_arrays();
         let mut reached = Reached {
             labels: table,
@@ -343,6 +357,7 @@ impl Search {
             listed,
             notes,
             ties,
+            guide,
         }
     }
 }

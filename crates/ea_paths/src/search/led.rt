@@ -1,12 +1,12 @@
 //! Searches of pairs that are led by bounds over a prepared road.
-ghost use Rattle.std.specs.Prelude.{◌≡◌, ℕ, [], true, false, Some, length, map};
+ghost use Rattle.std.specs.Prelude.{◌≡◌, ℕ, [], true, false, IfSome, Some, length, map, replicate};
+ghost use Rattle.ea_road.specs.declared.TheConstants.{NONE};
 ghost use Rattle.ea_road.specs.Labels.{label_of};
 ghost use Rattle.ea_road.specs.Queries.{IsProblem};
 ghost use Rattle.ea_search.specs.Answers.{HasArrivals, IsAnswer};
 ghost use Rattle.ea_search.specs.Frontiers.{HaveNone};
 ghost use Rattle.ea_search.specs.Listings.{AreLabelsListed, IsListed};
 ghost use Rattle.ea_hierarchy.specs.Preparations.{IsPreparedFor};
-ghost use Rattle.ea_goal.specs.Guides.{IsGuideOver};
 ghost use Rattle.ea_goal.specs.Led.{IsLedTo};
 
 use crate::answer::Answer;
@@ -17,6 +17,7 @@ use ea_hierarchy::Prepared;
 use ea_road::{Network, Query};
 use ea_search::Reached;
 use ea_travel_times::TravelTimes;
+use std::alloc::Global;
 
 /// The search with the labels of its arrays as an answer without walks.
 fn unlinked(arrays: Arrays, nodes: u32, target: Option<u32>, walks: bool) -> Search
@@ -25,6 +26,7 @@ fn unlinked(arrays: Arrays, nodes: u32, target: Option<u32>, walks: bool) -> Sea
     requires lists { (length arrays.lists.items ≡ 66)
         × HaveNone (map (λ l. l.items) arrays.lists.items) }
     requires listed { AreLabelsListed arrays.table.items (IsListed arrays.listed) }
+    requires guide { IfSome arrays.guide (λ guide. guide ≡ nodes) }
     ensures labels { result.answer.labels ≡ arrays.table.items }
     ensures asked { (result.answer.nodes ≡ nodes) × (result.answer.target ≡ target) }
     ensures none { result.answer.walks ≡ false }
@@ -37,6 +39,7 @@ fn unlinked(arrays: Arrays, nodes: u32, target: Option<u32>, walks: bool) -> Sea
         listed,
         notes,
         ties,
+        guide,
     } = arrays;
     let (waiting, links) = todo.into_parts();
     Search {
@@ -47,6 +50,7 @@ fn unlinked(arrays: Arrays, nodes: u32, target: Option<u32>, walks: bool) -> Sea
         listed,
         notes,
         ties,
+        guide,
     }
 }
 
@@ -65,6 +69,7 @@ fn linked<T: TravelTimes>(
     requires lists { (length arrays.lists.items ≡ 66)
         × HaveNone (map (λ l. l.items) arrays.lists.items) }
     requires listed { AreLabelsListed arrays.table.items (IsListed arrays.listed) }
+    requires guide { IfSome arrays.guide (λ guide. guide ≡ network.now.nodes) }
     requires led { IsLedTo network.now (T.answers times.now) query.now.sources target
         (label_of arrays.table.items) }
     ensures answer { IsAnswer network.now (T.answers times.now) query.now result.answer }
@@ -77,6 +82,7 @@ fn linked<T: TravelTimes>(
         listed,
         notes,
         ties,
+        guide,
     } = arrays;
     let (mut waiting, mut links) = todo.into_parts();
     let sources = query.sources();
@@ -89,7 +95,72 @@ fn linked<T: TravelTimes>(
         listed,
         notes,
         ties,
+        guide,
     }
+}
+
+/// Arrays for led searches: the last ones, else new ones; none if memory is refused.
+fn guide_over(alloc: Global, prepared: &Prepared, last: Option<Guide>) -> Option<Guide>
+    requires { IfSome last (λ guide. guide ≡ length prepared.now.ranks) }
+    ensures { IfSome result (λ guide. guide ≡ length prepared.now.ranks) }
+{
+    match last {
+        Some(guide) => Some(guide),
+        None => Guide::over(alloc, prepared).ok(),
+    }
+}
+
+/// The arrays with labels that were led to a target, and whether the search ended; it doesn't if memory is
+/// refused.
+fn lead_arrays<T: TravelTimes>(
+    arrays: Arrays,
+    guide: Guide,
+    network: &Network,
+    times: &T,
+    prepared: &Prepared,
+    query: &Query,
+    target: u32,
+) -> (Arrays, bool)
+    requires problem { IsProblem network.now (T.classes times.now) query.now }
+    requires target { query.now.target ≡ Some target }
+    requires prepared { IsPreparedFor network.now (T.answers times.now) prepared.now }
+    requires guide { guide ≡ network.now.nodes }
+    requires labels { arrays.table.items ≡ replicate network.now.nodes NONE }
+    ensures count { length result.0.table.items ≡ network.now.nodes }
+    ensures listed { AreLabelsListed result.0.table.items (IsListed result.0.listed) }
+    ensures led { result.1 ≡ true → IsLedTo network.now (T.answers times.now)
+        query.now.sources target (label_of result.0.table.items) }
+    ensures guide { IfSome result.0.guide (λ guide. guide ≡ network.now.nodes) }
+    ensures others { (result.0.todo ≡ arrays.todo) × (result.0.lists ≡ arrays.lists) }
+{
+    let Arrays {
+        table,
+        todo,
+        lists,
+        listed,
+        notes,
+        ties,
+        ..
+    } = arrays;
+    let reached = Reached {
+        labels: table,
+        listed,
+    };
+    let Led {
+        guide,
+        table: Reached { labels, listed },
+        is_found,
+    } = lead(network, times, prepared, query, target, guide, reached);
+    let arrays = Arrays {
+        table: labels,
+        todo,
+        lists,
+        listed,
+        notes,
+        ties,
+        guide: Some(guide),
+    };
+    (arrays, is_found)
 }
 
 impl Search {
@@ -110,64 +181,64 @@ impl Search {
     }
 
     /// Answers a query, with its canonical walks if there is room for walks. The search of a pair is led by
-    /// bounds over a prepared road; one for all nodes isn't. The arrays are consumed and returned, those of the
-    /// search with its answer. Takes memory for what the search reaches; if that is refused, bounds aren't
-    /// used.
+    /// bounds over a prepared road; one for all nodes isn't. Else like `find_arrivals`, but it takes memory for
+    /// the bounds of the first led search, and for open nodes; if that is refused, it does without bounds.
     pub fn find_led<T: TravelTimes>(
         self,
+        alloc: Global,
         network: &Network,
         times: &T,
-        query: &Query,
         prepared: &Prepared,
-        guide: Guide,
-    ) -> (Search, Guide)
+        query: &Query,
+    ) -> Search
         requires problem { IsProblem network.now (T.classes times.now) query.now }
         requires nodes { self.nodes ≡ network.now.nodes }
         requires prepared { IsPreparedFor network.now (T.answers times.now) prepared.now }
-        requires guide { IsGuideOver prepared.now guide }
-        ensures arrivals { HasArrivals network.now (T.answers times.now) query.now result.0.answer }
+        ensures arrivals { HasArrivals network.now (T.answers times.now) query.now result.answer }
         ensures answer { self.walks ≡ true
-            → IsAnswer network.now (T.answers times.now) query.now result.0.answer }
-        ensures room { (result.0.nodes ≡ self.nodes) × (result.0.walks ≡ self.walks) }
-        ensures guide { IsGuideOver prepared.now result.1 }
+            → IsAnswer network.now (T.answers times.now) query.now result.answer }
+        ensures room { (result.nodes ≡ self.nodes) × (result.walks ≡ self.walks) }
     {
-        let Some(target) = query.target() else {
-            return (self.find(network, times, query), guide);
-        };
+        match query.target() {
+            Some(target) => self.find_target(alloc, network, times, prepared, query, target),
+            None => self.find(network, times, query),
+        }
+    }
+
+    /// Answers the query of a pair by a led search.
+    fn find_target<T: TravelTimes>(
+        self,
+        alloc: Global,
+        network: &Network,
+        times: &T,
+        prepared: &Prepared,
+        query: &Query,
+        target: u32,
+    ) -> Search
+        requires problem { IsProblem network.now (T.classes times.now) query.now }
+        requires nodes { self.nodes ≡ network.now.nodes }
+        requires prepared { IsPreparedFor network.now (T.answers times.now) prepared.now }
+        requires target { query.now.target ≡ Some target }
+        ensures arrivals { HasArrivals network.now (T.answers times.now) query.now result.answer }
+        ensures answer { self.walks ≡ true
+            → IsAnswer network.now (T.answers times.now) query.now result.answer }
+        ensures room { (result.nodes ≡ self.nodes) × (result.walks ≡ self.walks) }
+    {
         let walks = self.walks;
-        let Arrays {
-            table,
-            todo,
-            lists,
-            listed,
-            notes,
-            ties,
-        } = self.into_arrays();
-        let reached = Reached {
-            labels: table,
-            listed,
+        let nodes = network.nodes();
+        let mut arrays = self.into_arrays();
+        let Some(guide) = guide_over(alloc, prepared, arrays.guide.take()) else {
+            return unlinked(arrays, nodes, None, walks).find(network, times, query);
         };
-        let Led {
-            guide,
-            table: Reached { labels, listed },
-            is_found,
-        } = lead(network, times, prepared, query, target, guide, reached);
-        let arrays = Arrays {
-            table: labels,
-            todo,
-            lists,
-            listed,
-            notes,
-            ties,
-        };
+        let (arrays, is_found) =
+            lead_arrays(arrays, guide, network, times, prepared, query, target);
         if !is_found {
-            let search = unlinked(arrays, network.nodes(), None, walks);
-            return (search.find(network, times, query), guide);
+            return unlinked(arrays, nodes, None, walks).find(network, times, query);
         }
         if walks {
-            (linked(arrays, network, times, query, target), guide)
+            linked(arrays, network, times, query, target)
         } else {
-            (unlinked(arrays, network.nodes(), Some(target), walks), guide)
+            unlinked(arrays, nodes, Some(target), walks)
         }
     }
 }

@@ -3,6 +3,7 @@ use Rattle.std.proofs.lemmas.List.{length-map, with_items_is}
 use Rattle.ea_search.specs.Worklist.{Worklist}
 use Rattle.ea_paths.proofs.Answered.{is_answer, stored}
 use Rattle.ea_search.proofs.Listings.{room_again}
+use Rattle.ea_paths.proofs.Guided.{fits_too}
 use Rattle.ea_paths.proofs.search.Search.find_all_walks.Goals as goal
 
 pub find-lists-requires-clause-labels : goal.find-lists-requires-clause-labels
@@ -27,13 +28,16 @@ invariant_of-result g c =
     let filled : length c.link_noted.new.links ≡ c.into_parts-waiting.result.1.len = omega (arith, many, links.places, c.into_parts-waiting.result.1.ok.0) in
     let nodes = c.link_noted.ensures.nodes ∙ c.into_parts-waiting.ensures.nodes ∙ finished.room in
     rw (c.new.ensures, with_items_is c.into_parts-waiting.result.1 c.link_noted.new.links filled) (record {
-      nobody = c.link_noted.ensures.nobody;
-      labels = finished.places ∙ sym nodes;
-      links = links.places ∙ sym nodes;
-      many = rw length-map c.find-lists.ensures.lists.0;
-      none = c.find-lists.ensures.lists.1;
-      reached = λ v has. c.add_all.ensures v;
-      linked = λ v. inr (c.add_all.ensures v);
+      can = record {
+        nobody = c.link_noted.ensures.nobody;
+        labels = finished.places ∙ sym nodes;
+        links = links.places ∙ sym nodes;
+        many = rw length-map c.find-lists.ensures.lists.0;
+        none = c.find-lists.ensures.lists.1;
+        reached = λ v has. c.add_all.ensures v;
+        linked = λ v. inr (c.add_all.ensures v);
+      };
+      guide_fits = fits_too _ _ _ (c.requires.nodes ∙ sym nodes) c.into_arrays-table.ensures.guide;
     })
 
 pub returns-clause-answer : goal.returns-clause-answer

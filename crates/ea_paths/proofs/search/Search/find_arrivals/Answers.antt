@@ -5,19 +5,23 @@ use Rattle.ea_search.specs.Listings.{Searched}
 use Rattle.ea_search.specs.Worklist.{Worklist}
 use Rattle.ea_paths.proofs.Linkings.{link-none}
 use Rattle.ea_search.proofs.Listings.{room_again}
+use Rattle.ea_paths.proofs.Guided.{fits_too}
 use Rattle.ea_paths.proofs.search.Search.find_arrivals.Goals as goal
 
 pub invariant_of-result : goal.invariant_of-result
 invariant_of-result g c =
     let finished = c.find-lists.ensures.finished in
     rw c.new.ensures (record {
-      nobody = c.into_parts-waiting.ensures.waiting ∙ finished.nobody;
-      labels = finished.places ∙ sym (c.into_parts-waiting.ensures.nodes ∙ finished.room);
-      links = room_again _ _ _ _ _ c.into_parts-waiting.ensures.links c.into_parts-waiting.ensures.nodes (c.find-lists.ensures.walks ∙ ap (λ (w : Worklist). w.walks) c.into_arrays-table.ensures.todo ∙ sym (ap (λ (s : Searched). s.walks) c.self.view_is));
-      many = rw length-map c.find-lists.ensures.lists.0;
-      none = c.find-lists.ensures.lists.1;
-      reached = c.find-lists.ensures.listed;
-      linked = rw c.into_parts-waiting.ensures.links (λ v. inl (link-none _ v));
+      can = record {
+        nobody = c.into_parts-waiting.ensures.waiting ∙ finished.nobody;
+        labels = finished.places ∙ sym (c.into_parts-waiting.ensures.nodes ∙ finished.room);
+        links = room_again _ _ _ _ _ c.into_parts-waiting.ensures.links c.into_parts-waiting.ensures.nodes (c.find-lists.ensures.walks ∙ ap (λ (w : Worklist). w.walks) c.into_arrays-table.ensures.todo ∙ sym (ap (λ (s : Searched). s.walks) c.self.view_is));
+        many = rw length-map c.find-lists.ensures.lists.0;
+        none = c.find-lists.ensures.lists.1;
+        reached = c.find-lists.ensures.listed;
+        linked = rw c.into_parts-waiting.ensures.links (λ v. inl (link-none _ v));
+      };
+      guide_fits = fits_too _ _ _ (c.requires.nodes ∙ sym (c.into_parts-waiting.ensures.nodes ∙ finished.room)) c.into_arrays-table.ensures.guide;
     })
 
 pub returns-clause-arrivals : goal.returns-clause-arrivals

@@ -8,6 +8,7 @@ use Rattle.ea_search.specs.Underway.{bound_of}
 use Rattle.ea_search.specs.Worklist.{Worklist}
 use Rattle.ea_paths.proofs.Answered.{is_answer, stored}
 use Rattle.ea_search.proofs.Listings.{room_again}
+use Rattle.ea_paths.proofs.Guided.{fits_too}
 use Rattle.ea_paths.proofs.search.Search.find_pair_walk.Goals as goal
 
 pub find-lists-requires-clause-had : goal.find-lists-requires-clause-had
@@ -33,13 +34,16 @@ invariant_of-result g c =
     let filled : length c.link_all.new.links ≡ c.into_parts-waiting.result.1.len = omega (arith, many, links.places, c.into_parts-waiting.result.1.ok.0) in
     let nodes = c.link_all.ensures.nodes ∙ c.into_parts-waiting.ensures.nodes ∙ finished.room in
     rw (c.new-answer.ensures, with_items_is c.into_parts-waiting.result.1 c.link_all.new.links filled) (record {
-      nobody = c.link_all.ensures.nobody;
-      labels = finished.places ∙ sym nodes;
-      links = links.places ∙ sym nodes;
-      many = rw length-map c.find-lists.ensures.lists.0;
-      none = c.find-lists.ensures.lists.1;
-      reached = c.find-lists.ensures.listed;
-      linked = linked;
+      can = record {
+        nobody = c.link_all.ensures.nobody;
+        labels = finished.places ∙ sym nodes;
+        links = links.places ∙ sym nodes;
+        many = rw length-map c.find-lists.ensures.lists.0;
+        none = c.find-lists.ensures.lists.1;
+        reached = c.find-lists.ensures.listed;
+        linked = linked;
+      };
+      guide_fits = fits_too _ _ _ (c.requires.nodes ∙ sym nodes) c.into_arrays-table.ensures.guide;
     })
   where
     -- a node without a label has no link

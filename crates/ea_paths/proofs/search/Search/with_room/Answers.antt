@@ -12,11 +12,14 @@ invariant_of-result c =
     let table = c.in_ok-table.ensures.items_if_clones_equal (λ y e. search rules) in
     let links = c.in_ok-links.ensures.items_if_clones_equal (λ y e. search rules) in
     rw (c.new.ensures, c.new-2.ensures, table, links) (record {
-      nobody = c.in_ok-waiting.ensures.1;
-      labels = length-replicate c.args.nodes NONE ∙ sym c.in_ok-waiting.ensures.0;
-      links = length-replicate c.room_of-room.result no_link ∙ c.room_of-room.ensures ∙ ap (λ nodes. if c.args.walks then nodes else 0) (sym c.in_ok-waiting.ensures.0);
-      many = rw length-map c.in_ok-lists.ensures.length;
-      none = c.in_ok-lists.ensures.empty;
-      reached = λ v has. absurd (has (bound_of-none _ v));
-      linked = λ v. inl (link-none _ v);
+      can = record {
+        nobody = c.in_ok-waiting.ensures.1;
+        labels = length-replicate c.args.nodes NONE ∙ sym c.in_ok-waiting.ensures.0;
+        links = length-replicate c.room_of-room.result no_link ∙ c.room_of-room.ensures ∙ ap (λ nodes. if c.args.walks then nodes else 0) (sym c.in_ok-waiting.ensures.0);
+        many = rw length-map c.in_ok-lists.ensures.length;
+        none = c.in_ok-lists.ensures.empty;
+        reached = λ v has. absurd (has (bound_of-none _ v));
+        linked = λ v. inl (link-none _ v);
+      };
+      guide_fits = λ_;
     })

@@ -8,6 +8,7 @@ use Rattle.ea_search.specs.Underway.{bound_of}
 use Rattle.ea_search.specs.Worklist.{Worklist}
 use Rattle.ea_search.proofs.Listings.{room_again}
 use Rattle.ea_paths.proofs.LedAnswers.{led_is_answer, led_stored}
+use Rattle.ea_paths.proofs.Guided.{fits_too}
 use Rattle.ea_paths.proofs.search.led.linked.Goals as goal
 
 pub link_all-requires-clause-sources : goal.link_all-requires-clause-sources
@@ -28,13 +29,16 @@ invariant_of-result g c =
     let filled : length c.link_all.new.links ≡ c.into_parts-waiting.result.1.len = omega (arith, many, links.places, c.into_parts-waiting.result.1.ok.0) in
     let nodes = c.link_all.ensures.nodes ∙ c.into_parts-waiting.ensures.nodes ∙ ap (λ (w : Worklist). w.nodes) c.requires.todo in
     rw (c.new.ensures, with_items_is c.into_parts-waiting.result.1 c.link_all.new.links filled) (record {
-      nobody = c.link_all.ensures.nobody;
-      labels = c.requires.labels ∙ sym nodes;
-      links = links.places ∙ sym nodes;
-      many = rw length-map c.requires.lists.0;
-      none = c.requires.lists.1;
-      reached = c.requires.listed;
-      linked = linked;
+      can = record {
+        nobody = c.link_all.ensures.nobody;
+        labels = c.requires.labels ∙ sym nodes;
+        links = links.places ∙ sym nodes;
+        many = rw length-map c.requires.lists.0;
+        none = c.requires.lists.1;
+        reached = c.requires.listed;
+        linked = linked;
+      };
+      guide_fits = fits_too _ _ _ (sym nodes) c.requires.guide;
     })
   where
     -- a node without a label has no link
