@@ -15,15 +15,16 @@ use Rattle.ea_batch.specs.declared.progress.Progress.{Progress}
 use Rattle.ea_batch.specs.Sent.{AreCutShort, AreSent}
 use Rattle.ea_batch.specs.Reported.{IsReportOf}
 use Rattle.ea_report.specs.Asked.{Shape, shape_of}
-use Rattle.ea_batch.specs.Solved.{AnswersOn, ArrivesOn, IsShown, Serves}
+use Rattle.ea_batch.specs.Solved.{AnswersOn, ArrivesOn, IsPreparedOn, IsShown, Serves}
 
--- The problems are problems on the road, not too many, the nodes that are shown are its nodes, and threads take
--- several problems at once.
+-- The problems are problems on the road, not too many, the nodes that are shown are its nodes, a preparation
+-- is one of the road, and threads take several problems at once.
 pub record IsJob (job : Job) : Type 0 where
   pub problems : AreProblems job.road.now job.queries.now
   pub few : length job.queries.now ≤ MOST_STARTS
   pub nodes : job.road.now.network.nodes ≤ MOST_NODES
   pub shown : IsShown job.road.now.network (shape_of job.shown)
+  pub prepared : IfSome job.prepared (λ p. IsPreparedOn job.road.now p.now)
   pub part : 0 < job.plan.part
 
 -- A draft is the text of a problem's report, or has its answer, or is nothing.
@@ -72,6 +73,7 @@ pub record CanSend (job : Job) (from : ℕ) (progress : Progress) (pile : List M
   pub inside : from ≤ length job.queries.now
   pub room : progress.written ≤ from * 2 ^ 90
   pub search : IfSome progress.search (Serves job.road.now.network job.shown.style.walks)
+  pub prepared : IfSome progress.prepared (λ p. IsPreparedOn job.road.now p.now)
   pub piled : ArePiled job pile
 
 -- The reports of the problems from one up to another were sent, and those from there on can be.

@@ -3,12 +3,13 @@ ghost use Rattle.std.specs.Prelude.{◌≡◌, ◌≤◌, ◌<◌, [], IfSome, S
 ghost use Rattle.ea_base.specs.declared.limits.TheConstants.{MOST_NODES, MOST_STARTS};
 ghost use Rattle.ea_road.specs.Queries.{Asking, IsProblem};
 ghost use Rattle.ea_batch.specs.Drafts.{AreDraftsAt, IsDraftOf, IsJob};
-ghost use Rattle.ea_batch.specs.Solved.{IsShown, Serves};
+ghost use Rattle.ea_batch.specs.Solved.{IsPreparedOn, IsShown, Serves};
 ghost use Rattle.ea_report.specs.Asked.{shape_of};
 
 use crate::one_search::search;
 use crate::sheet::Sheet;
 use crossbeam_deque::{Steal, Stealer, Worker};
+use ea_hierarchy::Prepared;
 use ea_load::Road;
 use ea_paths::Search;
 use ea_report::{ReportOptions, write_problem};
@@ -44,6 +45,8 @@ pub(crate) struct Plan {
 pub(crate) struct Job<'a> {
     pub alloc: Global,
     pub road: &'a Road,
+    /// A preparation of the road, if there is one.
+    pub prepared: Option<&'a Prepared>,
     pub queries: &'a [Query],
     /// What the reports show.
     pub shown: ReportOptions<'a>,
@@ -80,6 +83,7 @@ fn make_draft(job: Job<'_>, query: &Query, last: &mut Option<Search>) -> Draft
     requires few { (length query.now.sources ≤ MOST_STARTS)
         × (job.road.now.network.nodes ≤ MOST_NODES) }
     requires shown { IsShown job.road.now.network (shape_of job.shown) }
+    requires prepared { IfSome job.prepared (λ p. IsPreparedOn job.road.now p.now) }
     requires search { IfSome last.old (Serves job.road.now.network job.shown.style.walks) }
     ensures draft { IsDraftOf (shape_of job.entry.shown) job.entry.road.now query.now result }
     ensures search { IfSome last.new (Serves job.entry.road.now.network job.entry.shown.style.walks) }
@@ -87,11 +91,19 @@ fn make_draft(job: Job<'_>, query: &Query, last: &mut Option<Search>) -> Draft
     let Job {
         alloc,
         road,
+        prepared,
         plan,
         shown,
         ..
     } = job;
-    let found = match search(alloc, road, query, shown.style.walks, last.take()) {
+    let found = match search(
+        alloc,
+        road,
+        prepared,
+        query,
+        shown.style.walks,
+        last.take(),
+    ) {
         Ok(found) => found,
         Err(_) => return Draft::Nothing,
     };

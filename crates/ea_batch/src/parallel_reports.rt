@@ -7,7 +7,7 @@ ghost use Rattle.ea_report.specs.Sent.{IsCutAt, IsWhole};
 ghost use Rattle.ea_load.specs.Posed.{AreProblems, times_on};
 ghost use Rattle.ea_batch.specs.Drafts.{AreDraftsAt, AreUnsent, CanSend, GoesOn, HaveGone, IsDraftAt, IsDraftOf, IsFor, IsJob, StopsAfter};
 ghost use Rattle.ea_batch.specs.Sent.{AreCutShort, AreSent, IsSent, IsStoppedBy};
-ghost use Rattle.ea_batch.specs.Solved.{IsShown, Serves};
+ghost use Rattle.ea_batch.specs.Solved.{IsPreparedOn, IsShown, Serves};
 ghost use Rattle.ea_report.specs.Asked.{shape_of};
 
 use crate::draft::{Draft, Job, Plan, Span, memory_of_texts};
@@ -19,6 +19,7 @@ use crossbeam_deque::Worker;
 use ea_base::Watch;
 use ea_bytes::ByteOut;
 use ea_fork_join::for_each_chunk_mut_beside;
+use ea_hierarchy::Prepared;
 use ea_load::{AnswerFault, Road};
 use ea_report::{ReportOptions, write_pieces};
 use ea_road::Query;
@@ -27,9 +28,10 @@ use std::marker::Brand;
 use std::mem;
 use std::thread::Threads;
 
-/// What the reports of a call show, and its watch.
+/// What the reports of a call show, a preparation of the road if there is one, and the call's watch.
 pub struct Watched<'a, V: Watch> {
     pub shown: ReportOptions<'a>,
+    pub prepared: Option<&'a Prepared>,
     pub watch: &'a mut V,
 }
 
@@ -72,7 +74,7 @@ fn plan_of(problems: usize, threads: usize, lines: usize, walks: bool) -> Plan
     }
 }
 
-impl Progress {
+impl Progress<'_> {
     /// Sends a report's text.
     fn send_text<W: ByteOut>(&mut self, text: &[u8], out: &mut W) -> Result<(), AnswerFault>
         requires room { self.old.written ≤ MOST_STARTS * 2 ^ 90 }
@@ -84,6 +86,7 @@ impl Progress {
             × GivesUp (W.seen out.old) (W.seen out.new)) }
         ensures bound { OnOk result (self.new.written ≤ self.old.written + 2 ^ 90) }
         ensures search { self.new.search ≡ self.old.search }
+        ensures prepared { self.new.prepared ≡ self.old.prepared }
     {
         match write_pieces(&[text], out) {
             Ok(written) => {
@@ -98,6 +101,7 @@ impl Progress {
     fn keep_memory(&mut self, memory: Vec<u8>)
         ensures written { self.new.written ≡ self.old.written }
         ensures search { self.new.search ≡ self.old.search }
+        ensures prepared { self.new.prepared ≡ self.old.prepared }
     {
         if let Some(used) = &mut self.used {
             let _ = used.push(memory);
@@ -121,6 +125,7 @@ impl Progress {
         requires shown { IsShown road.now.network (shape_of shown) }
         requires room { self.old.written ≤ MOST_STARTS * 2 ^ 90 }
         requires search { IfSome self.old.search (Serves road.now.network shown.style.walks) }
+        requires prepared { IfSome self.old.prepared (λ p. IsPreparedOn road.now p.now) }
         requires draft { IsDraftOf (shape_of shown) road.now query.now draft }
         ensures ok { OnOk result (IsSent (shape_of shown.entry) road.now.network (times_on road.now) query.now
             (W.seen out.old) (W.seen out.new) self.old.written self.new.written) }
@@ -128,6 +133,7 @@ impl Progress {
             (W.seen out.old) (W.seen out.new) self.old.written) }
         ensures bound { OnOk result (self.new.written ≤ self.old.written + 2 ^ 90) }
         ensures search { IfSome self.new.search (Serves road.now.network shown.entry.style.walks) }
+        ensures prepared { self.new.prepared ≡ self.old.prepared }
     {
         match draft {
             Draft::Nothing => self.report_alone(alloc, road, query, shown, out),
@@ -162,7 +168,7 @@ fn take_draft(job: Job<'_>, span: Span, k: usize, ready: &mut [Draft]) -> Draft
 
 /// Sends the reports of problems by their drafts, in their order. Missing drafts are made now.
 fn send_part<W: ByteOut>(
-    progress: &mut Progress,
+    progress: &mut Progress<'_>,
     job: Job<'_>,
     span: Span,
     ready: &mut [Draft],
@@ -173,6 +179,7 @@ fn send_part<W: ByteOut>(
     requires room { progress.old.written ≤ span.from * 2 ^ 90 }
     requires search { IfSome progress.old.search
         (Serves job.road.now.network job.shown.style.walks) }
+    requires prepared { IfSome progress.old.prepared (λ p. IsPreparedOn job.road.now p.now) }
     requires drafts { AreDraftsAt (shape_of job.shown) job.road.now
         job.queries.now span.from ready.old }
     ensures ok { OnOk result (GoesOn job.entry span.from span.to
@@ -183,6 +190,7 @@ fn send_part<W: ByteOut>(
     ensures search { OnOk result
         (IfSome progress.new.search
         (Serves job.entry.road.now.network job.entry.shown.style.walks)) }
+    ensures prepared { progress.new.prepared ≡ progress.old.prepared }
 {
     let queries = job.queries;
     for k in 0..span.to - span.from {
@@ -205,7 +213,7 @@ fn end_of_part(job: Job<'_>, from: usize) -> usize
 /// Sends the reports of the problems from one on by their drafts, and makes some drafts too, until all are
 /// sent or no one makes the next. Calls the watch after each part.
 fn send_round<J: Asks, W: ByteOut, V: Watch>(
-    progress: &mut Progress,
+    progress: &mut Progress<'_>,
     job: Job<'_>,
     round: &Round,
     desk: &mut Desk<J>,
@@ -261,7 +269,7 @@ fn lines_of(road: &Road, query: &Query, shown: ReportOptions<'_>) -> usize
 
 /// Sends the reports of the problems from one on, while other threads make the next ones.
 fn run_round<J: Asks, H: Threads + Sync, W: ByteOut, V: Watch>(
-    progress: &mut Progress,
+    progress: &mut Progress<'_>,
     rt: &H,
     job: Job<'_>,
     lanes: &mut Lanes<J>,
@@ -301,7 +309,7 @@ fn run_round<J: Asks, H: Threads + Sync, W: ByteOut, V: Watch>(
 /// Sends the reports of all problems in their order, while other threads make the next ones. Calls the watch
 /// after each part.
 fn send_all<J: Asks, H: Threads + Sync, W: ByteOut, V: Watch>(
-    progress: &mut Progress,
+    progress: &mut Progress<'_>,
     rt: &H,
     job: Job<'_>,
     lanes: &mut Lanes<J>,
@@ -343,15 +351,17 @@ fn send_all<J: Asks, H: Threads + Sync, W: ByteOut, V: Watch>(
 
 /// Writes the reports of problems in their order; several threads search at once. Calls the watch after each
 /// part.
-fn report_asked<J: Asks, H: Threads + Sync, W: ByteOut, V: Watch>(
+fn report_asked<'a, J: Asks, H: Threads + Sync, W: ByteOut, V: Watch>(
     rt: &H,
     job: Job<'_>,
+    prepared: Option<&'a Prepared>,
     used: Worker<Vec<u8>>,
     threads: usize,
     watch: &mut V,
     out: &mut W,
-) -> Result<Progress, AnswerFault>
+) -> Result<Progress<'a>, AnswerFault>
     requires job { IsJob job }
+    requires prepared { IfSome prepared (λ p. IsPreparedOn job.road.now p.now) }
     requires named { IsFor J.fits job }
     requires some { 0 < length job.queries.now }
     requires threads { 1 ≤ threads }
@@ -369,7 +379,7 @@ fn report_asked<J: Asks, H: Threads + Sync, W: ByteOut, V: Watch>(
         Ok(lanes) => lanes,
         Err(_) => return Err(AnswerFault::OutOfMemory { written: 0 }),
     };
-    let mut progress = Progress::begin(Some(used));
+    let mut progress = Progress::begin(prepared, Some(used));
     match send_all(&mut progress, rt, job, &mut lanes, watch, out) {
         Ok(()) => Ok(progress),
         Err(fault) => Err(fault),
@@ -378,19 +388,20 @@ fn report_asked<J: Asks, H: Threads + Sync, W: ByteOut, V: Watch>(
 
 /// Writes the reports of problems in their order; several threads search at once. Calls the watch as they are
 /// sent.
-pub fn report_ahead<H: Threads + Sync, W: ByteOut, V: Watch>(
+pub fn report_ahead<'a, H: Threads + Sync, W: ByteOut, V: Watch>(
     alloc: Global,
     rt: &H,
     road: &Road,
     queries: &[Query],
-    watched: Watched<'_, V>,
+    watched: Watched<'a, V>,
     threads: usize,
     out: &mut W,
-) -> Result<Progress, AnswerFault>
+) -> Result<Progress<'a>, AnswerFault>
     requires problems { AreProblems road.now queries.now }
     requires few { (length queries.now ≤ MOST_STARTS) × (road.now.network.nodes ≤ MOST_NODES) }
     requires some { 0 < length queries.now }
     requires shown { IsShown road.now.network (shape_of watched.shown) }
+    requires prepared { IfSome watched.prepared (λ p. IsPreparedOn road.now p.now) }
     requires threads { (1 ≤ threads) × (threads ≤ MOST_AT_ONCE) }
     ensures ok { IfOk result (λ progress.
         AreSent (shape_of watched.entry.shown) road.now.network (times_on road.now) queries.now
@@ -400,7 +411,11 @@ pub fn report_ahead<H: Threads + Sync, W: ByteOut, V: Watch>(
         (W.seen out.old) (W.seen out.new)) }
     ensures bound { IfOk result (λ progress. progress.written ≤ MOST_STARTS * 2 ^ 90) }
 {
-    let Watched { shown, watch } = watched;
+    let Watched {
+        shown,
+        prepared,
+        watch,
+    } = watched;
     let lines = lines_of(road, &queries[0], shown);
     let (used, spare) = match memory_of_texts(alloc) {
         Ok(ends) => ends,
@@ -409,10 +424,11 @@ pub fn report_ahead<H: Threads + Sync, W: ByteOut, V: Watch>(
     let job = Job {
         alloc,
         road,
+        prepared,
         queries,
         shown,
         plan: plan_of(queries.len(), threads, lines, shown.style.walks),
         spare: &spare,
     };
-    report_asked::<Brand, H, W, V>(rt, job, used, threads, watch, out)
+    report_asked::<Brand, H, W, V>(rt, job, prepared, used, threads, watch, out)
 }

@@ -1,4 +1,4 @@
-use Rattle.std.proofs.Common.{◌≡◌, ◌+◌, ◌<◌, arith, length, refl, sym, subst, take}
+use Rattle.std.proofs.Common.{◌≡◌, ◌∙◌, ◌+◌, ◌<◌, arith, length, refl, sym, subst, take}
 use Rattle.std.proofs.lemmas.Result.{err_from_is_err_and}
 use Rattle.ea_load.specs.Posed.{times_on}
 use Rattle.ea_report.specs.Asked.{shape_of}
@@ -33,6 +33,7 @@ loop-k-preserved g c =
       sent = record { sent = λ first fits before. subst (λ n. AreSent shape network times (take n all) first now c.send_draft.new.self.written) more (sent_next shape network times all i c.index-queries-span.result inside c.index-queries-span.is first _ now _ c.send_draft.new.self.written fits (inv.sent.sent first fits before) c.in_ok-send_draft.ensures.ok) };
       bound = omega (arith, c.in_ok-send_draft.ensures.bound, inv.bound);
       search = c.send_draft.ensures.search;
+      prepared = c.send_draft.ensures.prepared ∙ inv.prepared;
       left = c.take_draft-draft.ensures.left;
     }
 
@@ -46,6 +47,7 @@ loop-k-init g c =
       sent = subst (λ n. GoesOn c.args.job from n now written now written) start (goes_nowhere c.args.job from now written);
       bound = omega (arith, c.requires.room);
       search = c.requires.search;
+      prepared = refl;
       left = λ j d low inside. c.requires.drafts j d inside;
     }
 
@@ -70,3 +72,6 @@ send_draft-requires-clause-problem g c =
     let road = c.args.job.road.now in
     let inside : i < length c.args.job.queries.now = omega (arith, c.loop-k-test.true, c.loop-k.auto.k-end, c.requires.span.0, c.requires.span.1) in
     subst (λ (query : Asking). IsProblem road.network (length road.times.tables.list.items) query) (sym c.index-queries-span.is) (c.requires.job.problems i c.index-queries-span.result inside).0
+
+pub send_draft-requires-clause-prepared : goal.send_draft-requires-clause-prepared
+send_draft-requires-clause-prepared g c = rw c.loop-k.invariant.prepared c.requires.prepared

@@ -31,6 +31,7 @@ loop-preserved g c =
           inside = w.end_of_part.ensures.1;
           room = w.in_ok-send_part-in-Some.ensures.bound;
           search = w.in_ok-send_part-in-Some.ensures.search;
+          prepared = rw w.send_part.ensures.prepared inv.can.prepared;
           piled = c.take.ensures.pile;
         };
       })
@@ -42,6 +43,7 @@ loop-preserved g c =
           inside = inv.can.inside;
           room = inv.can.room;
           search = w.help.ensures.search;
+          prepared = inv.can.prepared;
           piled = w.help.ensures.pile;
         };
       })
@@ -65,6 +67,7 @@ returns-then-not-help-clause-ok g c =
         inside = inv.can.inside;
         room = inv.can.room;
         search = c.help.ensures.search;
+        prepared = inv.can.prepared;
         piled = c.help.ensures.pile;
       };
     }

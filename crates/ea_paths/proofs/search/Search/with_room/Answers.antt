@@ -21,5 +21,5 @@ invariant_of-result c =
         reached = λ v has. absurd (has (bound_of-none _ v));
         linked = λ v. inl (link-none _ v);
       };
-      guide_fits = λ_;
+      guide_fits = tt;
     })
