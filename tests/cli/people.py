@@ -122,6 +122,7 @@ MISTAKES = (
     (b"", "run four-nodes.gr four-nodes.ss -o /dev/full", 4, "earliest: 12 WriteFailed after 0 bytes\n  the output: no space is left on the device\n"),
     (b"", "run four-nodes.gr four-nodes.ss --depart 8:00", 2, "earliest: 14 BadOption\n  --depart 8:00: it has to be a whole number from 0 to 281474976710655\n  times are counted in the units of the weights: 8:00 is 28800 where these are seconds\n"),
     (b"", "rank four-nodes.gr four-nodes.ss --workers 17", 2, "earliest: 14 BadOption\n  --workers 17: it has to be a whole number from 1 to 16\n"),
+    (b"", "pairs four-nodes.gr four-nodes.p2p --prepare maybe", 2, "earliest: 14 BadOption\n  --prepare maybe: it has to be yes or no\n"),
     (b"", "run - -", 2, "earliest: 14 BadOption\n  - is standard input, which one file alone can be\n"),
     (b"", "run four-nodes.gr four-nodes.ss --depart 1 --arrive=6", 2, "earliest: 14 BadOption\n  one of --depart, --departs, --arrive and --arrives can be given, and --gap with neither file\n"),
     (b"", "run four-nodes.gr own-departures.ss --departs own-departures.times --gap 5", 2, "earliest: 14 BadOption\n  one of --depart, --departs, --arrive and --arrives can be given, and --gap with neither file\n"),

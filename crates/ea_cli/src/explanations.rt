@@ -7,7 +7,7 @@ use ea_bytes::{ReadFault, without_return};
 use ea_check::CheckFault;
 use ea_load::{AnswerFault, FileWord};
 use ea_messages::{Outcome, fault_named, look_of, reason_of, wanted_of_line};
-use ea_options::bad_value_of;
+use ea_options::{Allowed, BadValue, bad_value_of};
 use std::io::ErrorKind;
 
 /// Says something on standard error, indented.
@@ -52,6 +52,30 @@ fn say_when_twice(words: &[String]) -> bool {
     twice || is_listed && has_gap
 }
 
+/// Which values an option may have, for a bad one.
+fn explain_value(rt: &HostRuntime, bad: BadValue<'_>) {
+    let Some(shown) = shown_word(rt, bad.value) else {
+        return;
+    };
+    let option = bad.option;
+    match bad.allowed {
+        Allowed::Number { least, most } => {
+            let _ = eprintln!(rt;
+                "  --{option} {shown}: it has to be a whole number from {least} to {most}"
+            );
+            if bad.value.contains(':') {
+                remark(
+                    rt,
+                    "times are counted in the units of the weights: 8:00 is 28800 where these are seconds",
+                );
+            }
+        }
+        Allowed::YesOrNo => {
+            let _ = eprintln!(rt; "  --{option} {shown}: it has to be yes or no");
+        }
+    }
+}
+
 /// Which option's value is bad, and its limits; or which options don't go together.
 pub(crate) fn explain_words(rt: &HostRuntime, words: &[String]) {
     match bad_value_of(rt.alloc(), words) {
@@ -60,20 +84,7 @@ pub(crate) fn explain_words(rt: &HostRuntime, words: &[String]) {
             "one of --depart, --departs, --arrive and --arrives can be given, and --gap with neither file",
         ),
         None => remark(rt, "- is standard input, which one file alone can be"),
-        Some(bad) => {
-            let (option, value, least, most) = (bad.option, bad.value, bad.least, bad.most);
-            if let Some(shown) = shown_word(rt, value) {
-                let _ = eprintln!(rt;
-                    "  --{option} {shown}: it has to be a whole number from {least} to {most}"
-                );
-            }
-            if value.contains(':') {
-                remark(
-                    rt,
-                    "times are counted in the units of the weights: 8:00 is 28800 where these are seconds",
-                );
-            }
-        }
+        Some(bad) => explain_value(rt, bad),
     }
 }
 

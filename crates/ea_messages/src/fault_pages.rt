@@ -96,7 +96,7 @@ pub const FAULTS: [Fault; 19] = [
     Fault {
         number: "14",
         name: "BadOption",
-        meaning: "an option's value is no number or out of its limits, or a departure is beyond the last time",
+        meaning: "an option doesn't take this value, or a departure is beyond the last time",
         more: "Two files that are both - are told so, too. Times are whole numbers in the units of the weights, to 281474976710655.\nUsual causes: a time as hours and minutes; a sign; more than 16 workers; a large --gap with many sources.\n\nBefore:  earliest run roads.gr starts.ss --depart 8:00\nAfter:   earliest run roads.gr starts.ss --depart 28800\n",
     },
     Fault {

@@ -53,8 +53,8 @@ run_app = with_telling (with_output (with_rule (with_rule (with_report (with_wor
     (file (codes "gr"))) (file (codes "ss"))))))) (valued (codes "nodes"))) (flag (codes "joint"))))
 
 unfoldable pub pairs_app : App
-pairs_app = with_telling (with_output (with_report (with_workers (with_times (with_departures (with_rule (with_rule (new_app (codes "pairs"))
-    (file (codes "gr"))) (file (codes "p2p"))))))))
+pairs_app = with_telling (with_output (with_rule (with_report (with_workers (with_times (with_departures (with_rule (with_rule (new_app (codes "pairs"))
+    (file (codes "gr"))) (file (codes "p2p"))))))) (valued (codes "prepare"))))
 
 unfoldable pub rank_app : App
 rank_app = with_telling (with_output (with_workers (with_departures (with_rule (with_rule (new_app (codes "rank"))

@@ -11,7 +11,7 @@ use Rattle.ea_options.specs.declared.options.RunOptions.{RunOptions}
 use Rattle.ea_options.specs.declared.options.Command.{Command}
 use Rattle.ea_options.specs.declared.options.Command.TheVariants as command
 use Rattle.ea_options.specs.Grammar.{run_app, pairs_app, rank_app, check_app}
-use Rattle.ea_options.specs.Values.{chosen_of, either_of, given, option_of, is_given}
+use Rattle.ea_options.specs.Values.{chosen_of, chosen_yes_or_no_of, either_of, given, option_of, is_given}
 
 infixl 10 ◌>>=◌
 abbrev pub ◌>>=◌ : {A B : Type 0} → Option A → (A → Option B) → Option B
@@ -30,7 +30,7 @@ direction_of rows =
     (if nat_le 1 (given (first_of (codes "arrive") rows) + given (first_of (codes "arrives") rows)) then Some Turned else Some Forward)
     else None
 
--- The numbers of the options, if each is within its limits, and none excludes another.
+-- The values of the options, if each takes its value and none excludes another.
 unfoldable pub options_of : List Row → Option RunOptions
 options_of rows = do
   workers ← chosen_of (codes "workers") 1 MOST_WORKERS rows
@@ -43,6 +43,7 @@ options_of rows = do
   arrive ← chosen_of (codes "arrive") 0 HORIZON rows
   gap ← option_of (codes "gap") 0 0 HORIZON rows
   direction ← direction_of rows
+  prepare ← chosen_yes_or_no_of (codes "prepare") rows
   Some (record {
     joint = is_given (codes "joint") rows;
     walks = is_given (codes "walks") rows;
@@ -51,6 +52,7 @@ options_of rows = do
     workers = workers;
     at_once = at_once;
     batch = batch;
+    prepare = prepare;
     heaps = heaps;
     turns = turns;
     seed = seed;

@@ -33,8 +33,8 @@ kinds_by of_explain words = fault_of explain_app words
 kinds_by of_formats words = fault_of formats_app words
 kinds_by of_none words = some_kind (fault_of program words)
 
--- The names are present, and some option's value is no number or outside its limits, or two files are
--- standard input.
+-- The names are present, and some option doesn't take its value or excludes another, or two files are standard
+-- input.
 abbrev pub HasBadOption : Text → Bool → List Row → Type 0
 HasBadOption second reported rows =
     (files : Files) × (files_of second reported rows ≡ Some files) × ((options_of rows ≡ None) ⊎ (has_input_twice files ≡ true))

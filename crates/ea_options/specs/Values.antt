@@ -1,5 +1,5 @@
 -- The values of a command's options in clap's matches.
-use Rattle.std.specs.Prelude.{ℕ, Bool, false, ◌&&◌, List, codes, nat_le, if◌then◌else◌, Option, Some, None, option_and_then, option_map}
+use Rattle.std.specs.Prelude.{ℕ, Bool, true, false, ◌&&◌, List, codes, nat_le, if◌then◌else◌, Option, Some, None, option_and_then, option_map}
 use Rattle.std.specs.Str.{bytes_eq}
 use Rattle.clap.specs.Words.{Row, Text, first_of}
 use Rattle.ea_bytes.specs.Text.{number_of}
@@ -23,6 +23,18 @@ number_if_given low high (Some text) = option_map Some (option_and_then (within_
 
 abbrev pub chosen_of : Text → ℕ → ℕ → List Row → Option (Option ℕ)
 chosen_of name low high rows = number_if_given low high (first_of name rows)
+
+-- The meaning of the words yes and no, none of any other word.
+abbrev pub yes_or_no_of : Text → Option Bool
+yes_or_no_of text = if bytes_eq text (codes "yes") then Some true else (if bytes_eq text (codes "no") then Some false else None)
+
+-- Yes or no of an optional option.
+abbrev pub yes_or_no_if_given : Option Text → Option (Option Bool)
+yes_or_no_if_given None = Some None
+yes_or_no_if_given (Some text) = option_map Some (yes_or_no_of text)
+
+abbrev pub chosen_yes_or_no_of : Text → List Row → Option (Option Bool)
+chosen_yes_or_no_of name rows = yes_or_no_if_given (first_of name rows)
 
 -- 1 if a text is given, else 0.
 abbrev pub given : Option Text → ℕ

@@ -299,6 +299,23 @@ pub(crate) fn with_report<'a>(
     )
 }
 
+/// Adds the option that says whether the road is prepared.
+pub(crate) fn with_prepare<'a>(
+    alloc: Global,
+    command: Result<Command<'a>, AllocError>,
+) -> Result<Command<'a>, AllocError>
+    ensures { (app : App) → Builds app command.entry
+        → Builds (with_rule app (Rattle.ea_options.specs.Grammar.valued (codes "prepare"))) result }
+{
+    with_valued(
+        alloc,
+        command,
+        "prepare",
+        "W",
+        "Prepares the road before the pairs are searched, or doesn't: yes or no [default: what is quickest]",
+    )
+}
+
 /// Adds the option for a report's file.
 fn with_output<'a>(
     alloc: Global,

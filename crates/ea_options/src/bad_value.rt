@@ -3,7 +3,7 @@ ghost use Rattle.std.specs.Prelude.{IfSome};
 ghost use Rattle.ea_options.specs.Bad.{IsBad};
 
 use crate::commands::{check_command, pairs_command, rank_command, run_command};
-use crate::values::{number_of_text, text_of};
+use crate::values::{number_of_text, text_of, yes_or_no};
 use clap::ArgMatches;
 use ea_base::{
     HORIZON, LEAST_HEAPS, MOST_AT_ONCE, MOST_BATCH, MOST_HEAPS, MOST_TURNS, MOST_WORKERS,
@@ -11,18 +11,26 @@ use ea_base::{
 use std::alloc::Global;
 use std::convert::AsStr;
 
-/// An option whose value is no number from `least` to `most`.
+/// The values that an option may have.
+#[derive(Clone, Copy, Debug, PartialEq, Eq)]
+pub enum Allowed {
+    /// Whole numbers from `least` to `most`.
+    Number { least: u64, most: u64 },
+    /// The words yes and no.
+    YesOrNo,
+}
+
+/// An option whose value is none of those that it may have.
 #[derive(Clone, Copy, Debug, PartialEq, Eq)]
 pub struct BadValue<'a> {
     /// The option's name, without its dashes.
     pub option: &'static str,
     pub value: &'a str,
-    pub least: u64,
-    pub most: u64,
+    pub allowed: Allowed,
 }
 
-/// An option's value, if it is bad.
-fn bad_value<'a>(
+/// An option's value, if it is no number from `least` to `most`.
+fn bad_number<'a>(
     matches: &ArgMatches<'a>,
     option: &'static str,
     least: u64,
@@ -36,8 +44,22 @@ fn bad_value<'a>(
         None => Some(BadValue {
             option,
             value,
-            least,
-            most,
+            allowed: Allowed::Number { least, most },
+        }),
+    }
+}
+
+/// An option's value, if it is neither yes nor no.
+fn neither_yes_nor_no<'a>(matches: &ArgMatches<'a>, option: &'static str) -> Option<BadValue<'a>>
+    ensures { IfSome result IsBad }
+{
+    let value = text_of(matches, option)?;
+    match yes_or_no(value) {
+        Some(_) => None,
+        None => Some(BadValue {
+            option,
+            value,
+            allowed: Allowed::YesOrNo,
         }),
     }
 }
@@ -57,11 +79,11 @@ fn first_bad<'a>(matches: &ArgMatches<'a>) -> Option<BadValue<'a>>
         ("arrive", 0, HORIZON),
         ("gap", 0, HORIZON),
     ] {
-        if let Some(bad) = bad_value(matches, option, least, most) {
+        if let Some(bad) = bad_number(matches, option, least, most) {
             return Some(bad);
         }
     }
-    None
+    neither_yes_nor_no(matches, "prepare")
 }
 
 /// The first option with a bad value, if `of_words` returns `BadOption` for the words. None if it doesn't, if

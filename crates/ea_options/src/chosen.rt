@@ -7,7 +7,7 @@ ghost use Rattle.ea_options.specs.Meaning.{direction_of, options_of};
 ghost use Rattle.ea_options.specs.Values;
 
 use crate::options::RunOptions;
-use crate::values::{chosen_number, has_flag, option_number, text_of};
+use crate::values::{chosen_number, chosen_yes_or_no, has_flag, option_number, text_of};
 use clap::ArgMatches;
 use ea_base::{
     Direction, HORIZON, LEAST_HEAPS, MOST_AT_ONCE, MOST_BATCH, MOST_HEAPS, MOST_TURNS, MOST_WORKERS,
@@ -131,7 +131,7 @@ fn flags_in(matches: &ArgMatches<'_>) -> Flags
     }
 }
 
-/// The options of a command, if each is a number within its limits.
+/// The options of a command, if each takes its value and none excludes another.
 pub(crate) fn options_in(matches: &ArgMatches<'_>) -> Option<RunOptions>
     ensures options { result ≡ options_of (rows_of (found_of matches.now)) }
     ensures limits { IfSome result AreOptions }
@@ -139,6 +139,7 @@ pub(crate) fn options_in(matches: &ArgMatches<'_>) -> Option<RunOptions>
     let counts = counts_in(matches)?;
     let queue = queue_in(matches)?;
     let departures = departures_in(matches)?;
+    let prepare = chosen_yes_or_no(matches, "prepare")?;
     let flags = flags_in(matches);
     Some(RunOptions {
         joint: flags.joint,
@@ -148,6 +149,7 @@ pub(crate) fn options_in(matches: &ArgMatches<'_>) -> Option<RunOptions>
         workers: counts.workers,
         at_once: counts.at_once,
         batch: counts.batch,
+        prepare,
         heaps: queue.heaps,
         turns: queue.turns,
         seed: queue.seed,

@@ -7,7 +7,7 @@ ghost use Rattle.ea_options.specs.Grammar.{run_app, pairs_app, rank_app, check_a
 
 use crate::arguments::{
     optional, with_all_times, with_arg, with_file, with_flag, with_nodes, with_output_and_telling,
-    with_report, with_search, with_telling, with_workers,
+    with_prepare, with_report, with_search, with_telling, with_workers,
 };
 use clap::Command;
 use std::alloc::{AllocError, Global};
@@ -90,6 +90,7 @@ pub(crate) fn pairs_command<'a>(alloc: Global) -> Result<Command<'a>, AllocError
     let command = with_all_times(alloc, command);
     let command = with_workers(alloc, command);
     let command = with_report(alloc, command);
+    let command = with_prepare(alloc, command);
     with_output_and_telling(alloc, command)
 }
 

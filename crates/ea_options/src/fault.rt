@@ -14,8 +14,8 @@ pub enum CommandFault {
         help: bool,
         text: String,
     },
-    /// The value of an option is no number, or outside its limits.
-    #[error("an option's value is no number or is out of its limits")]
+    /// An option doesn't take its value: no number, one outside its limits, or another word than yes and no.
+    #[error("an option doesn't take its value")]
     BadOption,
     /// Memory was refused.
     #[error("memory was refused")]

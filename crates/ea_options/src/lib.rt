@@ -10,6 +10,6 @@ mod meaning;
 mod options;
 mod values;
 
-pub use bad_value::{BadValue, asks_to_explain, bad_value_of};
+pub use bad_value::{Allowed, BadValue, asks_to_explain, bad_value_of};
 pub use fault::CommandFault;
 pub use options::{Command, RunOptions};

@@ -380,8 +380,8 @@ impl RunOptions {
     /// read like the numbers of input files.
     ///
     /// Fails with `Words` if clap refuses the words or a text is asked for; with `BadOption` if clap takes
-    /// them but an option's value is no number or outside its limits, or two files are standard input; with
-    /// `OutOfMemory` if memory is refused.
+    /// them but an option doesn't take its value, two options exclude each other, or two files are standard
+    /// input; with `OutOfMemory` if memory is refused.
     pub fn of_words<'a, S: AsStr>(
         alloc: Global,
         words: &'a [S],

@@ -22,6 +22,8 @@ pub struct RunOptions {
     /// The most entries that a worker takes from a heap, or gives to one, at once: 1 to 64; None leaves the
     /// choice to the program.
     pub batch: Option<u64>,
+    /// Whether pairs are searched over a prepared road; None leaves the choice to the program.
+    pub prepare: Option<bool>,
     /// The heaps for each worker: 2 to 8.
     pub heaps: u64,
     /// The most turns of a worker: 0 to 1,000,000,000.

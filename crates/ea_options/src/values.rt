@@ -1,8 +1,8 @@
-//! The numbers of options.
+//! The values of options.
 ghost use Rattle.std.specs.Prelude.{◌≡◌, ◌≤◌, ◌<◌, ◌^◌, IfSome, Some, option_and_then, option_map};
 ghost use Rattle.clap.specs.Words.{found_of, rows_of, first_of};
 ghost use Rattle.ea_bytes.specs.Text.{number_of};
-ghost use Rattle.ea_options.specs.Values.{chosen_of, number_in, option_of, is_given};
+ghost use Rattle.ea_options.specs.Values.{chosen_of, chosen_yes_or_no_of, number_in, option_of, is_given, yes_or_no_of};
 
 use clap::ArgMatches;
 use ea_bytes::number;
@@ -88,6 +88,38 @@ pub(crate) fn chosen_number(
     ensures limits { IfSome result (λ chosen. IfSome chosen (λ n. (low ≤ n) × (n ≤ high))) }
 {
     number_if_given(low, high, matches.get_str(name))
+}
+
+/// What the words yes and no mean.
+pub(crate) fn yes_or_no(text: &str) -> Option<bool>
+    ensures { result ≡ yes_or_no_of text.now }
+{
+    match text {
+        "yes" => Some(true),
+        "no" => Some(false),
+        _ => None,
+    }
+}
+
+/// Yes or no, if there is a text.
+fn yes_or_no_if_given(text: Option<&str>) -> Option<Option<bool>>
+    ensures { result ≡ Rattle.ea_options.specs.Values.yes_or_no_if_given
+        (option_map (λ t. t.now) text.entry) }
+{
+    match text {
+        None => Some(None),
+        Some(text) => match yes_or_no(text) {
+            Some(is_yes) => Some(Some(is_yes)),
+            None => None,
+        },
+    }
+}
+
+/// Yes or no of an optional option.
+pub(crate) fn chosen_yes_or_no(matches: &ArgMatches<'_>, name: &str) -> Option<Option<bool>>
+    ensures { result ≡ chosen_yes_or_no_of name.now (rows_of (found_of matches.now)) }
+{
+    yes_or_no_if_given(text_of(matches, name))
 }
 
 /// Whether a flag is set.

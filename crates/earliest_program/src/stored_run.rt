@@ -18,6 +18,7 @@ const DEFAULTS: RunOptions = RunOptions {
     workers: None,
     at_once: None,
     batch: None,
+    prepare: None,
     heaps: 2,
     turns: 1_000_000,
     seed: 1,

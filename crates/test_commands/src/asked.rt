@@ -14,6 +14,7 @@ pub const DEFAULTS: RunOptions = RunOptions {
     workers: Some(4),
     at_once: None,
     batch: None,
+    prepare: None,
     heaps: 2,
     turns: 1_000_000,
     seed: 1,

@@ -35,6 +35,7 @@ fn options_from(depart: u64, gap: u64) -> RunOptions
         workers: Some(1),
         at_once: None,
         batch: None,
+        prepare: None,
         heaps: 2,
         turns: 100,
         seed: 1,

@@ -115,6 +115,7 @@ const UNASKED: RunOptions = RunOptions {
     workers: None,
     at_once: None,
     batch: None,
+    prepare: None,
     heaps: 2,
     turns: 1_000_000,
     seed: 1,
@@ -155,6 +156,7 @@ fn a_run(rt: HostRuntime) {
             workers: Some(3),
             at_once: Some(16),
             batch: Some(64),
+            prepare: None,
             heaps: 2,
             turns: 1_000_000,
             seed: 1,
@@ -195,6 +197,50 @@ fn pairs_with_timetables(rt: HostRuntime) {
     assert!(rt; asks(rt.alloc(), &PAIRS, wanted));
 }
 
+/// Words of pairs, and whether they ask for a prepared road.
+const PREPARED: [(Words, Option<bool>); 4] = [
+    (&["pairs", "g", "q", "--prepare", "yes"], Some(true)),
+    (&["pairs", "g", "--prepare=no", "q"], Some(false)),
+    (&["pairs", "--prepare", "yes", "g", "q"], Some(true)),
+    (&["pairs", "g", "q"], None),
+];
+
+/// The index of the first words that ask for another preparation.
+fn wrong_preparation(alloc: Global) -> Option<usize> {
+    for (place, (words, prepare)) in PREPARED.iter().enumerate() {
+        let wanted = Named {
+            verb: "pairs",
+            gr: "g",
+            second: "q",
+            tp: None,
+            last: None,
+            options: RunOptions {
+                prepare: *prepare,
+                ..UNASKED
+            },
+        };
+        if !asks(alloc, words, wanted) {
+            return Some(place);
+        }
+    }
+    None
+}
+
+/// Only the words yes and no are values of `--prepare`.
+const NEITHER_YES_NOR_NO: [Words; 5] = [
+    &["pairs", "g", "q", "--prepare", "maybe"],
+    &["pairs", "g", "q", "--prepare", "Yes"],
+    &["pairs", "g", "q", "--prepare", "1"],
+    &["pairs", "g", "q", "--prepare", "no "],
+    &["pairs", "g", "q", "--prepare="],
+];
+
+#[test]
+fn a_prepared_road(rt: HostRuntime) {
+    assert_none_wrong(&rt, wrong_preparation(rt.alloc()));
+    assert_none_wrong(&rt, first_not_bad(rt.alloc(), &NEITHER_YES_NOR_NO));
+}
+
 const RANK: [&str; 11] = [
     "rank",
     "g",
@@ -225,6 +271,7 @@ fn a_rank(rt: HostRuntime) {
             workers: Some(16),
             at_once: None,
             batch: None,
+            prepare: None,
             heaps: 8,
             turns: 1_000_000,
             seed: 0,
@@ -264,6 +311,7 @@ fn a_check(rt: HostRuntime) {
             workers: None,
             at_once: None,
             batch: None,
+            prepare: None,
             heaps: 2,
             turns: 1_000_000,
             seed: 1,
@@ -359,18 +407,20 @@ fn names_that_are_missing(rt: HostRuntime) {
     assert_none_wrong(&rt, wrong_refusal(rt.alloc(), &NAMES_MISSING));
 }
 
-const NOT_OF_RANK_AND_CHECK: [Refusal; 16] = [
+const NOT_OF_RANK_AND_CHECK: [Refusal; 18] = [
     (&["rank", "g", "s", "--walks"], false, "--walks"),
     (&["rank", "g", "s", "--stats"], false, "--stats"),
     (&["rank", "g", "s", "--joint"], false, "--joint"),
     (&["rank", "g", "s", "--turns"], false, "--turns"),
     (&["rank", "g", "s", "--at-once"], false, "--at-once"),
     (&["rank", "g", "s", "--batch"], false, "--batch"),
+    (&["rank", "g", "s", "--prepare"], false, "--prepare"),
     (&["check", "g", "s", "r", "--walks"], false, "--walks"),
     (&["check", "g", "s", "r", "--stats"], false, "--stats"),
     (&["check", "g", "s", "r", "--workers"], false, "--workers"),
     (&["check", "g", "s", "r", "--at-once"], false, "--at-once"),
     (&["check", "g", "s", "r", "--batch"], false, "--batch"),
+    (&["check", "g", "s", "r", "--prepare"], false, "--prepare"),
     (&["check", "g", "s", "r", "--heaps"], false, "--heaps"),
     (&["check", "g", "s", "r", "--turns"], false, "--turns"),
     (&["check", "g", "s", "r", "--seed"], false, "--seed"),
@@ -401,7 +451,7 @@ fn options_out_of_their_limits(rt: HostRuntime) {
     assert_none_wrong(&rt, first_not_bad(rt.alloc(), &OUT_OF_LIMITS));
 }
 
-const NOT_UNDERSTOOD: [Refusal; 7] = [
+const NOT_UNDERSTOOD: [Refusal; 8] = [
     (&["run", "g"], false, "required"),
     (&["walk", "g", "s"], false, "unrecognized subcommand 'walk'"),
     (&["run", "g", "s", "--fast"], false, "--fast"),
@@ -411,6 +461,7 @@ const NOT_UNDERSTOOD: [Refusal; 7] = [
         "--gap",
     ),
     (&["pairs", "g", "q", "--joint"], false, "--joint"),
+    (&["run", "g", "s", "--prepare=no"], false, "--prepare"),
     (&["--joint"], false, "--joint"),
     (&["--"], false, "subcommand"),
 ];
@@ -630,50 +681,74 @@ fn words_without_files(rt: HostRuntime) {
     assert_none_wrong(&rt, wrong_refusal(rt.alloc(), &NEEDLESS));
 }
 
-/// Words, the option that has the first bad value, the value, and its limits.
-type Bad = (Words, &'static str, &'static str, u64, u64);
+/// Words, the option that has the first bad value, the value, and what is allowed.
+type Bad = (Words, &'static str, &'static str, Allowed);
 
-const BAD_VALUES: [Bad; 6] = [
+/// The times that are allowed.
+const TIMES: Allowed = Allowed::Number {
+    least: 0,
+    most: 281_474_976_710_655,
+};
+
+const BAD_VALUES: [Bad; 8] = [
     (
         &["run", "g", "s", "--workers", "17"],
         "workers",
         "17",
-        1,
-        16,
+        Allowed::Number { least: 1, most: 16 },
     ),
-    (&["pairs", "g", "q", "--heaps", "1"], "heaps", "1", 2, 8),
+    (
+        &["pairs", "g", "q", "--heaps", "1"],
+        "heaps",
+        "1",
+        Allowed::Number { least: 2, most: 8 },
+    ),
     (
         &["run", "g", "s", "--turns", "1e3"],
         "turns",
         "1e3",
-        0,
-        1_000_000_000,
+        Allowed::Number {
+            least: 0,
+            most: 1_000_000_000,
+        },
     ),
-    (&["rank", "g", "s", "--seed", "-"], "seed", "-", 0, u64::MAX),
+    (
+        &["rank", "g", "s", "--seed", "-"],
+        "seed",
+        "-",
+        Allowed::Number {
+            least: 0,
+            most: u64::MAX,
+        },
+    ),
     (
         &["run", "g", "s", "--depart", "8:00"],
         "depart",
         "8:00",
-        0,
-        281_474_976_710_655,
+        TIMES,
+    ),
+    (&["pairs", "g", "q", "--gap", ""], "gap", "", TIMES),
+    (
+        &["pairs", "g", "q", "--prepare", "maybe"],
+        "prepare",
+        "maybe",
+        Allowed::YesOrNo,
     ),
     (
-        &["pairs", "g", "q", "--gap", ""],
+        &["pairs", "g", "q", "--prepare", "0", "--gap", "x"],
         "gap",
-        "",
-        0,
-        281_474_976_710_655,
+        "x",
+        TIMES,
     ),
 ];
 
 /// The index of the first words whose first bad value is another.
 fn wrong_bad_value(alloc: Global) -> Option<usize> {
-    for (place, (words, option, value, least, most)) in BAD_VALUES.iter().enumerate() {
+    for (place, (words, option, value, allowed)) in BAD_VALUES.iter().enumerate() {
         let wanted = BadValue {
             option,
             value,
-            least: *least,
-            most: *most,
+            allowed: *allowed,
         };
         if bad_value_of(alloc, words) != Some(wanted) {
             return Some(place);
@@ -683,7 +758,8 @@ fn wrong_bad_value(alloc: Global) -> Option<usize> {
 }
 
 /// All values are good, there are no words, or a name is missing.
-const WITHOUT_BAD_VALUE: [Words; 3] = [
+const WITHOUT_BAD_VALUE: [Words; 4] = [
+    &["pairs", "g", "q", "--prepare", "no"],
     &["run", "g", "s", "--workers", "16"],
     &[],
     &["run", "g", "--workers", "17"],
@@ -730,7 +806,7 @@ fn shows_its_text(alloc: Global, text: &str) -> bool {
 
 #[test]
 fn each_fault_has_its_text(rt: HostRuntime) {
-    let option = "an option's value is no number or is out of its limits";
+    let option = "an option doesn't take its value";
     assert!(rt; shows_its_text(rt.alloc(), "a text for\nthe user"));
     assert!(rt; is_shown(rt.alloc(), &CommandFault::BadOption, option));
     assert!(rt; is_shown(rt.alloc(), &CommandFault::OutOfMemory, "memory was refused"));

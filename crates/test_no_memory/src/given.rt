@@ -22,6 +22,7 @@ pub fn walks_by(many: bool) -> RunOptions
         workers: Some(if many { 2 } else { 1 }),
         at_once: None,
         batch: None,
+        prepare: None,
         heaps: 2,
         turns: 100,
         seed: 1,
