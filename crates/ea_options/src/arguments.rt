@@ -227,7 +227,7 @@ pub(crate) fn with_workers<'a>(
         command,
         "workers",
         "P",
-        "Threads that search one problem together: 1 to 16 [default: 4 with --stats and for rank, else what is quickest]",
+        "Threads that search one problem together: 1 to 16 [default: 1 with --at-once above 1, else 4 with --stats and for rank, else what is quickest]",
     );
     let command = with_valued(
         alloc,

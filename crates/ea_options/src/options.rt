@@ -40,11 +40,13 @@ pub struct RunOptions {
 }
 
 impl RunOptions {
-    /// The workers that statistics and rank errors count: as asked for, else 4.
+    /// The workers that statistics and rank errors count: as asked for, else one if several problems are to be
+    /// searched at once, else 4.
     pub fn counted_workers(&self) -> u64
         ensures { result ≡ counted_workers self.now }
     {
-        self.workers.unwrap_or(4)
+        let several = self.at_once.unwrap_or(1) >= 2;
+        self.workers.unwrap_or(if several { 1 } else { 4 })
     }
 }
 

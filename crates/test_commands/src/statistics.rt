@@ -59,6 +59,10 @@ fn no_turns_for_two_sources(rt: HostRuntime) {
     assert!(rt; reports(&rt, &rt, FROM_TWO, &options, report));
 }
 
+/// The report of one worker for each of two sources.
+const BY_ONE_EACH: &[u8] =
+    b"s 1 0\nd 1 0\nd 2 5\nd 3 2\nd 4 6\ns 4 0\nd 1 inf\nd 2 inf\nd 3 inf\nd 4 0\nc seeded 2\nc pushed 5\nc popped 7\nc stale 2\nc scanned 5\nc returned 0\nc drained 0\nc finish 0\n";
+
 #[test]
 fn one_worker_for_two_sources(rt: HostRuntime) {
     let options = RunOptions {
@@ -67,9 +71,19 @@ fn one_worker_for_two_sources(rt: HostRuntime) {
         stats: true,
         ..DEFAULTS
     };
-    let report =
-        b"s 1 0\nd 1 0\nd 2 5\nd 3 2\nd 4 6\ns 4 0\nd 1 inf\nd 2 inf\nd 3 inf\nd 4 0\nc seeded 2\nc pushed 5\nc popped 7\nc stale 2\nc scanned 5\nc returned 0\nc drained 0\nc finish 0\n";
-    assert!(rt; reports(&rt, &rt, FROM_TWO, &options, report));
+    assert!(rt; reports(&rt, &rt, FROM_TWO, &options, BY_ONE_EACH));
+}
+
+#[test]
+fn two_sources_at_once_have_one_worker_each(rt: HostRuntime) {
+    let options = RunOptions {
+        workers: None,
+        at_once: Some(2),
+        turns: 100,
+        stats: true,
+        ..DEFAULTS
+    };
+    assert!(rt; reports(&rt, &rt, FROM_TWO, &options, BY_ONE_EACH));
 }
 
 #[test]
