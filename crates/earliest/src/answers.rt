@@ -10,6 +10,7 @@ ghost use Rattle.ea_report.specs.Asked.{shape_of};
 ghost use Rattle.earliest.specs.Fronts.{shape_by};
 ghost use Rattle.earliest.specs.Runs.{plan_by, run_asks, pair_asks};
 
+use crate::preparing::prepared_for;
 use crate::reports::report_all;
 use ea_base::{Silent, Watch};
 use ea_batch::Watched;
@@ -127,7 +128,11 @@ pub(crate) fn answer_watched<
     }
     let queries = run_queries(alloc, &files.sources, options.joint, schedule)?;
     let shown = shown_by(options, &extras);
-    let watched = Watched { shown, watch };
+    let watched = Watched {
+        shown,
+        prepared: None,
+        watch,
+    };
     report_all(alloc, rt, &files.road, &queries, options, watched, out)
 }
 
@@ -198,6 +203,11 @@ pub(crate) fn pairs_watched<
     }
     let queries = pair_queries(alloc, &files.pairs, schedule)?;
     let shown = shown_by(options, &extras);
-    let watched = Watched { shown, watch };
+    let prepared = prepared_for(alloc, rt, &files.road, &queries, options);
+    let watched = Watched {
+        shown,
+        prepared: prepared.as_ref(),
+        watch,
+    };
     report_all(alloc, rt, &files.road, &queries, options, watched, out)
 }

@@ -5,6 +5,7 @@ mod answers;
 mod checks;
 mod commands;
 pub mod laws;
+mod preparing;
 mod reports;
 mod solver_choice;
 mod totals;

@@ -10,7 +10,7 @@ ghost use Rattle.ea_report.specs.declared.stats.Totals.{Totals};
 ghost use Rattle.ea_options.specs.Limits.{AreOptions};
 ghost use Rattle.ea_load.specs.Posed.{AreProblems, times_on};
 ghost use Rattle.ea_batch.specs.Sent.{AreSent, IsSent, IsStoppedBy};
-ghost use Rattle.ea_batch.specs.Solved.{AnswersOn, ArrivesOn, IsShown, Serves};
+ghost use Rattle.ea_batch.specs.Solved.{AnswersOn, ArrivesOn, IsPreparedOn, IsShown, Serves};
 ghost use Rattle.ea_report.specs.Asked.{chosen_by, shape_of};
 ghost use Rattle.earliest.specs.Fronts.{shape_by};
 ghost use Rattle.earliest.specs.Counted.{AreBalanced, AreSmall, AreTotals, IsTotal, plus, totals_of};
@@ -22,6 +22,7 @@ use crate::totals::{add_totals, no_totals};
 use ea_base::Watch;
 use ea_batch::{Progress, Watched, report_ahead};
 use ea_bytes::ByteOut;
+use ea_hierarchy::Prepared;
 use ea_load::{AnswerFault, Road};
 use ea_options::RunOptions;
 use ea_report::{ReportOptions, Totals, write_stats};
@@ -31,28 +32,29 @@ use std::thread::Threads;
 
 /// What was sent so far, and the totals of its problems.
 #[derive(Drop)]
-pub(crate) struct Reports {
+pub(crate) struct Reports<'a> {
     pub totals: Totals,
-    pub progress: Progress,
+    pub progress: Progress<'a>,
 }
 
-impl Reports {
+impl<'a> Reports<'a> {
     /// Nothing sent yet.
-    fn begin() -> Reports
+    fn begin(prepared: Option<&'a Prepared>) -> Reports<'a>
         ensures totals { result.totals ≡ totals_of [] }
         ensures balanced { AreBalanced result.totals }
         ensures small { AreSmall 0 result.totals }
         ensures written { result.progress.written ≡ 0 }
         ensures search { result.progress.search ≡ None }
+        ensures prepared { result.progress.prepared ≡ prepared.entry }
     {
         Reports {
             totals: no_totals(),
-            progress: Progress::begin(None),
+            progress: Progress::begin(prepared, None),
         }
     }
 }
 
-impl Reports {
+impl Reports<'_> {
     /// Writes the report of a problem that workers answered, and adds its totals.
     fn write_found<W: ByteOut>(
         &mut self,
@@ -87,6 +89,7 @@ impl Reports {
         ensures small { OnOk result ((problems : ℕ) →
             AreSmall problems self.old.totals → AreSmall (problems + 1) self.new.totals) }
         ensures search { self.new.progress.search ≡ self.old.progress.search }
+        ensures prepared { self.new.progress.prepared ≡ self.old.progress.prepared }
     {
         self.progress
             .write(alloc, road, query, &found.answer, shown, out)?;
@@ -118,6 +121,7 @@ impl Reports {
         requires balanced { AreBalanced self.old.totals }
         requires search { IfSome self.old.progress.search
             (Serves road.now.network shown.style.walks) }
+        requires prepared { IfSome self.old.progress.prepared (λ p. IsPreparedOn road.now p.now) }
         ensures ok { OnOk result (IsSent
             (shape_of shown.entry) road.now.network (times_on road.now) query.now
             (W.seen out.old) (W.seen out.new) self.old.progress.written self.new.progress.written) }
@@ -133,6 +137,7 @@ impl Reports {
             AreSmall problems self.old.totals → AreSmall (problems + 1) self.new.totals) }
         ensures search { IfSome self.new.progress.search
             (Serves road.now.network shown.entry.style.walks) }
+        ensures prepared { self.new.progress.prepared ≡ self.old.progress.prepared }
     {
         let workers = workers_of(rt, road, query, options);
         if workers == 1 && !options.stats {
@@ -148,21 +153,22 @@ impl Reports {
 }
 
 /// Writes the reports of problems in their order, and calls the watch after each.
-fn report_each<H: Threads + Sync, W: ByteOut, V: Watch>(
+fn report_each<'a, H: Threads + Sync, W: ByteOut, V: Watch>(
     alloc: Global,
     rt: &H,
     road: &Road,
     queries: &[Query],
     options: &RunOptions,
-    watched: Watched<'_, V>,
+    watched: Watched<'a, V>,
     out: &mut W,
-) -> Result<Reports, AnswerFault>
+) -> Result<Reports<'a>, AnswerFault>
     requires problems { AreProblems road.now queries.now }
     requires few { (length queries.now ≤ MOST_STARTS) × (road.now.network.nodes ≤ MOST_NODES) }
     requires options { AreOptions options.now }
     requires asked { shape_of watched.shown
         ≡ shape_by options.now (chosen_by watched.shown) }
     requires shown { IsShown road.now.network (shape_of watched.shown) }
+    requires prepared { IfSome watched.prepared (λ p. IsPreparedOn road.now p.now) }
     ensures ok { IfOk result (λ reports.
         AreSent (shape_of watched.entry.shown) road.now.network (times_on road.now) queries.now
         (W.seen out.old) (W.seen out.new) reports.progress.written) }
@@ -175,8 +181,12 @@ fn report_each<H: Threads + Sync, W: ByteOut, V: Watch>(
         → AreTotals (settings_by options.now) queries.now reports.totals) }
     ensures balanced { IfOk result (λ reports. AreBalanced reports.totals) }
 {
-    let Watched { shown, watch } = watched;
-    let mut reports = Reports::begin();
+    let Watched {
+        shown,
+        prepared,
+        watch,
+    } = watched;
+    let mut reports = Reports::begin(prepared);
     // Proof hint: the count fits in u64.
     let _ = out.interruptions();
     let mut done = 0;
@@ -190,21 +200,22 @@ fn report_each<H: Threads + Sync, W: ByteOut, V: Watch>(
 
 /// Writes the reports of problems in their order: by several threads at once if the options or the number of
 /// processors say so.
-fn report_problems<H: Threads + Sync, W: ByteOut, V: Watch>(
+fn report_problems<'a, H: Threads + Sync, W: ByteOut, V: Watch>(
     alloc: Global,
     rt: &H,
     road: &Road,
     queries: &[Query],
     options: &RunOptions,
-    watched: Watched<'_, V>,
+    watched: Watched<'a, V>,
     out: &mut W,
-) -> Result<Reports, AnswerFault>
+) -> Result<Reports<'a>, AnswerFault>
     requires problems { AreProblems road.now queries.now }
     requires few { (length queries.now ≤ MOST_STARTS) × (road.now.network.nodes ≤ MOST_NODES) }
     requires options { AreOptions options.now }
     requires asked { shape_of watched.shown
         ≡ shape_by options.now (chosen_by watched.shown) }
     requires shown { IsShown road.now.network (shape_of watched.shown) }
+    requires prepared { IfSome watched.prepared (λ p. IsPreparedOn road.now p.now) }
     ensures ok { IfOk result (λ reports.
         AreSent (shape_of watched.entry.shown) road.now.network (times_on road.now) queries.now
         (W.seen out.old) (W.seen out.new) reports.progress.written) }
@@ -217,8 +228,16 @@ fn report_problems<H: Threads + Sync, W: ByteOut, V: Watch>(
         → AreTotals (settings_by options.now) queries.now reports.totals) }
     ensures balanced { IfOk result (λ reports. AreBalanced reports.totals) }
 {
-    let Watched { shown, watch } = watched;
-    let watched = Watched { shown, watch };
+    let Watched {
+        shown,
+        prepared,
+        watch,
+    } = watched;
+    let watched = Watched {
+        shown,
+        prepared,
+        watch,
+    };
     let threads = threads_at_once(rt, options);
     if options.stats || options.workers.unwrap_or(1) > 1 || threads == 1 || queries.len() < 2 {
         report_each(alloc, rt, road, queries, options, watched, out)
@@ -273,6 +292,7 @@ pub(crate) fn report_all<H: Threads + Sync, W: ByteOut, V: Watch>(
     requires asked { shape_of watched.shown
         ≡ shape_by options.now (chosen_by watched.shown) }
     requires shown { IsShown road.now.network (shape_of watched.shown) }
+    requires prepared { IfSome watched.prepared (λ p. IsPreparedOn road.now p.now) }
     ensures ok { IfOk result (IsWritten options.now (chosen_by watched.entry.shown)
         road.now.network (times_on road.now) queries.now
         (W.seen out.old) (W.seen out.new)) }
@@ -281,8 +301,16 @@ pub(crate) fn report_all<H: Threads + Sync, W: ByteOut, V: Watch>(
         road.now.network (times_on road.now) queries.now
         (W.seen out.old) (W.seen out.new)) }
 {
-    let Watched { shown, watch } = watched;
-    let watched = Watched { shown, watch };
+    let Watched {
+        shown,
+        prepared,
+        watch,
+    } = watched;
+    let watched = Watched {
+        shown,
+        prepared,
+        watch,
+    };
     let reports = report_problems(alloc, rt, road, queries, options, watched, out)?;
     match write_totals(&reports, options.stats, out) {
         Ok(()) => Ok(reports.totals),

@@ -1,11 +1,8 @@
-//! Least arrivals by a search that is led by bounds, compared with those of a plain search.
-ghost use Rattle.ea_hierarchy.specs.Bounds.{IsRoomFor};
-
+//! Arrivals and walks of pairs by searches that are led by bounds, compared with those of plain searches.
 use crate::random::{number_to, random_network, times_of_all_kinds};
 use ea_base::HORIZON;
-use ea_goal::least_arrival;
-use ea_hierarchy::{Bounds, Prepared, Unprepared};
-use ea_paths::solve_alone;
+use ea_hierarchy::{Prepared, Unprepared};
+use ea_paths::{Answer, Search, solve_alone};
 use ea_road::{Network, Query, Source, is_problem};
 use ea_travel_times::Timetables;
 use rand_core::{Rng, SeedableRng};
@@ -30,35 +27,44 @@ fn assert_alike<H: Abort>(rt: &H, count: Count, pairs: u32) {
     );
 }
 
-/// The arrival at the target of a pair query by a plain search; none if there is none.
-fn plain_arrival(
-    alloc: Global,
-    network: &Network,
-    times: &Timetables,
-    source: Source,
-    target: u32,
-) -> Result<Option<u64>, AllocError> {
-    if source.node == 0 || source.departure > HORIZON || target == 0 {
-        return Ok(None);
-    }
-    let query = Query::pair(source, target);
-    if !is_problem(network, times.classes(), &query) {
-        return Ok(None);
-    }
-    let answer = solve_alone(alloc, network, times, &query)?;
-    if answer.asks(target) {
-        Ok(answer.arrival(target))
-    } else {
-        Ok(None)
-    }
+/// What a search says of a target: its arrival and its walk, each none if there is none.
+#[derive(Drop)]
+struct Said {
+    arrival: Option<u64>,
+    walk: Option<Vec<u32>>,
 }
 
-/// Searches pairs by chance over one preparation, one after another, and counts.
+/// What an answer says of a target.
+fn said_of(alloc: Global, answer: &Answer, target: u32) -> Result<Said, AllocError> {
+    if !answer.asks(target) {
+        return Ok(Said {
+            arrival: None,
+            walk: None,
+        });
+    }
+    let walk = if answer.has_walks() {
+        answer.walk(alloc, target)?
+    } else {
+        None
+    };
+    Ok(Said {
+        arrival: answer.arrival(target),
+        walk,
+    })
+}
+
+/// Whether two searches say the same; without walks, of arrivals alone.
+fn agree(one: &Said, other: &Said, walks: bool) -> bool {
+    one.arrival == other.arrival && (!walks || one.walk == other.walk)
+}
+
+/// Searches pairs by chance over one preparation, one after another on the same arrays, and counts.
 fn search_pairs<R: Rng>(
     alloc: Global,
     network: &Network,
     times: &Timetables,
     words: &mut R,
+    walks: bool,
     count: &mut Count,
 ) -> Result<(), Unprepared> {
     let nodes = network.nodes();
@@ -66,38 +72,59 @@ fn search_pairs<R: Rng>(
         return Ok(());
     }
     let prepared = Prepared::of(alloc, network, times)?;
+    let mut last = None;
     for _ in 0..20 {
-        let source = Source {
+        let start = Source {
             node: number_to(words, nodes),
             departure: u64::from(number_to(words, 100)),
         };
         let target = number_to(words, nodes);
-        let plain = plain_arrival(alloc, network, times, source, target)?;
-        if source.node <= nodes && target <= nodes && source.departure <= HORIZON {
-            let mut bounds = Bounds::new(alloc, &prepared)?;
-            let led = least_arrival(
-                alloc,
-                network,
-                times,
-                &prepared,
-                &mut bounds,
-                source,
-                target,
-            )?;
-            count.pairs = count.pairs.wrapping_add(1);
-            if led != None {
-                count.reached = count.reached.wrapping_add(1);
-            }
-            if led != plain {
-                count.differ = count.differ.wrapping_add(1);
-            }
+        if target == 0 || start.departure > HORIZON {
+            return Ok(());
         }
+        let query = Query::pair(start, target);
+        if !is_problem(network, times.classes(), &query) {
+            return Ok(());
+        }
+        let plain = said_of(alloc, &solve_alone(alloc, network, times, &query)?, target)?;
+        let search = match last.take() {
+            Some(search) => search,
+            None => arrays_of(alloc, network, walks)?,
+        };
+        if search.answer().nodes() != nodes {
+            return Ok(());
+        }
+        let search = search.find_led(alloc, network, times, &prepared, &query);
+        let led = said_of(alloc, search.answer(), target)?;
+        count.pairs = count.pairs.wrapping_add(1);
+        if led.arrival != None {
+            count.reached = count.reached.wrapping_add(1);
+        }
+        if !agree(&led, &plain, walks) {
+            count.differ = count.differ.wrapping_add(1);
+        }
+        last = Some(search);
     }
     Ok(())
 }
 
+/// Arrays for searches, with walks or without.
+fn arrays_of(alloc: Global, network: &Network, walks: bool) -> Result<Search, AllocError> {
+    if walks {
+        Search::reserve(alloc, network.nodes())
+    } else {
+        Search::reserve_without_walks(alloc, network.nodes())
+    }
+}
+
 /// Searches pairs in random networks of this many nodes and arcs.
-fn in_random(alloc: Global, seed: u64, nodes: u32, arcs: u32) -> Result<Count, Unprepared> {
+fn in_random(
+    alloc: Global,
+    seed: u64,
+    nodes: u32,
+    arcs: u32,
+    walks: bool,
+) -> Result<Count, Unprepared> {
     let mut words = Xoshiro256PlusPlus::seed_from_u64(seed);
     let mut count = Count {
         pairs: 0,
@@ -109,7 +136,7 @@ fn in_random(alloc: Global, seed: u64, nodes: u32, arcs: u32) -> Result<Count, U
     };
     for _ in 0..20 {
         if let Some(network) = random_network(alloc, &mut words, nodes, arcs)? {
-            search_pairs(alloc, &network, &times, &mut words, &mut count)?;
+            search_pairs(alloc, &network, &times, &mut words, walks, &mut count)?;
         }
     }
     Ok(count)
@@ -117,14 +144,28 @@ fn in_random(alloc: Global, seed: u64, nodes: u32, arcs: u32) -> Result<Count, U
 
 #[test]
 fn pairs_of_random_networks(rt: HostRuntime) -> Result<(), Fail> {
-    let count = in_random(rt.alloc(), 5, 80, 200).map_err(|_| "prepared")?;
+    let count = in_random(rt.alloc(), 5, 80, 200, false).map_err(|_| "prepared")?;
     assert_alike(&rt, count, 400);
     Ok(())
 }
 
 #[test]
 fn pairs_of_sparse_networks(rt: HostRuntime) -> Result<(), Fail> {
-    let count = in_random(rt.alloc(), 6, 80, 60).map_err(|_| "prepared")?;
+    let count = in_random(rt.alloc(), 6, 80, 60, false).map_err(|_| "prepared")?;
+    assert_alike(&rt, count, 400);
+    Ok(())
+}
+
+#[test]
+fn walks_of_random_networks(rt: HostRuntime) -> Result<(), Fail> {
+    let count = in_random(rt.alloc(), 7, 40, 160, true).map_err(|_| "prepared")?;
+    assert_alike(&rt, count, 400);
+    Ok(())
+}
+
+#[test]
+fn walks_among_many_ties(rt: HostRuntime) -> Result<(), Fail> {
+    let count = in_random(rt.alloc(), 8, 12, 120, true).map_err(|_| "prepared")?;
     assert_alike(&rt, count, 400);
     Ok(())
 }

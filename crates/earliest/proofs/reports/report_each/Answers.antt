@@ -34,6 +34,7 @@ loop-query-preserved g c =
       counted = λ asked. let more = c.in_ok-report.ensures.counted asked in totals_next (settings_by c.args.options.now) c.args.queries.now i c.query-item.result c.loop-query-test.true c.query-item.is _ _ (inv.counted asked) more.0 more.1 more.2;
       small = c.in_ok-report.ensures.small i inv.small;
       balanced = c.in_ok-report.ensures.balanced;
+      prepared = rw c.report.ensures.prepared inv.prepared;
       search = c.report.ensures.search;
     }
 
@@ -51,6 +52,7 @@ loop-query-init g c =
       counted = λ asked. record { all = []; counted = tt; sums = begun.totals };
       small = begun.small;
       balanced = begun.balanced;
+      prepared = rw begun.prepared c.requires.prepared;
       search = rw begun.search tt;
     }
 

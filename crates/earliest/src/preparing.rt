@@ -1,0 +1,113 @@
+//! Whether a road is prepared before its pairs are searched.
+ghost use Rattle.std.specs.Prelude.{◌≡◌, ◌<◌, IfSome, length};
+ghost use Rattle.ea_load.specs.Posed.{AreProblems, IsPosed};
+ghost use Rattle.ea_options.specs.Limits.{AreOptions};
+ghost use Rattle.ea_batch.specs.Solved.{IsPreparedOn};
+
+use crate::solver_choice::threads_at_once;
+use ea_base::Direction;
+use ea_hierarchy::Prepared;
+use ea_load::Road;
+use ea_options::RunOptions;
+use ea_road::Query;
+use ea_search::count_offers;
+use std::alloc::Global;
+use std::thread::Threads;
+
+/// How many searches are measured before the choice.
+const SAMPLE: usize = 3;
+
+/// With fewer pairs nothing is measured.
+const FEW_PAIRS: usize = 32;
+
+/// On fewer nodes nothing is measured.
+const FEW_NODES: u32 = 5_000;
+
+/// A preparation takes about as long as this many offers of a search for each node.
+const OFFERS_BY_NODE: u64 = 400;
+
+/// Whether a preparation takes less time than the searches that it makes short: as many pairs, of which each takes this
+/// many offers, by this many threads.
+fn pays(pairs: usize, offers: u64, nodes: u32, threads: usize) -> bool {
+    let all = (pairs as u64).saturating_mul(offers) / (threads.max(1) as u64);
+    all > u64::from(nodes).saturating_mul(OFFERS_BY_NODE)
+}
+
+/// The mean number of offers of some of the searches, by single times; none if memory is refused.
+fn mean_offers(alloc: Global, road: &Road, queries: &[Query]) -> Option<u64>
+    requires { AreProblems road.now queries.now }
+{
+    let mut sum = 0u64;
+    for part in 0..SAMPLE {
+        let place = queries.len() / SAMPLE * part;
+        if place >= queries.len() {
+            return None;
+        }
+        let width = road.network.mean_weight();
+        match count_offers(alloc, &road.network, &road.times, &queries[place], width) {
+            Ok(offers) => sum = sum.saturating_add(offers),
+            Err(_) => return None,
+        }
+    }
+    Some(sum / SAMPLE as u64)
+}
+
+/// Whether a preparation pays for these pairs, by some searches that are measured. On a road that is turned
+/// round bounds are 0.
+fn is_worth<H: Threads>(
+    alloc: Global,
+    rt: &H,
+    road: &Road,
+    queries: &[Query],
+    options: &RunOptions,
+) -> bool
+    requires problems { AreProblems road.now queries.now }
+    requires options { AreOptions options.now }
+{
+    let nodes = road.network.nodes();
+    if queries.len() < FEW_PAIRS || nodes < FEW_NODES {
+        return false;
+    }
+    if matches!(options.direction, Direction::Turned) {
+        return false;
+    }
+    match mean_offers(alloc, road, queries) {
+        Some(offers) => pays(queries.len(), offers, nodes, threads_at_once(rt, options)),
+        None => false,
+    }
+}
+
+/// A preparation of the road, if it can be made.
+fn prepare(alloc: Global, road: &Road, query: &Query) -> Option<Prepared>
+    requires { IsPosed road.now query.now }
+    ensures { IfSome result (IsPreparedOn road.now) }
+{
+    Prepared::of(alloc, &road.network, &road.times).ok()
+}
+
+/// A preparation of the road for searches of pairs, if it is asked for, or if it pays and isn't excluded, and if it can be
+/// made. Workers and statistics do without.
+pub(crate) fn prepared_for<H: Threads>(
+    alloc: Global,
+    rt: &H,
+    road: &Road,
+    queries: &[Query],
+    options: &RunOptions,
+) -> Option<Prepared>
+    requires problems { AreProblems road.now queries.now }
+    requires options { AreOptions options.now }
+    ensures { IfSome result (IsPreparedOn road.now) }
+{
+    if options.stats || options.workers.unwrap_or(1) > 1 || queries.is_empty() {
+        return None;
+    }
+    let is_wanted = match options.prepare {
+        Some(wanted) => wanted,
+        None => is_worth(alloc, rt, road, queries, options),
+    };
+    if is_wanted {
+        prepare(alloc, road, &queries[0])
+    } else {
+        None
+    }
+}
