@@ -33,7 +33,8 @@ impl Model for Answer {
 }
 
 impl Answer {
-    pub(crate) fn new(
+    /// An answer of these labels and links.
+    pub fn new(
         nodes: u32,
         target: Option<u32>,
         table: Vec<u64>,
@@ -53,7 +54,7 @@ impl Answer {
     }
 
     /// The labels and the links.
-    pub(crate) fn into_arrays(self) -> (Vec<u64>, Vec<Link>)
+    pub fn into_arrays(self) -> (Vec<u64>, Vec<Link>)
         ensures labels { result.0.items ≡ self.labels }
         ensures links { result.1.items ≡ self.links }
     {
@@ -82,6 +83,15 @@ impl Answer {
         ensures stored { IsStoredAnswer self.now }
     {
         &self.links
+    }
+
+    /// The label of each node, the first that of node 1. That of a node that isn't asked may be above its
+    /// earliest arrival.
+    pub fn labels(&self) -> &[u64]
+        ensures labels { result.now ≡ self.now.labels }
+        ensures stored { IsStoredAnswer self.now }
+    {
+        &self.table
     }
 
     /// Whether a number is that of an asked node.
