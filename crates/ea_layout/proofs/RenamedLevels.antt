@@ -122,7 +122,7 @@ module _
     again node count chain = reverse.back_there node (chain_node roads answers sources (IsLeastAt roads answers sources) network starts chain)
 
     again_there : (node count : ℕ) → HasChain (renamed_roads there roads) answers (renamed_sources there sources) (IsLeastAt (renamed_roads there roads) answers (renamed_sources there sources)) node count → number_of there (number_of back node) ≡ node
-    again_there node count chain = reverse.there_back node (chain_node (renamed_roads there roads) answers (renamed_sources there sources) (IsLeastAt (renamed_roads there roads) answers (renamed_sources there sources)) (renamed_network roads answers sources there back network reverse starts) (renamed_starts roads answers sources there back network reverse starts) chain)
+    again_there node count chain = reverse.there_back node (chain_node (renamed_roads there roads) answers (renamed_sources there sources) (IsLeastAt (renamed_roads there roads) answers (renamed_sources there sources)) (renamed_network roads there back network reverse) (renamed_starts roads answers sources there back network reverse starts) chain)
 
     pub level_renamed : (node level : ℕ) → IsLevel roads answers sources (IsLeastAt roads answers sources) node level → IsLevel (renamed_roads there roads) answers (renamed_sources there sources) (IsLeastAt (renamed_roads there roads) answers (renamed_sources there sources)) (number_of there node) level
     level_renamed node level is = level_there _ _ answers _ _ _ _ _ _ moves_there moves_back again again_there is

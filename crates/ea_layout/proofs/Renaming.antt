@@ -112,6 +112,17 @@ renamed_top : (numbers : List ℕ) (arcs : List Arc) → top_class (map (renamed
 renamed_top numbers [] = refl
 renamed_top numbers (arc ∷ arcs) = ap (λ top. max arc.class top) (renamed_top numbers arcs)
 
+pub renamed_network : (roads : Roads) (there back : List ℕ) → IsNetwork roads → AreReverse roads.nodes there back → IsNetwork (renamed_roads there roads)
+renamed_network roads there back network reverse = record {
+  has_nodes = network.has_nodes;
+  nodes_limit = network.nodes_limit;
+  arcs_limit = rw (length-map roads.arcs (renamed_arc there)) network.arcs_limit;
+  each_fits = λ number arc is.
+      let first = mapped_back there roads.arcs (number - 1) arc is.found in
+      let fits = network.each_fits number first.0 (record { from_one = is.from_one; found = first.1 }) in
+      subst (λ (a : Arc). FitsNodes roads.nodes a) (sym first.2) (record { tail = reverse.there_node first.0.tail fits.tail; head = reverse.there_node first.0.head fits.head; weight = fits.weight });
+}
+
 module _
     (roads : Roads)
     (answers : ℕ → ℕ → ℕ → ℕ → Type 0)
@@ -121,17 +132,6 @@ module _
     (reverse : AreReverse roads.nodes there back)
     (starts : (source : Source) → IsAmong sources source → IsNode roads.nodes source.node)
   where
-    pub renamed_network : IsNetwork (renamed_roads there roads)
-    renamed_network = record {
-      has_nodes = network.has_nodes;
-      nodes_limit = network.nodes_limit;
-      arcs_limit = rw (length-map roads.arcs (renamed_arc there)) network.arcs_limit;
-      each_fits = λ number arc is.
-          let first = mapped_back there roads.arcs (number - 1) arc is.found in
-          let fits = network.each_fits number first.0 (record { from_one = is.from_one; found = first.1 }) in
-          subst (λ (a : Arc). FitsNodes roads.nodes a) (sym first.2) (record { tail = reverse.there_node first.0.tail fits.tail; head = reverse.there_node first.0.head fits.head; weight = fits.weight });
-    }
-
     pub renamed_starts : (source : Source) → IsAmong (renamed_sources there sources) source → IsNode roads.nodes source.node
     renamed_starts source among =
         let first = source_from there sources source among in
@@ -166,7 +166,7 @@ module _
 
     pub times_back : (node time : ℕ) → IsLeastAt (renamed_roads there roads) answers (renamed_sources there sources) node time → IsLeastAt roads answers sources (number_of back node) time
     times_back node time least =
-        let is = reaches_node (renamed_roads there roads) answers renamed_network (renamed_sources there sources) node time renamed_starts least.0 in
+        let is = reaches_node (renamed_roads there roads) answers (renamed_network roads there back network reverse) (renamed_sources there sources) node time renamed_starts least.0 in
         least_back (number_of back node) (Some time) (reverse.back_node node is) (subst (λ n. IsLeastAt (renamed_roads there roads) answers (renamed_sources there sources) n time) (sym (reverse.there_back node is)) least)
 
 pub problem_renamed : (roads : Roads) (classes : ℕ) (query : Asking) (there back : List ℕ) → IsNetwork roads → AreReverse roads.nodes there back → IsProblem roads classes query → IsProblem (renamed_roads there roads) classes (renamed_query there query)

@@ -1,3 +1,2 @@
 pub mod Renamed
 pub mod Orders
-pub mod Copied
