@@ -1,3 +1,5 @@
+pub mod Copying
 pub mod Ordering
+pub mod Places
 pub mod Renaming
 pub mod RenamedLevels

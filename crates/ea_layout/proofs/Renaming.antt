@@ -143,6 +143,13 @@ module _
         let again = subst (λ (r : Roads). Reaches r answers (renamed_sources back (renamed_sources there sources)) (number_of back node) time) (roads_again roads there back network reverse) moved in
         subst (λ (s : List Source). Reaches roads answers s (number_of back node) time) (sources_again roads.nodes there back reverse sources starts) again
 
+    pub attains_back : (walk : List ℕ) (node time : ℕ) → IsNode roads.nodes node → Attains (renamed_roads there roads) answers (renamed_sources there sources) walk (number_of there node) time → Attains roads answers sources walk node time
+    attains_back walk node time is attains =
+        let moved = attains_renamed back (renamed_roads there roads) answers (renamed_sources there sources) walk (number_of there node) time attains in
+        let again = subst (λ (r : Roads). Attains r answers (renamed_sources back (renamed_sources there sources)) walk (number_of back (number_of there node)) time) (roads_again roads there back network reverse) moved in
+        let from = subst (λ (s : List Source). Attains roads answers s walk (number_of back (number_of there node)) time) (sources_again roads.nodes there back reverse sources starts) again in
+        subst (λ n. Attains roads answers sources walk n time) (reverse.back_there node is) from
+
     pub least_renamed : (node : ℕ) (arrival : Option ℕ) → IsNode roads.nodes node → IsLeast roads answers sources node arrival → IsLeast (renamed_roads there roads) answers (renamed_sources there sources) (number_of there node) arrival
     least_renamed node (Some time) is least = (
       reaches_renamed there roads answers sources node time least.0,

@@ -1,2 +1,3 @@
 pub mod Renamed
 pub mod Orders
+pub mod Copied

@@ -2,8 +2,10 @@
 #![tactic(auto)]
 
 mod depth_first;
+mod laid_query;
 pub mod laws;
 mod layout;
 mod order;
+mod written;
 
 pub use layout::Layout;

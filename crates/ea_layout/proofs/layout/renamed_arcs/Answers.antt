@@ -1,4 +1,4 @@
-use Rattle.std.proofs.Common.{◌∙◌, refl, [], ◌∷◌, take}
+use Rattle.std.proofs.Common.{refl, [], ◌∷◌, take}
 use Rattle.std.proofs.lemmas.List.{map-append}
 use Rattle.ea_road.proofs.Arcs.{fits_found}
 use Rattle.ea_road.proofs.Turning.{one_more}
@@ -21,5 +21,4 @@ pub loop-place-preserved : goal.loop-place-preserved
 loop-place-preserved c =
     let arcs = c.arcs-list.result.now in
     let place = c.loop-place.place in
-    c.in_ok-push.ensures.items
-    ∙ rw (c.loop-place.invariant, c.renamed.ensures, one_more arcs place c.at.result c.at.ensures, map-append (renamed_arc c.args.places.now) (take place arcs) (c.at.result ∷ [])) refl
+    rw (c.in_ok-push.ensures.items, c.loop-place.invariant, c.renamed.ensures, one_more arcs place c.at.result c.at.ensures, map-append (renamed_arc c.args.places.now) (take place arcs) (c.at.result ∷ [])) refl

@@ -1,0 +1,94 @@
+//! Queries under the numbers of a layout.
+ghost use Rattle.std.specs.List.{IsAmong};
+ghost use Rattle.std.specs.Prelude.{◌≡◌, ℕ, IfOk, None, Some, length};
+ghost use Rattle.ea_layout.specs.Copied.{AsksFor};
+ghost use Rattle.ea_layout.specs.Renamed.{number_of, renamed_source, renamed_sources};
+ghost use Rattle.ea_road.specs.Queries.{AreSources, IsSource};
+ghost use Rattle.ea_road.specs.Roads.{IsNode};
+ghost use Rattle.ea_road.specs.declared.source.Source.{Source as SourceType};
+
+use ea_road::{Query, Source};
+use std::alloc::{AllocError, Global};
+
+/// A source under new numbers of the nodes.
+fn laid_source(places: &[u32], source: Source) -> Source
+    requires { IsNode (length places.now) source.node }
+    ensures { result ≡ renamed_source places.now source }
+{
+    Source {
+        node: places[source.node as usize - 1],
+        departure: source.departure,
+    }
+}
+
+/// Sources under new numbers of the nodes.
+fn laid_sources(
+    alloc: Global,
+    places: &[u32],
+    sources: &[Source],
+) -> Result<Vec<Source>, AllocError>
+    requires { (source : SourceType) → IsAmong sources.now source
+        → IsNode (length places.now) source.node }
+    ensures { IfOk result (λ laid. laid.items ≡ renamed_sources places.now sources.now) }
+{
+    let mut laid = Vec::with_capacity(alloc, sources.len())?;
+    for source in sources {
+        laid.push(laid_source(places, *source))?;
+    }
+    Ok(laid)
+}
+
+/// A query for all nodes from sources, under new numbers of the nodes.
+fn laid_query_of_all(alloc: Global, places: &[u32], sources: &[Source]) -> Result<Query, AllocError>
+    requires sources { AreSources sources.now }
+    requires nodes { (source : SourceType) → IsAmong sources.now source
+        → IsNode (length places.now) source.node }
+    requires inside { (node : ℕ) → IsNode (length places.now) node
+        → IsNode (length places.now) (number_of places.now node) }
+    ensures { IfOk result (λ laid. laid
+        ≡ record { sources = renamed_sources places.now sources.now; target = None }) }
+{
+    match sources {
+        [source] => Ok(Query::from_one(laid_source(places, *source))),
+        _ => Ok(Query::new(laid_sources(alloc, places, sources)?)),
+    }
+}
+
+/// A query that asks under new numbers of the nodes for what a query asks. Takes no memory for one source.
+pub(crate) fn laid_query(alloc: Global, places: &[u32], query: &Query) -> Result<Query, AllocError>
+    requires sources { (source : SourceType) → IsAmong query.now.sources source
+        → IsNode (length places.now) source.node }
+    requires target { (node : ℕ) → query.now.target ≡ Some node
+        → IsNode (length places.now) node }
+    requires inside { (node : ℕ) → IsNode (length places.now) node
+        → IsNode (length places.now) (number_of places.now node) }
+    ensures { IfOk result (λ laid. AsksFor places.now query.now laid) }
+{
+    let sources = query.sources();
+    match query.target() {
+        None => laid_query_of_all(alloc, places, sources),
+        Some(target) => laid_pair(alloc, places, sources, target),
+    }
+}
+
+/// A query for a target. A query for a target has one source; with more, all nodes are asked.
+fn laid_pair(
+    alloc: Global,
+    places: &[u32],
+    sources: &[Source],
+    target: u32,
+) -> Result<Query, AllocError>
+    requires sources { AreSources sources.now }
+    requires nodes { (source : SourceType) → IsAmong sources.now source
+        → IsNode (length places.now) source.node }
+    requires target { IsNode (length places.now) target }
+    requires inside { (node : ℕ) → IsNode (length places.now) node
+        → IsNode (length places.now) (number_of places.now node) }
+    ensures { IfOk result (λ laid. AsksFor places.now
+        (record { sources = sources.now; target = Some target }) laid) }
+{
+    match sources {
+        [source] => Ok(Query::pair(laid_source(places, *source), places[target as usize - 1])),
+        _ => laid_query_of_all(alloc, places, sources),
+    }
+}
