@@ -121,6 +121,11 @@ module _
               subst (λ label. IsLeast roads answers query.sources node (time_of label)) (sym (said.each node is asked)) back;
         }
 
+    -- a node with a label has a level under its new number
+    pub laid_level : IsStoredAnswer answer → IsAnswer (renamed_roads numbers roads) answers laid answer → (node : ℕ) → IsNode roads.nodes node → IsAskedBy query.target node → label_of labels node ≢ NONE → HasLevel answer.links (number_of numbers node)
+    laid_level stored has node is asked some =
+        stored.linked has.walks (number_of numbers node) (subst (λ n. IsNode n (number_of numbers node)) (sym has.arrivals.nodes) (reverse.there_node node is)) (subst (λ t. IsAskedBy t (number_of numbers node)) (sym has.arrivals.target) (asks.asks node asked)) (λ none. some (said.each node is asked ∙ none))
+
     module _
         (stored : IsStoredAnswer answer)
         (copied : AreLinksCopied roads.nodes numbers nodes answer.links links)
@@ -130,7 +135,7 @@ module _
         level_of : (node : ℕ) → IsNode roads.nodes node → IsAskedBy query.target node → label_of labels node ≢ NONE → HasLevel links node
         level_of node is asked some =
             let copy = asked_copied node is asked some in
-            let level = stored.linked has.walks (number_of numbers node) (subst (λ n. IsNode n (number_of numbers node)) (sym has.arrivals.nodes) (reverse.there_node node is)) (subst (λ t. IsAskedBy t (number_of numbers node)) (sym has.arrivals.target) (asks.asks node asked)) (λ none. some (said.each node is asked ∙ none)) in
+            let level = laid_level stored has node is asked some in
             let same = copy.level in
             omega (arith, same, level)
 

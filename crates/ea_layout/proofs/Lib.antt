@@ -3,3 +3,4 @@ pub mod Ordering
 pub mod Places
 pub mod Renaming
 pub mod RenamedLevels
+pub mod Walking

@@ -1,8 +1,8 @@
 -- What is read at the places of lists of numbers, labels and links.
-use Rattle.std.proofs.Common.{◌≡◌, ℕ, ◌+◌, ◌-◌, ◌<◌, List, length, get_or, sym, subst, inr, arith}
+use Rattle.std.proofs.Common.{◌∙◌, ◌≡◌, ℕ, ◌+◌, ◌-◌, ◌<◌, List, length, get_or, sym, subst, inr, arith}
 use Rattle.std.specs.Prelude.{None}
 use Rattle.std.specs.List.{IsAmong}
-use Rattle.std.proofs.lemmas.List.{get_or_default}
+use Rattle.std.proofs.lemmas.List.{get_or_default, get_or_read}
 use Rattle.ea_road.specs.declared.source.Source.{Source}
 use Rattle.ea_road.specs.Queries.{AreSources, IsSource}
 use Rattle.ea_road.specs.Roads.{IsNode}
@@ -72,3 +72,17 @@ laid_are_sources numbers sources inside are of_query = record {
       let first = source_from numbers sources source among in
       subst (λ (s : Source). IsSource s) (sym first.2) (laid_is_source numbers first.0 inside (are first.0 first.1) (of_query.each first.0 first.1));
 }
+
+-- the link that is read at a number's place
+pub read_link : (links : List Link) (node : ℕ) (none : Link) → IsNode (length links) node → get_or links (node - 1) none ≡ link links node
+read_link links node none is =
+    let low = is.from_one in
+    let high = is.to_last in
+    get_or_default links (node - 1) none no_link (omega (arith, low, high)) ∙ sym (link-at links node low)
+
+-- the number that is read for a node
+pub read_number : (numbers : List ℕ) (node read : ℕ) → IsNode (length numbers) node → read ≡ get_or numbers (node - 1) read → read ≡ number_of numbers node
+read_number numbers node read is at =
+    let low = is.from_one in
+    let high = is.to_last in
+    get_or_read numbers (node - 1) read (omega (arith, low, high)) at 0

@@ -12,6 +12,7 @@ use Rattle.ea_road.specs.Arrivals.{Arrives, stays, goes, Attains, Reaches, IsLea
 use Rattle.ea_road.specs.Queries.{Asking, IsProblem}
 use Rattle.ea_road.proofs.Arcs.{fits_found}
 use Rattle.ea_road.proofs.Reached.{reaches_node}
+use Rattle.ea_layout.specs.Copied.{AsksFor}
 use Rattle.ea_layout.specs.Renamed.{AreReverse, number_of, renamed_arc, renamed_roads, renamed_query, renamed_source, renamed_sources, renamed_target}
 
 -- ---- one way: from the numbers of the network to the new ones
@@ -187,3 +188,14 @@ problem_renamed roads classes query there back network reverse problem = record 
     by_target : (target : Option ℕ) → ((node : ℕ) → target ≡ Some node → IsNode roads.nodes node) → (node : ℕ) → renamed_target there target ≡ Some node → IsNode roads.nodes node
     by_target None is node same = cc
     by_target (Some target) is node same = let at : number_of there target ≡ node = cc in subst (λ n. IsNode roads.nodes n) at (reverse.there_node target (is target refl))
+
+-- the same for a query that asks at least for the nodes of another
+pub problem_laid : (roads : Roads) (classes : ℕ) (query laid : Asking) (there back : List ℕ) → IsNetwork roads → AreReverse roads.nodes there back → AsksFor there query laid → IsProblem roads classes query → IsProblem (renamed_roads there roads) classes laid
+problem_laid roads classes query laid there back network reverse asks problem =
+    let it = problem_renamed roads classes query there back network reverse problem in
+    record {
+      classed = it.classed;
+      sources = λ source among. it.sources source (subst (λ (s : List Source). IsAmong s source) asks.sources among);
+      departures = λ source among. it.departures source (subst (λ (s : List Source). IsAmong s source) asks.sources among);
+      target = λ node same. let first = asks.target node same in subst (λ n. IsNode roads.nodes n) (sym first.2) (reverse.there_node first.0 (problem.target first.0 first.1));
+    }

@@ -1,5 +1,5 @@
 -- What an answer under other numbers of the nodes says, written under the numbers of the network.
-use Rattle.std.specs.Prelude.{◌≡◌, ◌≢◌, ℕ, ◌<◌, Bool, List, Option, Some, length, ◌⊎◌, if◌then◌else◌}
+use Rattle.std.specs.Prelude.{◌≡◌, ◌≢◌, ℕ, ◌<◌, List, Option, Some, length, ◌⊎◌}
 use Rattle.ea_road.specs.declared.TheConstants.{NONE}
 use Rattle.ea_road.specs.Labels.{label_of}
 use Rattle.ea_road.specs.Queries.{Asking, IsAskedBy}
@@ -46,9 +46,12 @@ abbrev pub AreAskedCopied : ℕ → Option ℕ → List ℕ → List ℕ → Lis
 AreAskedCopied count target numbers nodes labels laid links =
     (node : ℕ) → IsNode count node → IsAskedBy target node → label_of labels node ≢ NONE → IsLinkCopied numbers nodes laid links node
 
--- Arrays can be reused: what was written in them is at listed nodes.
-pub record CanRewrite (nodes : ℕ) (walks : Bool) (labels : List ℕ) (links : List Link) (listing : Listing) : Type 0 where
-  pub labels_length : length labels ≡ nodes
-  pub links_length : length links ≡ (if walks then nodes else 0)
+-- Labels and links can be written again: what was written in them is at listed nodes.
+pub record CanRewrite (nodes : ℕ) (labels : List ℕ) (links : List Link) (listing : Listing) : Type 0 where
+  pub places : length labels ≡ nodes
   pub reached : AreLabelsListed labels (IsListed listing)
   pub linked : AreLinksListed links (IsListed listing)
+
+-- No node has a link if a target is asked for.
+abbrev pub AreCleared : Option ℕ → List Link → Type 0
+AreCleared target links = (asked : ℕ) → target ≡ Some asked → (node : ℕ) → link links node ≡ no_link

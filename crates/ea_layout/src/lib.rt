@@ -3,9 +3,13 @@
 
 mod depth_first;
 mod laid_query;
+mod laid_search;
 pub mod laws;
 mod layout;
+mod link_copy;
 mod order;
+mod walk_copy;
 mod written;
 
+pub use laid_search::LaidSearch;
 pub use layout::Layout;

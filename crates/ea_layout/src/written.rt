@@ -1,15 +1,30 @@
 //! The arrays in which answers on a layout are written under the numbers of the network.
-ghost use Rattle.std.specs.Prelude.{◌≡◌, ◌≢◌, ◌<◌, ◌⊎◌, ℕ, None, Some, length, replicate};
-ghost use Rattle.ea_layout.specs.Copied.{AreAskedCopied, AreLabelsCopied, AreLinksCopied, HasLevel, IsCopyOf, IsLinkCopied};
+ghost use Rattle.std.specs.Prelude.{◌≡◌, ◌≢◌, ℕ, None, Some, length};
+ghost use Rattle.ea_layout.specs.Copied.{AreAskedCopied, AreCleared, AreLabelsCopied, AreLinksCopied, CanRewrite};
+ghost use Rattle.ea_layout.specs.Copied.{HasLevel, IsCopyOf, IsLinkCopied};
 ghost use Rattle.ea_layout.specs.Renamed.{AreReverse, number_of};
 ghost use Rattle.ea_paths.specs.Stored.{AreFollowable};
 ghost use Rattle.ea_road.specs.Roads.{IsNode};
 ghost use Rattle.ea_search.specs.Links.{link, no_link};
-ghost use Rattle.ea_search.specs.Listings.{AreLinksListed, IsListed, KeepsListed};
+ghost use Rattle.ea_search.specs.Listings.{AreLabelsListed, AreLinksListed, IsListed};
+ghost use Rattle.ea_road.specs.Labels.{label_of};
+ghost use Rattle.ea_road.specs.declared.TheConstants.{NONE};
 ghost use Rattle.ea_search.specs.Underway.{bound_of};
 
 use crate::layout::Layout;
+use crate::link_copy::copy_of;
+use crate::walk_copy::copy_walk;
+use ea_road::NONE;
 use ea_search::{Link, Listed};
+
+/// Labels and links under the numbers of the network, reused from answer to answer.
+#[derive(Drop)]
+pub(crate) struct Written {
+    pub(crate) labels: Vec<u64>,
+    pub(crate) links: Vec<Link>,
+    /// The nodes at which they were written.
+    pub(crate) listed: Listed,
+}
 
 /// Copies the label of each node.
 fn copy_labels(places: &[u32], laid: &[u64], labels: &mut [u64])
@@ -39,22 +54,6 @@ fn copy_label(places: &[u32], laid: &[u64], target: u32, labels: &mut [u64])
     labels[slot] = laid[places[slot] as usize - 1];
 }
 
-/// A link, whose tail goes by its number in the network.
-#[inline(always)]
-fn copy_of(nodes: &[u32], link: Link) -> Link
-    ensures { IsCopyOf nodes.now link result }
-{
-    let from = match nodes.get((link.from as usize).wrapping_sub(1)) {
-        Some(node) => *node,
-        None => 0,
-    };
-    Link {
-        level: link.level,
-        arc: link.arc,
-        from,
-    }
-}
-
 /// Copies the link of each node.
 fn copy_links(layout: &Layout, laid: &[Link], links: &mut [Link])
     requires length { length links.old ≡ length laid.now }
@@ -67,5 +66,134 @@ fn copy_links(layout: &Layout, laid: &[Link], links: &mut [Link])
 {
     for slot in 0..links.len() {
         links[slot] = copy_of(&layout.nodes, laid[layout.places[slot] as usize - 1]);
+    }
+}
+
+impl Written {
+    /// Writes the label of each node.
+    fn write_all_labels(&mut self, places: &[u32], laid: &[u64])
+        requires can { CanRewrite (length places.now) self.old.labels.items self.old.links.items
+            self.old.listed }
+        requires length { length laid.now ≡ length places.now }
+        requires inside { (node : ℕ) → IsNode (length places.now) node
+            → IsNode (length places.now) (number_of places.now node) }
+        ensures can { CanRewrite (length places.now) self.new.labels.items self.new.links.items
+            self.new.listed }
+        ensures copied { AreLabelsCopied (length places.now) None places.now laid.now
+            self.new.labels.items }
+        ensures links { length self.new.links.items ≡ length self.old.links.items }
+    {
+        copy_labels(places, laid, &mut self.labels);
+        self.listed.add_all();
+    }
+
+    /// Resets what was written.
+    fn reset(&mut self)
+        requires labels { AreLabelsListed self.old.labels.items (IsListed self.old.listed) }
+        requires links { AreLinksListed self.old.links.items (IsListed self.old.listed) }
+        ensures places { length self.new.labels.items ≡ length self.old.labels.items }
+        ensures labels { (node : ℕ) → bound_of self.new.labels.items node ≡ NONE }
+        ensures length { length self.new.links.items ≡ length self.old.links.items }
+        ensures links { (node : ℕ) → link self.new.links.items node ≡ no_link }
+    {
+        self.listed.put_back(&mut self.labels, &mut self.links);
+    }
+
+    /// Resets what was written, and writes the label of a target.
+    fn write_label(&mut self, places: &[u32], laid: &[u64], target: u32)
+        requires can { CanRewrite (length places.now) self.old.labels.items self.old.links.items
+            self.old.listed }
+        requires length { length laid.now ≡ length places.now }
+        requires inside { (node : ℕ) → IsNode (length places.now) node
+            → IsNode (length places.now) (number_of places.now node) }
+        requires target { IsNode (length places.now) target }
+        ensures can { CanRewrite (length places.now) self.new.labels.items self.new.links.items
+            self.new.listed }
+        ensures copied { AreLabelsCopied (length places.now) (Some target) places.now laid.now
+            self.new.labels.items }
+        ensures links { length self.new.links.items ≡ length self.old.links.items }
+        ensures cleared { (node : ℕ) → link self.new.links.items node ≡ no_link }
+    {
+        self.reset();
+        copy_label(places, laid, target, &mut self.labels);
+        self.listed.add(target);
+    }
+
+    /// Writes the labels of the asked nodes. For a target this takes time in proportion to what was written
+    /// before.
+    pub(crate) fn write_labels(&mut self, places: &[u32], target: Option<u32>, laid: &[u64])
+        requires can { CanRewrite (length places.now) self.old.labels.items self.old.links.items
+            self.old.listed }
+        requires length { length laid.now ≡ length places.now }
+        requires inside { (node : ℕ) → IsNode (length places.now) node
+            → IsNode (length places.now) (number_of places.now node) }
+        requires target { (node : ℕ) → target ≡ Some node → IsNode (length places.now) node }
+        ensures can { CanRewrite (length places.now) self.new.labels.items self.new.links.items
+            self.new.listed }
+        ensures copied { AreLabelsCopied (length places.now) target places.now laid.now
+            self.new.labels.items }
+        ensures links { length self.new.links.items ≡ length self.old.links.items }
+        ensures cleared { AreCleared target self.new.links.items }
+    {
+        match target {
+            None => self.write_all_labels(places, laid),
+            Some(target) => self.write_label(places, laid, target),
+        }
+    }
+
+    /// Writes the links of the walk to a target, if it is reached.
+    fn write_walk(&mut self, layout: &Layout, laid: &[Link], target: u32)
+        requires can { CanRewrite (length laid.now) self.old.labels.items self.old.links.items
+            self.old.listed }
+        requires links { length self.old.links.items ≡ length laid.now }
+        requires reverse { AreReverse (length laid.now) layout.now.places.items
+            layout.now.nodes.items }
+        requires followable { AreFollowable laid.now }
+        requires target { IsNode (length laid.now) target }
+        requires level { label_of self.old.labels.items target ≢ NONE
+            → HasLevel laid.now (number_of layout.now.places.items target) }
+        requires cleared { (node : ℕ) → link self.old.links.items node ≡ no_link }
+        ensures can { CanRewrite (length laid.now) self.new.labels.items self.new.links.items
+            self.new.listed }
+        ensures labels { self.new.labels.items ≡ self.old.labels.items }
+        ensures copied { AreLinksCopied (length laid.now) layout.now.places.items
+            layout.now.nodes.items laid.now self.new.links.items }
+        ensures asked { label_of self.new.labels.items target ≢ NONE
+            → IsLinkCopied layout.now.places.items layout.now.nodes.items laid.now
+            self.new.links.items target }
+    {
+        if self.labels[target as usize - 1] != NONE {
+            copy_walk(layout, laid, target, &mut self.links, &mut self.listed);
+        }
+    }
+
+    /// Writes the links of all nodes, or of those on the walk to the target.
+    pub(crate) fn write_links(&mut self, layout: &Layout, target: Option<u32>, laid: &[Link])
+        requires can { CanRewrite (length laid.now) self.old.labels.items self.old.links.items
+            self.old.listed }
+        requires links { length self.old.links.items ≡ length laid.now }
+        requires reverse { AreReverse (length laid.now) layout.now.places.items
+            layout.now.nodes.items }
+        requires followable { AreFollowable laid.now }
+        requires target { (node : ℕ) → target ≡ Some node → IsNode (length laid.now) node }
+        requires level { (node : ℕ) → target ≡ Some node
+            → label_of self.old.labels.items node ≢ NONE
+            → HasLevel laid.now (number_of layout.now.places.items node) }
+        requires cleared { AreCleared target self.old.links.items }
+        ensures can { CanRewrite (length laid.now) self.new.labels.items self.new.links.items
+            self.new.listed }
+        ensures labels { self.new.labels.items ≡ self.old.labels.items }
+        ensures copied { AreLinksCopied (length laid.now) layout.now.places.items
+            layout.now.nodes.items laid.now self.new.links.items }
+        ensures asked { AreAskedCopied (length laid.now) target layout.now.places.items
+            layout.now.nodes.items self.new.labels.items laid.now self.new.links.items }
+    {
+        match target {
+            None => {
+                copy_links(layout, laid, &mut self.links);
+                self.listed.add_all();
+            }
+            Some(target) => self.write_walk(layout, laid, target),
+        }
     }
 }

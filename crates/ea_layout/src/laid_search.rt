@@ -1,0 +1,229 @@
+//! Searches on a layout, whose answers have the numbers of the network.
+ghost use Rattle.std.specs.Prelude.{◌≡◌, IfOk, length, true, false, if◌then◌else◌};
+ghost use Rattle.ea_layout.specs.Copied.{AsksFor};
+ghost use Rattle.ea_layout.specs.Orders.{LaysOut};
+ghost use Rattle.ea_road.specs.Queries.{IsProblem};
+ghost use Rattle.ea_search.specs.Answers.{HasArrivals, IsAnswer};
+
+use crate::laid_query::laid_query;
+use crate::layout::Layout;
+use crate::written::Written;
+use ea_paths::{Answer, Search};
+use ea_road::{NONE, Network, Query};
+use ea_search::{Listed, NO_LINK};
+use ea_travel_times::TravelTimes;
+use std::alloc::{AllocError, Global};
+use std::marker::Model;
+
+/// The arrays of searches by one thread on a layout, and the last answer, in which nodes and arcs have the
+/// numbers of the network. They are reserved once and reused. A query for all nodes writes the answer once
+/// over; one for a target costs as much as the nodes that it and the query before reach.
+#[derive(Drop)]
+pub struct LaidSearch {
+    search: Search,
+    answer: Answer,
+    listed: Listed,
+}
+
+impl Model for LaidSearch {
+    ghost use Rattle.std.specs.Prelude.{◌≡◌, length, if◌then◌else◌};
+    ghost use Rattle.ea_layout.specs.Copied.{CanRewrite};
+    ghost use Rattle.ea_search.specs.Listings.{Searched};
+
+    ghost Value = { Searched };
+
+    ghost view = { λ s. record { nodes = s.search.nodes; walks = s.search.walks; answer = s.answer } };
+
+    ghost invariant = { λ s. CanRewrite s.search.nodes s.answer.labels s.answer.links s.listed
+        × (length s.answer.links ≡ (if s.search.walks then s.search.nodes else 0)) };
+}
+
+/// The number of links with or without walks.
+fn room_of(nodes: u32, walks: bool) -> usize
+    ensures { result ≡ (if walks then nodes else 0) }
+{
+    if walks { nodes as usize } else { 0 }
+}
+
+impl LaidSearch {
+    /// Arrays for this number of nodes beside those of a search.
+    fn with_search(
+        alloc: Global,
+        nodes: u32,
+        walks: bool,
+        search: Search,
+    ) -> Result<LaidSearch, AllocError>
+        requires nodes { search.nodes ≡ nodes }
+        requires walks { search.walks ≡ walks }
+        ensures nodes { IfOk result (λ laid. laid.nodes ≡ nodes) }
+        ensures walks { IfOk result (λ laid. laid.walks ≡ walks) }
+    {
+        let labels = vec![in alloc; NONE; nodes as usize]?;
+        let room = room_of(nodes, walks);
+        let links = vec![in alloc; NO_LINK; room]?;
+        Ok(LaidSearch {
+            search,
+            answer: Answer::new(nodes, None, labels, links, false),
+            listed: Listed::new(alloc, nodes),
+        })
+    }
+
+    /// Arrays for searches in networks of this number of nodes, and for their walks. Fails only if memory is
+    /// refused.
+    pub fn reserve(alloc: Global, nodes: u32) -> Result<LaidSearch, AllocError>
+        ensures nodes { IfOk result (λ laid. laid.nodes ≡ nodes) }
+        ensures walks { IfOk result (λ laid. laid.walks ≡ true) }
+    {
+        let search = Search::reserve(alloc, nodes)?;
+        LaidSearch::with_search(alloc, nodes, true, search)
+    }
+
+    /// Arrays for searches in networks of this number of nodes, without walks. Fails only if memory is
+    /// refused.
+    pub fn reserve_without_walks(alloc: Global, nodes: u32) -> Result<LaidSearch, AllocError>
+        ensures nodes { IfOk result (λ laid. laid.nodes ≡ nodes) }
+        ensures walks { IfOk result (λ laid. laid.walks ≡ false) }
+    {
+        let search = Search::reserve_without_walks(alloc, nodes)?;
+        LaidSearch::with_search(alloc, nodes, false, search)
+    }
+
+    /// The last answer; before the first query, one in which no node is reached.
+    pub fn answer(&self) -> &Answer
+        ensures { result.now ≡ self.now.answer }
+    {
+        &self.answer
+    }
+
+    /// Answers a query without walks.
+    fn arrivals<T: TravelTimes>(
+        self,
+        network: &Network,
+        layout: &Layout,
+        times: &T,
+        query: &Query,
+        laid: &Query,
+    ) -> LaidSearch
+        requires laid_out { LaysOut network.now layout.now }
+        requires problem { IsProblem network.now (T.classes times.now) query.now }
+        requires asks { AsksFor layout.now.places.items query.now laid.now }
+        requires nodes { self.nodes ≡ network.now.nodes }
+        ensures arrivals { HasArrivals network.now (T.answers times.now) query.now result.answer }
+        ensures none { result.answer.walks ≡ false }
+        ensures room { (result.nodes ≡ self.nodes) × (result.walks ≡ self.walks) }
+    {
+        network.keeps_limits();
+        let LaidSearch {
+            search,
+            answer,
+            listed,
+        } = self;
+        let (labels, links) = answer.into_arrays();
+        let mut written = Written {
+            labels,
+            links,
+            listed,
+        };
+        let search = search.find_arrivals(&layout.network, times, laid);
+        written.write_labels(&layout.places, query.target(), search.answer().labels());
+        let Written {
+            labels,
+            links,
+            listed,
+        } = written;
+        LaidSearch {
+            search,
+            answer: Answer::new(network.nodes(), query.target(), labels, links, false),
+            listed,
+        }
+    }
+
+    /// Answers a query with its canonical walks.
+    fn walks<T: TravelTimes>(
+        self,
+        network: &Network,
+        layout: &Layout,
+        times: &T,
+        query: &Query,
+        laid: &Query,
+    ) -> LaidSearch
+        requires laid_out { LaysOut network.now layout.now }
+        requires problem { IsProblem network.now (T.classes times.now) query.now }
+        requires asks { AsksFor layout.now.places.items query.now laid.now }
+        requires nodes { self.nodes ≡ network.now.nodes }
+        requires walks { self.walks ≡ true }
+        ensures answer { IsAnswer network.now (T.answers times.now) query.now result.answer }
+        ensures room { (result.nodes ≡ self.nodes) × (result.walks ≡ true) }
+    {
+        network.keeps_limits();
+        let LaidSearch {
+            search,
+            answer,
+            listed,
+        } = self;
+        let (labels, links) = answer.into_arrays();
+        let mut written = Written {
+            labels,
+            links,
+            listed,
+        };
+        let search = search.find_walks(&layout.network, times, laid);
+        written.write_labels(&layout.places, query.target(), search.answer().labels());
+        written.write_links(layout, query.target(), search.answer().links());
+        let Written {
+            labels,
+            links,
+            listed,
+        } = written;
+        LaidSearch {
+            search,
+            answer: Answer::new(network.nodes(), query.target(), labels, links, true),
+            listed,
+        }
+    }
+
+    /// Answers a query without walks. The search is consumed and returned with its answer. An error comes only
+    /// if memory for the sources of a query with several was refused.
+    pub fn find_arrivals<T: TravelTimes>(
+        self,
+        alloc: Global,
+        network: &Network,
+        layout: &Layout,
+        times: &T,
+        query: &Query,
+    ) -> Result<LaidSearch, AllocError>
+        requires laid_out { LaysOut network.now layout.now }
+        requires problem { IsProblem network.now (T.classes times.now) query.now }
+        requires nodes { self.nodes ≡ network.now.nodes }
+        ensures arrivals { IfOk result (λ laid.
+            HasArrivals network.now (T.answers times.now) query.now laid.answer) }
+        ensures none { IfOk result (λ laid. laid.answer.walks ≡ false) }
+        ensures nodes { IfOk result (λ laid. laid.nodes ≡ self.nodes) }
+        ensures walks { IfOk result (λ laid. laid.walks ≡ self.walks) }
+    {
+        let laid = laid_query(alloc, &layout.places, query)?;
+        Ok(self.arrivals(network, layout, times, query, &laid))
+    }
+
+    /// Answers a query with its canonical walks. Else like `find_arrivals`.
+    pub fn find_walks<T: TravelTimes>(
+        self,
+        alloc: Global,
+        network: &Network,
+        layout: &Layout,
+        times: &T,
+        query: &Query,
+    ) -> Result<LaidSearch, AllocError>
+        requires laid_out { LaysOut network.now layout.now }
+        requires problem { IsProblem network.now (T.classes times.now) query.now }
+        requires nodes { self.nodes ≡ network.now.nodes }
+        requires walks { self.walks ≡ true }
+        ensures answer { IfOk result (λ laid.
+            IsAnswer network.now (T.answers times.now) query.now laid.answer) }
+        ensures nodes { IfOk result (λ laid. laid.nodes ≡ self.nodes) }
+        ensures walks { IfOk result (λ laid. laid.walks ≡ true) }
+    {
+        let laid = laid_query(alloc, &layout.places, query)?;
+        Ok(self.walks(network, layout, times, query, &laid))
+    }
+}
