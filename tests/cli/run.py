@@ -20,6 +20,7 @@ import latest
 import opening
 import outputs
 import people
+import prepared
 import progress
 import resources
 import road_network
@@ -153,6 +154,7 @@ def run_each(program):
     results += road_network.results(program)
     results += travel_times.results(program)
     results += latest.results(program)
+    results += prepared.results(program)
     results += commuter_network.results(program)
     results += at_once.results(program)
     results += threads.results(program)

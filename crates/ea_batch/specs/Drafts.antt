@@ -15,16 +15,16 @@ use Rattle.ea_batch.specs.declared.progress.Progress.{Progress}
 use Rattle.ea_batch.specs.Sent.{AreCutShort, AreSent}
 use Rattle.ea_batch.specs.Reported.{IsReportOf}
 use Rattle.ea_report.specs.Asked.{Shape, shape_of}
-use Rattle.ea_batch.specs.Solved.{AnswersOn, ArrivesOn, IsPreparedOn, IsShown, Serves}
+use Rattle.ea_batch.specs.Solved.{AnswersOn, AreAidsOn, ArrivesOn, IsShown, Serves, searched}
 
--- The problems are problems on the road, not too many, the nodes that are shown are its nodes, a preparation
--- is one of the road, and threads take several problems at once.
+-- The problems are problems on the road, not too many, the nodes that are shown are its nodes, what searches use is
+-- of the road, and threads take several problems at once.
 pub record IsJob (job : Job) : Type 0 where
   pub problems : AreProblems job.road.now job.queries.now
   pub few : length job.queries.now ≤ MOST_STARTS
   pub nodes : job.road.now.network.nodes ≤ MOST_NODES
   pub shown : IsShown job.road.now.network (shape_of job.shown)
-  pub prepared : IfSome job.prepared (λ p. IsPreparedOn job.road.now p.now)
+  pub aids : AreAidsOn job.road.now job.aids
   pub part : 0 < job.plan.part
 
 -- A draft is the text of a problem's report, or has its answer, or is nothing.
@@ -32,7 +32,7 @@ abbrev pub IsDraftOf : Shape → Road → Asking → Draft → Type 0
 IsDraftOf shape road query draft.Nothing = Unit {0}
 IsDraftOf shape road query (draft.Text text) = IsReportOf shape road.network (times_on road) query text.items
 IsDraftOf shape road query (draft.Answer search) =
-    Serves road.network shape.style.walks search × ArrivesOn road query search.answer × (shape.style.walks ≡ true → AnswersOn road query search.answer)
+    Serves road.network shape.style.walks search × ArrivesOn road query (searched search).answer × (shape.style.walks ≡ true → AnswersOn road query (searched search).answer)
 
 -- A draft of the problem with this number, from 0, if there is one.
 abbrev pub IsDraftAt : Shape → Road → List Asking → ℕ → Draft → Type 0
@@ -73,7 +73,7 @@ pub record CanSend (job : Job) (from : ℕ) (progress : Progress) (pile : List M
   pub inside : from ≤ length job.queries.now
   pub room : progress.written ≤ from * 2 ^ 90
   pub search : IfSome progress.search (Serves job.road.now.network job.shown.style.walks)
-  pub prepared : IfSome progress.prepared (λ p. IsPreparedOn job.road.now p.now)
+  pub aids : AreAidsOn job.road.now progress.aids
   pub piled : ArePiled job pile
 
 -- The reports of the problems from one up to another were sent, and those from there on can be.

@@ -3,8 +3,12 @@ use Rattle.std.specs.Prelude.{◌≡◌, ◌≤◌, Bool, IfSome, length}
 use Rattle.ea_base.specs.declared.limits.TheConstants.{MOST_STARTS}
 use Rattle.ea_road.specs.Queries.{Asking}
 use Rattle.ea_road.specs.Roads.{Roads}
+use Rattle.ea_batch.specs.declared.searching.Aids.{Aids}
+use Rattle.ea_batch.specs.declared.searching.Searching.{Searching}
+use Rattle.ea_batch.specs.declared.searching.Searching.TheVariants as searching
 use Rattle.ea_hierarchy.specs.Hierarchies.{Hierarchy}
 use Rattle.ea_hierarchy.specs.Preparations.{IsPreparedFor}
+use Rattle.ea_layout.specs.Orders.{LaysOut}
 use Rattle.ea_load.specs.declared.road.Road.{Road}
 use Rattle.ea_search.specs.Answers.{Answered, HasArrivals, IsAnswer}
 use Rattle.ea_search.specs.Listings.{Searched}
@@ -19,13 +23,27 @@ ArrivesOn road query answer = HasArrivals road.network (times_on road) query ans
 abbrev pub AnswersOn : Road → Asking → Answered → Type 0
 AnswersOn road query answer = IsAnswer road.network (times_on road) query answer
 
--- The arrays of the search fit the road's nodes, with room for walks if they are asked for.
-abbrev pub Serves : Roads → Bool → Searched → Type 0
-Serves roads walks search = (search.nodes ≡ roads.nodes) × (search.walks ≡ walks)
+-- The arrays of a search, on the road as it was given or laid out.
+abbrev pub searched : Searching → Searched
+searched (searching.Plain search) = search
+searched (searching.Laid search) = search
+
+-- They fit the road's nodes, with room for walks if they are asked for.
+abbrev pub Serves : Roads → Bool → Searching → Type 0
+Serves roads walks search = ((searched search).nodes ≡ roads.nodes) × ((searched search).walks ≡ walks)
 
 -- A preparation is one of the road.
 abbrev pub IsPreparedOn : Road → Hierarchy → Type 0
 IsPreparedOn road prepared = IsPreparedFor road.network (times_on road) prepared
+
+-- What searches may use is of the road.
+pub record AreAidsOn (road : Road) (aids : Aids) : Type 0 where
+  pub prepared : IfSome aids.prepared (λ p. IsPreparedOn road p.now)
+  pub layout : IfSome aids.layout (λ l. LaysOut road.network l.now)
+
+-- The same of arrays that are known to be on the road as it was given, or laid out.
+abbrev pub IsReady : Roads → Bool → Searched → Type 0
+IsReady roads walks search = (search.nodes ≡ roads.nodes) × (search.walks ≡ walks)
 
 -- The nodes that a report shows are nodes of the network, and no more than a file has.
 pub record IsShown (roads : Roads) (shape : Shape) : Type 0 where

@@ -3,15 +3,14 @@ ghost use Rattle.std.specs.Prelude.{◌≡◌, ◌≤◌, ◌<◌, [], IfSome, S
 ghost use Rattle.ea_base.specs.declared.limits.TheConstants.{MOST_NODES, MOST_STARTS};
 ghost use Rattle.ea_road.specs.Queries.{Asking, IsProblem};
 ghost use Rattle.ea_batch.specs.Drafts.{AreDraftsAt, IsDraftOf, IsJob};
-ghost use Rattle.ea_batch.specs.Solved.{IsPreparedOn, IsShown, Serves};
+ghost use Rattle.ea_batch.specs.Solved.{AreAidsOn, IsShown, Serves};
 ghost use Rattle.ea_report.specs.Asked.{shape_of};
 
 use crate::one_search::search;
+use crate::searching::{Aids, Searching};
 use crate::sheet::Sheet;
 use crossbeam_deque::{Steal, Stealer, Worker};
-use ea_hierarchy::Prepared;
 use ea_load::Road;
-use ea_paths::Search;
 use ea_report::{ReportOptions, write_problem};
 use ea_road::Query;
 use std::alloc::{AllocError, Global};
@@ -24,7 +23,7 @@ pub(crate) enum Draft {
     /// The text of its report.
     Text(Vec<u8>),
     /// The search with its answer, since the text is too long to be kept.
-    Answer(Search),
+    Answer(Searching),
 }
 
 /// How drafts are made.
@@ -45,8 +44,8 @@ pub(crate) struct Plan {
 pub(crate) struct Job<'a> {
     pub alloc: Global,
     pub road: &'a Road,
-    /// A preparation of the road, if there is one.
-    pub prepared: Option<&'a Prepared>,
+    /// What searches may use.
+    pub aids: Aids<'a>,
     pub queries: &'a [Query],
     /// What the reports show.
     pub shown: ReportOptions<'a>,
@@ -77,13 +76,13 @@ fn take_memory(job: Job<'_>) -> Vec<u8> {
 
 /// Makes the draft of a problem on the arrays of the last search, if there was one. They stay in `last`
 /// unless they become the draft. A text reuses the memory of an earlier one.
-fn make_draft(job: Job<'_>, query: &Query, last: &mut Option<Search>) -> Draft
+fn make_draft(job: Job<'_>, query: &Query, last: &mut Option<Searching>) -> Draft
     requires problem { IsProblem job.road.now.network
         (length job.road.now.times.tables.list.items) query.now }
     requires few { (length query.now.sources ≤ MOST_STARTS)
         × (job.road.now.network.nodes ≤ MOST_NODES) }
     requires shown { IsShown job.road.now.network (shape_of job.shown) }
-    requires prepared { IfSome job.prepared (λ p. IsPreparedOn job.road.now p.now) }
+    requires aids { AreAidsOn job.road.now job.aids }
     requires search { IfSome last.old (Serves job.road.now.network job.shown.style.walks) }
     ensures draft { IsDraftOf (shape_of job.entry.shown) job.entry.road.now query.now result }
     ensures search { IfSome last.new (Serves job.entry.road.now.network job.entry.shown.style.walks) }
@@ -91,19 +90,12 @@ fn make_draft(job: Job<'_>, query: &Query, last: &mut Option<Search>) -> Draft
     let Job {
         alloc,
         road,
-        prepared,
+        aids,
         plan,
         shown,
         ..
     } = job;
-    let found = match search(
-        alloc,
-        road,
-        prepared,
-        query,
-        shown.style.walks,
-        last.take(),
-    ) {
+    let found = match search(alloc, road, aids, query, shown.style.walks, last.take()) {
         Ok(found) => found,
         Err(_) => return Draft::Nothing,
     };
@@ -126,7 +118,7 @@ fn make_draft(job: Job<'_>, query: &Query, last: &mut Option<Search>) -> Draft
 
 /// Makes the draft of the problem with this number, from 0, if there is one. Except for the first of a part,
 /// only if arrays are left.
-fn make_draft_at(job: Job<'_>, at: usize, is_first: bool, last: &mut Option<Search>) -> Draft
+fn make_draft_at(job: Job<'_>, at: usize, is_first: bool, last: &mut Option<Searching>) -> Draft
     requires job { IsJob job }
     requires search { IfSome last.old (Serves job.road.now.network job.shown.style.walks) }
     ensures draft { (query : Asking) → slice_get job.entry.queries.now at ≡ Some query
@@ -161,7 +153,7 @@ pub(crate) struct Span {
 
 /// Makes the drafts of problems in their order, on the arrays of the last search, if there was one. Stops
 /// after a draft that is too long to be kept, or if memory for the list is refused.
-pub(crate) fn make_drafts(job: Job<'_>, span: Span, last: &mut Option<Search>) -> Made
+pub(crate) fn make_drafts(job: Job<'_>, span: Span, last: &mut Option<Searching>) -> Made
     requires job { IsJob job }
     requires search { IfSome last.old (Serves job.road.now.network job.shown.style.walks) }
     ensures drafts { AreDraftsAt (shape_of job.entry.shown) job.entry.road.now

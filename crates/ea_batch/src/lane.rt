@@ -7,7 +7,7 @@ ghost use Rattle.ea_batch.specs.Solved.{Serves};
 use crate::draft::{Draft, Job, Made, make_drafts};
 use crate::hand_over::{Asks, Giver, Taker, get, give};
 use crate::round::Round;
-use ea_paths::Search;
+use crate::searching::Searching;
 use std::alloc::{AllocError, Global};
 use std::thread::yield_now;
 
@@ -33,7 +33,7 @@ fn make_next<J: Asks>(
     job: Job<'_>,
     round: &Round,
     lane: &mut Lane<J>,
-    last: &mut Option<Search>,
+    last: &mut Option<Searching>,
 ) -> bool
     requires job { IsJob job }
     requires named { IsFor J.fits job }
@@ -172,7 +172,7 @@ impl<J: Asks> Desk<J> {
     }
 
     /// Makes drafts too, or yields. Returns false if no one else makes any, or nothing came for too long.
-    pub(crate) fn help(&mut self, job: Job<'_>, round: &Round, last: &mut Option<Search>) -> bool
+    pub(crate) fn help(&mut self, job: Job<'_>, round: &Round, last: &mut Option<Searching>) -> bool
         requires job { IsJob job }
         requires pile { ArePiled job self.old.pile.items }
         requires search { IfSome last.old (Serves job.road.now.network job.shown.style.walks) }

@@ -8,7 +8,9 @@ mod one_search;
 mod parallel_reports;
 mod progress;
 mod round;
+mod searching;
 mod sheet;
 
 pub use parallel_reports::{Watched, report_ahead};
 pub use progress::Progress;
+pub use searching::{Aids, Searching};

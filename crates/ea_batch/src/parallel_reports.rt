@@ -7,7 +7,7 @@ ghost use Rattle.ea_report.specs.Sent.{IsCutAt, IsWhole};
 ghost use Rattle.ea_load.specs.Posed.{AreProblems, times_on};
 ghost use Rattle.ea_batch.specs.Drafts.{AreDraftsAt, AreUnsent, CanSend, GoesOn, HaveGone, IsDraftAt, IsDraftOf, IsFor, IsJob, StopsAfter};
 ghost use Rattle.ea_batch.specs.Sent.{AreCutShort, AreSent, IsSent, IsStoppedBy};
-ghost use Rattle.ea_batch.specs.Solved.{IsPreparedOn, IsShown, Serves};
+ghost use Rattle.ea_batch.specs.Solved.{AreAidsOn, IsShown, Serves};
 ghost use Rattle.ea_report.specs.Asked.{shape_of};
 
 use crate::draft::{Draft, Job, Plan, Span, memory_of_texts};
@@ -15,11 +15,11 @@ use crate::hand_over::Asks;
 use crate::lane::{Desk, Lane, Lanes, make_in_lane};
 use crate::progress::{Progress, fault_after};
 use crate::round::Round;
+use crate::searching::Aids;
 use crossbeam_deque::Worker;
 use ea_base::Watch;
 use ea_bytes::ByteOut;
 use ea_fork_join::for_each_chunk_mut_beside;
-use ea_hierarchy::Prepared;
 use ea_load::{AnswerFault, Road};
 use ea_report::{ReportOptions, write_pieces};
 use ea_road::Query;
@@ -28,10 +28,10 @@ use std::marker::Brand;
 use std::mem;
 use std::thread::Threads;
 
-/// What the reports of a call show, a preparation of the road if there is one, and the call's watch.
+/// What the reports of a call show, what its searches may use, and its watch.
 pub struct Watched<'a, V: Watch> {
     pub shown: ReportOptions<'a>,
-    pub prepared: Option<&'a Prepared>,
+    pub aids: Aids<'a>,
     pub watch: &'a mut V,
 }
 
@@ -86,7 +86,7 @@ impl Progress<'_> {
             × GivesUp (W.seen out.old) (W.seen out.new)) }
         ensures bound { OnOk result (self.new.written ≤ self.old.written + 2 ^ 90) }
         ensures search { self.new.search ≡ self.old.search }
-        ensures prepared { self.new.prepared ≡ self.old.prepared }
+        ensures aids { self.new.aids ≡ self.old.aids }
     {
         match write_pieces(&[text], out) {
             Ok(written) => {
@@ -101,7 +101,7 @@ impl Progress<'_> {
     fn keep_memory(&mut self, memory: Vec<u8>)
         ensures written { self.new.written ≡ self.old.written }
         ensures search { self.new.search ≡ self.old.search }
-        ensures prepared { self.new.prepared ≡ self.old.prepared }
+        ensures aids { self.new.aids ≡ self.old.aids }
     {
         if let Some(used) = &mut self.used {
             let _ = used.push(memory);
@@ -125,7 +125,7 @@ impl Progress<'_> {
         requires shown { IsShown road.now.network (shape_of shown) }
         requires room { self.old.written ≤ MOST_STARTS * 2 ^ 90 }
         requires search { IfSome self.old.search (Serves road.now.network shown.style.walks) }
-        requires prepared { IfSome self.old.prepared (λ p. IsPreparedOn road.now p.now) }
+        requires aids { AreAidsOn road.now self.old.aids }
         requires draft { IsDraftOf (shape_of shown) road.now query.now draft }
         ensures ok { OnOk result (IsSent (shape_of shown.entry) road.now.network (times_on road.now) query.now
             (W.seen out.old) (W.seen out.new) self.old.written self.new.written) }
@@ -133,7 +133,7 @@ impl Progress<'_> {
             (W.seen out.old) (W.seen out.new) self.old.written) }
         ensures bound { OnOk result (self.new.written ≤ self.old.written + 2 ^ 90) }
         ensures search { IfSome self.new.search (Serves road.now.network shown.entry.style.walks) }
-        ensures prepared { self.new.prepared ≡ self.old.prepared }
+        ensures aids { self.new.aids ≡ self.old.aids }
     {
         match draft {
             Draft::Nothing => self.report_alone(alloc, road, query, shown, out),
@@ -179,7 +179,7 @@ fn send_part<W: ByteOut>(
     requires room { progress.old.written ≤ span.from * 2 ^ 90 }
     requires search { IfSome progress.old.search
         (Serves job.road.now.network job.shown.style.walks) }
-    requires prepared { IfSome progress.old.prepared (λ p. IsPreparedOn job.road.now p.now) }
+    requires aids { AreAidsOn job.road.now progress.old.aids }
     requires drafts { AreDraftsAt (shape_of job.shown) job.road.now
         job.queries.now span.from ready.old }
     ensures ok { OnOk result (GoesOn job.entry span.from span.to
@@ -190,7 +190,7 @@ fn send_part<W: ByteOut>(
     ensures search { OnOk result
         (IfSome progress.new.search
         (Serves job.entry.road.now.network job.entry.shown.style.walks)) }
-    ensures prepared { progress.new.prepared ≡ progress.old.prepared }
+    ensures aids { progress.new.aids ≡ progress.old.aids }
 {
     let queries = job.queries;
     for k in 0..span.to - span.from {
@@ -354,14 +354,14 @@ fn send_all<J: Asks, H: Threads + Sync, W: ByteOut, V: Watch>(
 fn report_asked<'a, J: Asks, H: Threads + Sync, W: ByteOut, V: Watch>(
     rt: &H,
     job: Job<'_>,
-    prepared: Option<&'a Prepared>,
+    aids: Aids<'a>,
     used: Worker<Vec<u8>>,
     threads: usize,
     watch: &mut V,
     out: &mut W,
 ) -> Result<Progress<'a>, AnswerFault>
     requires job { IsJob job }
-    requires prepared { IfSome prepared (λ p. IsPreparedOn job.road.now p.now) }
+    requires aids { AreAidsOn job.road.now aids }
     requires named { IsFor J.fits job }
     requires some { 0 < length job.queries.now }
     requires threads { 1 ≤ threads }
@@ -379,7 +379,7 @@ fn report_asked<'a, J: Asks, H: Threads + Sync, W: ByteOut, V: Watch>(
         Ok(lanes) => lanes,
         Err(_) => return Err(AnswerFault::OutOfMemory { written: 0 }),
     };
-    let mut progress = Progress::begin(prepared, Some(used));
+    let mut progress = Progress::begin(aids, Some(used));
     match send_all(&mut progress, rt, job, &mut lanes, watch, out) {
         Ok(()) => Ok(progress),
         Err(fault) => Err(fault),
@@ -401,7 +401,7 @@ pub fn report_ahead<'a, H: Threads + Sync, W: ByteOut, V: Watch>(
     requires few { (length queries.now ≤ MOST_STARTS) × (road.now.network.nodes ≤ MOST_NODES) }
     requires some { 0 < length queries.now }
     requires shown { IsShown road.now.network (shape_of watched.shown) }
-    requires prepared { IfSome watched.prepared (λ p. IsPreparedOn road.now p.now) }
+    requires aids { AreAidsOn road.now watched.aids }
     requires threads { (1 ≤ threads) × (threads ≤ MOST_AT_ONCE) }
     ensures ok { IfOk result (λ progress.
         AreSent (shape_of watched.entry.shown) road.now.network (times_on road.now) queries.now
@@ -411,11 +411,7 @@ pub fn report_ahead<'a, H: Threads + Sync, W: ByteOut, V: Watch>(
         (W.seen out.old) (W.seen out.new)) }
     ensures bound { IfOk result (λ progress. progress.written ≤ MOST_STARTS * 2 ^ 90) }
 {
-    let Watched {
-        shown,
-        prepared,
-        watch,
-    } = watched;
+    let Watched { shown, aids, watch } = watched;
     let lines = lines_of(road, &queries[0], shown);
     let (used, spare) = match memory_of_texts(alloc) {
         Ok(ends) => ends,
@@ -424,11 +420,11 @@ pub fn report_ahead<'a, H: Threads + Sync, W: ByteOut, V: Watch>(
     let job = Job {
         alloc,
         road,
-        prepared,
+        aids,
         queries,
         shown,
         plan: plan_of(queries.len(), threads, lines, shown.style.walks),
         spare: &spare,
     };
-    report_asked::<Brand, H, W, V>(rt, job, prepared, used, threads, watch, out)
+    report_asked::<Brand, H, W, V>(rt, job, aids, used, threads, watch, out)
 }

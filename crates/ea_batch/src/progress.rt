@@ -5,15 +5,15 @@ ghost use Rattle.ea_road.specs.Queries.{IsProblem};
 ghost use Rattle.ea_load.specs.Faults;
 ghost use Rattle.ea_load.specs.Posed.{times_on};
 ghost use Rattle.ea_batch.specs.Sent.{IsSent, IsStoppedBy};
-ghost use Rattle.ea_batch.specs.Solved.{AnswersOn, ArrivesOn, IsPreparedOn, IsShown, Serves};
+ghost use Rattle.ea_batch.specs.Solved.{AnswersOn, AreAidsOn, ArrivesOn, IsShown, Serves};
 ghost use Rattle.ea_report.specs.Asked.{shape_of};
 
 use crate::one_search::search;
+use crate::searching::{Aids, Searching};
 use crossbeam_deque::Worker;
 use ea_bytes::ByteOut;
-use ea_hierarchy::Prepared;
 use ea_load::{AnswerFault, Road};
-use ea_paths::{Answer, Search};
+use ea_paths::Answer;
 use ea_report::{ReportOptions, WriteFault, WriteFaultKind, write_problem};
 use ea_road::Query;
 use std::alloc::Global;
@@ -24,27 +24,24 @@ pub struct Progress<'a> {
     /// The number of bytes sent.
     pub written: u128,
     /// The last search, whose arrays the next one reuses.
-    pub search: Option<Search>,
-    /// A preparation of the road, if there is one.
-    pub prepared: Option<&'a Prepared>,
+    pub search: Option<Searching>,
+    /// What searches may use.
+    pub aids: Aids<'a>,
     /// A queue for the memory of sent texts, if others make texts.
     pub(crate) used: Option<Worker<Vec<u8>>>,
 }
 
 impl<'a> Progress<'a> {
     /// Nothing sent yet. The memory of sent texts goes to `used`, if others make texts.
-    pub fn begin(
-        prepared: Option<&'a Prepared>,
-        used: Option<Worker<Vec<u8>>>,
-    ) -> Progress<'a>
+    pub fn begin(aids: Aids<'a>, used: Option<Worker<Vec<u8>>>) -> Progress<'a>
         ensures written { result.written ≡ 0 }
         ensures search { result.search ≡ None }
-        ensures prepared { result.prepared ≡ prepared.entry }
+        ensures aids { result.aids ≡ aids.entry }
     {
         Progress {
             written: 0,
             search: None,
-            prepared,
+            aids,
             used,
         }
     }
@@ -87,7 +84,7 @@ impl Progress<'_> {
             (W.seen out.old) (W.seen out.new) self.old.written) }
         ensures bound { OnOk result (self.new.written ≤ self.old.written + 2 ^ 90) }
         ensures search { self.new.search ≡ self.old.search }
-        ensures prepared { self.new.prepared ≡ self.old.prepared }
+        ensures aids { self.new.aids ≡ self.old.aids }
     {
         match write_problem(alloc, &road.network, query, answer, shown, out) {
             Ok(written) => {
@@ -114,7 +111,7 @@ impl Progress<'_> {
             × (road.now.network.nodes ≤ MOST_NODES) }
         requires room { self.old.written ≤ MOST_STARTS * 2 ^ 90 }
         requires search { IfSome self.old.search (Serves road.now.network shown.style.walks) }
-        requires prepared { IfSome self.old.prepared (λ p. IsPreparedOn road.now p.now) }
+        requires aids { AreAidsOn road.now self.old.aids }
         ensures ok { OnOk result (IsSent (shape_of shown.entry) road.now.network (times_on road.now) query.now
             (W.seen out.old) (W.seen out.new) self.old.written self.new.written) }
         ensures err { IfErr result (IsStoppedBy (shape_of shown.entry) road.now.network (times_on road.now) query.now
@@ -122,17 +119,10 @@ impl Progress<'_> {
         ensures bound { OnOk result (self.new.written ≤ self.old.written + 2 ^ 90) }
         ensures search { IfSome self.new.search
             (Serves road.now.network shown.entry.style.walks) }
-        ensures prepared { self.new.prepared ≡ self.old.prepared }
+        ensures aids { self.new.aids ≡ self.old.aids }
     {
         let last = self.search.take();
-        match search(
-            alloc,
-            road,
-            self.prepared,
-            query,
-            shown.style.walks,
-            last,
-        ) {
+        match search(alloc, road, self.aids, query, shown.style.walks, last) {
             Ok(search) => {
                 self.write(alloc, road, query, search.answer(), shown, out)?;
                 self.search = Some(search);

@@ -10,10 +10,10 @@ ghost use Rattle.ea_report.specs.Asked.{shape_of};
 ghost use Rattle.earliest.specs.Fronts.{shape_by};
 ghost use Rattle.earliest.specs.Runs.{plan_by, run_asks, pair_asks};
 
-use crate::preparing::prepared_for;
+use crate::preparing::{layout_for, prepared_for};
 use crate::reports::report_all;
 use ea_base::{Silent, Watch};
-use ea_batch::Watched;
+use ea_batch::{Aids, Watched};
 use ea_bytes::{ByteIn, ByteOut};
 use ea_load::{
     AnswerFault, ExtraLists, OptionalFiles, Schedule, departures_fit, pair_queries, read_extras,
@@ -128,11 +128,12 @@ pub(crate) fn answer_watched<
     }
     let queries = run_queries(alloc, &files.sources, options.joint, schedule)?;
     let shown = shown_by(options, &extras);
-    let watched = Watched {
-        shown,
+    let layout = layout_for(alloc, rt, &files.road, queries.len(), options);
+    let aids = Aids {
         prepared: None,
-        watch,
+        layout: layout.as_ref(),
     };
+    let watched = Watched { shown, aids, watch };
     report_all(alloc, rt, &files.road, &queries, options, watched, out)
 }
 
@@ -204,10 +205,10 @@ pub(crate) fn pairs_watched<
     let queries = pair_queries(alloc, &files.pairs, schedule)?;
     let shown = shown_by(options, &extras);
     let prepared = prepared_for(alloc, rt, &files.road, &queries, options);
-    let watched = Watched {
-        shown,
+    let aids = Aids {
         prepared: prepared.as_ref(),
-        watch,
+        layout: None,
     };
+    let watched = Watched { shown, aids, watch };
     report_all(alloc, rt, &files.road, &queries, options, watched, out)
 }

@@ -1,5 +1,6 @@
-//! Whether a road is prepared before its pairs are searched.
+//! What is made of a road before it is searched: a preparation for pairs, a layout for many problems.
 ghost use Rattle.std.specs.Prelude.{◌≡◌, ◌<◌, IfSome, length};
+ghost use Rattle.ea_layout.specs.Orders.{LaysOut};
 ghost use Rattle.ea_load.specs.Posed.{AreProblems, IsPosed};
 ghost use Rattle.ea_options.specs.Limits.{AreOptions};
 ghost use Rattle.ea_batch.specs.Solved.{IsPreparedOn};
@@ -7,12 +8,16 @@ ghost use Rattle.ea_batch.specs.Solved.{IsPreparedOn};
 use crate::solver_choice::threads_at_once;
 use ea_base::Direction;
 use ea_hierarchy::Prepared;
+use ea_layout::Layout;
 use ea_load::Road;
 use ea_options::RunOptions;
 use ea_road::Query;
 use ea_search::count_offers;
 use std::alloc::Global;
 use std::thread::Threads;
+
+/// With fewer problems for each thread a network isn't laid out: making a layout takes as long as some searches.
+const FEW_PROBLEMS: usize = 3;
 
 /// How many searches are measured before the choice.
 const SAMPLE: usize = 3;
@@ -109,5 +114,29 @@ pub(crate) fn prepared_for<H: Threads>(
         prepare(alloc, road, &queries[0])
     } else {
         None
+    }
+}
+
+/// A layout of the network of a road, if there are enough problems for it to pay, and if it can be made. Workers and
+/// statistics do without.
+pub(crate) fn layout_for<H: Threads>(
+    alloc: Global,
+    rt: &H,
+    road: &Road,
+    problems: usize,
+    options: &RunOptions,
+) -> Option<Layout>
+    requires { AreOptions options.now }
+    ensures { IfSome result (λ layout. LaysOut road.now.network layout) }
+{
+    if options.stats || options.workers.unwrap_or(1) > 1 {
+        return None;
+    }
+    if problems / threads_at_once(rt, options).max(1) < FEW_PROBLEMS {
+        return None;
+    }
+    match Layout::of(alloc, &road.network) {
+        Ok(layout) => layout,
+        Err(_) => None,
     }
 }

@@ -10,7 +10,7 @@ ghost use Rattle.ea_report.specs.declared.stats.Totals.{Totals};
 ghost use Rattle.ea_options.specs.Limits.{AreOptions};
 ghost use Rattle.ea_load.specs.Posed.{AreProblems, times_on};
 ghost use Rattle.ea_batch.specs.Sent.{AreSent, IsSent, IsStoppedBy};
-ghost use Rattle.ea_batch.specs.Solved.{AnswersOn, ArrivesOn, IsPreparedOn, IsShown, Serves};
+ghost use Rattle.ea_batch.specs.Solved.{AnswersOn, AreAidsOn, ArrivesOn, IsShown, Serves};
 ghost use Rattle.ea_report.specs.Asked.{chosen_by, shape_of};
 ghost use Rattle.earliest.specs.Fronts.{shape_by};
 ghost use Rattle.earliest.specs.Counted.{AreBalanced, AreSmall, AreTotals, IsTotal, plus, totals_of};
@@ -20,9 +20,8 @@ ghost use Rattle.earliest.specs.Workers.{settings_by};
 use crate::solver_choice::{Found, find, threads_at_once, workers_of};
 use crate::totals::{add_totals, no_totals};
 use ea_base::Watch;
-use ea_batch::{Progress, Watched, report_ahead};
+use ea_batch::{Aids, Progress, Watched, report_ahead};
 use ea_bytes::ByteOut;
-use ea_hierarchy::Prepared;
 use ea_load::{AnswerFault, Road};
 use ea_options::RunOptions;
 use ea_report::{ReportOptions, Totals, write_stats};
@@ -39,17 +38,17 @@ pub(crate) struct Reports<'a> {
 
 impl<'a> Reports<'a> {
     /// Nothing sent yet.
-    fn begin(prepared: Option<&'a Prepared>) -> Reports<'a>
+    fn begin(aids: Aids<'a>) -> Reports<'a>
         ensures totals { result.totals ≡ totals_of [] }
         ensures balanced { AreBalanced result.totals }
         ensures small { AreSmall 0 result.totals }
         ensures written { result.progress.written ≡ 0 }
         ensures search { result.progress.search ≡ None }
-        ensures prepared { result.progress.prepared ≡ prepared.entry }
+        ensures aids { result.progress.aids ≡ aids.entry }
     {
         Reports {
             totals: no_totals(),
-            progress: Progress::begin(prepared, None),
+            progress: Progress::begin(aids, None),
         }
     }
 }
@@ -89,7 +88,7 @@ impl Reports<'_> {
         ensures small { OnOk result ((problems : ℕ) →
             AreSmall problems self.old.totals → AreSmall (problems + 1) self.new.totals) }
         ensures search { self.new.progress.search ≡ self.old.progress.search }
-        ensures prepared { self.new.progress.prepared ≡ self.old.progress.prepared }
+        ensures aids { self.new.progress.aids ≡ self.old.progress.aids }
     {
         self.progress
             .write(alloc, road, query, &found.answer, shown, out)?;
@@ -121,7 +120,7 @@ impl Reports<'_> {
         requires balanced { AreBalanced self.old.totals }
         requires search { IfSome self.old.progress.search
             (Serves road.now.network shown.style.walks) }
-        requires prepared { IfSome self.old.progress.prepared (λ p. IsPreparedOn road.now p.now) }
+        requires aids { AreAidsOn road.now self.old.progress.aids }
         ensures ok { OnOk result (IsSent
             (shape_of shown.entry) road.now.network (times_on road.now) query.now
             (W.seen out.old) (W.seen out.new) self.old.progress.written self.new.progress.written) }
@@ -137,7 +136,7 @@ impl Reports<'_> {
             AreSmall problems self.old.totals → AreSmall (problems + 1) self.new.totals) }
         ensures search { IfSome self.new.progress.search
             (Serves road.now.network shown.entry.style.walks) }
-        ensures prepared { self.new.progress.prepared ≡ self.old.progress.prepared }
+        ensures aids { self.new.progress.aids ≡ self.old.progress.aids }
     {
         let workers = workers_of(rt, road, query, options);
         if workers == 1 && !options.stats {
@@ -168,7 +167,7 @@ fn report_each<'a, H: Threads + Sync, W: ByteOut, V: Watch>(
     requires asked { shape_of watched.shown
         ≡ shape_by options.now (chosen_by watched.shown) }
     requires shown { IsShown road.now.network (shape_of watched.shown) }
-    requires prepared { IfSome watched.prepared (λ p. IsPreparedOn road.now p.now) }
+    requires aids { AreAidsOn road.now watched.aids }
     ensures ok { IfOk result (λ reports.
         AreSent (shape_of watched.entry.shown) road.now.network (times_on road.now) queries.now
         (W.seen out.old) (W.seen out.new) reports.progress.written) }
@@ -183,10 +182,10 @@ fn report_each<'a, H: Threads + Sync, W: ByteOut, V: Watch>(
 {
     let Watched {
         shown,
-        prepared,
+        aids,
         watch,
     } = watched;
-    let mut reports = Reports::begin(prepared);
+    let mut reports = Reports::begin(aids);
     // Proof hint: the count fits in u64.
     let _ = out.interruptions();
     let mut done = 0;
@@ -215,7 +214,7 @@ fn report_problems<'a, H: Threads + Sync, W: ByteOut, V: Watch>(
     requires asked { shape_of watched.shown
         ≡ shape_by options.now (chosen_by watched.shown) }
     requires shown { IsShown road.now.network (shape_of watched.shown) }
-    requires prepared { IfSome watched.prepared (λ p. IsPreparedOn road.now p.now) }
+    requires aids { AreAidsOn road.now watched.aids }
     ensures ok { IfOk result (λ reports.
         AreSent (shape_of watched.entry.shown) road.now.network (times_on road.now) queries.now
         (W.seen out.old) (W.seen out.new) reports.progress.written) }
@@ -230,12 +229,12 @@ fn report_problems<'a, H: Threads + Sync, W: ByteOut, V: Watch>(
 {
     let Watched {
         shown,
-        prepared,
+        aids,
         watch,
     } = watched;
     let watched = Watched {
         shown,
-        prepared,
+        aids,
         watch,
     };
     let threads = threads_at_once(rt, options);
@@ -292,7 +291,7 @@ pub(crate) fn report_all<H: Threads + Sync, W: ByteOut, V: Watch>(
     requires asked { shape_of watched.shown
         ≡ shape_by options.now (chosen_by watched.shown) }
     requires shown { IsShown road.now.network (shape_of watched.shown) }
-    requires prepared { IfSome watched.prepared (λ p. IsPreparedOn road.now p.now) }
+    requires aids { AreAidsOn road.now watched.aids }
     ensures ok { IfOk result (IsWritten options.now (chosen_by watched.entry.shown)
         road.now.network (times_on road.now) queries.now
         (W.seen out.old) (W.seen out.new)) }
@@ -303,12 +302,12 @@ pub(crate) fn report_all<H: Threads + Sync, W: ByteOut, V: Watch>(
 {
     let Watched {
         shown,
-        prepared,
+        aids,
         watch,
     } = watched;
     let watched = Watched {
         shown,
-        prepared,
+        aids,
         watch,
     };
     let reports = report_problems(alloc, rt, road, queries, options, watched, out)?;

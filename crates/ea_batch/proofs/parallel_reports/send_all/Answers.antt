@@ -55,7 +55,7 @@ loop-sent-preserved g c =
         inside = c.end_of_part.ensures.1;
         room = c.in_ok-send_part.ensures.bound;
         search = c.in_ok-send_part.ensures.search;
-        prepared = rw c.send_part.ensures.prepared gone.can.prepared;
+        aids = rw c.send_part.ensures.aids gone.can.aids;
         piled = gone.can.piled;
       };
     }

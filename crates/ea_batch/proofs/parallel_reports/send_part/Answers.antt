@@ -33,7 +33,7 @@ loop-k-preserved g c =
       sent = record { sent = λ first fits before. subst (λ n. AreSent shape network times (take n all) first now c.send_draft.new.self.written) more (sent_next shape network times all i c.index-queries-span.result inside c.index-queries-span.is first _ now _ c.send_draft.new.self.written fits (inv.sent.sent first fits before) c.in_ok-send_draft.ensures.ok) };
       bound = omega (arith, c.in_ok-send_draft.ensures.bound, inv.bound);
       search = c.send_draft.ensures.search;
-      prepared = c.send_draft.ensures.prepared ∙ inv.prepared;
+      aids = c.send_draft.ensures.aids ∙ inv.aids;
       left = c.take_draft-draft.ensures.left;
     }
 
@@ -47,7 +47,7 @@ loop-k-init g c =
       sent = subst (λ n. GoesOn c.args.job from n now written now written) start (goes_nowhere c.args.job from now written);
       bound = omega (arith, c.requires.room);
       search = c.requires.search;
-      prepared = refl;
+      aids = refl;
       left = λ j d low inside. c.requires.drafts j d inside;
     }
 
@@ -73,5 +73,5 @@ send_draft-requires-clause-problem g c =
     let inside : i < length c.args.job.queries.now = omega (arith, c.loop-k-test.true, c.loop-k.auto.k-end, c.requires.span.0, c.requires.span.1) in
     subst (λ (query : Asking). IsProblem road.network (length road.times.tables.list.items) query) (sym c.index-queries-span.is) (c.requires.job.problems i c.index-queries-span.result inside).0
 
-pub send_draft-requires-clause-prepared : goal.send_draft-requires-clause-prepared
-send_draft-requires-clause-prepared g c = rw c.loop-k.invariant.prepared c.requires.prepared
+pub send_draft-requires-clause-aids : goal.send_draft-requires-clause-aids
+send_draft-requires-clause-aids g c = rw c.loop-k.invariant.aids c.requires.aids

@@ -9,6 +9,6 @@ invariant-loop-k g l = record {
   sent : GoesOn l.job l.span.from (l.span.from + l.k) (g.W.Device.seen l.fn.out) l.fn.progress.written (g.W.Device.seen l.out) l.progress.written;
   bound : l.progress.written ≤ (l.span.from + l.k) * 2 ^ 90;
   search : IfSome l.progress.search (Serves l.job.road.now.network l.job.shown.style.walks);
-  prepared : l.progress.prepared ≡ l.fn.progress.prepared;
+  aids : l.progress.aids ≡ l.fn.progress.aids;
   left : AreUnsent (shape_of l.job.shown) l.job.road.now l.job.queries.now l.span.from l.k l.ready;
 }

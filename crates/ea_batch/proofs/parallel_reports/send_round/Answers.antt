@@ -31,7 +31,7 @@ loop-preserved g c =
           inside = w.end_of_part.ensures.1;
           room = w.in_ok-send_part-in-Some.ensures.bound;
           search = w.in_ok-send_part-in-Some.ensures.search;
-          prepared = rw w.send_part.ensures.prepared inv.can.prepared;
+          aids = rw w.send_part.ensures.aids inv.can.aids;
           piled = c.take.ensures.pile;
         };
       })
@@ -43,7 +43,7 @@ loop-preserved g c =
           inside = inv.can.inside;
           room = inv.can.room;
           search = w.help.ensures.search;
-          prepared = inv.can.prepared;
+          aids = inv.can.aids;
           piled = w.help.ensures.pile;
         };
       })
@@ -67,7 +67,7 @@ returns-then-not-help-clause-ok g c =
         inside = inv.can.inside;
         room = inv.can.room;
         search = c.help.ensures.search;
-        prepared = inv.can.prepared;
+        aids = inv.can.aids;
         piled = c.help.ensures.pile;
       };
     }

@@ -34,7 +34,7 @@ loop-query-preserved g c =
       counted = λ asked. let more = c.in_ok-report.ensures.counted asked in totals_next (settings_by c.args.options.now) c.args.queries.now i c.query-item.result c.loop-query-test.true c.query-item.is _ _ (inv.counted asked) more.0 more.1 more.2;
       small = c.in_ok-report.ensures.small i inv.small;
       balanced = c.in_ok-report.ensures.balanced;
-      prepared = rw c.report.ensures.prepared inv.prepared;
+      aids = rw c.report.ensures.aids inv.aids;
       search = c.report.ensures.search;
     }
 
@@ -52,7 +52,7 @@ loop-query-init g c =
       counted = λ asked. record { all = []; counted = tt; sums = begun.totals };
       small = begun.small;
       balanced = begun.balanced;
-      prepared = rw begun.prepared c.requires.prepared;
+      aids = rw begun.aids c.requires.aids;
       search = rw begun.search tt;
     }
 

@@ -2,7 +2,7 @@ use Rattle.std.proofs.Common.{◌≡◌, ◌≤◌, ◌<◌, ◌*◌, true, ◌^
 use Rattle.earliest.specs.Counted.{AreBalanced, AreSmall, AreTotals}
 use Rattle.ea_load.specs.Posed.{times_on}
 use Rattle.ea_batch.specs.Sent.{AreSent}
-use Rattle.ea_batch.specs.Solved.{IsPreparedOn, Serves}
+use Rattle.ea_batch.specs.Solved.{AreAidsOn, Serves}
 use Rattle.ea_report.specs.Asked.{shape_of}
 use Rattle.earliest.specs.Workers.{settings_by}
 use Rattle.earliest.proofs.reports.report_each.Given as goal
@@ -16,6 +16,6 @@ invariant-loop-query g l = record {
   counted : l.options.stats ≡ true → AreTotals (settings_by l.options) (take l.query-index l.queries) l.reports.totals;
   small : AreSmall l.query-index l.reports.totals;
   balanced : AreBalanced l.reports.totals;
-  prepared : IfSome l.reports.progress.prepared (λ p. IsPreparedOn l.road p.now);
+  aids : AreAidsOn l.road l.reports.progress.aids;
   search : IfSome l.reports.progress.search (Serves l.road.network l.shown.style.walks);
 }

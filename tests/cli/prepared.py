@@ -1,0 +1,152 @@
+"""Pairs over a prepared road, and many sources on a network whose nodes are numbered at random: the same bytes as
+without, in less time."""
+import os
+import random
+import subprocess
+import tempfile
+import time
+
+import travel_times
+
+SHAPES = ("path", "star", "clique", "ring of cliques")
+
+
+def ran(program, words, folder):
+    """Status and standard output."""
+    run = subprocess.run([program, *words.split()], cwd=folder, stdin=subprocess.DEVNULL, capture_output=True, timeout=300)
+    return run.returncode, run.stdout
+
+
+def write(folder, name, lines):
+    with open(os.path.join(folder, name), "w", encoding="ascii") as file:
+        file.writelines(lines)
+
+
+def graph(nodes, arcs):
+    """The lines of a graph."""
+    yield f"p sp {nodes} {len(arcs)}\n"
+    for tail, head, weight in arcs:
+        yield f"a {tail} {head} {weight}\n"
+
+
+def pairs(words, nodes, count):
+    """The lines of pairs at random."""
+    yield f"p aux sp p2p {count}\n"
+    for _ in range(count):
+        yield f"q {words.randint(1, nodes)} {words.randint(1, nodes)}\n"
+
+
+def both_ways(ends, words):
+    """Arcs in both directions, with weights at random, some of them 0."""
+    return [arc for low, high in ends for arc in ((low, high, words.randint(0, 9)), (high, low, words.randint(0, 9)))]
+
+
+def shape(kind, nodes, words):
+    """The arcs of a network of a shape."""
+    if kind == "path":
+        return both_ways([(node, node + 1) for node in range(1, nodes)], words)
+    if kind == "star":
+        return both_ways([(1, node) for node in range(2, nodes + 1)], words)
+    if kind == "clique":
+        return both_ways([(low, high) for high in range(2, 60) for low in range(1, high)], words)
+    rings = [(base + low, base + high) for base in range(0, nodes - 10, 10) for high in range(2, 11) for low in range(1, high)]
+    return both_ways(rings + [(base, base + 1) for base in range(10, nodes - 10, 10)], words)
+
+
+def grid(side, words):
+    """A grid with streets both ways, one in ten of which is missing."""
+    streets = []
+    for row in range(side):
+        for column in range(side):
+            node = row * side + column + 1
+            streets += [(node, node + 1)] if column + 1 < side else []
+            streets += [(node, node + side)] if row + 1 < side else []
+    streets = [street for street in streets if words.random() < 0.9]
+    return [(tail, head, weight * 7 + 1) for tail, head, weight in both_ways(streets, words)]
+
+
+def at_random(program, folder, count=25):
+    """Random networks with all kinds of travel times: each option of `pairs` with a preparation and without."""
+    words = random.Random(20261129)
+    done = 0
+    while done < count:
+        nodes, size = words.randint(1, 40), words.randint(0, 120)
+        text = travel_times.some_text(words, max(size, 1))
+        if travel_times.read(text, size)[0] is None:
+            continue
+        done += 1
+        arcs = [(words.randint(1, nodes), words.randint(1, nodes), words.randint(0, 9)) for _ in range(size)]
+        write(folder, "gr", graph(nodes, arcs))
+        write(folder, "tp", [text])
+        write(folder, "p2p", pairs(words, nodes, 40))
+        for options in ("", "--walks", "--arrive 60 --walks", "--depart 7 --gap 3 --at-once 3"):
+            without, over = (ran(program, f"pairs gr p2p --tp tp {options} --prepare {word}", folder) for word in ("no", "yes"))
+            yield f"prepared road {done}, {options}", (over[0], over == without), (0, True)
+
+
+def of_shapes(program, folder):
+    """Networks on which a preparation is large or of no use."""
+    words = random.Random(5)
+    for kind in SHAPES:
+        nodes = 2_000
+        write(folder, "gr", graph(nodes, shape(kind, nodes, words)))
+        write(folder, "p2p", pairs(words, nodes, 60))
+        without, over = (ran(program, f"pairs gr p2p --walks --prepare {word}", folder) for word in ("no", "yes"))
+        yield f"prepared {kind}", (over[0], over == without), (0, True)
+
+
+def processor_seconds(program, words, folder):
+    """Standard output, and the processor time of a run."""
+    before = os.times()
+    status, out = ran(program, words, folder)
+    after = os.times()
+    return status, out, after.children_user + after.children_system - before.children_user - before.children_system
+
+
+def in_less_time(program, folder):
+    """Many far pairs: by default the program prepares, which takes less processor time than not to; a star with
+    10^5 leaves is prepared in a moment, too."""
+    words = random.Random(6)
+    side = 300
+    write(folder, "gr", graph(side * side, grid(side, words)))
+    write(folder, "p2p", pairs(words, side * side, 3_000))
+    runs = [processor_seconds(program, f"pairs gr p2p{options}", folder) for options in ("", " --prepare no")]
+    yield "far pairs by default", (runs[0][:2] == runs[1][:2], runs[0][0], runs[0][2] < runs[1][2] / 2), (True, 0, True)
+    leaves = 100_000
+    write(folder, "gr", graph(leaves + 1, [(1, node, 1) for node in range(2, leaves + 2)] + [(node, 1, 1) for node in range(2, leaves + 2)]))
+    write(folder, "p2p", pairs(words, leaves, 10))
+    begun = time.monotonic()
+    status, _ = ran(program, "pairs gr p2p --prepare yes", folder)
+    yield "a star is prepared in seconds", (status, time.monotonic() - begun < 10), (0, True)
+
+
+def numbered_at_random(program, folder):
+    """A grid whose nodes are numbered at random: what is searched on a layout has the bytes of single searches."""
+    words = random.Random(9)
+    side = 270
+    count = side * side
+    numbers = list(range(1, count + 1))
+    words.shuffle(numbers)
+    arcs = [(numbers[tail - 1], numbers[head - 1], weight) for tail, head, weight in grid(side, words)]
+    sources = [words.randint(1, count) for _ in range(12)]
+    write(folder, "gr", graph(count, arcs))
+    write(folder, "ss", [f"p aux sp ss {len(sources)}\n"] + [f"s {node}\n" for node in sources])
+    write(folder, "nodes", ["p aux sp ss 50\n"] + [f"s {node}\n" for node in words.sample(range(1, count + 1), 50)])
+    for options in ("", "--walks --nodes nodes"):
+        single = b""
+        for node in sources:
+            write(folder, "one", [f"p aux sp ss 1\ns {node}\n"])
+            single += ran(program, f"run gr one {options}", folder)[1]
+        for at_once in (1, 4):
+            status, out = ran(program, f"run gr ss {options} --at-once {at_once}", folder)
+            yield f"numbered at random, {options} --at-once {at_once}", (status, out == single, len(out) > 1000), (0, True, True)
+
+
+def results(program):
+    """All of these: name, result, expected result."""
+    program = os.path.abspath(program)
+    found = []
+    for part in (at_random, of_shapes, in_less_time, numbered_at_random):
+        with tempfile.TemporaryDirectory() as folder:
+            found += list(part(program, folder))
+    return found
