@@ -5,6 +5,7 @@ pub mod Ordering
 pub mod Right
 pub mod Firsts
 pub mod Judged
+pub mod Supported
 pub mod Sourced
 pub mod OneVerdict
 pub mod Formed

@@ -12,3 +12,4 @@ pub mod Streams
 pub mod Judging
 pub mod Problems
 pub mod Stops
+pub mod Supported

@@ -1,12 +1,16 @@
 -- What the lines that are still to be read say, place by place, and which are wrong.
 use Rattle.std.specs.Prelude.{◌≡◌, ◌≢◌, ◌⊎◌, ℕ, suc, ◌+◌, List, [], ◌∷◌, length, Option, Some, None}
-use Rattle.ea_bytes.specs.Text.{fields_of}
+use Rattle.ea_bytes.specs.Text.{fields_of, number_of}
 use Rattle.ea_road.specs.declared.TheConstants.{NONE}
 use Rattle.ea_road.specs.declared.source.Source.{Source}
 use Rattle.ea_check.specs.declared.fault.CheckFault.{CheckFault}
 use Rattle.ea_check.specs.declared.fault.CheckFault.TheVariants.{BadLine, NotAttained, NotLeast, OutOfMemory, NotCanonical}
 use Rattle.ea_check.specs.Verdicts.{WrittenWalk, Said}
 use Rattle.ea_check.specs.Form.{Line, arc_of, IsWalkLine, SaysSource, SaysTime, SaysWalk}
+
+-- A line's first field has this number, and the other fields are those of the rest.
+abbrev pub BeginsWithNumber : List ℕ → ℕ → List ℕ → Type 0
+BeginsWithNumber text n rest = (field : List ℕ) × (fields_of text ≡ field ∷ fields_of rest) × (number_of field ≡ Some n)
 
 -- A line's first field has this arc number, and the other fields are those of the rest.
 abbrev pub BeginsWithArc : List ℕ → ℕ → List ℕ → Type 0

@@ -17,33 +17,12 @@ use crate::form::report_lines::ReportLines;
 use crate::form::reported::Reported;
 use crate::form::stop::Stop;
 use crate::judge::verdict::judge;
-use crate::judge::walk_sources::ordered_sources;
 use crate::text_in::TextIn;
 use ea_base::{Direction, Silent, Watch};
 use ea_bytes::{ByteIn, ReadFault};
-use ea_paths::find_links;
 use ea_road::{Network, Query, is_problem};
-use ea_search::Open;
 use ea_travel_times::TravelTimes;
 use std::alloc::Global;
-
-/// The fault of a report's lines on one problem.
-fn check_problem<T: TravelTimes>(
-    alloc: Global,
-    network: &Network,
-    times: &T,
-    query: &Query,
-    reported: &Reported,
-) -> Result<(), CheckFault>
-    requires task { IsTask network.now (T.classes times.now) query.now.sources }
-    requires formed { IsWellFormed network.now.nodes reported.now }
-    ensures { IsVerdict network.now (T.answers times.now) query.now.sources reported.now result }
-{
-    let todo = Open::reserve(alloc, network.nodes())?;
-    let links = find_links(network, times, query.sources(), reported.table(), todo);
-    let ordered = ordered_sources(alloc, query.sources())?;
-    judge(alloc, network, times, query, &ordered, reported, &links)
-}
 
 /// The first fault of the problems read so far, of which this is the last.
 fn check_next<T: TravelTimes>(
@@ -61,7 +40,7 @@ fn check_next<T: TravelTimes>(
         (λ fault. result ≡ Err fault) }
 {
     before?;
-    check_problem(alloc, network, times, query, reported)
+    judge(alloc, network, times, query, reported)
 }
 
 /// Whether queries can be checked on a network with travel times of classes up to the greatest: each is a

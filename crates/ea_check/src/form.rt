@@ -1,5 +1,6 @@
 //! The form of a report: the order of its lines, and what each says.
 
+pub mod leading_number;
 pub mod line_form;
 pub mod number_count;
 pub mod problem;

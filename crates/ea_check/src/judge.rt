@@ -1,5 +1,6 @@
 //! The verdict on a report of the right form.
 
 pub mod canonical_walk;
+pub mod support;
 pub mod verdict;
 pub mod walk_sources;

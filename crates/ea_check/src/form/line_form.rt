@@ -1,10 +1,11 @@
 //! The fields of a report's lines.
-ghost use Rattle.std.specs.Prelude.{◌≡◌, ◌≤◌, ◌∷◌, ◌↔◌, [], ℕ, IsTrue, List, MatchBool, MatchOption, Some, length};
+ghost use Rattle.std.specs.Prelude.{◌≡◌, ◌≤◌, ◌∷◌, ◌↔◌, [], ℕ, IfSome, IsTrue, List, MatchBool, MatchOption, Some, length};
 ghost use Rattle.ea_base.specs.declared.limits.TheConstants.{HORIZON};
 ghost use Rattle.ea_bytes.specs.Text.{fields_of, number_of};
 ghost use Rattle.ea_check.specs.Form.{AreArcNumbers, IsTime, IsWalkLine, SaysArcs, SaysSource, SaysTime, arcs_of, told_time};
 ghost use Rattle.ea_check.specs.Form as spec;
 
+use crate::form::leading_number::{leading_number, only_number};
 use crate::form::number_count::count_numbers;
 use ea_base::{Direction, HORIZON};
 use ea_bytes::{first_field, number};
@@ -95,12 +96,34 @@ fn are_source(way: Direction, word: &[u8], node: &[u8], departure: &[u8], source
     is_number(departure, told(way, source.departure))
 }
 
+/// Fast path: the time in a node's `d` line of single spaces and digits, if it has a time.
+fn plain_time(way: Direction, text: &[u8], node: u32) -> Option<u64>
+    ensures { IfSome result (λ time. SaysTime way (fields_of text.now) node time) }
+{
+    let [b'd', b' ', numbers @ ..] = text else {
+        return None;
+    };
+    let Some((place, rest)) = leading_number(numbers) else {
+        return None;
+    };
+    if place != u64::from(node) {
+        return None;
+    }
+    match only_number(rest) {
+        Some(time) if time <= HORIZON => Some(told(way, time)),
+        _ => None,
+    }
+}
+
 /// The time in a node's `d` line, or NONE for the word in its place; None if the line is no such line.
 pub(crate) fn time_said(way: Direction, text: &[u8], node: u32) -> Option<u64>
     ensures { MatchOption result
         ((time : ℕ) → SaysTime way (fields_of text.now) node time → ⊥)
         (λ time. SaysTime way (fields_of text.now) node time) }
 {
+    if let Some(time) = plain_time(way, text, node) {
+        return Some(time);
+    }
     match three_fields(text) {
         Some((word, place, arrival)) => time_in(way, word, place, arrival, node),
         None => None,

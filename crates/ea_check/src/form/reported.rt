@@ -155,7 +155,9 @@ impl Reported {
 
     /// The number of nodes with a `w` line.
     pub(crate) fn walks(&self) -> usize
-        ensures { result ≤ length self.now }
+        ensures few { result ≤ length self.now }
+        ensures none { result ≡ 0
+            → (node : ℕ) (said : Said) → IsSaid self.now node said → said.walk ≡ None }
     {
         let mut walks = 0;
         for said in &self.said {

@@ -4,7 +4,8 @@ ghost use Rattle.ea_bytes.specs.Text.{fields_of};
 ghost use Rattle.ea_check.specs.Form.{arc_of, arcs_of};
 ghost use Rattle.ea_check.specs.Reads.{BeginsWithArc};
 
-use ea_bytes::{first_field, is_blank, number};
+use crate::form::leading_number::leading_number;
+use ea_bytes::{first_field, number};
 use std::alloc::AllocError;
 
 /// The arc number in a field. A number of more than 32 bits becomes 0, which is no arc's.
@@ -16,26 +17,16 @@ fn arc_number(field: &[u8]) -> u32
         _ => 0,
     }
 }
-/// Fast path: the arc number in the first field of a line, and the bytes after its blank, if the line begins
-/// with a digit and the number is not very large.
+
+/// Fast path: the arc number that a line begins with, and the bytes after its blank.
 fn leading_arc(text: &[u8]) -> Option<(u32, &[u8])>
     ensures first { IfSome result (λ x. BeginsWithArc text.entry.now x.0 x.1.now) }
     ensures shorter { IfSome result (λ x. length x.1.now < length text.entry.now) }
 {
-    let mut value: u64 = 0;
-    for (i, b) in text.iter().enumerate() {
-        if !b.is_ascii_digit() {
-            if i == 0 || value > 4_294_967_295 || !is_blank(*b) {
-                return None;
-            }
-            return Some((value as u32, &text[i + 1..]));
-        }
-        if value > 4_294_967_295 {
-            return None;
-        }
-        value = value * 10 + u64::from(*b - b'0');
+    match leading_number(text) {
+        Some((value, rest)) if value < 4_294_967_296 => Some((value as u32, rest)),
+        _ => None,
     }
-    None
 }
 
 /// The arc number in the first field of a line, and the bytes after it.

@@ -7,15 +7,18 @@ ghost use Rattle.ea_road.specs.Roads.{IsArc, IsNode};
 ghost use Rattle.ea_search.specs.Links.{AreLinks};
 ghost use Rattle.ea_check.specs.Starts.{AreOrdered};
 ghost use Rattle.ea_check.specs.Nodes.{IsFirstOther, IsOtherAt};
+ghost use Rattle.ea_check.specs.Supported.{AreSupported};
 ghost use Rattle.ea_check.specs.Verdicts.{AreUnimproved, Improves, IsFirst, IsNotLeast, IsReported, IsTask, IsVerdict, IsWellFormed, reported_time};
 
 use crate::fault::CheckFault;
 use crate::form::reported::Reported;
 use crate::judge::canonical_walk::Comparing;
-use crate::judge::walk_sources::attains;
+use crate::judge::support::{are_all_marked, mark, unmarked};
+use crate::judge::walk_sources::{attains, ordered_sources};
 use ea_base::HORIZON;
+use ea_paths::find_links;
 use ea_road::{NONE, Network, Query, Source};
-use ea_search::{Link, NO_LEVEL};
+use ea_search::{Link, NO_LEVEL, Open};
 use ea_travel_times::TravelTimes;
 use std::alloc::Global;
 
@@ -91,7 +94,8 @@ fn first_other<T: TravelTimes>(
     Ok(first)
 }
 
-/// The lower of a node and the head of an arc, if the arc improves the head's reported time.
+/// The lower of a node and the head of an arc, if the arc improves the head's reported time. Marks the head if
+/// the arc supports its time.
 fn lower_by_arc<T: TravelTimes>(
     network: &Network,
     times: &T,
@@ -99,11 +103,14 @@ fn lower_by_arc<T: TravelTimes>(
     reported: &Reported,
     number: u32,
     lowest: u32,
+    marks: &mut [bool],
 ) -> u32
     requires task { IsTask network.now (T.classes times.now) query.now.sources }
     requires formed { IsWellFormed network.now.nodes reported.now }
     requires from_one { 0 < number }
     requires to_last { number ≤ length network.now.arcs }
+    requires marks { AreSupported network.now
+        (T.answers times.now) query.now.sources reported.now marks.old }
     ensures lower { result ≤ lowest }
     ensures found { (result ≡ lowest)
         ⊎ Improves network.now (T.answers times.now) query.now.sources
@@ -112,30 +119,42 @@ fn lower_by_arc<T: TravelTimes>(
         → reported_time reported.now arc.tail ≤ HORIZON
         → T.answers times.now arc.class arc.weight (reported_time reported.now arc.tail) arrival
         → arrival ≤ HORIZON → arrival < reported_time reported.now arc.head → result ≤ arc.head }
+    ensures marks { AreSupported network.now
+        (T.answers times.now) query.now.sources reported.now marks.new }
 {
     let arc = network.arc(number);
     let departure = reported.time(arc.tail);
-    if departure == NONE || lowest <= arc.head {
+    if departure == NONE {
         return lowest;
     }
     let arrival = times.arrive(arc.class, u64::from(arc.weight), departure);
-    if arrival <= HORIZON && arrival < reported.time(arc.head) {
-        arc.head
-    } else {
-        lowest
+    let time = reported.time(arc.head);
+    if arrival > HORIZON || arrival > time {
+        return lowest;
     }
+    if arrival < time {
+        return lowest.min(arc.head);
+    }
+    if departure < time {
+        mark(marks, arc.head);
+    }
+    lowest
 }
 
-/// The lowest node whose reported time an arc improves, or `above` if no lower one is.
+/// The lowest node whose reported time an arc improves, or `above` if no lower one is. Marks the nodes whose
+/// times an arc supports.
 fn lowest_by_arcs<T: TravelTimes>(
     network: &Network,
     times: &T,
     query: &Query,
     reported: &Reported,
     above: u32,
+    marks: &mut [bool],
 ) -> u32
     requires task { IsTask network.now (T.classes times.now) query.now.sources }
     requires formed { IsWellFormed network.now.nodes reported.now }
+    requires marks { AreSupported network.now
+        (T.answers times.now) query.now.sources reported.now marks.old }
     ensures lower { result ≤ above }
     ensures found { (result ≡ above)
         ⊎ Improves network.now (T.answers times.now) query.now.sources
@@ -144,15 +163,18 @@ fn lowest_by_arcs<T: TravelTimes>(
         → reported_time reported.now arc.tail ≤ HORIZON
         → T.answers times.now arc.class arc.weight (reported_time reported.now arc.tail) arrival
         → arrival ≤ HORIZON → arrival < reported_time reported.now arc.head → result ≤ arc.head }
+    ensures marks { AreSupported network.now
+        (T.answers times.now) query.now.sources reported.now marks.new }
 {
     let mut lowest = above;
     for number in 1..network.arcs().len() as u32 + 1 {
-        lowest = lower_by_arc(network, times, query, reported, number, lowest);
+        lowest = lower_by_arc(network, times, query, reported, number, lowest, marks);
     }
     lowest
 }
 
-/// The lower of a node and a source's node, if the source improves the node's reported time.
+/// The lower of a node and a source's node, if the source improves the node's reported time. Marks the node if
+/// the source departs at its time.
 fn lower_by_source<T: TravelTimes>(
     network: &Network,
     times: &T,
@@ -160,69 +182,85 @@ fn lower_by_source<T: TravelTimes>(
     reported: &Reported,
     source: Source,
     lowest: u32,
+    marks: &mut [bool],
 ) -> u32
     requires task { IsTask network.now (T.classes times.now) query.now.sources }
     requires formed { IsWellFormed network.now.nodes reported.now }
     requires source { IsAmong query.now.sources source }
     requires node { IsNode (length reported.now) source.node }
+    requires marks { AreSupported network.now
+        (T.answers times.now) query.now.sources reported.now marks.old }
     ensures lower { result ≤ lowest }
     ensures found { (result ≡ lowest)
         ⊎ Improves network.now (T.answers times.now) query.now.sources
         (reported_time reported.now) result }
     ensures passed { source.departure < reported_time reported.now source.node
         → result ≤ source.node }
+    ensures marks { AreSupported network.now
+        (T.answers times.now) query.now.sources reported.now marks.new }
 {
-    if lowest <= source.node {
-        return lowest;
+    let time = reported.time(source.node);
+    if source.departure < time {
+        return lowest.min(source.node);
     }
-    if source.departure < reported.time(source.node) {
-        source.node
-    } else {
-        lowest
+    if source.departure == time {
+        mark(marks, source.node);
     }
+    lowest
 }
 
-/// The lowest node whose reported time a source improves, or `above` if no lower one is.
+/// The lowest node whose reported time a source improves, or `above` if no lower one is. Marks the nodes at
+/// whose times a source departs.
 fn lowest_by_sources<T: TravelTimes>(
     network: &Network,
     times: &T,
     query: &Query,
     reported: &Reported,
     above: u32,
+    marks: &mut [bool],
 ) -> u32
     requires task { IsTask network.now (T.classes times.now) query.now.sources }
     requires formed { IsWellFormed network.now.nodes reported.now }
+    requires marks { AreSupported network.now
+        (T.answers times.now) query.now.sources reported.now marks.old }
     ensures lower { result ≤ above }
     ensures found { (result ≡ above)
         ⊎ Improves network.now (T.answers times.now) query.now.sources
         (reported_time reported.now) result }
     ensures passed { (source : Source) → IsAmong query.now.sources source
         → source.departure < reported_time reported.now source.node → result ≤ source.node }
+    ensures marks { AreSupported network.now
+        (T.answers times.now) query.now.sources reported.now marks.new }
 {
     let mut lowest = above;
     for source in query.sources() {
-        lowest = lower_by_source(network, times, query, reported, *source, lowest);
+        lowest = lower_by_source(network, times, query, reported, *source, lowest, marks);
     }
     lowest
 }
 
-/// The first `d` line that a source or an arc improves.
+/// The first `d` line that a source or an arc improves. Marks nodes whose times are supported.
 fn first_not_least<T: TravelTimes>(
     network: &Network,
     times: &T,
     query: &Query,
     reported: &Reported,
+    marks: &mut [bool],
 ) -> Option<u64>
     requires task { IsTask network.now (T.classes times.now) query.now.sources }
     requires formed { IsWellFormed network.now.nodes reported.now }
-    ensures { MatchOption result
+    requires marks { AreSupported network.now
+        (T.answers times.now) query.now.sources reported.now marks.old }
+    ensures least { MatchOption result
         (AreUnimproved network.now (T.answers times.now) query.now.sources reported.now)
         (λ line. IsFirst (IsNotLeast network.now
         (T.answers times.now) query.now.sources reported.now) line) }
+    ensures marks { AreSupported network.now
+        (T.answers times.now) query.now.sources reported.now marks.new }
 {
     let above = network.nodes() + 1;
-    let by_sources = lowest_by_sources(network, times, query, reported, above);
-    let lowest = lowest_by_arcs(network, times, query, reported, by_sources);
+    let by_sources = lowest_by_sources(network, times, query, reported, above, marks);
+    let lowest = lowest_by_arcs(network, times, query, reported, by_sources, marks);
     if lowest == above {
         None
     } else {
@@ -230,27 +268,49 @@ fn first_not_least<T: TravelTimes>(
     }
 }
 
-/// The fault of a report of one problem, by the links of its reported times.
+/// The first `w` line that is not the canonical walk, if all lines are attained. Otherwise the first that is
+/// not attained. Without walks, and with all nodes marked, no line has to be looked at.
+fn first_by_marks<T: TravelTimes>(
+    alloc: Global,
+    network: &Network,
+    times: &T,
+    query: &Query,
+    reported: &Reported,
+    marks: &[bool],
+) -> Result<Option<u64>, CheckFault>
+    requires task { IsTask network.now (T.classes times.now) query.now.sources }
+    requires formed { IsWellFormed network.now.nodes reported.now }
+    requires marks { AreSupported network.now
+        (T.answers times.now) query.now.sources reported.now marks.now }
+    ensures { IsFirstOther network.now (T.answers times.now) query.now.sources reported.now result }
+{
+    if reported.walks() == 0 && are_all_marked(reported, marks) {
+        return Ok(None);
+    }
+    let todo = Open::reserve(alloc, network.nodes())?;
+    let links = find_links(network, times, query.sources(), reported.table(), todo);
+    let ordered = ordered_sources(alloc, query.sources())?;
+    first_other(alloc, network, times, query, &ordered, reported, &links)
+}
+
+/// The fault of a report's lines on one problem.
 pub(crate) fn judge<T: TravelTimes>(
     alloc: Global,
     network: &Network,
     times: &T,
     query: &Query,
-    ordered: &[Source],
     reported: &Reported,
-    links: &[Link],
 ) -> Result<(), CheckFault>
     requires task { IsTask network.now (T.classes times.now) query.now.sources }
-    requires ordered { AreOrdered query.now.sources ordered.now }
     requires formed { IsWellFormed network.now.nodes reported.now }
-    requires links { AreLinks network.now (T.answers times.now) query.now.sources
-        (IsReported reported.now) links.now }
     ensures { IsVerdict network.now (T.answers times.now) query.now.sources reported.now result }
 {
-    if let Some(line) = first_other(alloc, network, times, query, ordered, reported, links)? {
+    let mut marks = unmarked(alloc, network.nodes() as usize)?;
+    let not_least = first_not_least(network, times, query, reported, &mut marks);
+    if let Some(line) = first_by_marks(alloc, network, times, query, reported, &marks)? {
         return Err(CheckFault::NotCanonical(line));
     }
-    match first_not_least(network, times, query, reported) {
+    match not_least {
         Some(line) => Err(CheckFault::NotLeast(line)),
         None => Ok(()),
     }

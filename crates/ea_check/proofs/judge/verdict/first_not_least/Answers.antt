@@ -9,8 +9,8 @@ line-requires g c =
     let improves = lowest_improves c.args.network.now _ (g.T.TravelTimes.classes c.args.times.now) c.args.query.now.sources c.args.reported.now c.requires.task (g.met.T.TravelTimes.fifo c.args.times.now) c.requires.formed lowest c.lowest_by_sources-by_sources.result (c.nodes-above.result + 1) c.lowest_by_arcs-lowest.ensures.found c.lowest_by_sources-by_sources.ensures.found c.if-lowest-above.false in
     subst (λ n. IsNode n lowest) (sym c.requires.formed.each_node) (improved_node c.args.network.now _ (g.T.TravelTimes.classes c.args.times.now) c.args.query.now.sources c.args.reported.now c.requires.task (g.met.T.TravelTimes.fifo c.args.times.now) c.requires.formed lowest improves)
 
-pub returns-else-lowest-above : goal.returns-else-lowest-above
-returns-else-lowest-above g c =
+pub returns-else-lowest-above-clause-least : goal.returns-else-lowest-above-clause-least
+returns-else-lowest-above-clause-least g c =
     let lowest = c.lowest_by_arcs-lowest.result in
     let low : lowest ≤ c.lowest_by_sources-by_sources.result = c.lowest_by_arcs-lowest.ensures.lower in
     let improves = lowest_improves c.args.network.now _ (g.T.TravelTimes.classes c.args.times.now) c.args.query.now.sources c.args.reported.now c.requires.task (g.met.T.TravelTimes.fifo c.args.times.now) c.requires.formed lowest c.lowest_by_sources-by_sources.result (c.nodes-above.result + 1) c.lowest_by_arcs-lowest.ensures.found c.lowest_by_sources-by_sources.ensures.found c.if-lowest-above.false in

@@ -15,4 +15,5 @@ loop-number-preserved g c =
         | inl same ↦ now.passed arc arrival (rw same.1 at is) early answer fits sooner
         | inr other ↦ omega (arith, now.lower, was.passed number arc arrival (omega (arith, other.1)) is early answer fits sooner)
       ];
+      marks = now.marks;
     }

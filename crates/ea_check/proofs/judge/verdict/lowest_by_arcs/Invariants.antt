@@ -2,6 +2,7 @@ use Rattle.std.proofs.Common.{◌≡◌, ℕ, ◌<◌, ◌≤◌, ◌⊎◌}
 use Rattle.ea_base.specs.declared.limits.TheConstants.{HORIZON}
 use Rattle.ea_road.specs.declared.arc.Arc.{Arc}
 use Rattle.ea_road.specs.Roads.{IsArc}
+use Rattle.ea_check.specs.Supported.{AreSupported}
 use Rattle.ea_check.specs.Verdicts.{Improves, reported_time}
 use Rattle.ea_check.proofs.judge.verdict.lowest_by_arcs.Given as goal
 
@@ -10,4 +11,5 @@ invariant-loop-number g l = record {
   lower : l.lowest ≤ l.above;
   found : (l.lowest ≡ l.above) ⊎ Improves l.network (g.T.TravelTimes.answers l.times) l.query.sources (reported_time l.reported) l.lowest;
   passed : (number : ℕ) (arc : Arc) (arrival : ℕ) → number < l.number → IsArc l.network number arc → reported_time l.reported arc.tail ≤ HORIZON → g.T.TravelTimes.answers l.times arc.class arc.weight (reported_time l.reported arc.tail) arrival → arrival ≤ HORIZON → arrival < reported_time l.reported arc.head → l.lowest ≤ arc.head;
+  marks : AreSupported l.network (g.T.TravelTimes.answers l.times) l.query.sources l.reported l.marks;
 }

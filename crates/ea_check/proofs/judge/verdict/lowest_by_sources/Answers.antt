@@ -21,4 +21,5 @@ loop-source-preserved g c =
       lower = omega (arith, was.lower, now.lower);
       found = still_found (Improves c.args.network.now (g.T.TravelTimes.answers c.args.times.now) c.args.query.now.sources time) c.loop-source.lowest _ c.args.above was.found now.found;
       passed = still_passed c.sources-source-items.result.now time c.loop-source.source-index c.loop-source.lowest _ (record { node = 0; departure = 0 }) c.loop-source-test.true now.lower was.passed now.passed;
+      marks = now.marks;
     }

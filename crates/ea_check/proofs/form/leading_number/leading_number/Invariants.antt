@@ -1,7 +1,7 @@
 use Rattle.std.proofs.Common.{◌≡◌, take, true}
 use Rattle.std.specs.Str.{all_ascii_digits}
 use Rattle.std.specs.Str.Parse.{digits_value}
-use Rattle.ea_check.proofs.form.walk_arcs.leading_arc.Given as goal
+use Rattle.ea_check.proofs.form.leading_number.leading_number.Given as goal
 
 abbrev pub invariant-loop-i : goal.invariant-loop-i
 invariant-loop-i l = record {
