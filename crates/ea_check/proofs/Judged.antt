@@ -22,11 +22,11 @@ use Rattle.ea_search.specs.declared.link.TheConstants.{NO_LEVEL}
 use Rattle.ea_search.specs.Links.{AreLinks, link, linked_walk}
 use Rattle.ea_paths.proofs.Linkings.{link_read}
 use Rattle.ea_check.specs.Verdicts.{WrittenWalk, Said, IsSaid, reported_time, IsReported, Improves, by_source, by_arc, IsNotAttained, no_level, astray, IsNotCanonical, other_walk, IsNotLeast, improved, IsAttained, IsCanonicalAt, IsWellFormed, IsFirst, IsTask, AreUnimproved, AreAttained, AreCanonical}
-use Rattle.ea_check.specs.Form.{AreShort}
-use Rattle.ea_check.proofs.Fields.{short_canonical}
 use Rattle.ea_check.specs.Nodes.{IsFirstAt, IsFirstOther, IsOtherAt}
 use Rattle.ea_check.specs.declared.fault.CheckFault.{CheckFault}
 use Rattle.ea_check.specs.declared.fault.CheckFault.TheVariants.{BadLine, NotAttained, NotLeast, OutOfMemory, NotCanonical}
+use Rattle.ea_check.specs.declared.form.walk_reader.WalkReader.{WalkReader}
+use Rattle.ea_check.specs.WalksLeft.{IsAtNode, ReadsNext}
 use Rattle.ea_check.proofs.Right.{said_of, time_of_said, node_of_said}
 use Rattle.ea_check.proofs.Firsts.{one_walk, first_at, line_not_least, line_not_attained, line_not_canonical, attained_no_fault, canonical_no_fault, first_no_level, first_astray, first_other_walk, first_not_least}
 
@@ -48,6 +48,10 @@ module _
         let said = said_at node is_node in
         let same = time_of_said reported node said.0 said.1 in
         subst (λ t. t ≤ HORIZON) (sym same) (formed.times node said.0 said.1 (λ none. has_time (same ∙ none)))
+
+    -- the walks behind that of a node
+    pub next_node : (node : ℕ) → IsNode roads.nodes node → (line : Option ℕ) (old new : WalkReader) → IsAtNode reported node old → ReadsNext line old new → IsAtNode reported (node + 1) new
+    next_node node is_node line old new at reads = let said = said_at node is_node in (reads reported node said.0 at said.1).0
 
     -- a node with no time has no walk
     pub right_unreached : (node : ℕ) → reported_time reported node ≡ NONE → IsAttained roads answers sources reported node × IsCanonicalAt roads answers sources reported node
@@ -130,11 +134,6 @@ module _
 
         pub linked_canonical : (arcs : List ℕ) → (link links node).level ≢ NO_LEVEL → IsCanonical roads answers sources (IsReported reported) node arcs → arcs ≡ linked_walk links node
         linked_canonical arcs there canonical = one_canonical roads answers sources (IsReported reported) canonical ((are.each node is_node).walk there)
-
-        -- its arcs are numbers of at most 32 bits
-        pub short_linked : (link links node).level ≢ NO_LEVEL → AreShort (linked_walk links node)
-        short_linked there =
-            short_canonical roads answers sources (IsReported reported) task.network ((are.each node is_node).walk there)
 
         pub right_linked : (line : ℕ) (arcs : List ℕ) → reported_time reported node ≢ NONE → (link links node).level ≢ NO_LEVEL → ((said : Said) → IsSaid reported node said → said.walk ≡ Some (record { line = line; arcs = arcs })) → arcs ≡ linked_walk links node → IsAttained roads answers sources reported node × IsCanonicalAt roads answers sources reported node
         right_linked line arcs has_time there writes same =

@@ -1,5 +1,5 @@
 pub mod Backwards
-pub mod Viewed
+pub mod KeptLines
 pub mod Walks
 pub mod Ordering
 pub mod Right
@@ -21,6 +21,7 @@ pub mod Whole
 pub mod Fields
 pub mod Written
 pub mod Leading
+pub mod SharedTexts
 pub mod Counting
 pub mod Onward
 pub mod Streaming

@@ -1,9 +1,11 @@
 pub mod Verdicts
 pub mod Nodes
 pub mod Views
+pub mod WalksLeft
 pub mod Starts
 pub mod Form
 pub mod Counted
+pub mod Shared
 pub mod Checked
 pub mod Places
 pub mod Reads

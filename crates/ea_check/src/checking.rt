@@ -72,10 +72,11 @@ fn check_lines<T: TravelTimes, R: ByteIn, V: Watch>(
         (R.seen device.old) lines.old (R.seen device.new) lines.new result }
 {
     let nodes = network.nodes();
+    let mut reported = Reported::new(alloc);
     let mut verdict = Ok(());
     let mut done = 0;
     for query in queries {
-        let reported = read_problem(alloc, lines, device, nodes, query.sources())?;
+        read_problem(lines, device, nodes, query.sources(), &mut reported)?;
         verdict = check_next(verdict, alloc, network, times, query, &reported);
         done += 1;
         watch.checked(nodes as usize, reported.walks());

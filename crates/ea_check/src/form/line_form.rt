@@ -1,8 +1,8 @@
 //! The fields of a report's lines.
-ghost use Rattle.std.specs.Prelude.{◌≡◌, ◌≤◌, ◌∷◌, ◌↔◌, [], ℕ, IfSome, IsTrue, List, MatchBool, MatchOption, Some, length};
+ghost use Rattle.std.specs.Prelude.{◌≡◌, ◌≤◌, ◌∷◌, ◌↔◌, [], ℕ, IfSome, IsTrue, List, MatchOption, Some, length};
 ghost use Rattle.ea_base.specs.declared.limits.TheConstants.{HORIZON};
 ghost use Rattle.ea_bytes.specs.Text.{fields_of, number_of};
-ghost use Rattle.ea_check.specs.Form.{AreArcNumbers, IsTime, IsWalkLine, SaysArcs, SaysSource, SaysTime, arcs_of, told_time};
+ghost use Rattle.ea_check.specs.Form.{IsTime, IsWalkLine, SaysArcs, SaysSource, SaysTime, arcs_of, told_time};
 ghost use Rattle.ea_check.specs.Form as spec;
 
 use crate::form::leading_number::{leading_number, only_number};
@@ -173,11 +173,12 @@ pub(crate) fn is_walk_line(text: &[u8]) -> bool
     }
 }
 
-/// The text of the arcs, if a line is a node's `w` line.
-pub(crate) fn says_walk(text: &[u8], node: u32) -> Option<&[u8]>
+/// The number of a walk's arcs and their text, if a line is a node's `w` line.
+pub(crate) fn says_walk(text: &[u8], node: u32) -> Option<(usize, &[u8])>
     ensures { MatchOption result
         ((arcs : List ℕ) → SaysArcs (fields_of text.entry.now) node arcs → ⊥)
-        (λ rest. SaysArcs (fields_of text.entry.now) node (arcs_of (fields_of rest.now))) }
+        (λ found. SaysArcs (fields_of text.entry.now) node (arcs_of (fields_of found.1.now))
+        × (found.0 ≡ length (fields_of found.1.now))) }
 {
     let Some((word, rest)) = first_field(text) else {
         return None;
@@ -188,26 +189,11 @@ pub(crate) fn says_walk(text: &[u8], node: u32) -> Option<&[u8]>
     let Some((count, rest)) = first_field(rest) else {
         return None;
     };
-    if word != b"w".as_slice() {
+    if word != b"w".as_slice() || !is_number(place, u64::from(node)) {
         return None;
     }
-    if is_number(place, u64::from(node)) && counts(count, rest) {
-        Some(rest)
-    } else {
-        None
-    }
-}
-
-/// Whether the fields of a text are numbers, as many as the count says.
-fn counts(count: &[u8], text: &[u8]) -> bool
-    ensures { MatchBool result
-        ((number_of count.now ≡ Some (length (fields_of text.now)))
-        × AreArcNumbers (fields_of text.now) (arcs_of (fields_of text.now)))
-        ((arcs : List ℕ) → number_of count.now ≡ Some (length (fields_of text.now))
-        → AreArcNumbers (fields_of text.now) arcs → ⊥) }
-{
-    match count_numbers(text) {
-        Some(fields) => is_number(count, fields as u64),
-        None => false,
+    match count_numbers(rest) {
+        Some(fields) if is_number(count, fields as u64) => Some((fields, rest)),
+        _ => None,
     }
 }

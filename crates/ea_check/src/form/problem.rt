@@ -11,13 +11,13 @@ ghost use Rattle.ea_check.specs.Stops.{IsStop};
 ghost use Rattle.ea_check.specs.Streams.{IsSound, LeadsTo};
 
 use crate::fault::CheckFault;
+use crate::form::kept::{SaidLine, WalkLine};
 use crate::form::line_form::{is_walk_line, says_source, says_walk, time_said};
 use crate::form::report_lines::ReportLines;
-use crate::form::reported::{Reported, SaidLine, WalkLine};
+use crate::form::reported::Reported;
 use crate::form::stop::Stop;
 use ea_bytes::ByteIn;
 use ea_road::{NONE, Source};
-use std::alloc::Global;
 
 /// Reads the line of a source.
 fn read_source<R: ByteIn>(
@@ -103,12 +103,13 @@ fn read_walk<R: ByteIn>(
     if !is_walk_line(line.text) {
         return keep_time(number, time, reported);
     }
-    let Some(arcs) = says_walk(line.text, node) else {
+    let Some((count, arcs)) = says_walk(line.text, node) else {
         return Err(Stop::Report(CheckFault::BadLine(line.number)));
     };
     let walk = WalkLine {
         line: line.number,
         way: line.way,
+        count,
         arcs,
     };
     reported.push(SaidLine {
@@ -149,48 +150,48 @@ fn read_node<R: ByteIn>(
     read_walk(lines, device, node, number, time, reported)
 }
 
-/// Reads the lines of all nodes.
+/// Reads the lines of all nodes, in place of what was reported before.
 fn read_nodes<R: ByteIn>(
-    alloc: Global,
     lines: &mut ReportLines,
     device: &mut R,
     nodes: u32,
-) -> Result<Reported, Stop>
+    reported: &mut Reported,
+) -> Result<(), Stop>
     requires sound { IsSound lines.old }
     requires nodes { nodes + 1 < 2 ^ 32 }
     ensures sound { OnOk result (IsSound lines.new) }
     ensures read { MatchResult result
-        (λ reported. ReadsAllNodes nodes reported
+        (λ _. ReadsAllNodes nodes reported.new
         (R.seen device.old) lines.old (R.seen device.new) lines.new)
         (IsStop (NodesWrong 1 nodes)
         (R.seen device.old) lines.old (R.seen device.new) lines.new) }
 {
-    let mut reported = Reported::for_nodes(alloc, nodes as usize)?;
+    reported.begin(nodes as usize)?;
     for node in 1..nodes + 1 {
-        read_node(lines, device, node, &mut reported)?;
+        read_node(lines, device, node, reported)?;
     }
-    Ok(reported)
+    Ok(())
 }
 
-/// Reads the lines of a problem.
+/// Reads the lines of a problem, in place of what was reported before.
 pub(crate) fn read_problem<R: ByteIn>(
-    alloc: Global,
     lines: &mut ReportLines,
     device: &mut R,
     nodes: u32,
     sources: &[Source],
-) -> Result<Reported, Stop>
+    reported: &mut Reported,
+) -> Result<(), Stop>
     requires departures { (source : Source) → IsAmong sources.now source
         → source.departure ≤ HORIZON }
     requires sound { IsSound lines.old }
     requires nodes { nodes + 1 < 2 ^ 32 }
     ensures sound { OnOk result (IsSound lines.new) }
     ensures read { MatchResult result
-        (λ reported. LeadsTo (ReadsProblem nodes sources.now reported)
+        (λ _. LeadsTo (ReadsProblem nodes sources.now reported.new)
         (R.seen device.old) lines.old (R.seen device.new) lines.new)
         (IsStop (ProblemWrong nodes sources.now)
         (R.seen device.old) lines.old (R.seen device.new) lines.new) }
 {
     read_sources(lines, device, sources)?;
-    read_nodes(alloc, lines, device, nodes)
+    read_nodes(lines, device, nodes, reported)
 }

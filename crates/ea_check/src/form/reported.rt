@@ -1,131 +1,66 @@
 //! A report's lines on one problem.
-ghost use Rattle.std.specs.Prelude.{◌≡◌, ◌≤◌, ◌++◌, ◌∷◌, [], ℕ, IfErr, IfOk, List, length, map, MatchOption, None, OnOk, Some};
+ghost use Rattle.std.specs.Prelude.{◌≡◌, ◌≤◌, ◌++◌, ◌∷◌, [], ℕ, IfErr, IsTrue, None, OnOk, length};
 ghost use Rattle.ea_road.specs.Roads.{IsNode};
-ghost use Rattle.ea_bytes.specs.Text.{fields_of};
 ghost use Rattle.ea_check.specs.declared.fault.CheckFault.TheVariants.{OutOfMemory};
-ghost use Rattle.ea_check.specs.Form.{arcs_of};
 ghost use Rattle.ea_check.specs.Verdicts.{IsSaid, Said, reported_time, times_of};
-ghost use Rattle.ea_check.specs.Views.{IsInside, kept_walk, part, said_of, walk_of};
+ghost use Rattle.ea_check.specs.Views.{HasCount, said_of};
+ghost use Rattle.ea_check.specs.WalksLeft.{IsAtNode};
 
 use crate::fault::CheckFault;
-use ea_base::Direction;
+use crate::form::kept::{Kept, SaidLine, keep};
+use crate::form::walk_reader::WalkReader;
 use std::alloc::Global;
 use std::marker::Model;
-
-/// The text of a walk's arcs, the number of its line, and the direction of its report's run.
-#[derive(Clone, Copy)]
-pub(crate) struct WalkLine<'a> {
-    pub line: u64,
-    pub way: Direction,
-    pub arcs: &'a [u8],
-}
-
-/// A node's `d` line and its `w` line.
-#[derive(Clone, Copy)]
-pub(crate) struct SaidLine<'a> {
-    pub line: u64,
-    pub time: u64,
-    pub walk: Option<WalkLine<'a>>,
-}
-
-/// A walk that is kept: the number of its line, the direction of its report's run, and the place of the text of its
-/// arcs begins and ends.
-#[derive(Clone, Copy)]
-pub(crate) struct KeptWalk {
-    pub line: u64,
-    pub way: Direction,
-    pub start: usize,
-    pub end: usize,
-}
-
-/// A node's lines as they are kept.
-#[derive(Clone, Copy)]
-pub(crate) struct KeptLine {
-    pub line: u64,
-    pub time: u64,
-    pub walk: Option<KeptWalk>,
-}
-
-/// The bytes of a text between two places.
-fn bytes_between(text: &[u8], start: usize, end: usize) -> &[u8]
-    requires order { start ≤ end }
-    requires inside { end ≤ length text.now }
-    ensures { result.now ≡ part text.now start end }
-{
-    &text[start..end]
-}
-
-/// Appends the arcs of a walk, if there is one.
-fn keep_walk(arcs: &mut Vec<u8>, walk: Option<WalkLine<'_>>) -> Result<Option<KeptWalk>, CheckFault>
-    ensures grown { (more : List ℕ) × (arcs.new.items ≡ arcs.old.items ++ more) }
-    ensures kept { IfOk result (λ kept. IsInside arcs.new.items kept
-        × (kept_walk arcs.new.items kept ≡ walk_of walk.entry)) }
-    ensures refused { IfErr result (λ fault. fault ≡ OutOfMemory) }
-{
-    let Some(walk) = walk else {
-        return Ok(None);
-    };
-    let start = arcs.len();
-    arcs.extend_from_slice(walk.arcs)?;
-    Ok(Some(KeptWalk {
-        line: walk.line,
-        way: walk.way,
-        start,
-        end: arcs.len(),
-    }))
-}
 
 /// A report's lines on the nodes of one problem, in their order. In contracts it is the list of what they
 /// say.
 #[derive(Drop)]
 pub(crate) struct Reported {
-    said: Vec<KeptLine>,
-    /// The times again, contiguous in memory.
-    table: Vec<u64>,
-    /// The arcs of all walks, one walk after another.
-    arcs: Vec<u8>,
+    kept: Kept,
 }
 
 impl Model for Reported {
-    ghost use Rattle.std.specs.Prelude.{List, map};
+    ghost use Rattle.std.specs.Prelude.{List};
     ghost use Rattle.ea_check.specs.Verdicts.{Said};
-    ghost use Rattle.ea_check.specs.Views.{AreKept, kept_of};
+    ghost use Rattle.ea_check.specs.Views.{AreKept, said_kept};
 
     ghost Value = { List Said };
 
-    ghost view = { λ r. map (kept_of r.arcs.items) r.said.items };
+    ghost view = { λ r. said_kept r.kept };
 
-    ghost invariant = { λ r. AreKept r.arcs.items r.said.items r.table.items };
+    ghost invariant = { λ r. AreKept r.kept };
 }
 
 impl Reported {
-    /// No line yet, and room for this many nodes.
-    pub(crate) fn for_nodes(alloc: Global, nodes: usize) -> Result<Reported, CheckFault>
-        ensures none { IfOk result (λ reported. reported ≡ []) }
-        ensures refused { IfErr result (λ fault. fault ≡ OutOfMemory) }
+    /// No line yet.
+    pub(crate) fn new(alloc: Global) -> Reported
+        ensures { result ≡ [] }
     {
-        Ok(Reported {
-            said: Vec::with_capacity(alloc, nodes)?,
-            table: Vec::with_capacity(alloc, nodes)?,
-            arcs: Vec::new(alloc),
-        })
+        Reported {
+            kept: Kept::new(alloc),
+        }
     }
 
-    /// Keeps the lines of the next node.
+    /// Forgets the lines, and makes room for those of this many nodes.
+    pub(crate) fn begin(&mut self, nodes: usize) -> Result<(), CheckFault>
+        ensures none { self.new ≡ [] }
+        ensures refused { IfErr result (λ fault. fault ≡ OutOfMemory) }
+    {
+        self.kept.clear();
+        self.kept.lines.reserve(nodes)?;
+        self.kept.table.reserve(nodes)?;
+        Ok(())
+    }
+
+    /// Keeps the lines of the next node. After a refusal no line is kept.
     pub(crate) fn push(&mut self, said: SaidLine<'_>) -> Result<(), CheckFault>
+        requires count { HasCount said.walk }
         ensures kept { OnOk result (self.new ≡ self.old ++ said_of said.entry ∷ []) }
         ensures refused { IfErr result (λ fault. fault ≡ OutOfMemory) }
     {
-        let walk = keep_walk(&mut self.arcs, said.walk)?;
-        self.said.push(KeptLine {
-            line: said.line,
-            time: said.time,
-            walk,
-        })?;
-        if self.table.push(said.time).is_err() {
-            // As many times as lines, after a refusal too.
-            let _ = self.said.pop();
-            return Err(CheckFault::OutOfMemory);
+        if let Err(fault) = keep(&mut self.kept, said) {
+            self.kept.clear();
+            return Err(fault);
         }
         Ok(())
     }
@@ -134,7 +69,7 @@ impl Reported {
     pub(crate) fn table(&self) -> &[u64]
         ensures { result.now ≡ times_of self.now }
     {
-        &self.table
+        &self.kept.table
     }
 
     /// The time of a node, or NONE.
@@ -142,7 +77,7 @@ impl Reported {
         requires { IsNode (length self.now) node }
         ensures { result ≡ reported_time self.now node }
     {
-        self.table[node as usize - 1]
+        self.kept.table[node as usize - 1]
     }
 
     /// The number of a node's `d` line.
@@ -150,36 +85,41 @@ impl Reported {
         requires { IsNode (length self.now) node }
         ensures { (said : Said) → IsSaid self.now node said → result ≡ said.line }
     {
-        self.said[node as usize - 1].line
+        self.kept.lines[node as usize - 1]
+    }
+
+    /// Whether no node has a `w` line.
+    pub(crate) fn has_no_walks(&self) -> bool
+        ensures { IsTrue result
+            → (node : ℕ) (said : Said) → IsSaid self.now node said → said.walk ≡ None }
+    {
+        if self.kept.walks.len() > 0 {
+            return false;
+        }
+        true
     }
 
     /// The number of nodes with a `w` line.
     pub(crate) fn walks(&self) -> usize
-        ensures few { result ≤ length self.now }
-        ensures none { result ≡ 0
-            → (node : ℕ) (said : Said) → IsSaid self.now node said → said.walk ≡ None }
+        ensures { result ≤ length self.now }
     {
         let mut walks = 0;
-        for said in &self.said {
-            if said.walk.is_some() {
+        for walk in &self.kept.walks {
+            if walk.is_some() {
                 walks += 1;
             }
         }
         walks
     }
 
-    /// A node's `w` line, if it has one.
-    pub(crate) fn walk(&self, node: u32) -> Option<WalkLine<'_>>
-        requires { IsNode (length self.now) node }
-        ensures { (said : Said) → IsSaid self.now node said → said.walk ≡ walk_of result }
+    /// The walks, from that of node 1 on.
+    pub(crate) fn reader(&self, alloc: Global) -> WalkReader<'_>
+        ensures { IsAtNode self.now 1 result }
     {
-        let Some(walk) = self.said[node as usize - 1].walk else {
-            return None;
-        };
-        Some(WalkLine {
-            line: walk.line,
-            way: walk.way,
-            arcs: bytes_between(&self.arcs, walk.start, walk.end),
-        })
+        WalkReader {
+            walks: &self.kept.walks,
+            own: &self.kept.own,
+            arcs: Vec::new(alloc),
+        }
     }
 }

@@ -1,5 +1,5 @@
 //! The fault of a report of one problem whose form is right.
-ghost use Rattle.std.specs.Prelude.{◌≡◌, ◌≤◌, ◌<◌, ◌⊎◌, ℕ, MatchOption, OnOk, length};
+ghost use Rattle.std.specs.Prelude.{◌≡◌, ◌+◌, ◌≤◌, ◌<◌, ◌⊎◌, ℕ, MatchOption, OnOk, length};
 ghost use Rattle.std.specs.List.{IsAmong};
 ghost use Rattle.ea_base.specs.declared.limits.TheConstants.{HORIZON};
 ghost use Rattle.ea_road.specs.declared.arc.Arc.{Arc};
@@ -8,11 +8,13 @@ ghost use Rattle.ea_search.specs.Links.{AreLinks};
 ghost use Rattle.ea_check.specs.Starts.{AreOrdered};
 ghost use Rattle.ea_check.specs.Nodes.{IsFirstOther, IsOtherAt};
 ghost use Rattle.ea_check.specs.Supported.{AreSupported};
+ghost use Rattle.ea_check.specs.WalksLeft.{IsAtNode};
 ghost use Rattle.ea_check.specs.Verdicts.{AreUnimproved, Improves, IsFirst, IsNotLeast, IsReported, IsTask, IsVerdict, IsWellFormed, reported_time};
 
 use crate::fault::CheckFault;
 use crate::form::reported::Reported;
-use crate::judge::canonical_walk::Comparing;
+use crate::form::walk_reader::WalkReader;
+use crate::judge::canonical_walk::is_linked_walk;
 use crate::judge::support::{are_all_marked, mark, unmarked};
 use crate::judge::walk_sources::{attains, ordered_sources};
 use ea_base::HORIZON;
@@ -32,7 +34,7 @@ fn other_at<T: TravelTimes>(
     reported: &Reported,
     links: &[Link],
     node: u32,
-    walks: &mut Comparing,
+    walks: &mut WalkReader<'_>,
 ) -> Result<Option<u64>, CheckFault>
     requires task { IsTask network.now (T.classes times.now) query.now.sources }
     requires ordered { AreOrdered query.now.sources ordered.now }
@@ -40,11 +42,12 @@ fn other_at<T: TravelTimes>(
     requires links { AreLinks network.now (T.answers times.now) query.now.sources
         (IsReported reported.now) links.now }
     requires node { IsNode network.now.nodes node }
-    requires walks { walks.old.texts.links ≡ links.now }
+    requires walks { IsAtNode reported.now node walks.old }
     ensures other { IsOtherAt network.now
         (T.answers times.now) query.now.sources reported.now node result }
-    ensures walks { OnOk result (walks.new.texts.links ≡ links.now) }
+    ensures walks { OnOk result (IsAtNode reported.now (node + 1) walks.new) }
 {
+    let walk = walks.read_next()?;
     let time = reported.time(node);
     if time == NONE {
         return Ok(None);
@@ -52,16 +55,16 @@ fn other_at<T: TravelTimes>(
     if links[node as usize - 1].level == NO_LEVEL {
         return Err(CheckFault::NotAttained(reported.line(node)));
     }
-    let Some(walk) = reported.walk(node) else {
+    let Some(line) = walk else {
         return Ok(None);
     };
-    if walks.is_canonical(links, node, walk)? {
+    if is_linked_walk(links, node, &walks.arcs) {
         return Ok(None);
     }
     if attains(network, times, query, ordered, node, time, &walks.arcs) {
-        Ok(Some(walk.line))
+        Ok(Some(line))
     } else {
-        Err(CheckFault::NotAttained(walk.line))
+        Err(CheckFault::NotAttained(line))
     }
 }
 
@@ -83,7 +86,7 @@ fn first_other<T: TravelTimes>(
         (IsReported reported.now) links.now }
     ensures { IsFirstOther network.now (T.answers times.now) query.now.sources reported.now result }
 {
-    let mut walks = Comparing::new(alloc, links);
+    let mut walks = reported.reader(alloc);
     let mut first = None;
     for node in 1..network.nodes() + 1 {
         let other = other_at(
@@ -284,7 +287,7 @@ fn first_by_marks<T: TravelTimes>(
         (T.answers times.now) query.now.sources reported.now marks.now }
     ensures { IsFirstOther network.now (T.answers times.now) query.now.sources reported.now result }
 {
-    if reported.walks() == 0 && are_all_marked(reported, marks) {
+    if reported.has_no_walks() && are_all_marked(reported, marks) {
         return Ok(None);
     }
     let todo = Open::reserve(alloc, network.nodes())?;

@@ -17,8 +17,8 @@ use Rattle.ea_check.proofs.Streamed.{ahead_in_order, judged_behind}
 use Rattle.ea_check.proofs.Streaming.{leads_also}
 use Rattle.ea_check.proofs.checking.check_lines.Goals as goal
 
-pub returns-in_err-reported : goal.returns-in_err-reported
-returns-in_err-reported g c =
+pub returns-in_err-read_problem : goal.returns-in_err-read_problem
+returns-in_err-read_problem g c =
     let p = err_from_is_err_and c.from_residual.result c.from_residual.ensures.1 in
     let roads = c.args.network.now in
     let answers = g.T.TravelTimes.answers c.args.times.now in
@@ -27,7 +27,7 @@ returns-in_err-reported g c =
     let query = c.query-item.result in
     let low = c.nodes-nodes.ensures.network.nodes_limit in
     let small = small_queries roads (g.T.TravelTimes.classes c.args.times.now) c.args.queries.now (omega arith) c.requires.checkable in
-    let wrong = rw (c.nodes-nodes.ensures.nodes, c.sources.ensures.sources) at c.in_err-reported.ensures.read in
+    let wrong = rw (c.nodes-nodes.ensures.nodes, c.sources.ensures.sources) at c.in_err-read_problem.ensures.read in
     rw (p.1, p.2) (judged_behind (IsChecked roads answers queries) (ProblemsLeft roads answers queries (sources_of (drop {A = Asking} place c.args.queries.now)) c.loop-query.verdict) (ProblemWrong roads.nodes query.sources)
     (λ lines next left fault here. wrong_checked roads answers queries lines fault (omega arith) small
     (fault_more (ProblemWrong roads.nodes query.sources next) (ReportWrong roads.nodes queries lines) fault (wrong_here roads.nodes c.args.queries.now place query c.loop-query-test.true c.query-item.is (ReportWrong roads.nodes queries lines) left.wrong) here))
@@ -39,7 +39,7 @@ check_next-verdict-requires-clause-task g c =
 
 pub check_next-verdict-requires-clause-formed : goal.check_next-verdict-requires-clause-formed
 check_next-verdict-requires-clause-formed g c =
-    let read = rw (c.nodes-nodes.ensures.nodes, c.sources.ensures.sources) at c.in_ok-reported.ensures.read in
+    let read = rw (c.nodes-nodes.ensures.nodes, c.sources.ensures.sources) at c.in_ok-read_problem.ensures.read in
     formed_of (read.holds [] (λ ended. refl)) (ahead_in_order c.loop-query.lines (rest_of c.loop-query.lines ++ (read.got ++ [])) c.loop-query.invariant.sound)
 
 pub loop-query-preserved : goal.loop-query-preserved
@@ -50,15 +50,15 @@ loop-query-preserved g c =
     let queries = sources_of c.args.queries.now in
     let place = c.loop-query.query-index in
     let query = c.query-item.result in
-    let reported = c.in_ok-reported.reported in
-    let read = rw (c.nodes-nodes.ensures.nodes, c.sources.ensures.sources) at c.in_ok-reported.ensures.read in
+    let reported = c.read_problem.new.reported in
+    let read = rw (c.nodes-nodes.ensures.nodes, c.sources.ensures.sources) at c.in_ok-read_problem.ensures.read in
     let next_is = next_query roads.nodes c.args.queries.now place query c.loop-query-test.true c.query-item.is in
     let task = task_of roads classes query c.nodes-nodes.ensures.network (c.requires.checkable query (place, (c.loop-query-test.true, c.query-item.is))).0 in
     let formed = formed_of (read.holds [] (λ ended. refl)) (ahead_in_order c.loop-query.lines (rest_of c.loop-query.lines ++ (read.got ++ [])) c.loop-query.invariant.sound) in
     let right = faultless_right roads answers classes query.sources task (g.met.T.TravelTimes.fifo c.args.times.now) reported formed in
     record {
       done = omega (arith, c.loop-query.invariant.done);
-      sound = c.in_ok-reported.ensures.sound;
+      sound = c.in_ok-read_problem.ensures.sound;
       leads = then_lines (ProblemsLeft roads answers queries (sources_of (drop {A = Asking} place c.args.queries.now)) c.loop-query.verdict) (ReadsProblem roads.nodes query.sources reported) (ProblemsLeft roads answers queries (sources_of (drop {A = Asking} (place + 1) c.args.queries.now)) c.check_next-verdict.result)
           (λ lines middle next left here. record {
             wrong = wrong_more roads.nodes c.args.queries.now place query c.loop-query-test.true c.query-item.is (ReportWrong roads.nodes queries lines) here left.wrong;
@@ -81,8 +81,8 @@ returns-in_err-verdict-in-None g c =
     (onward_end roads answers queries (ahead before text) left_of (spoken now) (behind now next) c.loop-query.verdict (no_query_left c.args.queries.now c.loop-query.query-index c.loop-query-test.false) c.in-None.ensures left.onward))
     _ _ before now c.loop-query.invariant.leads)
 
-pub returns-in_ok-verdict-in-None : goal.returns-in_ok-verdict-in-None
-returns-in_ok-verdict-in-None g c =
+pub returns-in-None : goal.returns-in-None
+returns-in-None g c =
     let roads = c.args.network.now in
     let answers = g.T.TravelTimes.answers c.args.times.now in
     let queries = sources_of c.args.queries.now in
@@ -94,8 +94,8 @@ returns-in_ok-verdict-in-None g c =
     (onward_end roads answers queries (ahead before text) left_of (spoken now) (behind now next) c.loop-query.verdict (no_query_left c.args.queries.now c.loop-query.query-index c.loop-query-test.false) c.in-None.ensures left.onward))
     _ _ before now c.loop-query.invariant.leads
 
-pub returns-in-Some : goal.returns-in-Some
-returns-in-Some g c =
+pub returns : goal.returns
+returns g c =
     let roads = c.args.network.now in
     let answers = g.T.TravelTimes.answers c.args.times.now in
     let queries = sources_of c.args.queries.now in

@@ -14,6 +14,6 @@ returns-clause-read g c =
     let nodes = c.args.nodes in
     let mid = g.R.Device.seen c.read_sources.new.device in
     MatchResult-weaker c.read_nodes.result c.read_nodes.ensures.read
-    (λ reported read. then_lines (ReadsSources sources) (ReadsNodes 1 reported) (ReadsProblem nodes sources reported)
+    (λ _ read. then_lines (ReadsSources sources) (ReadsNodes 1 c.read_nodes.new.reported) (ReadsProblem nodes sources c.read_nodes.new.reported)
     (λ lines middle next here there. record { middle = middle; of_sources = here; of_nodes = there; each_node = read.each_node }) _ mid _ c.args.lines.now c.read_sources.new.lines c.read_nodes.new.lines c.in_ok-read_sources.ensures.read read.read)
     (λ stop stops. stop_behind (ReadsSources sources) (NodesWrong 1 nodes) (ProblemWrong nodes sources) (λ lines next here number wrong. in_nodes here wrong) _ mid _ c.args.lines.now c.read_sources.new.lines c.read_nodes.new.lines stop c.in_ok-read_sources.ensures.read stops)

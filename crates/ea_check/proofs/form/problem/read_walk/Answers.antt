@@ -56,7 +56,7 @@ returns-clause-read g c =
     let line = line_of c.in-Some.line in
     let written = arcs_of (fields_of c.in-Some-says_walk.arcs.now) in
     let walk : WrittenWalk = record { line = line.number; arcs = told_walk line.way written } in
-    let says = subst (λ (arcs : List ℕ). SaysArcs line.fields node arcs) (sym (told_twice line.way written)) c.in-Some-says_walk.ensures in
+    let says = subst (λ (arcs : List ℕ). SaysArcs line.fields node arcs) (sym (told_twice line.way written)) c.in-Some-says_walk.ensures.0 in
     record {
       walk = Some walk;
       grown = c.in_ok-push.ensures.kept;

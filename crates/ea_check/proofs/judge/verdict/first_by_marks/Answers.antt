@@ -3,7 +3,7 @@ use Rattle.ea_check.proofs.judge.verdict.first_by_marks.Goals as goal
 
 pub returns-then-are_all_marked : goal.returns-then-are_all_marked
 returns-then-are_all_marked g c =
-    right_by_marks c.args.network.now _ (g.T.TravelTimes.classes c.args.times.now) c.args.query.now.sources c.args.reported.now c.requires.task c.requires.formed c.args.marks.now c.requires.marks (c.are_all_marked.ensures c.if-are_all_marked.true) (c.walks.ensures.none c.if-walks-eq0.true)
+    right_by_marks c.args.network.now _ (g.T.TravelTimes.classes c.args.times.now) c.args.query.now.sources c.args.reported.now c.requires.task c.requires.formed c.args.marks.now c.requires.marks (c.are_all_marked.ensures c.if-are_all_marked.true) (c.has_no_walks.ensures c.if-has_no_walks.true)
 
 pub find_links-links-requires-clause-sources : goal.find_links-links-requires-clause-sources
 find_links-links-requires-clause-sources g c = rw c.sources.ensures.sources c.requires.task.starts
