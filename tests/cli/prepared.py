@@ -54,14 +54,14 @@ def shape(kind, nodes, words):
 
 
 def grid(side, words):
-    """A grid with streets both ways, one in ten of which is missing."""
+    """A grid with streets both ways, a third of which is missing, as in bench/generate.rs."""
     streets = []
     for row in range(side):
         for column in range(side):
             node = row * side + column + 1
             streets += [(node, node + 1)] if column + 1 < side else []
             streets += [(node, node + side)] if row + 1 < side else []
-    streets = [street for street in streets if words.random() < 0.9]
+    streets = [street for street in streets if words.random() < 0.64]
     return [(tail, head, weight * 7 + 1) for tail, head, weight in both_ways(streets, words)]
 
 

@@ -78,6 +78,20 @@ def network(program, folder):
         yield f"resources: {words}, calls of write a megabyte", writes <= 24 * written // MEGABYTE + 8 or writes, True
 
 
+def directions(program, folder):
+    """The same network turned round, with own times, and for ten nodes: in four times the memory of its text, and in
+    time like that of a plain run."""
+    size = os.path.getsize(os.path.join(folder, "net.gr"))
+    write(folder, "one.at", ["p aux sp at 1\nt 5000\n"])
+    write(folder, "ten.ss", ["p aux sp ss 10\n", *[f"s {node}\n" for node in range(7, 17)]])
+    plain = seconds(program, "run net.gr one.ss --workers 1", folder)
+    for options in ("--arrive 5000", "--arrives one.at", "--departs one.at", "--nodes ten.ss"):
+        words = f"run net.gr one.ss --workers 1 {options}"
+        status, said = ran(program, words, folder, 4 * size // MEGABYTE + 8)[:2]
+        yield f"resources: {words} in four times the memory of its text", (status, said), (0, b"")
+        yield grows(f"resources: {words} beside a plain run", plain, seconds(program, words, folder), 3)
+
+
 def slow_reader(program, folder):
     """Hundreds of reports, and a reader that stops after the first byte: few reports are made ahead."""
     write(folder, "many.ss", ["p aux sp ss 400\n", *[f"s {at}\n" for at in range(1, 401)]])
@@ -145,5 +159,5 @@ def hard_shapes(program, folder):
 def results(program):
     """Each measure with whether it holds, or its figures, and True."""
     with tempfile.TemporaryDirectory(prefix="resources-") as folder:
-        for part in (network, slow_reader, long_walks, near_pairs, long_lines, many_steps, hard_shapes):
+        for part in (network, directions, slow_reader, long_walks, near_pairs, long_lines, many_steps, hard_shapes):
             yield from part(program, folder)
