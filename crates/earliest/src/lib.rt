@@ -17,6 +17,8 @@ pub use ea_base::{Direction, Silent, Watch};
 pub use ea_check::CheckFault;
 pub use ea_load::{AnswerFault, FileFault, FileWord, OptionalFiles};
 pub use ea_messages::{Opened, Outcome, say, show};
-pub use ea_options::{BadValue, Command, CommandFault, RunOptions, asks_to_explain, bad_value_of};
+pub use ea_options::{
+    Allowed, BadValue, Command, CommandFault, RunOptions, asks_to_explain, bad_value_of,
+};
 pub use ea_rank_command::rank_report;
 pub use ea_report::Totals;

@@ -87,7 +87,10 @@ fn prepare(alloc: Global, road: &Road, query: &Query) -> Option<Prepared>
     requires { IsPosed road.now query.now }
     ensures { IfSome result (IsPreparedOn road.now) }
 {
-    Prepared::of(alloc, &road.network, &road.times).ok()
+    match Prepared::of(alloc, &road.network, &road.times) {
+        Ok(prepared) => Some(prepared),
+        Err(_) => None,
+    }
 }
 
 /// A preparation of the road for searches of pairs, if it is asked for, or if it pays and isn't excluded, and if it can be

@@ -180,11 +180,7 @@ fn report_each<'a, H: Threads + Sync, W: ByteOut, V: Watch>(
         → AreTotals (settings_by options.now) queries.now reports.totals) }
     ensures balanced { IfOk result (λ reports. AreBalanced reports.totals) }
 {
-    let Watched {
-        shown,
-        aids,
-        watch,
-    } = watched;
+    let Watched { shown, aids, watch } = watched;
     let mut reports = Reports::begin(aids);
     // Proof hint: the count fits in u64.
     let _ = out.interruptions();
@@ -227,16 +223,8 @@ fn report_problems<'a, H: Threads + Sync, W: ByteOut, V: Watch>(
         → AreTotals (settings_by options.now) queries.now reports.totals) }
     ensures balanced { IfOk result (λ reports. AreBalanced reports.totals) }
 {
-    let Watched {
-        shown,
-        aids,
-        watch,
-    } = watched;
-    let watched = Watched {
-        shown,
-        aids,
-        watch,
-    };
+    let Watched { shown, aids, watch } = watched;
+    let watched = Watched { shown, aids, watch };
     let threads = threads_at_once(rt, options);
     if options.stats || options.workers.unwrap_or(1) > 1 || threads == 1 || queries.len() < 2 {
         report_each(alloc, rt, road, queries, options, watched, out)
@@ -300,16 +288,8 @@ pub(crate) fn report_all<H: Threads + Sync, W: ByteOut, V: Watch>(
         road.now.network (times_on road.now) queries.now
         (W.seen out.old) (W.seen out.new)) }
 {
-    let Watched {
-        shown,
-        aids,
-        watch,
-    } = watched;
-    let watched = Watched {
-        shown,
-        aids,
-        watch,
-    };
+    let Watched { shown, aids, watch } = watched;
+    let watched = Watched { shown, aids, watch };
     let reports = report_problems(alloc, rt, road, queries, options, watched, out)?;
     match write_totals(&reports, options.stats, out) {
         Ok(()) => Ok(reports.totals),

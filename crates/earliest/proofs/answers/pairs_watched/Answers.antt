@@ -64,8 +64,8 @@ pair_queries-requires-clause-within g c =
     let fits : IsTrue c.departures_fit.result = search rules in
     λ i inside. c.departures_fit.ensures.0 fits i (omega (arith, inside, c.deref.ensures.len, c.len-2.ensures))
 
-pub report_all-requires-clause-problems : goal.report_all-requires-clause-problems
-report_all-requires-clause-problems g c κs lent =
+pub prepared_for-prepared-requires-clause-problems : goal.prepared_for-prepared-requires-clause-problems
+prepared_for-prepared-requires-clause-problems g c =
     let o = c.args.options.now in
     let given = c.in_ok-files.ensures.given in
     let found = c.in_ok-files.files in
@@ -80,6 +80,22 @@ report_all-requires-clause-problems g c κs lent =
     let queries = c.deref-2.ensures.value ∙ c.in_ok-queries.ensures ∙ ap (λ (p : Plan). pair_problems p 0 c.deref.result.now) plan ∙ ap (λ (xs : List (ℕ × ℕ)). pair_problems (plan_by o extras.times) 0 xs) c.deref.ensures.value in
     subst (AreProblems found.road) (sym queries) (pairs_are_posed given.0 found.road o.direction given.2 whole (plan_by o extras.times) found.pairs.items nodes.0 within)
 
+pub report_all-requires-clause-problems : goal.report_all-requires-clause-problems
+report_all-requires-clause-problems g c κs lent =
+    let o = c.args.options.now in
+    let given = c.in_ok-files.ensures.given in
+    let found = c.in_ok-files.files in
+    let gr = reading g.G.Device.seen c.args.gr.now c.read_pairs.new.gr in
+    let starts = reading g.P.Device.seen c.args.p2p.now c.read_pairs.new.p2p in
+    let extras = extras_in c.in_ok-extras.extras in
+    let plan = c.schedule_by-schedule.ensures.plan in
+    let fits : IsTrue c.departures_fit.result = search rules in
+    let within : AreWithin (plan_by o extras.times) (length found.pairs.items) = subst (λ (p : Plan). AreWithin p (length found.pairs.items)) plan (λ i inside. c.departures_fit.ensures.0 fits i (omega (arith, inside, c.len-2.ensures, found.pairs.ok.0))) in
+    let nodes = pairs_are_nodes given.0.graph.nodes _ found.pairs.items given.1.starts_denoted in
+    let whole = given_is_sound DenotesPairs _ _ _ given.0 found.pairs.items given.1 in
+    let queries = c.deref-3.ensures.value ∙ c.in_ok-queries.ensures ∙ ap (λ (p : Plan). pair_problems p 0 c.deref.result.now) plan ∙ ap (λ (xs : List (ℕ × ℕ)). pair_problems (plan_by o extras.times) 0 xs) c.deref.ensures.value in
+    subst (AreProblems found.road) (sym queries) (pairs_are_posed given.0 found.road o.direction given.2 whole (plan_by o extras.times) found.pairs.items nodes.0 within)
+
 pub report_all-requires-clause-few : goal.report_all-requires-clause-few
 report_all-requires-clause-few g c κs lent =
     let o = c.args.options.now in
@@ -91,7 +107,7 @@ report_all-requires-clause-few g c κs lent =
     let plan = c.schedule_by-schedule.ensures.plan in
     let nodes = pairs_are_nodes given.0.graph.nodes _ found.pairs.items given.1.starts_denoted in
     let whole = given_is_sound DenotesPairs _ _ _ given.0 found.pairs.items given.1 in
-    let queries = c.deref-2.ensures.value ∙ c.in_ok-queries.ensures ∙ ap (λ (p : Plan). pair_problems p 0 c.deref.result.now) plan ∙ ap (λ (xs : List (ℕ × ℕ)). pair_problems (plan_by o extras.times) 0 xs) c.deref.ensures.value in
+    let queries = c.deref-3.ensures.value ∙ c.in_ok-queries.ensures ∙ ap (λ (p : Plan). pair_problems p 0 c.deref.result.now) plan ∙ ap (λ (xs : List (ℕ × ℕ)). pair_problems (plan_by o extras.times) 0 xs) c.deref.ensures.value in
     (subst (λ qs. length qs ≤ 1000000) (sym queries) (few_pairs given.0 found.road o.direction given.2 whole (plan_by o extras.times) found.pairs.items nodes.1), few_nodes given.0 found.road o.direction given.2 whole)
 
 pub report_all-requires-clause-asked : goal.report_all-requires-clause-asked
@@ -126,11 +142,11 @@ returns-clause-answered g c =
     let within : AreWithin (plan_by o extras.times) (length found.pairs.items) = subst (λ (p : Plan). AreWithin p (length found.pairs.items)) plan (λ i inside. c.departures_fit.ensures.0 fits i (omega (arith, inside, c.len-2.ensures, found.pairs.ok.0))) in
     let nodes = pairs_are_nodes given.0.graph.nodes _ found.pairs.items given.1.starts_denoted in
     let whole = given_is_sound DenotesPairs _ _ _ given.0 found.pairs.items given.1 in
-    let queries = c.deref-2.ensures.value ∙ c.in_ok-queries.ensures ∙ ap (λ (p : Plan). pair_problems p 0 c.deref.result.now) plan ∙ ap (λ (xs : List (ℕ × ℕ)). pair_problems (plan_by o extras.times) 0 xs) c.deref.ensures.value in
+    let queries = c.deref-3.ensures.value ∙ c.in_ok-queries.ensures ∙ ap (λ (p : Plan). pair_problems p 0 c.deref.result.now) plan ∙ ap (λ (xs : List (ℕ × ℕ)). pair_problems (plan_by o extras.times) 0 xs) c.deref.ensures.value in
     let first = g.W.Device.seen c.args.out.now in
     let now = g.W.Device.seen c.report_all.new.out in
     let chosen = ap (λ (s : Shape). s.chosen) c.shown_by-shown.ensures in
-    answered (pair_asks o) files given.0 found.pairs.items extras sound within found.road given.2 _ chosen c.deref-2.result.now queries first now c.report_all.result c.report_all.ensures.ok
+    answered (pair_asks o) files given.0 found.pairs.items extras sound within found.road given.2 _ chosen c.deref-3.result.now queries first now c.report_all.result c.report_all.ensures.ok
 
 pub returns-clause-failed : goal.returns-clause-failed
 returns-clause-failed g c =
@@ -152,11 +168,11 @@ returns-clause-failed g c =
     let within : AreWithin (plan_by o extras.times) (length found.pairs.items) = subst (λ (p : Plan). AreWithin p (length found.pairs.items)) plan (λ i inside. c.departures_fit.ensures.0 fits i (omega (arith, inside, c.len-2.ensures, found.pairs.ok.0))) in
     let nodes = pairs_are_nodes given.0.graph.nodes _ found.pairs.items given.1.starts_denoted in
     let whole = given_is_sound DenotesPairs _ _ _ given.0 found.pairs.items given.1 in
-    let queries = c.deref-2.ensures.value ∙ c.in_ok-queries.ensures ∙ ap (λ (p : Plan). pair_problems p 0 c.deref.result.now) plan ∙ ap (λ (xs : List (ℕ × ℕ)). pair_problems (plan_by o extras.times) 0 xs) c.deref.ensures.value in
+    let queries = c.deref-3.ensures.value ∙ c.in_ok-queries.ensures ∙ ap (λ (p : Plan). pair_problems p 0 c.deref.result.now) plan ∙ ap (λ (xs : List (ℕ × ℕ)). pair_problems (plan_by o extras.times) 0 xs) c.deref.ensures.value in
     let first = g.W.Device.seen c.args.out.now in
     let now = g.W.Device.seen c.report_all.new.out in
     let chosen = ap (λ (s : Shape). s.chosen) c.shown_by-shown.ensures in
-    failed (pair_asks o) files given.0 found.pairs.items extras sound within found.road given.2 _ chosen c.deref-2.result.now queries (cuts_short o) first now c.report_all.result c.report_all.ensures.err
+    failed (pair_asks o) files given.0 found.pairs.items extras sound within found.road given.2 _ chosen c.deref-3.result.now queries (cuts_short o) first now c.report_all.result c.report_all.ensures.err
 
 pub returns-then-not-departures_fit-clause-failed : goal.returns-then-not-departures_fit-clause-failed
 returns-then-not-departures_fit-clause-failed g c =
