@@ -1,4 +1,4 @@
-//! A network under an order of its own for the nodes.
+//! A network whose nodes are renumbered so that neighbours are near.
 ghost use Rattle.std.specs.Prelude.{◌≡◌, IfOk, IfSome, length, map};
 ghost use Rattle.ea_layout.specs.Orders.{LaysOut};
 ghost use Rattle.ea_layout.specs.Renamed.{renamed_arc};
@@ -17,8 +17,8 @@ const SAMPLE: usize = 4096;
 /// An arc is short if its head's number and its tail's differ by no more than this.
 const NEAR: u32 = 1024;
 
-/// A network under an order of its own for the nodes, in which neighbours are near, so that a search touches
-/// memory that it touched shortly before. Arcs keep their numbers.
+/// A network whose nodes are renumbered so that neighbours are near, so a search touches memory that it
+/// touched shortly before. Arcs keep their numbers.
 #[derive(Drop)]
 pub struct Layout {
     /// The new number of each node of the network, the first that of node 1.

@@ -1,4 +1,4 @@
-//! A network under an order of its own for the nodes, and searches on it that answer in the file's numbers.
+//! A network whose nodes are renumbered so that neighbours are near, and searches on it in the original numbers.
 #![tactic(auto)]
 
 mod depth_first;

@@ -1,4 +1,4 @@
-//! The arrays in which answers on a layout are written under the numbers of the network.
+//! Arrays of labels and links under the numbers of the network, copied from those of a layout.
 ghost use Rattle.std.specs.Prelude.{◌≡◌, ◌≢◌, ℕ, None, Some, length};
 ghost use Rattle.ea_layout.specs.Copied.{AreAskedCopied, AreCleared, AreLabelsCopied, AreLinksCopied, CanRewrite};
 ghost use Rattle.ea_layout.specs.Copied.{HasLevel, IsCopyOf, IsLinkCopied};
