@@ -1,5 +1,5 @@
 -- A number at the front of a line.
-use Rattle.std.proofs.Common.{◌≡◌, ℕ, suc, zero, ◌+◌, ◌-◌, ◌<◌, ◌≤◌, ◌^◌, true, false, cond, List, [], ◌∷◌, ◌++◌, append_assoc, length, get_or, take, drop, inr, refl, ap, sym, ◌∙◌, subst, arith, tests}
+use Rattle.std.proofs.Common.{◌≡◌, ℕ, suc, zero, ◌+◌, ◌-◌, ◌<◌, ◌≤◌, ◌^◌, true, false, cond, List, [], ◌∷◌, ◌++◌, append_assoc, length, get_or, take, drop, refl, ap, sym, ◌∙◌, subst, arith, tests}
 use Rattle.std.specs.Char.{is_ascii_digit}
 use Rattle.std.specs.Str.{all_ascii_digits}
 use Rattle.std.specs.Str.Parse.{digits_value}
@@ -10,14 +10,11 @@ use Rattle.std.proofs.lemmas.Bool.{lt-ltb}
 use Rattle.std.proofs.lemmas.List.{append-nil}
 use Rattle.std.proofs.lemmas.Grind.{common_steps}
 use Rattle.std.specs.Prelude.{Some}
-use Rattle.ea_base.specs.declared.direction.Direction.{Direction}
-use Rattle.ea_base.specs.declared.direction.Direction.TheVariants.{Forward, Turned}
-use Rattle.ea_base.specs.declared.limits.TheConstants.{HORIZON}
 use Rattle.ea_bytes.specs.Text.{fields_of, is_blank, number_of}
 use Rattle.ea_bytes.proofs.Cutting.{field_at, field_end}
 use Rattle.ea_bytes.proofs.Numbers.{and_left, and_right}
-use Rattle.ea_check.specs.Form.{SaysTime, arc_found, arc_number, arc_of, arcs_of, told_time}
-use Rattle.ea_check.specs.Reads.{BeginsWithArc, BeginsWithNumber}
+use Rattle.ea_check.specs.Form.{arc_number, arc_of, arcs_of}
+use Rattle.ea_check.specs.Reads.{BeginsWithNumber}
 use Rattle.ea_check.proofs.Counting.{digits_are_number}
 
 digit_is_no_blank : (b : ℕ) → is_ascii_digit b ≡ true → is_blank b ≡ false
@@ -44,38 +41,12 @@ begins_with_number text i value some inside blank digits is =
     subst (λ (rest : List ℕ). BeginsWithNumber text value rest) (sym (rest_of text i inside))
     (take i text, cut, number ∙ ap Some (sym is))
 
--- A number of 32 bits is an arc number.
-pub begins_with_arc : (text rest : List ℕ) (value : ℕ) → value < 2 ^ 32 → BeginsWithNumber text value rest → BeginsWithArc text value rest
-begins_with_arc text rest value small begins =
-    (begins.0, begins.1, sym (ap arc_found begins.2 ∙ small_is_itself value small))
-
 -- A line of digits alone is one number.
 pub digits_alone : (text : List ℕ) (end value : ℕ) → 0 < length text → end ≡ length text → all_ascii_digits (take end text) ≡ true → value ≡ digits_value 10 (take end text) → (fields_of text ≡ text ∷ []) × (number_of text ≡ Some value)
 digits_alone text end value some whole digits is =
     let all : take end text ≡ text = ap (λ n. take n text) whole ∙ take-length text in
     let each = subst (λ (t : List ℕ). all_ascii_digits t ≡ true) all digits in
     (field_end text some (λ k below. no_blank_so_far text end (omega arith) digits k (omega arith)), digits_are_number text some each ∙ ap Some (ap (digits_value 10) (sym all) ∙ sym is))
-
--- A line of `d`, a number and a time.
-pub says_plain_time : (way : Direction) (text numbers rest : List ℕ) (node time : ℕ) → text ≡ 100 ∷ 32 ∷ numbers → BeginsWithNumber numbers node rest → (fields_of rest ≡ rest ∷ []) × (number_of rest ≡ Some time) → time ≤ HORIZON → SaysTime way (fields_of text) node (told_time way time)
-says_plain_time way text numbers rest node time is place alone within =
-    subst (λ (fields : List (List ℕ)). SaysTime way fields node (told_time way time)) (sym (ap fields_of is ∙ cut ∙ ap (λ (fs : List (List ℕ)). (100 ∷ []) ∷ fs) (place.1 ∙ ap (λ (fs : List (List ℕ)). place.0 ∷ fs) alone.0)))
-    (refl, place.2, inr (alone.1 ∙ ap Some (sym (told_twice way time within)), told_within way time within))
-  where
-    cut : fields_of (100 ∷ 32 ∷ numbers) ≡ (100 ∷ []) ∷ fields_of numbers
-    cut = field_at (100 ∷ 32 ∷ numbers) 1 (omega arith) (omega arith) refl (λ k below. by_place k below)
-      where
-        by_place : (k : ℕ) → k < 1 → is_blank (get_or (100 ∷ 32 ∷ numbers) k 0) ≡ false
-        by_place zero below = refl
-        by_place (suc k) below = absurd (omega arith)
-
-    told_twice : (way : Direction) (time : ℕ) → time ≤ HORIZON → told_time way (told_time way time) ≡ time
-    told_twice Forward time within = refl
-    told_twice Turned time within = omega arith
-
-    told_within : (way : Direction) (time : ℕ) → time ≤ HORIZON → told_time way time ≤ HORIZON
-    told_within Forward time within = within
-    told_within Turned time within = omega arith
 
 -- One more arc.
 pub arcs_more : (fields after : List (List ℕ)) (field arcs pushed whole : List ℕ) (arc : ℕ) → fields ≡ field ∷ after → arc ≡ arc_of field → pushed ≡ arcs ++ arc ∷ [] → arcs ++ arcs_of fields ≡ whole → pushed ++ arcs_of after ≡ whole

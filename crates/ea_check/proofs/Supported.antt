@@ -1,5 +1,5 @@
 -- Marks of nodes whose reported times are supported, and the chains that they show.
-use Rattle.std.proofs.Common.{◌≡◌, ◌∙◌, refl, ℕ, zero, suc, ◌-◌, ◌<◌, ◌≤◌, ◌⊎◌, inl, inr, Bool, true, false, List, [], ◌∷◌, length, get_or, replicate, min, arith, ap, sym, subst}
+use Rattle.std.proofs.Common.{◌≡◌, ◌∙◌, refl, ℕ, zero, suc, ◌-◌, ◌<◌, ◌≤◌, ◌⊎◌, inl, inr, Bool, true, false, List, [], ◌∷◌, length, get_or, min, arith, sym, subst}
 use Rattle.std.proofs.lemmas.Bool.{false≢true}
 use Rattle.std.proofs.lemmas.Bool.Decides.{leb_tells}
 use Rattle.std.specs.Prelude.{◌≢◌, Some, None}
@@ -13,15 +13,6 @@ use Rattle.ea_road.specs.Levels.{HasChain, begins, follows}
 use Rattle.ea_check.specs.Supported.{AreSupported, IsMarked, IsSupported, from_earlier, from_source}
 use Rattle.ea_check.specs.Verdicts.{WrittenWalk, Said, IsSaid, IsReported, IsTask, IsWellFormed, reported_time, AreAttained, AreCanonical}
 use Rattle.ea_check.proofs.Right.{node_of_said, time_of_said}
-
-unmarked_at : (nodes place : ℕ) → get_or (replicate nodes false) place false ≡ false
-unmarked_at zero place = refl
-unmarked_at (suc nodes) zero = refl
-unmarked_at (suc nodes) (suc place) = unmarked_at nodes place
-
-length_unmarked : (nodes : ℕ) → length (replicate nodes false) ≡ nodes
-length_unmarked zero = refl
-length_unmarked (suc nodes) = ap suc (length_unmarked nodes)
 
 module _
     (roads : Roads)
@@ -102,12 +93,6 @@ module _
               | inl before ↦ are.each other some before
               | inr is ↦ subst (λ n. IsSupported roads answers sources reported n) is here
             ]
-
-    pub none_marked : (marks : List Bool) → marks ≡ replicate roads.nodes false → AreSupported roads answers sources reported marks
-    none_marked marks none = rw none (record {
-      each_node = length_unmarked roads.nodes;
-      each = λ node some marked. absurd (false≢true (sym (unmarked_at roads.nodes (node - 1)) ∙ marked));
-    })
 
 -- the lower of what was found so far and a node that is found
 pub lower_found : (IsFound : ℕ → Type 0) (lowest node now : ℕ) → now ≡ min lowest node → IsFound node → (now ≡ lowest) ⊎ IsFound now
