@@ -8,7 +8,7 @@ use Rattle.ea_road.specs.declared.TheConstants.{NONE}
 use Rattle.ea_check.specs.declared.fault.CheckFault.{CheckFault}
 use Rattle.ea_check.specs.declared.fault.CheckFault.TheVariants.{BadLine, NotAttained, NotLeast, OutOfMemory, NotCanonical}
 use Rattle.ea_check.specs.Verdicts.{WrittenWalk}
-use Rattle.ea_check.specs.Form.{Line, IsWalkLine, SaysTime, SaysWalk}
+use Rattle.ea_check.specs.Form.{Line, IsWalkLine, SaysSource, SaysTime, SaysWalk}
 use Rattle.ea_check.specs.Streams.{found_then}
 use Rattle.ea_check.specs.Reads.{ReadsSources, SourcesWrong, IsWrong, NoWalkNext, ReadsWalk, WalkWrong, ReadsNode, without_walk, and_walk, NodeWrong, no_line, no_time, no_such_walk}
 
@@ -104,3 +104,12 @@ wrong_more Part Whole OutOfMemory more wrong = tt
 wrong_more Part Whole (NotAttained number) more wrong = wrong
 wrong_more Part Whole (NotLeast number) more wrong = wrong
 wrong_more Part Whole (NotCanonical number) more wrong = wrong
+
+-- the line of a source
+pub source_missing : (source : Source) (found : Option Line) (behind : List Line) → found ≡ None → SourcesWrong (source ∷ []) (found_then found behind) 0
+source_missing source None behind none = refl
+source_missing source (Some line) behind none = cc
+
+pub source_other : (source : Source) (found : Option Line) (behind : List Line) (line : Line) → found ≡ Some line → (SaysSource line.way line.fields source.node source.departure → ⊥) → SourcesWrong (source ∷ []) (found_then found behind) line.number
+source_other source found behind line is says =
+    subst (λ (f : Option Line). SourcesWrong (source ∷ []) (found_then f behind) line.number) (sym is) (inl (refl, says))

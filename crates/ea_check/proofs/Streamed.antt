@@ -19,7 +19,7 @@ use Rattle.ea_check.specs.Form.{AreInOrder, Line, spoken_from}
 use Rattle.ea_check.specs.Judging.{HasVerdict, JudgesTo, judged_as}
 use Rattle.ea_check.specs.Reads.{IsWrong}
 use Rattle.ea_check.specs.Stops.{IsStop}
-use Rattle.ea_check.specs.Streams.{Begins, IsSound, IsUnread, IsWholeText, Leads, LeadsTo, Skips, ahead, found_then, most_bytes}
+use Rattle.ea_check.specs.Streams.{Begins, IsSound, IsUnread, IsWholeText, Leads, LeadsTo, Skips, ahead, found_then, most_bytes, last_of}
 use Rattle.ea_check.proofs.Composing.{spoken_in_order}
 use Rattle.ea_check.proofs.Stopping.{then_lines}
 use Rattle.ea_check.proofs.Streaming.{stops_on}
@@ -30,7 +30,7 @@ found_in_order true line texts some = (some refl, spoken_in_order line.way (line
 found_in_order false line texts some = tt
 
 pub ahead_in_order : (lines : ReportLines) (text : List ℕ) → IsSound lines → AreInOrder (ahead lines text)
-ahead_in_order lines text sound = found_in_order lines.found (record { number = lines.count; fields = fields_of lines.line.items; way = lines.way }) (field_lines text) sound.number
+ahead_in_order lines text sound = found_in_order lines.found (record { number = lines.count; fields = fields_of (last_of lines); way = lines.way }) (field_lines text) sound.number
 
 -- reading stops behind lines that were read
 module _ (Has : List Line → Result (Unit {0}) CheckFault → Type 0) (P : List Line → List Line → Type 0) (Bad : List Line → ℕ → Type 0) where

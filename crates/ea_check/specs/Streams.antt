@@ -8,6 +8,7 @@ use Rattle.ea_bytes.specs.Text.{field_lines, fields_of, lines_of}
 use Rattle.ea_check.specs.declared.form.report_lines.ReportLines.{ReportLines}
 use Rattle.ea_check.specs.declared.form.report_lines.SpokenLine.{SpokenLine}
 use Rattle.ea_check.specs.Form.{Line, report_lines, spoken_from}
+use Rattle.ea_check.specs.Shared.{part}
 
 -- The most bytes of a report: a count of 64 bits.
 abbrev pub most_bytes : ℕ
@@ -32,9 +33,18 @@ size_left lines = (length lines.block.items - lines.start) + lines.blocks.left
 abbrev pub line_of : SpokenLine → Line
 line_of line = record { number = line.number; fields = fields_of line.text.now; way = line.way }
 
+-- The last line that was read.
+abbrev pub last_of : ReportLines → List ℕ
+last_of lines = part lines.block.items lines.from lines.to
+
+-- The last line that was read is in the block.
+pub record HasLast (lines : ReportLines) : Type 0 where
+  pub in_order : lines.from ≤ lines.to
+  pub inside : lines.to ≤ length lines.block.items
+
 -- The line that was found.
 abbrev pub spoken : ReportLines → Option Line
-spoken lines = if lines.found then Some (record { number = lines.count; fields = fields_of lines.line.items; way = lines.way }) else None
+spoken lines = if lines.found then Some (record { number = lines.count; fields = fields_of (last_of lines); way = lines.way }) else None
 
 -- A line, if there is one, and those behind it.
 abbrev pub found_then : Option Line → List Line → List Line
@@ -55,6 +65,7 @@ pub record IsReady (lines : ReportLines) : Type 0 where
   pub room : HasRoom lines.blocks
   pub inside : lines.start ≤ length lines.block.items
   pub few : lines.count + size_left lines < 2 ^ 64
+  pub last : HasLast lines
 
 -- No byte was read.
 pub record IsUnread (way : Direction) (lines : ReportLines) : Type 0 where

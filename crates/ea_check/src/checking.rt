@@ -113,7 +113,8 @@ fn verdict_of(judged: Result<(), Stop>) -> Result<Result<(), CheckFault>, ReadFa
 /// has to be reached at A is a source that departs at HORIZON - A.
 ///
 /// Reads the device once, to its end before any verdict. A problem's fault is kept while the form of later
-/// problems is read. The lines of one problem are in memory at a time.
+/// problems is read. What the lines of one problem say is in memory at a time: of a walk only the arcs that it
+/// doesn't share with the walk before.
 ///
 /// Fails if the device couldn't be read, whatever its report: with `ReadFailed` if a read failed or was
 /// interrupted for the 1,001st time; with `OutOfMemory` if memory for a block or a line was refused; with

@@ -3,7 +3,7 @@ ghost use Rattle.std.specs.Prelude.{◌≡◌, ◌+◌, ◌<◌, ◌≤◌, ◌�
 ghost use Rattle.std.specs.Str.Lines.{strip_carriage_return};
 ghost use Rattle.ea_bytes.specs.Taking.{HasRoom, IsStopped, StopsTaking};
 ghost use Rattle.ea_bytes.specs.Text.{fields_of, is_silent, lines_of};
-ghost use Rattle.ea_check.specs.Streams.{Begins, BeginsWithLine, FindsLine, IsReady, IsSound, IsUnread, Leads, Skips, TakesLine, behind, line_of, most_bytes, rest_of, size_left, spoken};
+ghost use Rattle.ea_check.specs.Streams.{Begins, BeginsWithLine, FindsLine, HasLast, IsReady, IsSound, IsUnread, Leads, Skips, TakesLine, behind, last_of, line_of, most_bytes, rest_of, size_left, spoken};
 
 use ea_base::Direction;
 use ea_bytes::{Blocks, ByteIn, ReadFault, first_field, is_comment, without_return};
@@ -20,7 +20,7 @@ pub(crate) struct SpokenLine<'a> {
 }
 
 /// The lines of a device's text that are neither blank nor comments, one after another. Only a block of its
-/// bytes and the line that was found last are in memory.
+/// bytes is in memory, and in it the line that was found last.
 #[derive(Drop)]
 pub(crate) struct ReportLines {
     /// The direction of the report's run.
@@ -38,8 +38,10 @@ pub(crate) struct ReportLines {
     pub count: u64,
     /// Whether the last line that was read is a line that says something. If it isn't, no line is left.
     pub found: bool,
-    /// The last line that was read, without its line feed.
-    pub line: Vec<u8>,
+    /// Where in the block the last line that was read begins.
+    pub from: usize,
+    /// Where in the block it ends, without its line feed.
+    pub to: usize,
 }
 
 /// The least length of a block that is filled; the last one of a device may be shorter.
@@ -78,7 +80,8 @@ impl ReportLines {
             ended: false,
             count: 0,
             found: false,
-            line: Vec::new(alloc),
+            from: 0,
+            to: 0,
         })
     }
 
@@ -99,8 +102,17 @@ impl ReportLines {
         Ok(lines)
     }
 
+    /// The last line that was read.
+    fn last(&self) -> &[u8]
+        requires { HasLast self.now }
+        ensures { result.now ≡ last_of self.now }
+    {
+        &self.block[self.from..self.to]
+    }
+
     /// The line that was found, if one is left.
     pub(crate) fn line(&self) -> Option<SpokenLine<'_>>
+        requires { HasLast self.now }
         ensures { MatchOption result (spoken self.now ≡ None)
             (λ line. spoken self.now ≡ Some (line_of line)) }
     {
@@ -108,7 +120,7 @@ impl ReportLines {
             Some(SpokenLine {
                 number: self.count,
                 way: self.way,
-                text: &self.line,
+                text: self.last(),
             })
         } else {
             None
@@ -145,31 +157,31 @@ impl ReportLines {
         self.ended = self.blocks.fill(device, &mut self.spare, size)?;
         mem::swap(&mut self.block, &mut self.spare);
         self.start = 0;
+        self.from = 0;
+        self.to = 0;
         Ok(())
     }
 
     /// Reads a line of `len` bytes, and continues after `past` bytes.
-    fn take(&mut self, len: usize, past: usize) -> Result<(), AllocError>
+    fn take(&mut self, len: usize, past: usize)
         requires ready { IsReady self.old }
         requires some { 0 < past }
         requires len { len ≤ past }
         requires within { past ≤ length (rest_of self.old) }
-        ensures ready { OnOk result (IsReady self.new) }
-        ensures rest { OnOk result (rest_of self.new ≡ drop past (rest_of self.old)) }
-        ensures line { OnOk result
-            (self.new.line.items ≡ strip_carriage_return (take len (rest_of self.old))) }
-        ensures count { OnOk result (self.new.count ≡ self.old.count + 1) }
+        ensures ready { IsReady self.new }
+        ensures rest { rest_of self.new ≡ drop past (rest_of self.old) }
+        ensures line { last_of self.new ≡ strip_carriage_return (take len (rest_of self.old)) }
+        ensures count { self.new.count ≡ self.old.count + 1 }
         ensures blocks { self.new.blocks ≡ self.old.blocks }
         ensures ended { self.new.ended ≡ self.old.ended }
         ensures way { self.new.way ≡ self.old.way }
     {
         let rest = &self.block[self.start..];
         let text = without_return(&rest[..len]);
-        self.line.clear();
-        self.line.extend_from_slice(text)?;
+        self.from = self.start;
+        self.to = self.start + text.len();
         self.start += past;
         self.count += 1;
-        Ok(())
     }
 
     /// Reads the next line, whatever it says. Returns whether there is one.
@@ -177,7 +189,7 @@ impl ReportLines {
         requires ready { IsReady self.old }
         ensures ready { OnOk result (IsReady self.new) }
         ensures taken { IfOk result (λ some.
-            Leads (TakesLine some self.new.line.items)
+            Leads (TakesLine some (last_of self.new))
             (R.seen device.old) self.old (R.seen device.new) self.new) }
         ensures some { IfOk result (λ some. some ≡ true →
             (self.new.count ≡ self.old.count + 1) × (size_left self.new < size_left self.old)) }
@@ -188,7 +200,7 @@ impl ReportLines {
     {
         'pulls: loop {
             if let Some(end) = line_end(self.rest()) {
-                self.take(end, end + 1)?;
+                self.take(end, end + 1);
                 return Ok(true);
             }
             if self.ended {
@@ -200,7 +212,7 @@ impl ReportLines {
         if left == 0 {
             return Ok(false);
         }
-        self.take(left, left)?;
+        self.take(left, left);
         Ok(true)
     }
 
@@ -214,7 +226,7 @@ impl ReportLines {
             (StopsTaking (R.seen device.old) self.old.blocks (R.seen device.new)) }
     {
         'lines: while self.take_line(device)? {
-            if speaks(&self.line) {
+            if speaks(self.last()) {
                 self.found = true;
                 return Ok(());
             }

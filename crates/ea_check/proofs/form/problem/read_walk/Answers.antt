@@ -1,5 +1,5 @@
 use Rattle.std.proofs.Common.{◌∙◌, ℕ, List, sym, subst}
-use Rattle.std.proofs.lemmas.Result.{MatchResult-weaker}
+use Rattle.std.proofs.lemmas.Result.{MatchResult-weaker, err_from_is_err_and}
 use Rattle.std.specs.Prelude.{None, Some}
 use Rattle.ea_check.specs.declared.form.stop.Stop.{Stop}
 use Rattle.ea_check.specs.Form.{SaysArcs, arcs_of, told_walk}
@@ -63,3 +63,8 @@ returns-clause-read g c =
       read = leads_also (FindsLine lines after) (λ text next. ReadsWalk node (Some walk) (ahead lines text) (ahead after next))
           (λ text next found. walk_read node (spoken lines) (behind lines text) line walk.arcs (ahead after next) c.in-Some.ensures says found) _ _ lines after c.in_ok-find.ensures.found;
     }
+
+pub returns-in_err-push-clause-read : goal.returns-in_err-push-clause-read
+returns-in_err-push-clause-read g c =
+    let p = err_from_is_err_and c.from_residual.result c.from_residual.ensures.1 in
+    rw (p.1, p.2, c.in_err-push.ensures.refused) (lines_here (λ text next. Unit {0}) _ c.args.lines.now c.requires.sound.ready.room (λ text. tt))

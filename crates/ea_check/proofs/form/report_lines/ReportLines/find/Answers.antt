@@ -1,7 +1,7 @@
 use Rattle.std.proofs.Common.{◌≡◌, ◌∙◌, Bool, ℕ, List, ◌∷◌, [], refl, subst, true, false}
 use Rattle.std.proofs.lemmas.Result.{err_from_is_err_and}
 use Rattle.ea_bytes.specs.Text.{fields_of, is_silent}
-use Rattle.ea_check.specs.Streams.{Leads, TakesLine, behind}
+use Rattle.ea_check.specs.Streams.{Leads, TakesLine, behind, last_of}
 use Rattle.ea_check.proofs.Streaming.{is_quiet, leads_moved, leads_on, no_line_left, silent_line, spoken_line, stops_on}
 use Rattle.ea_check.proofs.form.report_lines.ReportLines.find.Goals as goal
 
@@ -15,8 +15,8 @@ returns-then-speaks-clause-found g c =
     let before = c.args.self.now in
     let mid = c.lines.self in
     let now = c.take_line.new.self in
-    let line = now.line.items in
-    let speaks : is_silent (fields_of line) ≡ false = subst (λ (t : List ℕ). is_silent (fields_of t) ≡ false) c.deref.ensures.value (c.speaks.ensures.0 c.if-speaks.true) in
+    let line = last_of now in
+    let speaks : is_silent (fields_of line) ≡ false = subst (λ (t : List ℕ). is_silent (fields_of t) ≡ false) c.last.ensures (c.speaks.ensures.0 c.if-speaks.true) in
     let count = (c.in_ok-take_line.ensures.some c.if-branch.true).0 in
     let taken = subst (λ (b : Bool). Leads (TakesLine b line) (g.R.Device.seen c.lines.device) mid (g.R.Device.seen c.take_line.new.device) now) c.if-branch.true c.in_ok-take_line.ensures.taken in
     leads_moved _ _ (λ text next holds. holds) _ _ before now _ refl refl refl
@@ -28,8 +28,8 @@ lines-preserved g c =
     let before = c.args.self.now in
     let mid = c.lines.self in
     let now = c.take_line.new.self in
-    let line = now.line.items in
-    let quiet : is_silent (fields_of line) ≡ true = subst (λ (t : List ℕ). is_silent (fields_of t) ≡ true) c.deref.ensures.value (is_quiet c.speaks.result (fields_of c.deref.result.now) c.speaks.ensures c.if-speaks.false) in
+    let line = last_of now in
+    let quiet : is_silent (fields_of line) ≡ true = subst (λ (t : List ℕ). is_silent (fields_of t) ≡ true) c.last.ensures (is_quiet c.speaks.result (fields_of c.last.result.now) c.speaks.ensures c.if-speaks.false) in
     let count = (c.in_ok-take_line.ensures.some c.if-branch.true).0 in
     let taken = subst (λ (b : Bool). Leads (TakesLine b line) (g.R.Device.seen c.lines.device) mid (g.R.Device.seen c.take_line.new.device) now) c.if-branch.true c.in_ok-take_line.ensures.taken in
     record {
@@ -43,7 +43,7 @@ returns-clause-found g c =
     let before = c.args.self.now in
     let mid = c.lines.self in
     let now = c.take_line.new.self in
-    let line = now.line.items in
+    let line = last_of now in
     let taken = subst (λ (b : Bool). Leads (TakesLine b line) (g.R.Device.seen c.lines.device) mid (g.R.Device.seen c.take_line.new.device) now) c.if-branch.false c.in_ok-take_line.ensures.taken in
     leads_moved _ _ (λ text next holds. holds) _ _ before now _ refl refl refl
     (leads_on (λ text next. behind before text ≡ behind mid next) (TakesLine false line) (λ text next. behind before text ≡ [])

@@ -1,19 +1,14 @@
 use Rattle.std.proofs.Common.{◌≡◌, ◌∙◌, ℕ, ◌+◌, ◌-◌, ◌<◌, ◌≤◌, List, ap, arith, drop, length, length-drop, true}
 use Rattle.std.proofs.lemmas.Result.{err_from_is_err_and}
 use Rattle.ea_bytes.specs.declared.blocks.Blocks.{Blocks}
-use Rattle.ea_check.specs.Streams.{TakesLine, rest_of}
-use Rattle.ea_check.proofs.Streaming.{falls, leads_here, leads_same, memory_stops, stops_on, takes_first, takes_last}
+use Rattle.ea_check.specs.Streams.{TakesLine, last_of, rest_of}
+use Rattle.ea_check.proofs.Streaming.{falls, leads_here, leads_same, stops_on, takes_first, takes_last}
 use Rattle.ea_check.proofs.form.report_lines.ReportLines.take_line.Goals as goal
-
-pub returns-in_err-take-clause-fault : goal.returns-in_err-take-clause-fault
-returns-in_err-take-clause-fault g c =
-    let p = err_from_is_err_and c.from_residual.result c.from_residual.ensures.1 in
-    rw (p.1, p.2) (stops_on (λ text next. text ≡ next) _ _ _ _ c.pulls.self _ c.pulls.invariant.leads (memory_stops _ c.pulls.self.blocks))
 
 pub returns-in-Some-clause-taken : goal.returns-in-Some-clause-taken
 returns-in-Some-clause-taken g c =
-    let took = c.in_ok-take.ensures in
-    let line = c.take.new.self.line.items in
+    let took = c.take.ensures in
+    let line = last_of c.take.new.self in
     let text = rest_of c.pulls.self in
     leads_same (TakesLine true line) _ _ _ _ c.pulls.self _ c.pulls.invariant.leads
     (leads_here (TakesLine true line) _ c.pulls.self c.take.new.self took.ready.room took.blocks took.ended
@@ -25,7 +20,7 @@ size_falls start block_start past left new_left block new_block inside new_insid
 
 pub returns-in-Some-clause-some : goal.returns-in-Some-clause-some
 returns-in-Some-clause-some g c =
-    let took = c.in_ok-take.ensures in λ is. (
+    let took = c.take.ensures in λ is. (
       took.count ∙ ap (λ n. n + 1) c.pulls.invariant.count,
       omega (arith, c.pulls.invariant.size, size_falls c.pulls.self.start c.take.new.self.start (c.in-Some.end + 1) c.pulls.self.blocks.left c.take.new.self.blocks.left c.pulls.self.block.items c.take.new.self.block.items c.pulls.invariant.ready.inside took.ready.inside (omega arith) (omega (arith, c.in-Some.ensures.0, ap (λ (l : List ℕ). length l) c.rest.ensures)) took.rest (ap (λ (b : Blocks). b.left) took.blocks)),
     )
@@ -46,18 +41,13 @@ pulls-preserved g c =
 
 pub returns-in_err-refill-clause-fault : goal.returns-in_err-refill-clause-fault
 returns-in_err-refill-clause-fault g c =
-    let p = err_from_is_err_and c.from_residual-in_err-refill.result c.from_residual-in_err-refill.ensures.1 in
+    let p = err_from_is_err_and c.from_residual.result c.from_residual.ensures.1 in
     rw (p.1, p.2) (stops_on (λ text next. text ≡ next) _ _ _ _ c.pulls.self _ c.pulls.invariant.leads c.in_err-refill.ensures.fault)
-
-pub returns-in_err-take-2-clause-fault : goal.returns-in_err-take-2-clause-fault
-returns-in_err-take-2-clause-fault g c =
-    let p = err_from_is_err_and c.from_residual-in_err-take-2.result c.from_residual-in_err-take-2.ensures.1 in
-    rw (p.1, p.2) (stops_on (λ text next. text ≡ next) _ _ _ _ c.pulls.self _ c.pulls.invariant.leads (memory_stops _ c.pulls.self.blocks))
 
 pub returns-clause-taken : goal.returns-clause-taken
 returns-clause-taken g c =
-    let took = c.in_ok-take-2.ensures in
-    let line = c.take-2.new.self.line.items in
+    let took = c.take-2.ensures in
+    let line = last_of c.take-2.new.self in
     let text = rest_of c.pulls.self in
     leads_same (TakesLine true line) _ _ _ _ c.pulls.self _ c.pulls.invariant.leads
     (leads_here (TakesLine true line) _ c.pulls.self c.take-2.new.self took.ready.room took.blocks took.ended
