@@ -6,6 +6,7 @@ pub mod Right
 pub mod Firsts
 pub mod Judged
 pub mod Supported
+pub mod Passed
 pub mod Sourced
 pub mod OneVerdict
 pub mod Formed

@@ -15,3 +15,5 @@ pub mod Judging
 pub mod Problems
 pub mod Stops
 pub mod Supported
+pub mod Paths
+pub mod Passing

@@ -120,6 +120,7 @@ impl Reported {
             walks: &self.kept.walks,
             own: &self.kept.own,
             arcs: Vec::new(alloc),
+            shared: 0,
         }
     }
 }

@@ -8,13 +8,13 @@ ghost use Rattle.ea_search.specs.Links.{AreLinks};
 ghost use Rattle.ea_check.specs.Starts.{AreOrdered};
 ghost use Rattle.ea_check.specs.Nodes.{IsFirstOther, IsOtherAt};
 ghost use Rattle.ea_check.specs.Supported.{AreSupported};
+ghost use Rattle.ea_check.specs.Passing.{HasPassed};
 ghost use Rattle.ea_check.specs.WalksLeft.{IsAtNode};
 ghost use Rattle.ea_check.specs.Verdicts.{AreUnimproved, Improves, IsFirst, IsNotLeast, IsReported, IsTask, IsVerdict, IsWellFormed, reported_time};
 
 use crate::fault::CheckFault;
 use crate::form::reported::Reported;
-use crate::form::walk_reader::WalkReader;
-use crate::judge::canonical_walk::is_linked_walk;
+use crate::judge::canonical_walk::{Compared, Path};
 use crate::judge::support::{are_all_marked, mark, unmarked};
 use crate::judge::walk_sources::{attains, ordered_sources};
 use ea_base::HORIZON;
@@ -34,7 +34,7 @@ fn other_at<T: TravelTimes>(
     reported: &Reported,
     links: &[Link],
     node: u32,
-    walks: &mut WalkReader<'_>,
+    walks: &mut Compared<'_>,
 ) -> Result<Option<u64>, CheckFault>
     requires task { IsTask network.now (T.classes times.now) query.now.sources }
     requires ordered { AreOrdered query.now.sources ordered.now }
@@ -42,12 +42,15 @@ fn other_at<T: TravelTimes>(
     requires links { AreLinks network.now (T.answers times.now) query.now.sources
         (IsReported reported.now) links.now }
     requires node { IsNode network.now.nodes node }
-    requires walks { IsAtNode reported.now node walks.old }
+    requires walks { IsAtNode reported.now node walks.old.reader }
+    requires passed { HasPassed links.now walks.old }
     ensures other { IsOtherAt network.now
         (T.answers times.now) query.now.sources reported.now node result }
-    ensures walks { OnOk result (IsAtNode reported.now (node + 1) walks.new) }
+    ensures walks { OnOk result (IsAtNode reported.now (node + 1) walks.new.reader) }
+    ensures passed { OnOk result (HasPassed links.now walks.new) }
 {
-    let walk = walks.read_next()?;
+    let walk = walks.reader.read_next()?;
+    walks.path.keep(walks.reader.shared);
     let time = reported.time(node);
     if time == NONE {
         return Ok(None);
@@ -58,10 +61,18 @@ fn other_at<T: TravelTimes>(
     let Some(line) = walk else {
         return Ok(None);
     };
-    if is_linked_walk(links, node, &walks.arcs) {
+    if walks.path.leads_to(links, node, &walks.reader.arcs)? {
         return Ok(None);
     }
-    if attains(network, times, query, ordered, node, time, &walks.arcs) {
+    if attains(
+        network,
+        times,
+        query,
+        ordered,
+        node,
+        time,
+        &walks.reader.arcs,
+    ) {
         Ok(Some(line))
     } else {
         Err(CheckFault::NotAttained(line))
@@ -86,7 +97,10 @@ fn first_other<T: TravelTimes>(
         (IsReported reported.now) links.now }
     ensures { IsFirstOther network.now (T.answers times.now) query.now.sources reported.now result }
 {
-    let mut walks = reported.reader(alloc);
+    let mut walks = Compared {
+        reader: reported.reader(alloc),
+        path: Path::new(alloc),
+    };
     let mut first = None;
     for node in 1..network.nodes() + 1 {
         let other = other_at(

@@ -1,6 +1,7 @@
 use Rattle.std.proofs.Common.{ℕ, ◌<◌}
 use Rattle.std.specs.Prelude.{MatchOption}
 use Rattle.ea_check.specs.Verdicts.{IsAttained, IsCanonicalAt, IsFirst, IsNotCanonical}
+use Rattle.ea_check.specs.Passing.{HasPassed}
 use Rattle.ea_check.specs.WalksLeft.{IsAtNode}
 use Rattle.ea_check.proofs.judge.verdict.first_other.Given as goal
 
@@ -8,7 +9,8 @@ use Rattle.ea_check.proofs.judge.verdict.first_other.Given as goal
 -- of these has any.
 abbrev pub invariant-loop-node : goal.invariant-loop-node
 invariant-loop-node g l = record {
-  walks : IsAtNode l.reported l.node l.walks;
+  walks : IsAtNode l.reported l.node l.walks.reader;
+  passed : HasPassed l.links l.walks;
   attained : (before : ℕ) → before < l.node → IsAttained l.network (g.T.TravelTimes.answers l.times) l.query.sources l.reported before;
   canonical : MatchOption l.first ((before : ℕ) → before < l.node → IsCanonicalAt l.network (g.T.TravelTimes.answers l.times) l.query.sources l.reported before) (λ line. IsFirst (IsNotCanonical l.network (g.T.TravelTimes.answers l.times) l.query.sources l.reported) line);
 }

@@ -1,4 +1,5 @@
-use Rattle.std.proofs.Common.{◌≡◌, ◌∙◌, ap, sym}
+use Rattle.std.proofs.Common.{◌≡◌, ◌∙◌, ap, sym, ℕ, List, subst}
+use Rattle.ea_check.specs.Paths.{IsPassed}
 use Rattle.std.proofs.lemmas.Bool.{false≢true}
 use Rattle.std.specs.Prelude.{Some}
 use Rattle.ea_check.specs.Verdicts.{Said, IsSaid}
@@ -12,7 +13,7 @@ returns-then-time-clause-other g c =
     right_unreached c.args.network.now _ (g.T.TravelTimes.classes c.args.times.now) c.args.query.now.sources c.args.reported.now c.requires.task (g.met.T.TravelTimes.fifo c.args.times.now) c.requires.formed c.args.node (sym c.time-time.ensures ∙ c.if-time.true)
 
 pub returns-then-time-clause-walks : goal.returns-then-time-clause-walks
-returns-then-time-clause-walks g c = next_node c.args.network.now _ (g.T.TravelTimes.classes c.args.times.now) c.args.query.now.sources c.args.reported.now c.requires.task (g.met.T.TravelTimes.fifo c.args.times.now) c.requires.formed c.args.node c.requires.node _ _ _ c.requires.walks c.in_ok-walk.ensures
+returns-then-time-clause-walks g c = next_node c.args.network.now _ (g.T.TravelTimes.classes c.args.times.now) c.args.query.now.sources c.args.reported.now c.requires.task (g.met.T.TravelTimes.fifo c.args.times.now) c.requires.formed c.args.node c.requires.node _ _ _ c.requires.walks c.in_ok-walk.ensures.read
 
 pub returns-then-links-node-clause-other : goal.returns-then-links-node-clause-other
 returns-then-links-node-clause-other g c =
@@ -23,28 +24,28 @@ pub returns-in_default-clause-other : goal.returns-in_default-clause-other
 returns-in_default-clause-other g c =
     let read = read_level c.args.network.now _ (g.T.TravelTimes.classes c.args.times.now) c.args.query.now.sources c.args.reported.now c.requires.task (g.met.T.TravelTimes.fifo c.args.times.now) c.requires.formed c.args.links.now c.requires.links c.args.node c.requires.node in
     right_alone c.args.network.now _ (g.T.TravelTimes.classes c.args.times.now) c.args.query.now.sources c.args.reported.now c.requires.task (g.met.T.TravelTimes.fifo c.args.times.now) c.requires.formed c.args.links.now c.requires.links c.args.node c.requires.node (λ none. c.if-links-node.false (read ∙ none))
-    (λ said is_said. (c.in_ok-walk.ensures c.args.reported.now c.args.node said c.requires.walks is_said).1 ∙ ap (λ line. written line c.read_next.new.self.arcs.items) c.in_default.is)
+    (λ said is_said. (c.in_ok-walk.ensures.read c.args.reported.now c.args.node said c.requires.walks is_said).1 ∙ ap (λ line. written line c.read_next.new.self.arcs.items) c.in_default.is)
 
 pub returns-in_default-clause-walks : goal.returns-in_default-clause-walks
-returns-in_default-clause-walks g c = next_node c.args.network.now _ (g.T.TravelTimes.classes c.args.times.now) c.args.query.now.sources c.args.reported.now c.requires.task (g.met.T.TravelTimes.fifo c.args.times.now) c.requires.formed c.args.node c.requires.node _ _ _ c.requires.walks c.in_ok-walk.ensures
+returns-in_default-clause-walks g c = next_node c.args.network.now _ (g.T.TravelTimes.classes c.args.times.now) c.args.query.now.sources c.args.reported.now c.requires.task (g.met.T.TravelTimes.fifo c.args.times.now) c.requires.formed c.args.node c.requires.node _ _ _ c.requires.walks c.in_ok-walk.ensures.read
 
-pub is_linked_walk-requires-clause-followable : goal.is_linked_walk-requires-clause-followable
-is_linked_walk-requires-clause-followable g c = followable c.args.network.now _ c.args.query.now.sources _ c.args.links.now c.requires.task.network c.requires.links
+pub leads_to-requires-clause-followable : goal.leads_to-requires-clause-followable
+leads_to-requires-clause-followable g c = followable c.args.network.now _ c.args.query.now.sources _ c.args.links.now c.requires.task.network c.requires.links
 
-pub is_linked_walk-requires-clause-level : goal.is_linked_walk-requires-clause-level
-is_linked_walk-requires-clause-level g c =
+pub leads_to-requires-clause-level : goal.leads_to-requires-clause-level
+leads_to-requires-clause-level g c =
     let read = read_level c.args.network.now _ (g.T.TravelTimes.classes c.args.times.now) c.args.query.now.sources c.args.reported.now c.requires.task (g.met.T.TravelTimes.fifo c.args.times.now) c.requires.formed c.args.links.now c.requires.links c.args.node c.requires.node in
     low_level c.args.network.now _ (g.T.TravelTimes.classes c.args.times.now) c.args.query.now.sources c.args.reported.now c.requires.task (g.met.T.TravelTimes.fifo c.args.times.now) c.requires.formed c.args.links.now c.requires.links c.args.node c.requires.node (λ none. c.if-links-node.false (read ∙ none))
 
-pub returns-then-is_linked_walk-clause-other : goal.returns-then-is_linked_walk-clause-other
-returns-then-is_linked_walk-clause-other g c =
+pub returns-then-branch-clause-other : goal.returns-then-branch-clause-other
+returns-then-branch-clause-other g c =
     let read = read_level c.args.network.now _ (g.T.TravelTimes.classes c.args.times.now) c.args.query.now.sources c.args.reported.now c.requires.task (g.met.T.TravelTimes.fifo c.args.times.now) c.requires.formed c.args.links.now c.requires.links c.args.node c.requires.node in
     let writes : (said : Said) → IsSaid c.args.reported.now c.args.node said → said.walk ≡ Some (record { line = c.in-Some.line; arcs = c.read_next.new.self.arcs.items }) = λ said is_said.
-    (c.in_ok-walk.ensures c.args.reported.now c.args.node said c.requires.walks is_said).1 ∙ ap (λ line. written line c.read_next.new.self.arcs.items) c.in-Some.is in
-    right_linked c.args.network.now _ (g.T.TravelTimes.classes c.args.times.now) c.args.query.now.sources c.args.reported.now c.requires.task (g.met.T.TravelTimes.fifo c.args.times.now) c.requires.formed c.args.links.now c.requires.links c.args.node c.requires.node c.in-Some.line c.read_next.new.self.arcs.items (λ none. c.if-time.false (c.time-time.ensures ∙ none)) (λ none. c.if-links-node.false (read ∙ none)) writes (sym c.deref.ensures.value ∙ c.is_linked_walk.ensures.0 c.if-is_linked_walk.true)
+    (c.in_ok-walk.ensures.read c.args.reported.now c.args.node said c.requires.walks is_said).1 ∙ ap (λ line. written line c.read_next.new.self.arcs.items) c.in-Some.is in
+    right_linked c.args.network.now _ (g.T.TravelTimes.classes c.args.times.now) c.args.query.now.sources c.args.reported.now c.requires.task (g.met.T.TravelTimes.fifo c.args.times.now) c.requires.formed c.args.links.now c.requires.links c.args.node c.requires.node c.in-Some.line c.read_next.new.self.arcs.items (λ none. c.if-time.false (c.time-time.ensures ∙ none)) (λ none. c.if-links-node.false (read ∙ none)) writes (sym c.deref.ensures.value ∙ c.in_ok-leads_to.ensures.same.0 c.if-branch.true)
 
-pub returns-then-is_linked_walk-clause-walks : goal.returns-then-is_linked_walk-clause-walks
-returns-then-is_linked_walk-clause-walks g c = next_node c.args.network.now _ (g.T.TravelTimes.classes c.args.times.now) c.args.query.now.sources c.args.reported.now c.requires.task (g.met.T.TravelTimes.fifo c.args.times.now) c.requires.formed c.args.node c.requires.node _ _ _ c.requires.walks c.in_ok-walk.ensures
+pub returns-then-branch-clause-walks : goal.returns-then-branch-clause-walks
+returns-then-branch-clause-walks g c = next_node c.args.network.now _ (g.T.TravelTimes.classes c.args.times.now) c.args.query.now.sources c.args.reported.now c.requires.task (g.met.T.TravelTimes.fifo c.args.times.now) c.requires.formed c.args.node c.requires.node _ _ _ c.requires.walks c.in_ok-walk.ensures.read
 
 pub attains-requires-clause-time : goal.attains-requires-clause-time
 attains-requires-clause-time g c =
@@ -54,18 +55,28 @@ pub returns-then-attains-clause-other : goal.returns-then-attains-clause-other
 returns-then-attains-clause-other g c =
     let read = read_level c.args.network.now _ (g.T.TravelTimes.classes c.args.times.now) c.args.query.now.sources c.args.reported.now c.requires.task (g.met.T.TravelTimes.fifo c.args.times.now) c.requires.formed c.args.links.now c.requires.links c.args.node c.requires.node in
     let writes : (said : Said) → IsSaid c.args.reported.now c.args.node said → said.walk ≡ Some (record { line = c.in-Some.line; arcs = c.read_next.new.self.arcs.items }) = λ said is_said.
-    (c.in_ok-walk.ensures c.args.reported.now c.args.node said c.requires.walks is_said).1 ∙ ap (λ line. written line c.read_next.new.self.arcs.items) c.in-Some.is in
+    (c.in_ok-walk.ensures.read c.args.reported.now c.args.node said c.requires.walks is_said).1 ∙ ap (λ line. written line c.read_next.new.self.arcs.items) c.in-Some.is in
     let attains = c.attains.ensures.0 c.if-attains.true in (
       attained_by c.args.network.now _ (g.T.TravelTimes.classes c.args.times.now) c.args.query.now.sources c.args.reported.now c.requires.task (g.met.T.TravelTimes.fifo c.args.times.now) c.requires.formed c.args.links.now c.requires.links c.args.node c.requires.node c.in-Some.line c.read_next.new.self.arcs.items (λ none. c.if-links-node.false (read ∙ none)) writes (rw (sym c.time-time.ensures, sym c.deref-2.ensures.value) attains),
-      faults_other_walk c.args.network.now _ (g.T.TravelTimes.classes c.args.times.now) c.args.query.now.sources c.args.reported.now c.requires.task (g.met.T.TravelTimes.fifo c.args.times.now) c.requires.formed c.args.links.now c.requires.links c.args.node c.requires.node c.in-Some.line c.read_next.new.self.arcs.items writes (λ canonical. false≢true (sym c.if-is_linked_walk.false ∙ c.is_linked_walk.ensures.1 (c.deref.ensures.value ∙ linked_canonical c.args.network.now _ (g.T.TravelTimes.classes c.args.times.now) c.args.query.now.sources c.args.reported.now c.requires.task (g.met.T.TravelTimes.fifo c.args.times.now) c.requires.formed c.args.links.now c.requires.links c.args.node c.requires.node c.read_next.new.self.arcs.items (λ none. c.if-links-node.false (read ∙ none)) canonical))),
+      faults_other_walk c.args.network.now _ (g.T.TravelTimes.classes c.args.times.now) c.args.query.now.sources c.args.reported.now c.requires.task (g.met.T.TravelTimes.fifo c.args.times.now) c.requires.formed c.args.links.now c.requires.links c.args.node c.requires.node c.in-Some.line c.read_next.new.self.arcs.items writes (λ canonical. false≢true (sym c.if-branch.false ∙ c.in_ok-leads_to.ensures.same.1 (c.deref.ensures.value ∙ linked_canonical c.args.network.now _ (g.T.TravelTimes.classes c.args.times.now) c.args.query.now.sources c.args.reported.now c.requires.task (g.met.T.TravelTimes.fifo c.args.times.now) c.requires.formed c.args.links.now c.requires.links c.args.node c.requires.node c.read_next.new.self.arcs.items (λ none. c.if-links-node.false (read ∙ none)) canonical))),
     )
 
 pub returns-then-attains-clause-walks : goal.returns-then-attains-clause-walks
-returns-then-attains-clause-walks g c = next_node c.args.network.now _ (g.T.TravelTimes.classes c.args.times.now) c.args.query.now.sources c.args.reported.now c.requires.task (g.met.T.TravelTimes.fifo c.args.times.now) c.requires.formed c.args.node c.requires.node _ _ _ c.requires.walks c.in_ok-walk.ensures
+returns-then-attains-clause-walks g c = next_node c.args.network.now _ (g.T.TravelTimes.classes c.args.times.now) c.args.query.now.sources c.args.reported.now c.requires.task (g.met.T.TravelTimes.fifo c.args.times.now) c.requires.formed c.args.node c.requires.node _ _ _ c.requires.walks c.in_ok-walk.ensures.read
 
 pub returns-else-attains-clause-other : goal.returns-else-attains-clause-other
 returns-else-attains-clause-other g c =
     let read = read_level c.args.network.now _ (g.T.TravelTimes.classes c.args.times.now) c.args.query.now.sources c.args.reported.now c.requires.task (g.met.T.TravelTimes.fifo c.args.times.now) c.requires.formed c.args.links.now c.requires.links c.args.node c.requires.node in
     let writes : (said : Said) → IsSaid c.args.reported.now c.args.node said → said.walk ≡ Some (record { line = c.in-Some.line; arcs = c.read_next.new.self.arcs.items }) = λ said is_said.
-    (c.in_ok-walk.ensures c.args.reported.now c.args.node said c.requires.walks is_said).1 ∙ ap (λ line. written line c.read_next.new.self.arcs.items) c.in-Some.is in
+    (c.in_ok-walk.ensures.read c.args.reported.now c.args.node said c.requires.walks is_said).1 ∙ ap (λ line. written line c.read_next.new.self.arcs.items) c.in-Some.is in
     faults_astray c.args.network.now _ (g.T.TravelTimes.classes c.args.times.now) c.args.query.now.sources c.args.reported.now c.requires.task (g.met.T.TravelTimes.fifo c.args.times.now) c.requires.formed c.args.links.now c.requires.links c.args.node c.requires.node c.in-Some.line c.read_next.new.self.arcs.items (λ none. c.if-links-node.false (read ∙ none)) writes (λ attains. false≢true (sym c.if-attains.false ∙ c.attains.ensures.1 (rw (c.time-time.ensures, c.deref-2.ensures.value) attains)))
+
+pub returns-then-time-clause-passed : goal.returns-then-time-clause-passed
+returns-then-time-clause-passed g c = c.keep.ensures c.args.links.now c.args.walks.now.reader.arcs.items c.read_next.new.self.arcs.items c.in_ok-walk.ensures.shared c.requires.passed
+
+pub returns-in_default-clause-passed : goal.returns-in_default-clause-passed
+returns-in_default-clause-passed g c = c.keep.ensures c.args.links.now c.args.walks.now.reader.arcs.items c.read_next.new.self.arcs.items c.in_ok-walk.ensures.shared c.requires.passed
+
+pub leads_to-requires-clause-passed : goal.leads_to-requires-clause-passed
+leads_to-requires-clause-passed g c =
+    subst (λ (arcs : List ℕ). IsPassed c.args.links.now arcs c.keep.new.self.nodes.items c.keep.new.self.known) (sym c.deref.ensures.value) (c.keep.ensures c.args.links.now c.args.walks.now.reader.arcs.items c.read_next.new.self.arcs.items c.in_ok-walk.ensures.shared c.requires.passed)
