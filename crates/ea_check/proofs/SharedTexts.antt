@@ -97,7 +97,7 @@ back_longer text other len piece inside also same here =
     (ap (λ n. drop n text) (omega arith) ∙ same ∙ ap (λ n. drop n other) (omega arith))
     (ap (λ n. take n (drop start text)) (omega arith) ∙ ap (λ n. take (length text - len - (length text - len - piece)) (drop n text)) (omega arith) ∙ here ∙ ap (λ n. take n (drop (length other - len - piece) other)) (omega arith) ∙ ap (λ n. take piece (drop n other)) (omega arith))
 
--- ---- the part of its own
+-- ---- the part that isn't shared
 
 front_shorter : (text other : List ℕ) (len end : ℕ) → end ≤ len → take len text ≡ take len other → take end text ≡ take end other
 front_shorter text other len end less same =

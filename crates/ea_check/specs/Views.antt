@@ -20,7 +20,7 @@ walk_of (Some walk) = Some (record { line = walk.line; arcs = arcs_said walk })
 abbrev pub said_of : SaidLine → Said
 said_of said = record { line = said.line; time = said.time; walk = walk_of said.walk }
 
--- The number of a walk's arcs is told.
+-- The number of a walk's arcs is right.
 abbrev pub HasCount : Option WalkLine → Type 0
 HasCount None = Unit {0}
 HasCount (Some walk) = walk.count ≡ length (fields_of walk.arcs.now)

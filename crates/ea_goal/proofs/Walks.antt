@@ -67,13 +67,15 @@ module _
 
     labels_say : SaysNear roads.nodes near (IsLabel label) (IsLeastAt roads answers sources)
     labels_say node time is_node close at =
-        let reaches = led.led.reached node is_node (λ none. omega (arith, at.0, at.1, none)) in
-        (subst (λ t. Reaches roads answers sources node t) at.0 reaches, λ other also. elim (leb_tells time other) [
-          | inl before ↦ before.1
-          | inr sooner ↦
-              let below = low node other (close.0, omega (arith, sooner.1, close.1)) also in
-              omega (arith, below, at.0)
-        ])
+        let reaches = led.led.reached node is_node (λ none. omega (arith, at.0, at.1, none)) in (
+          subst (λ t. Reaches roads answers sources node t) at.0 reaches,
+          λ other also. elim (leb_tells time other) [
+            | inl before ↦ before.1
+            | inr sooner ↦
+                let below = low node other (close.0, omega (arith, sooner.1, close.1)) also in
+                omega (arith, below, at.0)
+          ],
+        )
 
     least_say : SaysNear roads.nodes near (IsLeastAt roads answers sources) (IsLabel label)
     least_say node time is_node close is_least =

@@ -18,8 +18,7 @@ use std::alloc::{AllocError, Global};
 use std::marker::Model;
 
 /// The arrays of led searches beside labels: bounds, and a heap of open nodes. They are reused from search to
-/// search; several threads with arrays of their own share one preparation. In contracts it is the number of
-/// nodes.
+/// search; several threads share one preparation. In contracts it is the number of nodes.
 #[derive(Drop)]
 pub struct Guide {
     nodes: u32,
@@ -98,7 +97,14 @@ pub fn lead<T: TravelTimes>(
     bounds_are_consistent(network, times, prepared, target, &bounds);
     bounds_are_below_each_walk(network, prepared, target, &bounds);
     let mut underway = Underway { table, frontier };
-    let ended = underway.seek(network, times, prepared, &mut bounds, query.sources(), target);
+    let ended = underway.seek(
+        network,
+        times,
+        prepared,
+        &mut bounds,
+        query.sources(),
+        target,
+    );
     let is_found = ended.is_ok();
     let Underway { table, frontier } = underway;
     Led {

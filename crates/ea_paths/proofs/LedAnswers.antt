@@ -18,7 +18,7 @@ use Rattle.ea_goal.proofs.Walks.{canonical_over_least, chain_to_target, least}
 use Rattle.ea_paths.specs.Stored.{IsStoredAnswer}
 use Rattle.ea_paths.proofs.Answered.{followable, gives}
 
--- a label that isn't NONE is the least arrival that it stands for
+-- a label that isn't NONE is a least arrival
 least_at : (roads : Roads) (answers : ℕ → ℕ → ℕ → ℕ → Type 0) (query : Asking) (node label : ℕ) → label ≢ NONE → IsLeast roads answers query.sources node (time_of label) → IsLeastAt roads answers query.sources node label
 least_at roads answers query node label some is =
     let given : time_of label ≡ Some label = by_test (label == NONE) refl in

@@ -38,9 +38,9 @@ pub(crate) struct ReportLines {
     pub count: u64,
     /// Whether the last line that was read is a line that says something. If it isn't, no line is left.
     pub found: bool,
-    /// Where in the block the last line that was read begins.
+    /// The place in the block at which the last line that was read begins.
     pub from: usize,
-    /// Where in the block it ends, without its line feed.
+    /// The place at which it ends, without its line feed.
     pub to: usize,
 }
 

@@ -30,7 +30,7 @@ impl Path {
         }
     }
 
-    /// Goes on to a walk that shares this number of first arcs with the walk before.
+    /// Takes the next walk, which shares this number of first arcs with the walk before.
     pub(crate) fn keep(&mut self, shared: usize)
         ensures { (links : List LinkType) (old new : List ℕ) → take shared old ≡ take shared new
             → IsPassed links old self.old.nodes.items self.old.known

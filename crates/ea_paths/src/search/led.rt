@@ -230,8 +230,9 @@ impl Search {
         let Some(guide) = guide_over(alloc, prepared, arrays.guide.take()) else {
             return unlinked(arrays, nodes, None, walks).find(network, times, query);
         };
-        let (arrays, is_found) =
-            lead_arrays(arrays, guide, network, times, prepared, query, target);
+        let (arrays, is_found) = lead_arrays(
+            arrays, guide, network, times, prepared, query, target,
+        );
         if !is_found {
             return unlinked(arrays, nodes, None, walks).find(network, times, query);
         }
