@@ -29,7 +29,7 @@ const FEW_PAIRS: usize = 32;
 const FEW_NODES: u32 = 5_000;
 
 /// A preparation takes about as long as this many offers of a search for each node.
-const OFFERS_BY_NODE: u64 = 250;
+const OFFERS_BY_NODE: u64 = 100;
 
 /// Whether a preparation takes less time than the searches that it makes short: as many pairs, of which each takes this
 /// many offers, by this many threads.
