@@ -246,6 +246,15 @@ public:
         EARLIEST_TEST_(core_ ? 0u : std::uint32_t{EARLIEST_NO_ROAD}, earliest_fault{});
         return core_->arcs;
     }
+    /// The same road with a preparation: `search::to` on it reaches few nodes and finds the same arrivals and walks, on any number of threads.
+    /// Takes seconds for 10^6 nodes, in which other threads wait for this road. Refused (EARLIEST_NOT_WORTH) if searches wouldn't gain by it.
+    detail::returned<road> prepared() const {
+        EARLIEST_TEST_(core_ ? 0u : std::uint32_t{EARLIEST_NO_ROAD}, earliest_fault{});
+        road made(std::make_unique<core>());
+        std::lock_guard<std::mutex> alone(core_->lock);
+        EARLIEST_TEST_(earliest_road_prepared(&core_->handle, &made.core_->handle), earliest_fault{});
+        return made.counted();
+    }
     /// Checks a report of searches from these nodes; one that isn't right is refused with the line of its first fault.
     detail::returned<void> check(list<std::uint32_t> nodes, const earliest_starts &starts, std::string_view report) const {
         EARLIEST_TEST_(core_ ? 0u : std::uint32_t{EARLIEST_NO_ROAD}, earliest_fault{});

@@ -371,11 +371,71 @@ static int long_path(uint32_t arcs) {
     return 0;
 }
 
+/* A road and the same road prepared: a square of streets of which each has a class by chance, with timetables. The pairs of
+ * the prepared one have the arrivals and walks of the other, and all other calls are the same. */
+enum { SIDE = 40 };
+static int prepared(void) {
+    static const char tp[] = "p tp 2 0\nk 1 every 60 7\nk 2 speeds 86400 3\nv 0 1000\nv 24000 250\nv 36000 1000\n";
+    static uint32_t tails[4 * SIDE * SIDE], heads[4 * SIDE * SIDE], weights[4 * SIDE * SIDE], classes[4 * SIDE * SIDE], walks[2][SIDE * SIDE];
+    static uint64_t arrivals[2][SIDE * SIDE];
+    static const int32_t steps[4] = {1, -1, SIDE, -SIDE};
+    uint32_t arcs = 0, nodes = SIDE * SIDE, from = 1;
+    uint64_t departure = 25000, counts[2], reached = 0;
+    earliest_road road = EARLIEST_NOTHING, led = EARLIEST_NOTHING, empty = EARLIEST_NOTHING, turned = EARLIEST_NOTHING;
+    earliest_search searches[2] = {EARLIEST_NOTHING, EARLIEST_NOTHING}, until = EARLIEST_NOTHING;
+    earliest_fault fault;
+    for (uint32_t at = 0; at < nodes; at++)
+        for (int step = 0; step < 4; step++) {
+            if ((step == 0 && at % SIDE == SIDE - 1) || (step == 1 && at % SIDE == 0) || at + steps[step] >= nodes || word() % 8 == 0) continue;
+            tails[arcs] = at + 1, heads[arcs] = at + 1 + steps[step], weights[arcs] = word() % 30, classes[arcs++] = word() % 3;
+        }
+    TEST(earliest_road_of_arcs(nodes, tails, heads, weights, classes, arcs, tp, sizeof tp - 1, &road, &fault) == 0);
+    TEST(earliest_road_prepared(&empty, &led) == EARLIEST_NO_ROAD && led.at == NULL);
+    TEST(earliest_road_prepared(&road, &led) == 0 && earliest_road_nodes(&led) == nodes && earliest_road_arcs(&led) == arcs);
+    TEST(earliest_road_prepared(&empty, &led) == EARLIEST_NO_ROAD && earliest_road_nodes(&led) == nodes);
+    TEST(earliest_search_new(&road, 1, &searches[0]) == 0);
+    TEST(earliest_road_prepared((earliest_road *)&searches[0], &led) == EARLIEST_NO_ROAD && earliest_road_nodes(&led) == nodes);
+    /* A prepared road is a road: it is prepared again, turned round and searched to all nodes. */
+    TEST(earliest_road_prepared(&led, &empty) == 0 && earliest_road_nodes(&empty) == nodes);
+    earliest_road_free(&led);
+    TEST(earliest_road_prepared(&road, &led) == 0 && earliest_road_prepared(&road, &led) == 0);
+    TEST(earliest_road_turned(&led, &turned) == 0 && earliest_road_prepared(&turned, &led) == EARLIEST_NO_ROAD);
+    TEST(earliest_search_new_until(&turned, 0, &until) == 0 && earliest_search_pair_until(&until, 1, nodes, 30000) == 0);
+    TEST(earliest_search_new_until(&led, 0, &until) == EARLIEST_NO_ROAD);
+    TEST(earliest_search_new(&led, 1, &searches[1]) == 0);
+    earliest_road_free(&road), earliest_road_free(&empty), earliest_road_free(&led);
+    for (int i = 0; i < 2; i++) {
+        TEST(earliest_search_from(&searches[i], &from, 1, &departure, 1) == 0 && earliest_search_arrivals(&searches[i], arrivals[i], nodes) == 0);
+    }
+    TEST(memcmp(arrivals[0], arrivals[1], sizeof arrivals[0]) == 0);
+    for (int round = 0; round < 400; round++) {
+        uint32_t source = 1 + word() % nodes, target = 1 + word() % nodes;
+        uint64_t start = round % 50 ? word() % 100000 : EARLIEST_HORIZON - word() % 500, times[2] = {0, 1};
+        uint32_t numbers[2];
+        for (int i = 0; i < 2; i++) {
+            counts[i] = 7;
+            TEST(earliest_search_pair(&searches[i], source, start, target) == 0 && earliest_search_arrival(&searches[i], target, &times[i]) == 0);
+            TEST(earliest_search_arrival(&searches[i], source % nodes + 1, &departure) == (source % nodes + 1 == target ? 0 : EARLIEST_NOT_ASKED));
+            numbers[i] = earliest_search_walk(&searches[i], target, walks[i], nodes, &counts[i]);
+            if (round % 9 == 0) TEST(earliest_search_from(&searches[i], &source, 1, &start, 1) == 0 && earliest_search_arrival(&searches[i], target, &departure) == 0 && departure == times[i]);
+        }
+        TEST(times[0] == times[1] && numbers[0] == numbers[1] && counts[0] == counts[1]);
+        if (numbers[0]) continue;
+        TEST(memcmp(walks[0], walks[1], counts[0] * sizeof **walks) == 0);
+        reached++;
+    }
+    TEST(reached > 200);
+    TEST(earliest_search_pair(&searches[1], 0, 0, 1) == EARLIEST_NO_SUCH_NODE && earliest_search_pair(&searches[1], 1, 0, nodes + 1) == EARLIEST_NO_SUCH_NODE);
+    TEST(earliest_search_pair(&searches[1], 1, EARLIEST_HORIZON + 1, 1) == EARLIEST_BEYOND_HORIZON);
+    earliest_search_free(&searches[0]), earliest_search_free(&searches[1]), earliest_search_free(&until), earliest_road_free(&turned);
+    return 0;
+}
+
 int main(int count, char **words) {
     if (count != 4 && count != 5) return 2;
     size_t four_length, gr_length, tp_length;
     char *four = text_of(words[1], &four_length), *gr = text_of(words[2], &gr_length), *tp = text_of(words[3], &tp_length);
-    int failed = four_nodes(four, four_length) || latest(four, four_length) || of_lists() || no_lists() || many(gr, gr_length, tp, tp_length) || long_path(count == 5 ? strtoul(words[4], NULL, 10) : 1000);
+    int failed = four_nodes(four, four_length) || latest(four, four_length) || of_lists() || no_lists() || many(gr, gr_length, tp, tp_length) || prepared() || long_path(count == 5 ? strtoul(words[4], NULL, 10) : 1000);
     free(four), free(gr), free(tp);
     return failed;
 }

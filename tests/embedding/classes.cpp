@@ -22,6 +22,20 @@ int main() {
     TEST(latest.walk(1) == (std::vector<std::uint32_t>{2, 3, 4}) && latest.departure(2) == std::optional<std::uint64_t>(5));
     TEST(latest.from(1, {4, 5}) == std::nullopt && latest.from(1, {4, 7}) == std::optional<std::uint64_t>(1));
     TEST(earliest::latest(plain, false).from(3, {4, 6}) == std::optional<std::uint64_t>(2));
+    earliest::road led = plain.prepared();
+    TEST(led.nodes() == 4 && led.arcs() == 5 && led.prepared().arcs() == 5);
+    earliest::search far(led);
+    TEST(far.to({1, 0}, 4) == search.to({1, 0}, 4) && far.walk(4) == search.walk(4) && far.to({4, 0}, 1) == std::nullopt);
+    TEST(far.from({{1, 0}}).arrivals() == (std::vector<std::uint64_t>{0, 5, 2, 6}));
+    TEST(earliest::latest(led).from(1, {4, 7}) == std::optional<std::uint64_t>(1));
+    earliest::road moved = std::move(led);
+    TEST(earliest::search(moved, false).to({1, 3}, 4) == std::optional<std::uint64_t>(9));
+    try {
+        led.prepared();
+        TEST(false);
+    } catch (const earliest::failure &refused) {
+        TEST(refused.number() == EARLIEST_NO_ROAD);
+    }
     earliest::road timed = earliest::road::of_arcs(4, tails, heads, weights, classes, "p tp 1 0\nk 1 every 10 0\n");
     earliest::search other(timed);
     // The arc from 2 to 4 is left at 10, so the one from 3 to 4, which takes 9, is as early.

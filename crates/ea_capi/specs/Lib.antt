@@ -8,3 +8,5 @@ pub mod Checks
 pub mod Lists
 pub mod Latest
 pub mod LatestCalls
+pub mod Prepared
+pub mod Shared

@@ -10,7 +10,7 @@ use Rattle.ea_capi.specs.declared.handle.content.Content.TheVariants as content
 -- The road of a handle that holds one.
 abbrev pub road_in : Option Content → Option Road
 road_in None = None
-road_in (Some (content.Road terrain)) = Some (arc_value terrain).road
+road_in (Some (content.Road share)) = Some share.road
 road_in (Some (content.Search session)) = None
 road_in (Some (content.Turned turned)) = None
 road_in (Some (content.Latest search)) = None
@@ -19,7 +19,7 @@ road_in (Some content.Away) = None
 -- The search of a handle that holds one.
 abbrev pub session_in : Option Content → Option Session
 session_in None = None
-session_in (Some (content.Road terrain)) = None
+session_in (Some (content.Road share)) = None
 session_in (Some (content.Search session)) = Some session
 session_in (Some (content.Turned turned)) = None
 session_in (Some (content.Latest search)) = None
@@ -27,12 +27,12 @@ session_in (Some content.Away) = None
 
 -- The road of a search.
 abbrev pub road_of : Session → Road
-road_of session = (arc_value session.terrain).road
+road_of session = session.share.road
 
 -- The road behind a road turned round, if a handle holds one.
 abbrev pub turned_in : Option Content → Option Road
 turned_in None = None
-turned_in (Some (content.Road terrain)) = None
+turned_in (Some (content.Road share)) = None
 turned_in (Some (content.Search session)) = None
 turned_in (Some (content.Turned turned)) = Some (arc_value (arc_value turned).terrain).road
 turned_in (Some (content.Latest search)) = None
@@ -41,7 +41,7 @@ turned_in (Some content.Away) = None
 -- The search for latest departures of a handle that holds one.
 abbrev pub latest_in : Option Content → Option LatestSearch
 latest_in None = None
-latest_in (Some (content.Road terrain)) = None
+latest_in (Some (content.Road share)) = None
 latest_in (Some (content.Search session)) = None
 latest_in (Some (content.Turned turned)) = None
 latest_in (Some (content.Latest search)) = Some search

@@ -137,7 +137,7 @@ fn judge_on(
         (lines_of_report report.now) result }
 {
     match content {
-        Content::Road(terrain) => judge_run(alloc, &terrain.road, nodes, starts, report),
+        Content::Road(share) => judge_run(alloc, share.road(), nodes, starts, report),
         _ => refusal(NO_ROAD),
     }
 }

@@ -31,6 +31,8 @@ pub const LENGTHS_DIFFER: u32 = 23;
 /// There is no room for the result.
 pub const ROOM_TOO_SMALL: u32 = 24;
 // 25 is the header's: it refuses a second call in a search before the library is called.
+/// The road isn't worth a preparation.
+pub const NOT_WORTH: u32 = 26;
 
 /// The fault of a text that a caller passed.
 #[repr(C)]

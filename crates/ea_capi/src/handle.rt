@@ -3,3 +3,5 @@
 pub mod content;
 pub mod handle;
 pub mod raw_box;
+pub mod share;
+pub mod terrain;

@@ -5,8 +5,10 @@ ghost use Rattle.ea_capi.specs.Roads.{IsKept, IsRead};
 ghost use Rattle.ea_capi.specs.States.{road_in};
 
 use crate::fault_numbers::{DONE, Fault, OUT_OF_MEMORY, tell};
-use crate::handle::content::{Content, Terrain};
+use crate::handle::content::Content;
 use crate::handle::handle::Handle;
+use crate::handle::share::Share;
+use crate::handle::terrain::Terrain;
 use ea_load::{Road, road_of_texts};
 use std::alloc::{AllocError, Global};
 use std::sync::Arc;
@@ -17,7 +19,7 @@ fn boxed(alloc: Global, road: Road) -> Result<Box<Content, Global>, AllocError>
     ensures { IfOk result (λ it. road_in (Some it.value) ≡ Some road) }
 {
     let terrain = Arc::new(alloc, Terrain { road })?;
-    Ok(Box::new(alloc, Content::Road(terrain))?)
+    Ok(Box::new(alloc, Content::Road(Share::of(terrain)))?)
 }
 
 /// Puts a road into a handle.
@@ -71,7 +73,7 @@ fn nodes_of(content: &Content) -> u32
         (λ road. result ≡ road.network.nodes) }
 {
     match content {
-        Content::Road(terrain) => terrain.road.network.nodes(),
+        Content::Road(share) => share.road().network.nodes(),
         _ => 0,
     }
 }
@@ -82,7 +84,7 @@ fn arcs_of(content: &Content) -> u32
         (λ road. result ≡ length road.network.arcs) }
 {
     match content {
-        Content::Road(terrain) => terrain.road.network.arcs().len() as u32,
+        Content::Road(share) => share.road().network.arcs().len() as u32,
         _ => 0,
     }
 }

@@ -5,8 +5,9 @@ ghost use Rattle.ea_capi.specs.LatestCalls.{IsTurnedRound, IsTurnedOf};
 ghost use Rattle.ea_capi.specs.States.{road_in, turned_in};
 
 use crate::fault_numbers::{DONE, NO_ROAD, OUT_OF_MEMORY};
-use crate::handle::content::{Content, Terrain, TurnedRoad};
+use crate::handle::content::{Content, TurnedRoad};
 use crate::handle::handle::Handle;
+use crate::handle::terrain::Terrain;
 use std::alloc::{AllocError, Global};
 use std::sync::Arc;
 
@@ -30,7 +31,7 @@ fn turned_of(alloc: Global, content: &Content) -> Result<Box<Content, Global>, u
         MatchOption (road_in (Some content.now)) (number ≡ 16) (λ _. number ≡ 13)) }
 {
     match content {
-        Content::Road(terrain) => match turned_round(alloc, terrain) {
+        Content::Road(share) => match turned_round(alloc, share.terrain()) {
             Ok(found) => Ok(found),
             Err(_) => Err(OUT_OF_MEMORY),
         },

@@ -1,6 +1,7 @@
 //! Making and freeing searches.
-ghost use Rattle.std.specs.Prelude.{◌≡◌, IfErr, IfOk, None, Some, nat_lt};
+ghost use Rattle.std.specs.Prelude.{◌≡◌, IfErr, IfOk, IfSome, None, Some, nat_lt};
 ghost use Rattle.ea_capi.specs.Calls.{IsBegun, IsHeld, IsNew, IsThere};
+ghost use Rattle.ea_capi.specs.Prepared.{IsLedAlike, preparation_in};
 ghost use Rattle.ea_capi.specs.States.{road_in};
 
 use crate::fault_numbers::{DONE, NO_ROAD, OUT_OF_MEMORY};
@@ -11,10 +12,12 @@ use std::alloc::{AllocError, Global};
 /// A search on the road of a content: none if it holds no road, an error if memory is refused.
 fn session_on(alloc: Global, content: &Content, walks: bool) -> Result<Option<Session>, AllocError>
     ensures made { IfOk result (IsNew (road_in (Some content.now)) walks) }
+    ensures led { IfOk result (λ made. IfSome made (λ it.
+        it.share.prepared ≡ preparation_in (Some content.now))) }
     ensures refused { IfErr result (λ _. IsThere (road_in (Some content.now))) }
 {
     match content {
-        Content::Road(terrain) => Ok(Some(Session::on(alloc, terrain, walks)?)),
+        Content::Road(share) => Ok(Some(Session::on(alloc, share, walks)?)),
         _ => Ok(None),
     }
 }
@@ -47,6 +50,7 @@ pub extern "C" fn earliest_search_new(
     ensures same { road.new.value ≡ road.old.value }
     ensures begun { IsBegun (road_in road.old.value) (nat_lt 0 walks)
         search.old.value search.new.value result }
+    ensures led { IsLedAlike road.old.value search.new.value result }
 {
     let Some(content) = road.take(alloc) else {
         return NO_ROAD;

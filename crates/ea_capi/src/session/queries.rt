@@ -15,7 +15,7 @@ use std::alloc::{AllocError, Global};
 
 impl Session {
     /// Answers one pair.
-    fn find_pair(self, source: u32, departure: u64, target: u32) -> (Session, u32)
+    fn find_pair(self, alloc: Global, source: u32, departure: u64, target: u32) -> (Session, u32)
         ensures found { result.1 ≡ 0 → IsFound (from_to source departure target) self
             result.0 result.1 }
         ensures refused { result.1 ≢ 0 → result.0 ≡ self }
@@ -30,6 +30,7 @@ impl Session {
         if target == 0 || target > self.nodes() {
             return (self, NO_SUCH_NODE);
         }
+        self.share.keeps_classes();
         let query = Query::pair(
             Source {
                 node: source,
@@ -37,12 +38,18 @@ impl Session {
             },
             target,
         );
-        (self.find(&query), DONE)
+        (self.find(alloc, &query), DONE)
     }
 }
 
 /// Answers one pair, if the content is a search; other contents are refused.
-fn pair_of(content: Content, source: u32, departure: u64, target: u32) -> (Content, u32)
+fn pair_of(
+    alloc: Global,
+    content: Content,
+    source: u32,
+    departure: u64,
+    target: u32,
+) -> (Content, u32)
     ensures { IsQueried
         (λ it. IsPair (road_of it) (record { node = source; departure = departure }) target) IsDone
         (from_to source departure target) (session_in (Some content))
@@ -50,7 +57,7 @@ fn pair_of(content: Content, source: u32, departure: u64, target: u32) -> (Conte
 {
     match content {
         Content::Search(session) => {
-            let (session, number) = session.find_pair(source, departure, target);
+            let (session, number) = session.find_pair(alloc, source, departure, target);
             (Content::Search(session), number)
         }
         other => (other, NO_SEARCH),
@@ -77,7 +84,7 @@ pub extern "C" fn earliest_search_pair(
     let Some((room, content)) = search.empty_out(alloc) else {
         return NO_SEARCH;
     };
-    let (content, number) = pair_of(content, source, departure, target);
+    let (content, number) = pair_of(alloc, content, source, departure, target);
     search.fill(room, content);
     number
 }
@@ -131,7 +138,7 @@ impl Session {
     }
 
     /// Answers a query from sources.
-    fn find_from(self, sources: Vec<Source>) -> (Session, u32)
+    fn find_from(self, alloc: Global, sources: Vec<Source>) -> (Session, u32)
         ensures found { result.1 ≡ 0 →
             IsFound (record { sources = sources.items; target = None }) self result.0 result.1 }
         ensures refused { result.1 ≢ 0 → result.0 ≡ self }
@@ -141,8 +148,9 @@ impl Session {
             let number = self.refusal_of(&sources);
             return (self, number);
         }
+        self.share.keeps_classes();
         let query = Query::new(sources);
-        (self.find(&query), DONE)
+        (self.find(alloc, &query), DONE)
     }
 
     /// Answers a query from nodes at departures.
@@ -156,7 +164,7 @@ impl Session {
             return (self, LENGTHS_DIFFER);
         }
         match sources_of(alloc, nodes, departures) {
-            Ok(sources) => self.find_from(sources),
+            Ok(sources) => self.find_from(alloc, sources),
             Err(_) => (self, OUT_OF_MEMORY),
         }
     }

@@ -1,20 +1,16 @@
 //! Searches: made on a road, and queried.
-ghost use Rattle.std.specs.Prelude.{◌≡◌, ◌≢◌, ◌≤◌, ◌<◌, ℕ, [], ◌∷◌, IfOk, IfErr, None, Some, true, length, take};
-ghost use Rattle.std.specs.Arc.{arc_value};
-ghost use Rattle.ea_road.specs.Roads.{IsNode};
+ghost use Rattle.std.specs.Prelude.{◌≡◌, IfOk, length};
 ghost use Rattle.ea_road.specs.Queries.{IsProblem};
-ghost use Rattle.ea_search.specs.Answers.{HasArrivals, IsAnswer};
-ghost use Rattle.ea_capi.specs.Sessions.{IsAnswered, IsSame, IsStart, answers_on};
+ghost use Rattle.ea_capi.specs.Sessions.{IsAnswered, IsSame, IsStart};
 ghost use Rattle.ea_capi.specs.States.{road_of};
 
 use crate::fault_numbers::{BEYOND_HORIZON, NO_SUCH_NODE};
-use crate::handle::content::{Session, Terrain};
+use crate::handle::content::Session;
+use crate::handle::share::Share;
 use ea_base::HORIZON;
-use ea_load::Road;
 use ea_paths::Search;
 use ea_road::{Query, Source};
 use std::alloc::{AllocError, Global};
-use std::sync::Arc;
 
 /// Arrays for searches in a network of this number of nodes.
 pub(crate) fn room(alloc: Global, nodes: u32, walks: bool) -> Result<Search, AllocError>
@@ -28,36 +24,17 @@ pub(crate) fn room(alloc: Global, nodes: u32, walks: bool) -> Result<Search, All
     }
 }
 
-/// Answers a query on a road, with walks or without.
-fn search_on(road: &Road, search: Search, walks: bool, query: &Query) -> Search
-    requires problem { IsProblem road.now.network (length road.now.times.tables.list.items) query.now }
-    requires nodes { search.nodes ≡ road.now.network.nodes }
-    requires room { search.walks ≡ walks }
-    ensures arrivals { HasArrivals road.now.network (answers_on road.now) query.now result.answer }
-    ensures walks { walks ≡ true →
-        IsAnswer road.now.network (answers_on road.now) query.now result.answer }
-    ensures same { (result.nodes ≡ search.nodes) × (result.walks ≡ search.walks) }
-{
-    if walks {
-        return search.find_walks(&road.network, &road.times, query);
-    }
-    search.find_arrivals(&road.network, &road.times, query)
-}
-
 impl Session {
     /// A search on a road, with a share of it.
-    pub fn on(
-        alloc: Global,
-        terrain: &Arc<Terrain, Global>,
-        walks: bool,
-    ) -> Result<Session, AllocError>
-        ensures road { IfOk result (λ it. road_of it ≡ (arc_value terrain.now).road) }
+    pub fn on(alloc: Global, share: &Share, walks: bool) -> Result<Session, AllocError>
+        ensures road { IfOk result (λ it. road_of it ≡ share.now.road) }
         ensures walks { IfOk result (λ it. it.walks ≡ walks) }
+        ensures prepared { IfOk result (λ it. it.share.prepared ≡ share.now.prepared) }
     {
-        let terrain = Arc::try_clone(terrain)?;
-        let search = room(alloc, terrain.road.network.nodes(), walks)?;
+        let share = share.again()?;
+        let search = room(alloc, share.road().network.nodes(), walks)?;
         Ok(Session {
-            terrain,
+            share,
             search,
             walks,
         })
@@ -67,24 +44,24 @@ impl Session {
     pub fn nodes(&self) -> u32
         ensures { result ≡ (road_of self.now).network.nodes }
     {
-        self.terrain.road.network.nodes()
+        self.share.road().network.nodes()
     }
 
     /// Answers a query.
-    pub fn find(self, query: &Query) -> Session
+    pub fn find(self, alloc: Global, query: &Query) -> Session
         requires { IsProblem (road_of self).network
             (length (road_of self).times.tables.list.items) query.now }
         ensures answer { IsAnswered query.now result }
         ensures same { IsSame self result }
     {
         let Session {
-            terrain,
+            share,
             search,
             walks,
         } = self;
-        let search = search_on(&terrain.road, search, walks, query);
+        let search = share.find(alloc, search, query);
         Session {
-            terrain,
+            share,
             search,
             walks,
         }

@@ -6,7 +6,7 @@ use Rattle.ea_travel_times.specs.StepLists.{steps_in}
 use Rattle.ea_travel_times.specs.TimetableLists.{TimetablesAnswer}
 use Rattle.ea_travel_times.specs.TurnedTimes.{IsTurned}
 use Rattle.ea_travel_times.specs.declared.road_times.RoadTimes.{RoadTimes}
-use Rattle.ea_capi.specs.declared.handle.content.Terrain.{Terrain}
+use Rattle.ea_capi.specs.declared.handle.terrain.Terrain.{Terrain}
 use Rattle.ea_capi.proofs.session.latest.search_turned.Goals as goal
 
 pub returns-then-walks-clause-walks : goal.returns-then-walks-clause-walks

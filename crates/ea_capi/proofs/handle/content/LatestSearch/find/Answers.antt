@@ -5,7 +5,7 @@ use Rattle.ea_road.specs.Turned.{turned_roads}
 use Rattle.ea_search.specs.Answers.{HasArrivals, IsAnswer}
 use Rattle.ea_travel_times.specs.TurnedTimes.{IsTurned}
 use Rattle.ea_load.specs.declared.road.Road.{Road}
-use Rattle.ea_capi.specs.declared.handle.content.Terrain.{Terrain}
+use Rattle.ea_capi.specs.declared.handle.terrain.Terrain.{Terrain}
 use Rattle.ea_capi.specs.declared.handle.content.TurnedRoad.{TurnedRoad}
 use Rattle.ea_capi.specs.Latest.{AreLatest}
 use Rattle.ea_capi.specs.Sessions.{answers_on}

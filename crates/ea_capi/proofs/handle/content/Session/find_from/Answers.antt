@@ -16,5 +16,5 @@ find-requires c =
     let holds : IsTrue c.are_starts.result = (let no = c.if-not-are_starts.false in cc) in
     let are = c.are_starts.ensures.0 holds in
     let road = road_of c.args.self in
-    starts_make_problem road.network _ c.args.sources.items c.new-query.result c.new-query.ensures c.args.self.terrain.value.classed
+    starts_make_problem road.network _ c.args.sources.items c.new-query.result c.new-query.ensures c.keeps_classes.ensures
     (subst (λ n. AreStarts n c.args.sources.items) c.nodes.ensures (subst (AreStarts c.nodes.result) c.deref.ensures.value are))

@@ -1,0 +1,50 @@
+-- Prepared roads, and the outcomes of the call that makes them.
+use Rattle.std.specs.Prelude.{◌≡◌, ◌⊎◌, ℕ, Option, Some, None}
+use Rattle.ea_hierarchy.specs.Hierarchies.{Hierarchy}
+use Rattle.ea_hierarchy.specs.Preparations.{IsPreparedFor}
+use Rattle.ea_hierarchy.specs.declared.unprepared.Unprepared.{Unprepared}
+use Rattle.ea_hierarchy.specs.declared.unprepared.Unprepared.TheVariants.{NotWorth, OutOfMemory}
+use Rattle.ea_load.specs.Posed.{times_on}
+use Rattle.ea_load.specs.declared.road.Road.{Road}
+use Rattle.ea_capi.specs.declared.handle.content.Content.{Content}
+use Rattle.ea_capi.specs.declared.handle.content.Content.TheVariants as content
+use Rattle.ea_capi.specs.States.{road_in}
+
+-- The preparation of the road or the search of a handle, if it has one.
+abbrev pub preparation_in : Option Content → Option Hierarchy
+preparation_in None = None
+preparation_in (Some (content.Road share)) = share.prepared
+preparation_in (Some (content.Search session)) = session.share.prepared
+preparation_in (Some (content.Turned turned)) = None
+preparation_in (Some (content.Latest search)) = None
+preparation_in (Some content.Away) = None
+
+-- The number of why a road isn't prepared.
+abbrev pub unprepared_number : Unprepared → ℕ
+unprepared_number NotWorth = 26
+unprepared_number OutOfMemory = 13
+
+-- The content is this road, and has a preparation of it.
+pub record IsRoadPrepared (road : Road) (content : Option Content) : Type 0 where
+  pub same : road_in content ≡ Some road
+  pub hierarchy : Hierarchy
+  pub there : preparation_in content ≡ Some hierarchy
+  pub fits : IsPreparedFor road.network (times_on road) hierarchy
+
+-- The road is worth no preparation, or memory was refused.
+abbrev pub IsUnprepared : ℕ → Type 0
+IsUnprepared number = (why : Unprepared) × (number ≡ unprepared_number why)
+
+-- The content is the road prepared, if there is one.
+abbrev pub IsPreparedOf : Option Road → Content → Type 0
+IsPreparedOf None content = ⊥
+IsPreparedOf (Some road) content = IsRoadPrepared road (Some content)
+
+-- The handle holds the road prepared; or it is unchanged, as there is no road, or it is not worth it, or memory was refused.
+abbrev pub IsPrepared : Option Road → Option Content → Option Content → ℕ → Type 0
+IsPrepared None old new number = (number ≡ 16) × (new ≡ old)
+IsPrepared (Some road) old new number = (IsRoadPrepared road new × (number ≡ 0)) ⊎ ((new ≡ old) × IsUnprepared number)
+
+-- A call that succeeded made a search that uses the road's preparation, if it has one.
+abbrev pub IsLedAlike : Option Content → Option Content → ℕ → Type 0
+IsLedAlike road search number = number ≡ 0 → preparation_in search ≡ preparation_in road
