@@ -38,7 +38,7 @@ class Core:
         self.nodes: int = library().earliest_road_nodes(self.handle)
         self.arcs: int = library().earliest_road_arcs(self.handle)
         self.found_ends: Any = None
-        self.closed = False
+        self.closed = self.prepared = False
         _all.add(self)
 
     def ends(self) -> Tuple[Any, Any]:
@@ -64,6 +64,17 @@ class Core:
             if not self.turned.at:
                 test(library().earliest_road_turned(self.handle, self.turned))
             test(library().earliest_search_new_until(self.turned, 0, handle))
+
+    def prepare(self) -> None:
+        """Puts a preparation beside the road, for the searches that are made from now on."""
+        with self.lock:
+            if self.prepared and not self.closed:
+                return
+            prepared = Handle()
+            test(library().earliest_road_prepared(self.handle, prepared))
+            self.handle, plain = prepared, self.handle
+            library().earliest_road_free(plain)
+            self.prepared = True
 
     def close(self):
         with self.lock:

@@ -141,6 +141,41 @@ class Answers(Case):
             for source, target in ((1, 9), (2, 30), (5, 5)):
                 self.assertEqual(flat(road.profile(source, target, departures)), [net.least([(source, it)])[target - 1] for it in departures])
 
+    def test_a_prepared_road(self):
+        for net in self.networks:
+            road, plain_one = (earliest.Road(net.gr(), net.tp()) for _ in range(2))
+            before = road.searcher(walks=False)
+            self.assertFalse(road.prepared)
+            self.assertIs(road.prepare(), road)
+            self.assertTrue(road.prepared and road.numbered.prepared and copy.copy(road).prepared and not plain_one.prepared)
+            sources, targets = ([it % 40 + 1 for it in range(at, at + 120)] for at in (0, 13))
+            departures = [7 * it for it in range(120)]
+            want = [net.least([(source, departure)])[target - 1] for source, target, departure in zip(sources, targets, departures)]
+            for threads in (1, 4):
+                self.assertEqual(flat(road.pairs(sources, targets, departures, threads=threads)), want)
+            self.assertEqual(flat(plain_one.pairs(sources, targets, departures)), want)
+            after = road.searcher()
+            for search in (before, after):
+                self.assertEqual([search.pair(*it) for it in zip(sources, departures, targets)], [None if it == NEVER else it for it in want])
+            # It is a road still: all nodes, walks, latest departures, pickles.
+            self.assertEqual(flat(after.find(3, 95).arrivals), net.least([(3, 95)]))
+            self.assertEqual([road.search(3, 95).walk(node) for node in range(1, 41)], [plain_one.search(3, 95).walk(node) for node in range(1, 41)])
+            self.assertEqual((road.nodes, road.arcs, int(road.latest(1, 9, 300))), (40, 120, int(plain_one.latest(1, 9, 300))))
+            other = pickle.loads(pickle.dumps(road))
+            self.assertFalse(other.prepared)
+            self.assertEqual(flat(other.prepare().prepare().pairs(sources, targets, departures)), want)
+            named = road.named([f"n{node}" for node in range(1, 41)])
+            self.assertEqual((named.prepared, int(named.pairs("n1", "n14", 0))), (True, want[0]))
+            road.close()
+            self.assertEqual(after.pair(sources[0], departures[0], targets[0]), None if want[0] == NEVER else want[0])
+            self.refused(16, road.prepare)
+
+    def test_a_road_that_is_not_worth_a_preparation(self):
+        net = plain.network(3, 4000, 16000, ())
+        road = earliest.Road(net.gr())
+        self.refused(26, road.prepare)
+        self.assertEqual((road.prepared, flat(road.search(1).arrivals)), (False, net.least([(1, 0)])))
+
     def test_latest(self):
         for net in self.networks[:3]:
             road = earliest.Road(net.gr(), net.tp())
