@@ -106,11 +106,11 @@ static inline uint32_t earliest_road_of_arcs(uint32_t nodes, const uint32_t *tai
 uint32_t earliest_road_nodes(earliest_road *road);
 uint32_t earliest_road_arcs(earliest_road *road);
 /* Prepares a road, so that searches on it for one target (earliest_search_pair) reach few nodes: far pairs take a fraction of the time, and
- * arrivals and walks are the same. It takes seconds for 10^6 nodes, once for all searches. `prepared` holds the same road with its preparation
- * then, for every call that takes a road; it has a share of the road, which may be freed before it, and what it held before is freed. Any
- * number of searches, each on another thread, share the preparation. They begin with earliest_search_new on `prepared`; those made on
- * `road`, queries to all nodes and searches for latest departures don't use it. Refusals: EARLIEST_NO_ROAD; EARLIEST_NOT_WORTH if the
- * road has too dense a core for searches to gain, and 13; `prepared` is as it was then. */
+ * arrivals and walks are the same. It takes seconds for 10^6 nodes, once for all searches. `prepared`, another handle, holds the same road
+ * with its preparation then, for every call that takes a road; it has a share of the road, which may be freed before it, and what it held
+ * before is freed. Any number of searches, each on another thread, share the preparation. They begin with earliest_search_new on
+ * `prepared`; those made on `road`, queries to all nodes and searches for latest departures don't use it. Refusals: EARLIEST_NO_ROAD;
+ * EARLIEST_NOT_WORTH if the road has too dense a core for searches to gain, as a large grid has; 13; `prepared` is as it was then. */
 uint32_t earliest_road_prepared(earliest_road *road, earliest_road *prepared);
 /* Lets a road go; `road` is EARLIEST_NOTHING then. Searches on it keep their shares and go on. */
 void earliest_road_free(earliest_road *road);

@@ -1,5 +1,5 @@
 //! A share of a road and of its preparation.
-ghost use Rattle.std.specs.Prelude.{◌≡◌, ◌≤◌, IfOk, IfSome, None, Some, length, true};
+ghost use Rattle.std.specs.Prelude.{◌≡◌, ◌≤◌, IfOk, IfSome, None, Some, length, option_map, true};
 ghost use Rattle.std.specs.Arc.{arc_value};
 ghost use Rattle.ea_hierarchy.specs.Preparations.{IsPreparedFor};
 ghost use Rattle.ea_load.specs.Posed.{times_on};
@@ -144,7 +144,8 @@ impl Share {
 
     /// Its preparation, if it has one.
     fn preparation(&self) -> Option<&Prepared>
-        ensures { IfSome result (λ it. IsPreparedFor self.now.road.network
+        ensures same { option_map (λ it. it.now) result ≡ self.now.prepared }
+        ensures fits { IfSome result (λ it. IsPreparedFor self.now.road.network
             (times_on self.now.road) it.now) }
     {
         match &self.prepared {
