@@ -1,4 +1,10 @@
 //! Arrivals and walks of pairs by searches that are led by bounds, compared with those of plain searches.
+ghost use Rattle.std.specs.Prelude.{IfSome, length};
+ghost use Rattle.ea_hierarchy.specs.Preparations.{IsPreparedFor};
+ghost use Rattle.ea_road.specs.Queries.{IsProblem};
+ghost use Rattle.ea_travel_times.specs.StepLists.{steps_in};
+ghost use Rattle.ea_travel_times.specs.TimetableLists.{TimetablesAnswer};
+
 use crate::random::{number_to, random_network, times_of_all_kinds};
 use ea_base::HORIZON;
 use ea_hierarchy::{Prepared, Unprepared};
@@ -58,6 +64,65 @@ fn agree(one: &Said, other: &Said, walks: bool) -> bool {
     one.arrival == other.arrival && (!walks || one.walk == other.walk)
 }
 
+/// A pair to search.
+#[derive(Drop)]
+struct Pair {
+    query: Query,
+    target: u32,
+}
+
+/// A pair by chance; none if its nodes aren't in the network.
+fn random_pair<R: Rng>(words: &mut R, network: &Network, times: &Timetables) -> Option<Pair>
+    ensures { IfSome result (λ pair. IsProblem network.now (length times.now.list.items) pair.query) }
+{
+    let nodes = network.nodes();
+    let start = Source {
+        node: number_to(words, nodes),
+        departure: u64::from(number_to(words, 100)),
+    };
+    let target = number_to(words, nodes);
+    if start.departure > HORIZON {
+        return None;
+    }
+    let query = Query::pair(start, target);
+    if is_problem(network, times.classes(), &query) {
+        Some(Pair { query, target })
+    } else {
+        None
+    }
+}
+
+/// Searches a pair over a preparation and without one, and counts. Returns the arrays.
+fn compare(
+    alloc: Global,
+    network: &Network,
+    times: &Timetables,
+    prepared: &Prepared,
+    pair: &Pair,
+    search: Search,
+    count: &mut Count,
+) -> Result<Search, AllocError>
+    requires problem { IsProblem network.now (length times.now.list.items) pair.now.query }
+    requires prepared { IsPreparedFor network.now
+        (TimetablesAnswer times.now.list.items (steps_in times.now.steps)) prepared.now }
+{
+    if search.answer().nodes() != network.nodes() {
+        return Ok(search);
+    }
+    let plain = solve_alone(alloc, network, times, &pair.query)?;
+    let search = search.find_led(alloc, network, times, prepared, &pair.query);
+    let wanted = said_of(alloc, &plain, pair.target)?;
+    let found = said_of(alloc, search.answer(), pair.target)?;
+    count.pairs = count.pairs.wrapping_add(1);
+    if found.arrival != None {
+        count.reached = count.reached.wrapping_add(1);
+    }
+    if !agree(&found, &wanted, search.answer().has_walks()) {
+        count.differ = count.differ.wrapping_add(1);
+    }
+    Ok(search)
+}
+
 /// Searches pairs by chance over one preparation, one after another on the same arrays, and counts.
 fn search_pairs<R: Rng>(
     alloc: Global,
@@ -67,43 +132,15 @@ fn search_pairs<R: Rng>(
     walks: bool,
     count: &mut Count,
 ) -> Result<(), Unprepared> {
-    let nodes = network.nodes();
     if network.top_class() as usize > times.classes() {
         return Ok(());
     }
     let prepared = Prepared::of(alloc, network, times)?;
-    let mut last = None;
+    let mut search = arrays_of(alloc, network, walks)?;
     for _ in 0..20 {
-        let start = Source {
-            node: number_to(words, nodes),
-            departure: u64::from(number_to(words, 100)),
-        };
-        let target = number_to(words, nodes);
-        if target == 0 || start.departure > HORIZON {
-            return Ok(());
+        if let Some(pair) = random_pair(words, network, times) {
+            search = compare(alloc, network, times, &prepared, &pair, search, count)?;
         }
-        let query = Query::pair(start, target);
-        if !is_problem(network, times.classes(), &query) {
-            return Ok(());
-        }
-        let plain = said_of(alloc, &solve_alone(alloc, network, times, &query)?, target)?;
-        let search = match last.take() {
-            Some(search) => search,
-            None => arrays_of(alloc, network, walks)?,
-        };
-        if search.answer().nodes() != nodes {
-            return Ok(());
-        }
-        let search = search.find_led(alloc, network, times, &prepared, &query);
-        let led = said_of(alloc, search.answer(), target)?;
-        count.pairs = count.pairs.wrapping_add(1);
-        if led.arrival != None {
-            count.reached = count.reached.wrapping_add(1);
-        }
-        if !agree(&led, &plain, walks) {
-            count.differ = count.differ.wrapping_add(1);
-        }
-        last = Some(search);
     }
     Ok(())
 }
