@@ -16,6 +16,7 @@ import pickle
 import sys
 import threading
 import time
+from collections import Counter
 from typing import Any, Callable, List, NamedTuple, Optional
 
 from . import _numbers
@@ -85,7 +86,13 @@ def arrivals(client: Any, road: Any, sources: Any, departures: Any = None, nodes
         for at in range(first.rows, total, rows):
             blocks.append(Block(at, min(rows, total - at)))
             futures[submitted(blocks[-1])] = blocks[-1]
-    for future in as_completed(list(futures)):
+    completed, lost = as_completed(list(futures)), Counter()
+    for future in completed:
+        lost[future] += future.status == "lost"
+        if future.status == "lost" and lost[future] <= RETRIES:
+            # Its worker died with the block, which Dask makes again.
+            completed.add(future)
+            continue
         if future.status != "finished":
             raised = future.exception() if future.status == "error" else RuntimeError(f"a block is {future.status}")
             client.cancel(list(futures))
