@@ -31,14 +31,14 @@ const FEW_NODES: u32 = 5_000;
 /// A preparation takes about as long as this many offers of a search for each node.
 const OFFERS_BY_NODE: u64 = 100;
 
-/// Whether a preparation takes less time than the searches that it makes short: as many pairs, of which each takes this
-/// many offers, by this many threads.
+/// Whether a preparation takes less time than the searches of these pairs, by threads that share them, if each search
+/// makes this number of offers.
 fn pays(pairs: usize, offers: u64, nodes: u32, threads: usize) -> bool {
     let all = (pairs as u64).saturating_mul(offers) / (threads.max(1) as u64);
     all > u64::from(nodes).saturating_mul(OFFERS_BY_NODE)
 }
 
-/// The mean number of offers of some of the searches, by single times; none if memory is refused.
+/// The mean number of offers of some of the searches; none if memory is refused.
 fn mean_offers(alloc: Global, road: &Road, queries: &[Query]) -> Option<u64>
     requires { AreProblems road.now queries.now }
 {
