@@ -22,10 +22,6 @@ CODE = (".rt", ".antt", ".py", ".sh", ".rs", ".c", ".cpp", ".h", ".hpp", ".edit"
 # The most words of a folder or a page.
 MOST_WORDS = {"docs/design": 9_000, "docs/guide": 9_000, "README.md": 700}
 
-# Pages of the guide on installing and serving, each with a limit by itself.
-APART = ("docs/guide/cluster.md", "docs/guide/install.md", "docs/guide/serve.md")
-MOST_APART = 650
-
 # Phrases with a plainer form. Pages for maintainers have none of them.
 PLAINER = ("so many", "is told", "let go of", "by hand", "of its own")
 
@@ -200,13 +196,10 @@ def crates_say_one_thing():
 def pages_are_short():
     """Folders and pages keep their limits of words."""
     for place, most in MOST_WORDS.items():
-        pages = found(place) if place.endswith(".md") else [it for it in found(f"{place}/*.md") if it not in APART]
+        pages = found(place) if place.endswith(".md") else found(f"{place}/*.md")
         count = sum(words_in(text_of(page)) for page in pages)
         if pages:
             yield f"{place}: {count} words, at most {most}", count <= most
-    for page in APART:
-        count = words_in(text_of(page))
-        yield f"{page}: {count} words, at most {MOST_APART}", count <= MOST_APART
 
 
 def words_are_plain():

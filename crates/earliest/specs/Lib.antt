@@ -1,4 +1,5 @@
 pub mod Checks
+pub mod Choices
 pub mod Counted
 pub mod Fronts
 pub mod Runs

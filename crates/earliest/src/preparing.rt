@@ -4,8 +4,9 @@ ghost use Rattle.ea_layout.specs.Orders.{LaysOut};
 ghost use Rattle.ea_load.specs.Posed.{AreProblems, IsPosed};
 ghost use Rattle.ea_options.specs.Limits.{AreOptions};
 ghost use Rattle.ea_batch.specs.Solved.{IsPreparedOn};
+ghost use Rattle.earliest.specs.Choices.{are_many, pays_for};
 
-use crate::solver_choice::threads_at_once;
+use crate::solver_choice::{asks_for_workers, threads_at_once};
 use ea_base::Direction;
 use ea_hierarchy::Prepared;
 use ea_layout::Layout;
@@ -33,7 +34,9 @@ const OFFERS_BY_NODE: u64 = 100;
 
 /// Whether a preparation takes less time than the searches of these pairs, by threads that share them, if each search
 /// makes this number of offers.
-fn pays(pairs: usize, offers: u64, nodes: u32, threads: usize) -> bool {
+fn pays(pairs: usize, offers: u64, nodes: u32, threads: usize) -> bool
+    ensures { result ≡ pays_for pairs offers nodes threads }
+{
     let all = (pairs as u64).saturating_mul(offers) / (threads.max(1) as u64);
     all > u64::from(nodes).saturating_mul(OFFERS_BY_NODE)
 }
@@ -106,7 +109,7 @@ pub(crate) fn prepared_for<H: Threads>(
     requires options { AreOptions options.now }
     ensures { IfSome result (IsPreparedOn road.now) }
 {
-    if options.stats || options.workers.unwrap_or(1) > 1 || queries.is_empty() {
+    if asks_for_workers(options) || queries.is_empty() {
         return None;
     }
     let is_wanted = match options.prepare {
@@ -118,6 +121,13 @@ pub(crate) fn prepared_for<H: Threads>(
     } else {
         None
     }
+}
+
+/// Whether each of these threads has enough problems for a layout to pay.
+fn are_many(problems: usize, threads: usize) -> bool
+    ensures { result ≡ are_many problems threads }
+{
+    problems / threads.max(1) >= FEW_PROBLEMS
 }
 
 /// A layout of the network of a road, if there are enough problems for it to pay, and if it can be made. Workers and
@@ -132,10 +142,10 @@ pub(crate) fn layout_for<H: Threads>(
     requires { AreOptions options.now }
     ensures { IfSome result (λ layout. LaysOut road.now.network layout) }
 {
-    if options.stats || options.workers.unwrap_or(1) > 1 {
+    if asks_for_workers(options) {
         return None;
     }
-    if problems / threads_at_once(rt, options).max(1) < FEW_PROBLEMS {
+    if !are_many(problems, threads_at_once(rt, options)) {
         return None;
     }
     match Layout::of(alloc, &road.network) {

@@ -17,7 +17,7 @@ ghost use Rattle.earliest.specs.Counted.{AreBalanced, AreSmall, AreTotals, IsTot
 ghost use Rattle.earliest.specs.Fronts.{IsCutShort, IsWritten};
 ghost use Rattle.earliest.specs.Workers.{settings_by};
 
-use crate::solver_choice::{Found, find, threads_at_once, workers_of};
+use crate::solver_choice::{Found, find, goes_ahead, threads_at_once, workers_of};
 use crate::totals::{add_totals, no_totals};
 use ea_base::Watch;
 use ea_batch::{Aids, Progress, Watched, report_ahead};
@@ -226,16 +226,15 @@ fn report_problems<'a, H: Threads + Sync, W: ByteOut, V: Watch>(
     let Watched { shown, aids, watch } = watched;
     let watched = Watched { shown, aids, watch };
     let threads = threads_at_once(rt, options);
-    if options.stats || options.workers.unwrap_or(1) > 1 || threads == 1 || queries.len() < 2 {
-        report_each(alloc, rt, road, queries, options, watched, out)
-    } else {
-        match report_ahead(alloc, rt, road, queries, watched, threads, out) {
-            Ok(progress) => Ok(Reports {
-                totals: no_totals(),
-                progress,
-            }),
-            Err(fault) => Err(fault),
-        }
+    if !goes_ahead(options, threads, queries.len()) {
+        return report_each(alloc, rt, road, queries, options, watched, out);
+    }
+    match report_ahead(alloc, rt, road, queries, watched, threads, out) {
+        Ok(progress) => Ok(Reports {
+            totals: no_totals(),
+            progress,
+        }),
+        Err(fault) => Err(fault),
     }
 }
 

@@ -1,5 +1,5 @@
 //! Choosing how a problem is searched: by workers or by the search of one thread.
-ghost use Rattle.std.specs.Prelude.{◌≡◌, ◌≤◌, ℕ, All, IfOk, IfSome, length, replicate, true, vec_len};
+ghost use Rattle.std.specs.Prelude.{◌≡◌, ◌≤◌, ℕ, All, IfOk, IfSome, Option, is_some, length, replicate, true, vec_len};
 ghost use Rattle.ea_base.specs.declared.limits.TheConstants.{MOST_AT_ONCE, MOST_STARTS, MOST_WORKERS};
 ghost use Rattle.ea_road.specs.Queries.{IsProblem};
 ghost use Rattle.ea_engine.specs.Companies.{idle_with, IsIdleFor, LeavesAs};
@@ -9,6 +9,7 @@ ghost use Rattle.ea_options.specs.Limits.{AreOptions, counted_workers};
 ghost use Rattle.earliest.specs.Counted.{AreBalanced, AreSmall, IsTotal, KeepsOn, totals_by};
 ghost use Rattle.ea_rank_command.specs.Generators.{generators_from};
 ghost use Rattle.ea_batch.specs.Solved.{AnswersOn, ArrivesOn};
+ghost use Rattle.earliest.specs.Choices.{asks_for_workers, at_once_on, goes_ahead, settings_for, workers_asked, workers_by, workers_for, workers_on};
 ghost use Rattle.earliest.specs.Workers.{AreAtHome, settings_with};
 
 use crate::totals::work_of;
@@ -63,11 +64,29 @@ fn processors<H: Threads>(rt: &H) -> Option<usize>
     }
 }
 
+/// The number of processors, if it decides something: finding it reads files of the system.
+fn processors_if<H: Threads>(rt: &H, decides: bool) -> Option<usize>
+    ensures { IfSome result (λ count. 1 ≤ count) }
+{
+    if decides { processors(rt) } else { None }
+}
+
 /// The number of problems searched at once: as asked for; else one if workers or statistics are asked for;
 /// else one for each processor.
 pub(crate) fn threads_at_once<H: Threads>(rt: &H, options: &RunOptions) -> usize
     requires { AreOptions options.now }
     ensures { (1 ≤ result) × (result ≤ MOST_AT_ONCE) }
+    ensures chosen { (processors : Option ℕ) × (result ≡ at_once_on processors options.now) }
+{
+    at_once(processors(rt), options)
+}
+
+/// The same with this number of processors.
+fn at_once(processors: Option<usize>, options: &RunOptions) -> usize
+    requires options { AreOptions options.now }
+    requires processors { IfSome processors (λ count. 1 ≤ count) }
+    ensures limits { (1 ≤ result) × (result ≤ MOST_AT_ONCE) }
+    ensures chosen { result ≡ at_once_on processors options.now }
 {
     match options.at_once {
         Some(threads) => threads as usize,
@@ -75,15 +94,31 @@ pub(crate) fn threads_at_once<H: Threads>(rt: &H, options: &RunOptions) -> usize
             if options.workers.is_some() || options.stats {
                 return 1;
             }
-            processors(rt).unwrap_or(1).min(MOST_AT_ONCE as usize)
+            processors.unwrap_or(1).min(MOST_AT_ONCE as usize)
         }
     }
+}
+
+/// Whether statistics or several workers are asked for. Then problems go one after the other, without preparation or
+/// layout.
+pub(crate) fn asks_for_workers(options: &RunOptions) -> bool
+    ensures { result ≡ asks_for_workers options.now }
+{
+    options.stats || options.workers.unwrap_or(1) > 1
+}
+
+/// Whether several threads search these problems at the same time, each by itself.
+pub(crate) fn goes_ahead(options: &RunOptions, threads: usize, problems: usize) -> bool
+    ensures { result ≡ goes_ahead options.now threads problems }
+{
+    !asks_for_workers(options) && threads > 1 && problems > 1
 }
 
 /// One worker for each processor, if that many are faster on this number of nodes than one thread; else one.
 fn workers_on(processors: Option<usize>, nodes: u32) -> u32
     requires { IfSome processors (λ count. 1 ≤ count) }
-    ensures { (1 ≤ result) × (result ≤ MOST_WORKERS) }
+    ensures limits { (1 ≤ result) × (result ≤ MOST_WORKERS) }
+    ensures chosen { result ≡ workers_on processors nodes }
 {
     match processors {
         Some(count) if count >= 4 || nodes >= MANY_FOR_TWO => {
@@ -98,7 +133,8 @@ fn workers_on(processors: Option<usize>, nodes: u32) -> u32
 fn workers_asked(processors: Option<usize>, workers: u32, nodes: u32) -> u32
     requires processors { IfSome processors (λ count. 1 ≤ count) }
     requires workers { (1 ≤ workers) × (workers ≤ MOST_WORKERS) }
-    ensures { (1 ≤ result) × (result ≤ MOST_WORKERS) }
+    ensures limits { (1 ≤ result) × (result ≤ MOST_WORKERS) }
+    ensures chosen { result ≡ workers_asked processors workers nodes }
 {
     let most = processors.unwrap_or(MOST_WORKERS as usize);
     let workers = (workers as usize).min(most) as u32;
@@ -109,9 +145,55 @@ fn workers_asked(processors: Option<usize>, workers: u32, nodes: u32) -> u32
     }
 }
 
-/// The number of workers that search a problem. With statistics, those that are counted. Else those that are
-/// asked for or, if the program may choose, one for each processor if that is faster. One means the search of
-/// one thread.
+/// The number of workers that search a problem without statistics, on many nodes: those that are asked for or, if the
+/// program may choose, one for each processor if that is faster. `is_alone` says that the program chooses one: walks or
+/// a single target are asked for.
+fn workers_by(
+    processors: Option<usize>,
+    workers: Option<u64>,
+    nodes: u32,
+    is_alone: bool,
+) -> u32
+    requires processors { IfSome processors (λ count. 1 ≤ count) }
+    requires workers { IfSome workers (λ count. (1 ≤ count) × (count ≤ MOST_WORKERS)) }
+    ensures limits { (1 ≤ result) × (result ≤ MOST_WORKERS) }
+    ensures chosen { result ≡ workers_by processors workers nodes is_alone }
+{
+    match workers {
+        Some(workers) => workers_asked(processors, workers as u32, nodes),
+        None => {
+            if nodes < MANY_NODES || is_alone {
+                return 1;
+            }
+            workers_on(processors, nodes)
+        }
+    }
+}
+
+/// The number of workers that search a problem on this number of nodes; `is_pair` says that a single target is asked.
+/// With statistics, those that are counted. One means the search of one thread.
+fn workers_for(
+    processors: Option<usize>,
+    nodes: u32,
+    is_pair: bool,
+    options: &RunOptions,
+) -> u32
+    requires options { AreOptions options.now }
+    requires processors { IfSome processors (λ count. 1 ≤ count) }
+    ensures limits { (1 ≤ result) × (result ≤ MOST_WORKERS) }
+    ensures chosen { result ≡ workers_for processors nodes is_pair options.now }
+{
+    if options.stats {
+        return options.counted_workers() as u32;
+    }
+    if nodes < FEW_NODES {
+        return 1;
+    }
+    let is_alone = options.walks || is_pair;
+    workers_by(processors, options.workers, nodes, is_alone)
+}
+
+/// The number of workers that search a problem, by the number of processors.
 pub(crate) fn workers_of<H: Threads>(
     rt: &H,
     road: &Road,
@@ -121,21 +203,13 @@ pub(crate) fn workers_of<H: Threads>(
     requires { AreOptions options.now }
     ensures some { (1 ≤ result) × (result ≤ MOST_WORKERS) }
     ensures counted { options.now.stats ≡ true → result ≡ counted_workers options.now }
+    ensures chosen { (processors : Option ℕ) × (result ≡ workers_for processors
+        road.now.network.nodes (is_some query.now.target) options.now) }
 {
-    if options.stats {
-        return options.counted_workers() as u32;
-    }
     let nodes = road.network.nodes();
-    if nodes < FEW_NODES {
-        return 1;
-    }
-    if let Some(workers) = options.workers {
-        return workers_asked(processors(rt), workers as u32, nodes);
-    }
-    if nodes < MANY_NODES || options.walks || query.target().is_some() {
-        return 1;
-    }
-    workers_on(processors(rt), nodes)
+    let is_pair = query.target().is_some();
+    let decides = !options.stats && nodes >= FEW_NODES && options.workers.unwrap_or(2) > 1;
+    workers_for(processors_if(rt, decides), nodes, is_pair, options)
 }
 
 /// The budget of turns if none is asked for.
@@ -155,6 +229,7 @@ fn settings_of(options: &RunOptions, workers: u32) -> Settings
     ensures settings { AreSettings result }
     ensures workers { result.workers ≡ workers }
     ensures asked { options.now.stats ≡ true → result ≡ settings_with options.now workers }
+    ensures chosen { result ≡ settings_for options.now workers }
 {
     let is_alone = workers == 1;
     let is_counted = options.stats || options.turns != TURNS;
