@@ -77,6 +77,7 @@ class Bench:
         for nodes in self.options.nodes:
             network = programs.Network(self.built, nodes)
             network.make_pairs(self.built, 10_000 if nodes >= 1_000_000 else 1_000, 1_000)
+            network.make_asked(self.built, 1_000, 100, 5_000)
             self.networks.append(network)
         self.built.build_timing(self.networks[0])
 
@@ -88,15 +89,23 @@ class Bench:
         if network.nodes <= 1_000_000:
             self.turns("problems", programs.many(self.built, network, THREADS), min(3, rounds))
         self.turns("pairs", programs.pairs(self.built, network, 10_000 if network.nodes >= 1_000_000 else 1_000), rounds)
-        self.check(network, rounds)
+        self.turns("asked", programs.asked(self.built, network, 1_000), rounds)
+        if network.nodes <= 1_000_000:
+            texts = network.scatter(self.built)
+            self.turns("scattered", programs.scattered(self.built, network, texts, 1), rounds)
+            self.turns("scattered", programs.scattered(self.built, network, texts, 64), min(3, rounds))
+        self.check(network, network.one, programs.checks, rounds)
+        if network.nodes <= 1_000_000:
+            self.check(network, network.many, programs.checks_of_many, min(3, rounds))
 
-    def check(self, network, rounds):
+    def check(self, network, sources, jobs, rounds):
+        """Checks of a report of a network's sources, with timetables."""
         report = self.built.at("checked.report")
         words, _ = network.words("timetables")
         with open(report, "wb") as file:
-            words = [programs.EARLIEST, "run", network.gr, network.one, *words, "--depart", str(programs.DEPART)]
+            words = [programs.EARLIEST, "run", network.gr, sources, *words, "--depart", str(programs.DEPART)]
             subprocess.run(words, stdout=file, check=True)
-        self.turns("check", programs.checks(self.built, network, report), rounds, same=False)
+        self.turns("check", jobs(self.built, network, report), rounds, same=False)
         os.remove(report)
 
     def python(self):
@@ -108,6 +117,17 @@ class Bench:
         rows = python_search.measured(network, self.built, self.options.rounds)
         written("python", rows, python_search.FIELDS)
         print("python: done", flush=True)
+
+
+    def said(self, name, needs, *words):
+        """What a script of the bench prints, its lines `what: figure`, if what it needs is there."""
+        python = programs.python_with(needs)
+        ran = python and subprocess.run([python, os.path.join(programs.HERE, name + ".py"), *words], capture_output=True, text=True)
+        if not ran or ran.returncode:
+            self.built.left_out.append(f"bench/{name}.py ({(ran.stderr.strip().splitlines() or ['it failed'])[-1] if ran else 'python3-' + needs + ' is needed'})")
+            return
+        written(name, [line.split(": ", 1) for line in ran.stdout.splitlines() if ": " in line], ("what", "figure"))
+        print(f"{name}: done", flush=True)
 
 
 def main():
@@ -129,6 +149,8 @@ def main():
     for network in bench.networks:
         bench.of_network(network)
     bench.python()
+    bench.said("matrix", "numpy")
+    bench.said("serve", "aiohttp", "--page", "--soak", "100000")
     if not options.no_traps:
         traps.measured(options.scratch, 60, min(3, options.rounds))
     written("machine", machine(bench.built, before, options.others_stopped), ("name", "value"))

@@ -56,10 +56,21 @@ PAIRS = """## Pairs
 Pairs whose search reaches about 1,000 nodes each, by hand with a stamp beside each label; whole runs, and solving alone.
 """
 
+ASKED = """## Asked nodes
+
+100 nodes from each of 1,000 sources, all of them among the 5,000 nodes nearest to one (`run --nodes`); by hand a heap with stamps, whose
+searches end when all asked nodes are settled. Whole runs.
+"""
+
+SCATTERED = """## Scattered numbers
+
+The same network and sources, numbered as they were made and at random; plain weights, whole runs. The base is the network as it was made.
+"""
+
 CHECKS = """## Checking and rank errors
 
 `check` of a report of one problem beside searching again and comparing by hand, which trusts that search; `rank` records a run over eight
-heaps and tells the rank error of each pop. The base is the one by hand.
+heaps and tells the rank error of each pop. The base is the one by hand. A report of 64 problems is checked beside the run that writes it.
 """
 
 EMBEDDED = """## From Python
@@ -67,6 +78,19 @@ EMBEDDED = """## From Python
 The package over the library for C (`bench/python_search.py`), with NumPy where it is there: searches and their arrays of arrivals,
 without reading. Middle of the rounds.
 """
+
+SAID = {
+    "matrix": """## A matrix from Python
+
+64 sources on a grid of 10^6 nodes by four threads into NumPy's memory (`bench/matrix.py`), beside the program's own run into the null
+device; seconds, the middle of five rounds.
+""",
+    "serve": """## Over HTTP
+
+`python -m earliest serve` on a grid of 10^5 nodes with a morning rush (`bench/serve.py`), asked by wrk for random pairs; the page in
+chromium, whose departure is dragged; and requests with faults among them, each reply compared with the program's report.
+""",
+}
 
 TRAPS = """## Hard shapes
 
@@ -196,10 +220,30 @@ def pairs(rows, rounds):
     return out
 
 
+def asked(rows, rounds):
+    out = [ASKED]
+    for at, these in shown(groups(rows, "seconds")):
+        out += table(f"{at[1]:,} nodes, {rounds(at)} rounds", these, these.get((BASE, 1)))
+    return out
+
+
+def scattered(rows, rounds):
+    """The times on a network numbered at random beside those on the network as it was made."""
+    out = [SCATTERED, "| nodes | problems | program | threads | as made s | at random s | ratio | rounds |", "|" + "---|" * 8]
+    found = groups(rows, "seconds")
+    for at, these in shown(found):
+        for (program, threads), value in these.items() if at[0] == "at random" else ():
+            made = found["as made", at[1], at[2]][program, threads]
+            cells = f"{at[1]:,}", str(at[2]), program, str(threads), seconds(made.middle), seconds(value.middle), f"{value.middle / made.middle:.2f}", str(rounds(at))
+            out.append("| " + " | ".join(cells) + " |")
+    return [*out, ""]
+
+
 def checks(rows, rounds):
     out = [CHECKS]
     for at, these in shown(groups(rows, "seconds")):
-        out += table(f"{at[1]:,} nodes, timetables, {rounds(at)} rounds", these, these.get(("search again and compare, by hand", 1)))
+        what = f"{at[1]:,} nodes, timetables, {at[0] if at[0] != 'timetables' else 'one problem'}, {rounds(at)} rounds"
+        out += table(what, these, these.get(("search again and compare, by hand", 1)))
     return out
 
 
@@ -210,6 +254,16 @@ def embedded(rows):
     out = [EMBEDDED, "| nodes | what | middle s | ratio | to |", "|---|---|---|---|---|"]
     out += [f"| {int(row['nodes']):,} | {row['what']} | {float(row['seconds']):.4f} | {row['ratio']} | {row['to']} |" for row in rows]
     return [*out, ""]
+
+
+def said():
+    """What scripts of the bench printed."""
+    out = []
+    for name, head in SAID.items():
+        rows = rows_of(name)
+        if rows:
+            out += [head, "| what | figure |", "|---|---|", *(f"| {row['what']} | {row['figure']} |" for row in rows), ""]
+    return out
 
 
 def rings(rows):
@@ -275,10 +329,11 @@ def rounds_of(rows):
 def main():
     whole, many, paired, checked = (rows_of(name) for name in ("whole", "problems", "pairs", "check"))
     text = head(machine())
-    for part, rows in ((runs, whole), (patterns, rows_of("patterns")), (problems, many), (pairs, paired), (checks, checked)):
+    parts = (runs, whole), (patterns, rows_of("patterns")), (problems, many), (pairs, paired), (asked, rows_of("asked")), (scattered, rows_of("scattered")), (checks, checked)
+    for part, rows in parts:
         if rows:
             text += part(rows, rounds_of(rows))
-    text += embedded(rows_of("python")) + rings(rows_of("traps"))
+    text += embedded(rows_of("python")) + said() + rings(rows_of("traps"))
     pictures(whole, many)
     with open(os.path.join(ROOT, "docs", "performance.md"), "w", encoding="utf-8") as file:
         file.write("\n".join(text).rstrip() + "\n")

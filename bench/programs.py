@@ -94,6 +94,21 @@ class Network:
     def make_pairs(self, programs, count, reach):
         subprocess.run([programs.hand, "make_pairs", self.gr, self.pairs, str(count), str(reach)], check=True)
 
+    def make_asked(self, programs, sources, asked, near):
+        """Sources and asked nodes among the `near` nodes nearest to one."""
+        self.near, self.asked = f"{self.base}.near.ss", f"{self.base}.asked.ss"
+        counts = [str(it) for it in (sources, asked, near)]
+        subprocess.run([programs.hand, "make_asked", self.gr, self.near, self.asked, *counts], check=True)
+
+    def scatter(self, programs):
+        """The same network and sources with nodes numbered at random: pairs of the two networks and of each
+        network's sources, one and many."""
+        found = {"as made": (self.gr, self.one, self.many)}
+        texts = [f"{self.base}.scattered.{it}" for it in ("gr", "one.ss", "many.ss")]
+        for sources, out in ((self.one, texts[1]), (self.many, texts[2])):
+            subprocess.run([programs.hand, "scatter", self.gr, sources, texts[0], out], check=True)
+        return {**found, "at random": tuple(texts)}
+
     def tp(self, kind):
         return {"plain": self.none, "timetables": f"{self.base}.tp", "patterns": f"{self.base}.patterns.tp"}[kind]
 
@@ -163,6 +178,41 @@ def pairs(programs, network, count):
     if programs.pairs:
         jobs.append(Job(*at, "earliest, solving alone", 1, count, [programs.pairs, network.gr, network.pairs]))
     return jobs
+
+
+def asked(programs, network, sources):
+    """Some nodes from each source near to them: searches that end when all of them are settled."""
+    out, at, jobs = programs.at("out.report"), ("plain", network.nodes), []
+    words = [programs.hand, "asked", network.gr, network.near, "-", network.asked, str(DEPART), out]
+    jobs.append(Job(*at, BASE, 1, sources, words, out))
+    for threads in (1, 4):
+        words = [EARLIEST, "run", network.gr, network.near, "--nodes", network.asked, "--depart", str(DEPART), *by_one(threads)]
+        jobs.append(Job(*at, "earliest", threads, sources, words, out, True))
+    return jobs
+
+
+def scattered(programs, network, texts, problems):
+    """One source, or 64, on the same network numbered as it was made and at random."""
+    out, jobs = programs.at("out.report"), []
+    for name, (gr, one, many) in texts.items():
+        sources = one if problems == 1 else many
+        by_hand = [programs.hand, "several", "heap", gr, sources, "-", str(DEPART), "4" if problems > 1 else "1", out]
+        jobs.append(Job(name, network.nodes, BASE, 4 if problems > 1 else 1, problems, by_hand, out))
+        for threads in (1,) if problems == 1 else (1, 4):
+            words = [EARLIEST, "run", gr, sources, "--depart", str(DEPART), *by_one(threads)]
+            jobs.append(Job(name, network.nodes, "earliest", threads, problems, words, out, True))
+    return jobs
+
+
+def checks_of_many(programs, network, report):
+    """Checking a report of 64 problems, beside the run that made it."""
+    ours, tp = network.words("timetables")
+    at, depart = ("64 problems", network.nodes), ["--depart", str(DEPART)]
+    jobs = [Job(*at, "search again and compare, by hand", 1, 0, [programs.hand, "check", network.gr, network.many, tp, str(DEPART), report])]
+    for threads in (1, 4):
+        words = [EARLIEST, "run", network.gr, network.many, *ours, *depart, *by_one(threads), "-o", programs.at("out.report")]
+        jobs.append(Job(*at, "earliest run", threads, 0, words))
+    return [*jobs, Job(*at, "earliest check", 4, 0, [EARLIEST, "check", network.gr, network.many, report, *ours, *depart])]
 
 
 def checks(programs, network, report):

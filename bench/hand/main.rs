@@ -7,8 +7,11 @@
 //!   hand check GR SS TP DEPART REPORT                searches again and compares
 //!   hand walks GR TP NODE ROUNDS                     canonical walks from a node, in turns with a heap without walks
 //!   hand make_pairs GR OUT COUNT NODES
+//!   hand asked GR SS TP NODES DEPART OUT             the arrivals at the nodes of a file, from each source
+//!   hand make_asked GR SS NODES SOURCES ASKED NEAR   sources and asked nodes among the NEAR nodes nearest to one
+//!   hand scatter GR SS OUT_GR OUT_SS                 the same network and sources, with nodes numbered at random
 //!
-//! TP is `-` for none. All but walks and make_pairs print the microseconds of reading, of the index, of all
+//! TP is `-` for none. All but walks, scatter and those that make files print the microseconds of reading, of the index, of all
 //! searches, of the fastest search of `run` and of writing, and the sum of the arrivals. One file: `rustc -O
 //! main.rs`.
 mod alone;
@@ -17,6 +20,7 @@ mod network;
 mod pairs;
 mod queues;
 mod report;
+mod scatter;
 mod walks;
 
 use alone::{buckets, dijkstra};
@@ -124,6 +128,21 @@ fn all_pairs(network: &Network, file: &str, departure: u64, out: &str, took: &mu
     took.sum = sum(&times);
 }
 
+fn all_asked(network: &Network, sources: &[u32], file: &str, departure: u64, out: &str, took: &mut Took) {
+    let asked = sources_of(file);
+    let begun = Instant::now();
+    let found = pairs::solve_asked(network, sources, &asked, departure);
+    took.solve = begun.elapsed().as_micros();
+    let begun = Instant::now();
+    let mut text = Vec::new();
+    for (source, times) in sources.iter().zip(&found) {
+        report::of_asked(&mut text, *source, departure, &asked, times);
+        took.sum = took.sum.wrapping_add(sum(times));
+    }
+    std::fs::write(out, text).expect("room for the report");
+    took.write = begun.elapsed().as_micros();
+}
+
 /// Compares a report with a new one.
 fn check(network: &Network, sources: &[u32], departure: u64, file: &str, took: &mut Took) {
     let given = std::fs::read(file).expect("a report");
@@ -149,16 +168,24 @@ fn main() {
     if command == "make_pairs" {
         return pairs::make(&Network::read(word(1), "-").0, word(2), number(3) as usize, number(4) as usize);
     }
+    if command == "make_asked" {
+        let counts = (number(4) as usize, number(5) as usize);
+        return pairs::make_asked(&Network::read(word(1), "-").0, word(2), word(3), counts, number(6) as usize);
+    }
+    if command == "scatter" {
+        return scatter::write(word(1), word(2), word(3), word(4));
+    }
     if command == "walks" {
         return walks::compare(&Network::read(word(1), word(2)).0, numbers_of(word(1)), number(3) as u32, number(4) as usize);
     }
-    let at = if command == "pairs" || command == "check" { 1 } else { 2 };
+    let at = if ["pairs", "check", "asked"].contains(&command) { 1 } else { 2 };
     let (network, read, index) = Network::read(word(at), word(at + 2));
     let mut took = Took { read, index, ..Took::default() };
     match command {
         "run" => run(word(1), &network, &sources_of(word(3)), number(5), number(6) as usize, word(7), &mut took),
         "several" => several(word(1), &network, &sources_of(word(3)), number(5), number(6) as usize, word(7), &mut took),
         "pairs" => all_pairs(&network, word(2), number(4), word(5), &mut took),
+        "asked" => all_asked(&network, &sources_of(word(2)), word(4), number(5), word(6), &mut took),
         "check" => check(&network, &sources_of(word(2)), number(4), word(5), &mut took),
         _ => panic!("see the head of main.rs"),
     }

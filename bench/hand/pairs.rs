@@ -17,6 +17,12 @@ impl Search {
         Search { labels: vec![(NONE, 0); network.nodes + 1], stamp: 0, heap: BinaryHeap::new() }
     }
 
+    /// The label of a node in the last search.
+    fn label(&self, node: u32) -> u64 {
+        let (time, stamp) = self.labels[node as usize];
+        if stamp == self.stamp { time } else { NONE }
+    }
+
     /// Settles nodes from a source until `done` returns true. Returns the time and node of the last one.
     fn run(&mut self, network: &Network, source: u32, departure: u64, mut done: impl FnMut(u32) -> bool) -> Option<Entry> {
         self.stamp += 1;
@@ -60,6 +66,50 @@ pub fn make(network: &Network, out: &str, count: usize, nodes: usize) {
         });
         writeln!(file, "q {source} {}", last.map_or(source, |it| it.1)).unwrap();
     }
+}
+
+/// Writes sources and asked nodes, all of them random ones of the `near` nodes nearest to a random node.
+pub fn make_asked(network: &Network, sources: &str, asked: &str, counts: (usize, usize), near: usize) {
+    let mut found = Vec::with_capacity(near);
+    Search::new(network).run(network, (network.nodes / 2).max(1) as u32, 0, |node| {
+        found.push(node);
+        found.len() == near
+    });
+    let mut word = 7u64;
+    for (name, count) in [(sources, counts.0), (asked, counts.1)] {
+        let mut file = std::io::BufWriter::new(std::fs::File::create(name).expect("a place for nodes"));
+        writeln!(file, "p aux sp ss {count}").unwrap();
+        for _ in 0..count {
+            word = word.wrapping_mul(6364136223846793005).wrapping_add(1442695040888963407);
+            writeln!(file, "s {}", found[(word >> 33) as usize % found.len()]).unwrap();
+        }
+    }
+}
+
+/// The arrivals at the asked nodes from each source: each search ends when all of them are settled.
+pub fn solve_asked(network: &Network, sources: &[u32], asked: &[u32], departure: u64) -> Vec<Vec<u64>> {
+    let mut search = Search::new(network);
+    let mut awaited = vec![0u32; network.nodes + 1];
+    let mut different = 0;
+    for node in asked {
+        different += usize::from(awaited[*node as usize] == 0);
+        awaited[*node as usize] = 1;
+    }
+    let mut settled = vec![0u32; network.nodes + 1];
+    let mut round = 0;
+    let mut arrivals = |source: &u32| {
+        let mut left = different;
+        round += 1;
+        search.run(network, *source, departure, |node| {
+            if awaited[node as usize] == 1 && settled[node as usize] != round {
+                settled[node as usize] = round;
+                left -= 1;
+            }
+            left == 0
+        });
+        asked.iter().map(|node| search.label(*node)).collect()
+    };
+    sources.iter().map(&mut arrivals).collect()
 }
 
 /// The arrival of each pair; NONE if the target isn't reached.

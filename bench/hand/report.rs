@@ -48,6 +48,12 @@ pub fn of_problem(source: u32, departure: u64, labels: &[u64], mut send: impl Fn
     send(&text);
 }
 
+/// The report of a problem at some nodes.
+pub fn of_asked(text: &mut Vec<u8>, source: u32, departure: u64, nodes: &[u32], times: &[u64]) {
+    line(text, b's', &[u64::from(source), departure]);
+    nodes.iter().zip(times).for_each(|(node, time)| arrival(text, u64::from(*node), *time));
+}
+
 pub fn of_pair(text: &mut Vec<u8>, pair: (u32, u32), departure: u64, time: u64) {
     line(text, b'q', &[u64::from(pair.0), u64::from(pair.1), departure]);
     arrival(text, u64::from(pair.1), time);
