@@ -326,6 +326,26 @@ class Road:
         found = times.told(_threads.latest(self, starts, ends, by, threads))
         return found[0] if all(ones) else found
 
+    def departures(self, targets: Any, arrivals: Any, nodes: Any = None, threads: Optional[int] = None, *, unit: Optional[str] = None,
+                   origin: Any = None, masked: bool = False, as_float: bool = False) -> Any:
+        """The matrix of latest departures: uint64 with the shape (targets, nodes), NEVER for a node from which no departure is in time.
+
+        `targets` is a list of nodes, `arrivals` a list of as many times by which they have to be reached, or one time for all. The columns
+        are the nodes of the list `nodes`, or all nodes in the order of their numbers. One node in the place of a list takes its dimension
+        away. Threads and how times are written as in `arrivals`; the first search turns the road round, as for `latest`.
+        """
+        times = Times(unit, origin, masked, as_float)
+        if arrivals is None:
+            raise TypeError("departures takes the times by which the targets have to be reached")
+        ends = self._list(targets)
+        by = _same(times.departures(arrivals, len(ends), "a time to arrive by"), len(ends), "targets", "times")
+        picks = None if nodes is None else self._list(nodes)
+        found = _threads.rows_until(self, ends, by, picks, threads)
+        if nodes is not None and self._is_one(nodes):
+            found = found[:, 0] if numpy is not None else array.array("Q", [row[0] for row in found])
+        found = times.told(found)
+        return found[0] if self._is_one(targets) else found
+
     @staticmethod
     def _spread(sources, targets, when, ones):
         """Lists of one length: what was given as one value is repeated."""

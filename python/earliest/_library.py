@@ -40,8 +40,10 @@ CALLS = (
     ("search_free", None, [_handle]),
     ("road_turned", _number, [_handle, _handle]),
     ("search_new_until", _number, [_handle, _number, _handle]),
+    ("search_until", _number, [_handle, ctypes.c_void_p, _size, ctypes.c_void_p, _size]),
     ("search_pair_until", _number, [_handle, _number, _number, ctypes.c_uint64]),
     ("search_departure", _number, [_handle, _number, ctypes.POINTER(ctypes.c_uint64)]),
+    ("search_departures", _number, [_handle, ctypes.c_void_p, _size]),
     ("check", _number, [_handle, ctypes.c_void_p, _size, ctypes.POINTER(Starts), ctypes.c_char_p, _size, _fault]),
 )
 

@@ -146,12 +146,25 @@ class LatestSearch:
     """The arrays of a search for latest departures on a road, for one thread."""
 
     def __init__(self, road: Road):
-        self.handle = Handle()
+        self.handle, self.nodes = Handle(), road.nodes
         road._core.fill_latest(self.handle)
 
     def __del__(self):
         if self.handle.at:
             library().earliest_search_free(self.handle)
+
+    def until(self, target: int, by: int, into: Any) -> None:
+        """Writes the latest departures of all nodes that are in time at a target into an array of as many times as nodes."""
+        nodes, times = ctypes.c_uint32(target), ctypes.c_uint64(by)
+        test(library().earliest_search_until(self.handle, ctypes.byref(nodes), 1, ctypes.byref(times), 1))
+        test(library().earliest_search_departures(self.handle, _numbers.address(into), self.nodes))
+
+    def pair(self, source: int, target: int, by: int) -> int:
+        """The latest departure from a source that is in time at a target, NEVER if none is."""
+        found = ctypes.c_uint64()
+        test(library().earliest_search_pair_until(self.handle, source, target, by))
+        test(library().earliest_search_departure(self.handle, source, found))
+        return found.value
 
 
 class Latest:

@@ -80,27 +80,52 @@ def rows(road: Any, sources: Any, departures: Any, picks: Any, threads: Optional
     """The arrivals at all nodes, or at those of `picks`, one row for each source."""
     from ._searches import Search
 
-    counted(threads, 1)
-    out = _numbers.room((len(sources), road.nodes if picks is None else len(picks)))
     first_node, first_time = _numbers.address(sources), _numbers.address(departures)
+
+    def begin():
+        search, calls = Search(road, False), library()
+
+        def fill(row, into):
+            test(calls.earliest_search_from(search._handle, first_node + 4 * row, 1, first_time + 8 * row, 1))
+            test(calls.earliest_search_arrivals(search._handle, _numbers.address(into), road.nodes))
+
+        return fill
+
+    return _each_row(len(sources), road.nodes, picks, threads, begin)
+
+
+def rows_until(road: Any, targets: Any, times: Any, picks: Any, threads: Optional[int]):
+    """The latest departures of all nodes, or of those of `picks`, one row for each target."""
+    from ._searches import LatestSearch
+
+    def begin():
+        search = LatestSearch(road)
+        return lambda row, into: search.until(int(targets[row]), int(times[row]), into)
+
+    return _each_row(len(targets), road.nodes, picks, threads, begin)
+
+
+def _each_row(count, nodes, picks, threads, begin):
+    """A row of times for each problem. `begin` is called in each thread, and what it returns for each row that the thread takes, with the
+    array that it fills for all nodes."""
+    counted(threads, 1)
+    out = _numbers.room((count, nodes if picks is None else len(picks)))
     places = None if picks is None else (picks.astype(numpy.intp) - 1 if numpy is not None else [node - 1 for node in picks])
 
     def worker():
-        search, calls = Search(road, False), library()
-        whole = None if picks is None else _numbers.room((road.nodes,))
+        fill = begin()
+        whole = None if picks is None else _numbers.room((nodes,))
 
         def do(row):
-            test(calls.earliest_search_from(search._handle, first_node + 4 * row, 1, first_time + 8 * row, 1))
-            into = out[row] if whole is None else whole
-            test(calls.earliest_search_arrivals(search._handle, _numbers.address(into), road.nodes))
+            fill(row, out[row] if whole is None else whole)
             if whole is not None:
                 _pick(whole, places, out, row)
 
         return do
 
-    by_threads(len(sources), threads, worker)
-    if len(sources) == 0:
-        Search(road, False)  # A road that is closed is refused here too.
+    by_threads(count, threads, worker)
+    if count == 0:
+        begin()  # A road that is closed is refused here too.
     return out
 
 
@@ -136,15 +161,8 @@ def latest(road: Any, sources: Any, targets: Any, arrivals: Any, threads: Option
     from ._searches import LatestSearch
 
     def begin():
-        search, calls, found = LatestSearch(road), library(), ctypes.c_uint64()
-
-        def one(at):
-            source = int(sources[at])
-            test(calls.earliest_search_pair_until(search.handle, source, int(targets[at]), int(arrivals[at])))
-            test(calls.earliest_search_departure(search.handle, source, found))
-            return found.value
-
-        return one
+        search = LatestSearch(road)
+        return lambda at: search.pair(int(sources[at]), int(targets[at]), int(arrivals[at]))
 
     return _each_pair(len(sources), threads, begin)
 

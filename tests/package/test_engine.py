@@ -184,6 +184,26 @@ class Answers(Case):
                 self.assertEqual(int(road.latest(source, target, by)), in_time[-1] if in_time else NEVER)
         self.assertEqual(flat(road.latest([1, 5], 5, [0, earliest.HORIZON])), [NEVER, earliest.HORIZON])
 
+    def test_departures_of_all_nodes(self):
+        for net in self.networks[:3]:
+            road = earliest.Road(net.gr(), net.tp())
+            targets, by = [9, 30, 5], [120, 95, 0]
+            rows = []
+            for target, time in zip(targets, by):
+                # The plain arrivals from every node at every departure up to the time.
+                in_time = [[it for it in range(time + 1) if net.least([(source, it)])[target - 1] <= time] for source in range(1, 41)]
+                rows.append([its[-1] if its else NEVER for its in in_time])
+            for threads in (None, 1, 3):
+                self.assertEqual([flat(row) for row in road.departures(targets, by, threads=threads)], rows)
+                self.assertEqual([flat(row) for row in road.departures(targets, by, nodes=[40, 9, 9], threads=threads)], [[row[39], row[8], row[8]] for row in rows])
+            self.assertEqual((flat(road.departures(9, 120)), int(road.departures(9, 120, nodes=9))), (rows[0], 120))
+            self.assertEqual(flat(road.departures(targets, by, nodes=9)), [row[8] for row in rows])
+        self.assertEqual(len(road.departures([], [])), 0)
+        names = [f"n{node}" for node in range(1, 41)]
+        self.assertEqual(flat(road.named(names).departures("n5", 0)), rows[2])
+        road.close()
+        self.refused(16, lambda: road.departures(9, 120))
+
     def test_matrix(self):
         for net in self.networks[:4]:
             road = earliest.Road(net.gr(), net.tp())
@@ -265,7 +285,7 @@ class Refusals(Case):
                          lambda: self.road.arrivals(1, nodes=[node]), lambda: self.road.pairs([node], [1]), lambda: self.road.pairs([1], [node]), lambda: self.road.profile(1, node, [0]),
                          lambda: self.road.search([1])[0].walk(node), lambda: self.road.searcher().pair(node, 0, 1), lambda: self.road.searcher().pair(1, 0, node),
                          lambda: self.road.searcher().find(node), lambda: self.road.number(node), lambda: self.road.name(node), lambda: self.road.check([node], b""),
-                         lambda: self.road.latest(1, node, 5)):
+                         lambda: self.road.latest(1, node, 5), lambda: self.road.departures([node], 5), lambda: self.road.departures(1, 5, nodes=[node])):
                 self.assertIn("whose nodes are 1 to 4", str(self.refused(18, call, node)))
 
     def test_departures(self):
@@ -273,7 +293,7 @@ class Refusals(Case):
             for call in (lambda: self.road.search(1, departure), lambda: self.road.search([1, 2], [0, departure]), lambda: self.road.arrivals([1], departure),
                          lambda: self.road.pairs([1], [1], [departure]), lambda: self.road.profile(1, 2, [3, departure]), lambda: self.road.searcher().pair(1, departure, 1),
                          lambda: self.road.searcher().find(1, departure), lambda: self.road.latest(1, 2, departure), lambda: self.road.check([1], b"", departure),
-                         lambda: self.road.check([1], b"", 0, departure)):
+                         lambda: self.road.departures([1, 2], departure), lambda: self.road.check([1], b"", 0, departure)):
                 self.refused(19, call, departure)
         self.refused(19, lambda: self.road.check([1, 2], b"", 2**48 - 1, 1), 2**48)
 
@@ -282,7 +302,7 @@ class Refusals(Case):
                               (lambda: self.road.arrivals([1], [1, 2]), (1, 2)), (lambda: self.road.search([], [0]), (0, 1)), (lambda: self.road.arrivals([1, 2], departures=[]), (2, 0)),
                               (lambda: self.road.searcher().find([1], []), (1, 0)), (lambda: self.road.search(1, []), (1, 0)),
                               (lambda: self.road.pairs([1, 2], [1, 2, 3]), (2, 3, 1)), (lambda: self.road.pairs([1, 2], 1, [0, 0, 0]), (2, 1, 3)), (lambda: self.road.pairs([1], [], 0), (1, 0, 1)),
-                              (lambda: self.road.pairs([1, 2], 1, []), (2, 1, 0)), (lambda: self.road.latest([1, 2], [3], 4), (2, 1, 1))):
+                              (lambda: self.road.pairs([1, 2], 1, []), (2, 1, 0)), (lambda: self.road.latest([1, 2], [3], 4), (2, 1, 1)), (lambda: self.road.departures([1, 2], [4]), (2, 1))):
             self.refused(23, call, lengths)
         self.assertEqual(len(self.road.profile(1, 2, [])), 0)
 
@@ -316,6 +336,7 @@ class Refusals(Case):
         for call in (lambda: self.road.profile([1], 2, [0]), lambda: self.road.profile(1, [2], [0]), lambda: self.road.profile(1, 2, 0), lambda: self.road.profile(1, 2, None)):
             self.told(TypeError, "a profile", call)
         self.told(TypeError, "latest takes the times", lambda: self.road.latest(1, 2, None))
+        self.told(TypeError, "departures takes the times", lambda: self.road.departures(1, None))
 
     def test_a_later_query(self):
         search = self.road.searcher()

@@ -58,6 +58,7 @@ class Out(Case):
             self.assertEqual([it == want for it in got], [True] * len(got), (words, got, want))
             self.assertEqual({type(it) for it in got} <= {type(want), numpy.uint64, numpy.float64}, True)
         self.assertEqual(net.latest(3, reached, time, unit="s").dtype, numpy.dtype("timedelta64[s]"))
+        self.assertEqual(net.departures([reached], time, unit="s").dtype, numpy.dtype("timedelta64[s]"))
         lone = next(node for node, it in enumerate(WANT, 1) if it == NEVER)
         for words in ({}, {"unit": "s"}, {"as_float": True}):
             self.assertIsNone(net.search(3, 260, **words).arrival(lone))

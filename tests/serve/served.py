@@ -136,6 +136,17 @@ def commuter(source, departure):
 
 
 @functools.lru_cache(maxsize=None)
+def commuter_until(target, arrival):
+    """The latest departures in the commuter town by the program: None if no departure is in time, the first for node 1."""
+    with tempfile.TemporaryDirectory(prefix="serve-") as room:
+        targets = os.path.join(room, "one.ss")
+        with open(targets, "w", encoding="ascii") as file:
+            file.write(f"p aux sp ss 1\ns {target}\n")
+        report = program("run", "commuter.gr", targets, "--tp", "commuter.tp", "--arrive", str(arrival))
+    return [None if it == "none" else int(it) for it in re.findall(r"(?m)^d \d+ (\S+)$", report)]
+
+
+@functools.lru_cache(maxsize=None)
 def places(name="commuter.co"):
     """The coordinates of an example: a pair for each node, the first that of node 1."""
     with open(example(name), encoding="ascii") as file:

@@ -1,12 +1,17 @@
 """The page in chromium, without a window: what it shows is equal to the program's reports. With EARLIEST_PICTURE, the path of a PNG, it takes a
 picture of the commuter town in the morning rush."""
+import http.server
+import math
 import os
 import re
+import struct
 import tempfile
+import threading
 import time
 import unittest
+import zlib
 
-from served import COMMUTER, LONG, Served, commuter, example, needs, program
+from served import COMMUTER, LONG, Served, commuter, commuter_until, example, needs, program
 
 
 def browser(room, width=1180, height=640):
@@ -81,6 +86,79 @@ class Page:
         return self.run("""const map = window.earliest.map, pen = map.canvas.getContext("2d"); map.paint();
             return Array.from({length: arguments[0]}, (_, at) => { const [x, y] = map.at(at + 1);
                 return Array.from(pen.getImageData(Math.round(x * map.ratio), Math.round(y * map.ratio), 1, 1).data.slice(0, 3)); });""", count)
+
+
+class TileHost(http.server.ThreadingHTTPServer):
+    """A host of map tiles, all of one colour, that keeps what it was asked for."""
+
+    def __init__(self):
+        def chunk(kind, body):
+            return struct.pack(">I", len(body)) + kind + body + struct.pack(">I", zlib.crc32(kind + body))
+
+        rows = (b"\0" + bytes((200, 120, 40)) * 256) * 256
+        picture = b"\x89PNG\r\n\x1a\n" + chunk(b"IHDR", struct.pack(">IIBBBBB", 256, 256, 8, 2, 0, 0, 0)) + chunk(b"IDAT", zlib.compress(rows)) + chunk(b"IEND", b"")
+        asked = self.asked = set()
+
+        class Handler(http.server.BaseHTTPRequestHandler):
+            def do_GET(self):
+                asked.add(self.path)
+                self.send_response(200)
+                self.send_header("Content-Type", "image/png")
+                self.send_header("Content-Length", str(len(picture)))
+                self.end_headers()
+                self.wfile.write(picture)
+
+            def log_message(self, *_):
+                pass
+
+        super().__init__(("127.0.0.1", 0), Handler)
+        threading.Thread(target=self.serve_forever, daemon=True).start()
+
+    @property
+    def url(self):
+        return f"http://127.0.0.1:{self.server_address[1]}"
+
+
+@needs("aiohttp", "numpy", "selenium", "chromium", "chromedriver")
+class OnTiles(unittest.TestCase):
+    """The map on tiles of another host."""
+
+    def test_tiles_lie_under_their_places(self):
+        places = [(11.30 + 0.01 * (at % 5), 44.45 + 0.008 * (at // 5)) for at in range(20)]
+        with tempfile.TemporaryDirectory(prefix="tiles-", ignore_cleanup_errors=True) as room, TileHost() as host:
+            gr, co = os.path.join(room, "net.gr"), os.path.join(room, "net.co")
+            with open(gr, "w", encoding="ascii") as file:
+                file.write("p sp 20 19\n" + "".join(f"a {at} {at + 1} 60\n" for at in range(1, 20)))
+            with open(co, "w", encoding="ascii") as file:
+                file.write("p aux sp co 20\n" + "".join(f"v {at} {round(x * 1e6)} {round(y * 1e6)}\n" for at, (x, y) in enumerate(places, 1)))
+            words = (gr, "--co", co, "--degrees", "--tiles", host.url + "/{z}/{x}/{y}.png", "--credit", "a map by the tests")
+            with Served(*words) as service:
+                driver = browser(os.path.join(room, "profile"))
+                try:
+                    page = Page(driver)
+                    page.open(service.url)
+                    page.wait("window.earliest.map.tiles && window.earliest.map.tiles.drawn >= 4")
+                    self.assertEqual(driver.find_element("id", "credit").text, "a map by the tests")
+                    zooms = {int(it.split("/")[1]) for it in host.asked}
+                    self.assertEqual(len(zooms), 1)
+                    zoom = zooms.pop()
+                    asked = {tuple(map(int, it[:-4].split("/")[2:])) for it in host.asked}
+                    for at, (longitude, latitude) in enumerate(places, 1):
+                        # The tile of a place and its point in it, by the usual formula of web maps.
+                        x = (longitude + 180) / 360 * 2**zoom
+                        y = (1 - math.asinh(math.tan(math.radians(latitude))) / math.pi) / 2 * 2**zoom
+                        self.assertIn((int(x), int(y)), asked)
+                        first = page.run("return window.earliest.map.at(1)")
+                        shown = page.run("return window.earliest.map.at(arguments[0])", at)
+                        origin = (places[0][0] + 180) / 360 * 2**zoom, (1 - math.asinh(math.tan(math.radians(places[0][1]))) / math.pi) / 2 * 2**zoom
+                        tile = page.run("const map = window.earliest.map; return 360 / 2 ** arguments[0] * map.scale / map.ratio", zoom)
+                        self.assertTrue(128 <= tile <= 512, tile)
+                        self.assertAlmostEqual(shown[0] - first[0], (x - origin[0]) * tile, delta=0.5)
+                        self.assertAlmostEqual(shown[1] - first[1], (y - origin[1]) * tile, delta=0.5)
+                    wrong = [it["message"] for it in driver.get_log("browser") if it["level"] == "SEVERE"]
+                    self.assertEqual(wrong, [])
+                finally:
+                    driver.quit()
 
 
 def clock(time):
@@ -207,6 +285,42 @@ class Browser(unittest.TestCase):
         page.press(Keys.ESCAPE)
         page.wait("document.getElementById('found').textContent === ''")
         self.assertEqual(page.run("return window.earliest.map.walk.length"), 0)
+
+    def test_latest_departures(self):
+        page = self.page
+        page.driver.find_element("id", "until").click()
+        self.assertEqual(page.driver.find_element("id", "clock").text, "Be there by")
+        page.click(236)
+        page.ready(28800)
+        wanted = commuter_until(236, 28800)
+        for node in (1, 225, 300):
+            departure, words = page.hover(node)
+            self.assertEqual(int(departure), wanted[node - 1])
+            minutes, seconds = divmod(28800 - wanted[node - 1], 60)
+            self.assertEqual(words, f"node {node}: leave at {clock(wanted[node - 1])}, {minutes}:{seconds:02} min before")
+        self.assertIn("before the arrival", page.driver.find_element("id", "legend").text)
+        # The walk from a node, and another time.
+        page.press("s")
+        page.click(225)
+        page.wait("document.body.dataset.state === 'ready' && document.getElementById('found').textContent")
+        slider = page.driver.find_element("id", "departure")
+        page.run("const it = document.getElementById('departure'); it.value = arguments[0]; it.dispatchEvent(new Event('input'))", 30600)
+        page.ready(30600)
+        with tempfile.TemporaryDirectory(prefix="serve-") as room:
+            pairs = os.path.join(room, "one.p2p")
+            with open(pairs, "w", encoding="ascii") as file:
+                file.write("p aux sp p2p 1\nq 225 236\n")
+            report = program("pairs", "commuter.gr", pairs, "--tp", "commuter.tp", "--arrive", "30600", "--walks")
+        departure, arcs = re.search(r"(?m)^d 225 (\d+)\nw 225 \d+ (.*)$", report).groups()
+        page.wait("document.getElementById('found').dataset.departure === arguments[0]", departure)
+        found = page.driver.find_element("id", "found")
+        page.wait("document.getElementById('found').dataset.arcs === arguments[0]", arcs)
+        self.assertIn(f"leave at {clock(int(departure))}", found.text)
+        # Back by keyboard: arrivals from the source at the time of the slider.
+        page.press("l")
+        page.wait("document.body.dataset.departure === '30600' && window.earliest.map.until === false")
+        self.assertEqual(int(page.hover(300)[0]), commuter(225, 30600)[299])
+        self.assertEqual(int(slider.get_attribute("value")), 30600)
 
     def test_keyboard(self):
         page = self.page

@@ -12,7 +12,7 @@ import threading
 import time
 import unittest
 
-from served import COMMUTER, LONG, NEVER, ROOT, Served, commuter, example, needs, places, program
+from served import COMMUTER, LONG, NEVER, ROOT, Served, commuter, commuter_until, example, needs, places, program
 
 JSON, GEO, BINARY = "application/json", "application/geo+json", "application/octet-stream"
 
@@ -101,11 +101,26 @@ class Routes(unittest.TestCase):
 
     def test_latest(self):
         got = self.service.json("/v1/latest", sources=225, targets=236, arrivals="30600,500,50000")
+        self.assertEqual(got["departures"], [commuter_until(236, by)[224] for by in (30600, 500, 50000)])
         self.assertEqual(got["departures"][1], None)
         for by, departure in ((30600, got["departures"][0]), (50000, got["departures"][2])):
             self.assertLessEqual(commuter(225, departure)[235], by)
             self.assertGreater(commuter(225, departure + 1)[235], by)
         self.assertGreater(commuter(225, 0)[235], 500)
+
+    def test_departures(self):
+        for target, by in ((236, 30600), (1, 0), (300, 86399)):
+            wanted = commuter_until(target, by)
+            got = self.service.json("/v1/departures", target=target, arrival=by)
+            self.assertEqual((got["target"], got["arrival"], got["departures"]), (target, by, wanted))
+            self.assertEqual(times_of(self.service.get("/v1/departures", BINARY, target=target, arrival=by)[2]), wanted)
+            features = json.loads(self.service.get("/v1/departures", GEO, target=target, arrival=by)[2])["features"]
+            self.assertEqual([(it["properties"]["departure"], it["properties"]["duration"]) for it in features], [(it, None if it is None else by - it) for it in wanted])
+        got = self.service.json("/v1/departures", target=236, arrival=30600, nodes="225,1-2")
+        self.assertEqual((got["nodes"], got["departures"]), ([225, 1, 2], [commuter_until(236, 30600)[node - 1] for node in (225, 1, 2)]))
+        self.assertIn(None, commuter_until(1, 0))
+        for words, name in (({"target": 236}, "MissingParameter"), ({"target": 301, "arrival": 5}, "NoSuchNode"), ({"target": 1, "arrival": 2**48}, "BeyondHorizon")):
+            self.assertEqual(self.service.problem("/v1/departures", **words)[2]["name"], name)
 
     def test_matrix(self):
         got = self.service.json("/v1/matrix", sources="225,1,100", departures="29400,0,64800", nodes="236,300")
@@ -194,6 +209,7 @@ class Routes(unittest.TestCase):
             _, headers, _ = self.service.get(path)
             self.assertEqual(headers["X-Content-Type-Options"], "nosniff")
             self.assertIn("default-src 'none'", headers["Content-Security-Policy"])
+            self.assertIn("img-src 'self' data:;", headers["Content-Security-Policy"])
             self.assertIsNone(headers["Access-Control-Allow-Origin"])
 
     def test_openapi_is_what_the_routes_do(self):
@@ -265,6 +281,9 @@ class Words(unittest.TestCase):
             self.assertIn("a place for 5, which is no node", self.refused(gr, "--co", file("v 5 1 2\n")))
             self.assertIn("no place", self.refused(gr, "--co", file("p aux sp co 4\n")))
             self.assertIn("no degrees", self.refused(gr, "--degrees", "--co", file("v 1 181000000 2\n")))
+            for tiles in ("https://tile.example.org/{z}/{x}.png", "https://tile.example.org/{z}/{x}/{y}/{y}.png", "https://a b/{z}/{x}/{y}", "file:///{z}/{x}/{y}", "https://e.org/{z}/{x}/{y}; script-src *"):
+                self.assertIn("--tiles takes an address", self.refused(gr, "--degrees", "--co", file("v 1 11000000 2\n"), "--tiles", tiles))
+            self.assertIn("need coordinates in degrees", self.refused(gr, "--co", file("v 1 11 2\n"), "--tiles", "https://e.org/{z}/{x}/{y}.png"))
             self.assertIn("3 names", self.refused(gr, "--names", file("a\nb\nc\n")))
             self.assertIn("a name twice", self.refused(gr, "--names", file("a\nb\nc\na\n")))
             self.assertIn("--queue", self.refused(gr, "--queue", "-1"))

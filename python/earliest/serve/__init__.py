@@ -21,6 +21,8 @@ def parser() -> argparse.ArgumentParser:
     words.add_argument("--tp", metavar="F", help="its timetables (.tp)")
     words.add_argument("--co", metavar="F", help="its coordinates (.co, or the .nodes.csv of an importer), without which there is no map")
     words.add_argument("--degrees", action="store_true", help="the coordinates are millionths of a degree, as those of the 9th DIMACS Challenge")
+    words.add_argument("--tiles", metavar="URL", help="draw the map on tiles of this address with {z}, {x} and {y}; the browser asks their host then (default: none)")
+    words.add_argument("--credit", metavar="TEXT", help="whom the owner of the tiles wants to be named on the map")
     words.add_argument("--names", metavar="F", help="names of nodes: a line for each, in the order of their numbers")
     words.add_argument("--per-second", metavar="N", type=int, help="how many units of time a second has (default: what the first comment of the network says)")
     words.add_argument("--host", default="127.0.0.1", help="the address to listen on (default: %(default)s)")
@@ -54,6 +56,8 @@ def main(words: Optional[List[str]] = None) -> int:
 
     try:
         ground = Ground.read(asked.network, asked.tp, asked.co, asked.names, asked.degrees, asked.per_second)
+        if asked.tiles:
+            ground.put_on(asked.tiles, asked.credit)
         return app.serve(ground, asked)
     except (Refused, Failure, OSError, ImportError) as error:
         sys.stderr.write(f"serve: {error}\n")

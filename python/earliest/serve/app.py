@@ -37,12 +37,21 @@ HEADERS = {
 }
 
 
+def headers_with(tiles: str) -> Dict[str, str]:
+    """The headers of each reply; with tiles the page may load images of their host, which learns the page's host."""
+    if not tiles:
+        return HEADERS
+    policy = HEADERS["Content-Security-Policy"].replace("img-src 'self' data:", f"img-src 'self' data: {tiles}")
+    return {**HEADERS, "Content-Security-Policy": policy, "Referrer-Policy": "strict-origin-when-cross-origin"}
+
+
 class Service:
     """A ground, its pool, its counts and its limits."""
 
     def __init__(self, ground: Ground, pool: Pool, values: int, client: int, is_local: bool):
         self.ground, self.pool, self.values, self.client, self.is_local = ground, pool, values, client, is_local
         self.counts, self.stopping, self.of_client = Counts(), False, {}  # type: Counts, bool, Dict[str, int]
+        self.headers = headers_with(ground.host_of_tiles)
         self.parts: Dict[str, bytes] = {}
         for name in PARTS:
             with open(os.path.join(PAGE, name), "rb") as file:
@@ -76,7 +85,7 @@ class Service:
                 response = await handler(request)
             except Exception as error:
                 response = self.refused(error)
-            response.headers.update({key: value for key, value in HEADERS.items() if key not in response.headers})
+            response.headers.update({key: value for key, value in self.headers.items() if key not in response.headers})
             if self.stopping:
                 response.force_close()
             self.counts.add(name, response.status, time.monotonic() - began)

@@ -15,8 +15,16 @@ from ..importing.writing import unit_of
 
 __all__ = ["Ground", "Refused"]
 
+TILES = re.compile(r"(https?://[A-Za-z0-9.-]+(?::[0-9]{1,5})?)/[A-Za-z0-9{}/._~?=&%@-]*")
+
+
 class Ground:
     """A road with its ends, coordinates (NaN for a node without them), names and unit of time."""
+
+    tiles: Optional[str] = None
+    """The address of map tiles, with {z}, {x} and {y}; None for a map without them."""
+    credit: Optional[str] = None
+    """Whom the tiles' owner wants to be named."""
 
     def __init__(self, road: Road, coordinates: Any = None, degrees: bool = False, names: Optional[List[str]] = None, per_second: Optional[int] = None, unfit: Any = None):
         self.unfit = {use: numpy.array(nodes, dtype=numpy.intp) - 1 for use, nodes in (unfit or {}).items() if nodes}
@@ -35,6 +43,21 @@ class Ground:
             places, degrees, unfit = coordinates_of(co, road.nodes, degrees)
             coordinates = numpy.array(places).reshape(road.nodes, 2)
         return cls(road, coordinates, degrees, None if names is None else names_of(names, road.nodes), per_second or unit_of(gr), unfit)
+
+    def put_on(self, tiles: str, credit: Optional[str]) -> None:
+        """Draws the map on tiles. Refuses an address that is no template, and coordinates that aren't degrees."""
+        bare = tiles.replace("{z}", "", 1).replace("{x}", "", 1).replace("{y}", "", 1)
+        if not TILES.fullmatch(tiles) or len(bare) != len(tiles) - 9 or "{" in bare or "}" in bare:
+            raise Refused("--tiles takes an address as https://tile.example.org/{z}/{x}/{y}.png, with each of {z}, {x} and {y} once")
+        if self.coordinates is None or not self.degrees:
+            raise Refused("map tiles need coordinates in degrees: --co, and --degrees for those of DIMACS")
+        self.tiles, self.credit = tiles, credit
+
+    @property
+    def host_of_tiles(self) -> str:
+        """The address of the host of the tiles; empty if there are none."""
+        found = TILES.fullmatch(self.tiles or "")
+        return found[1] if found else ""
 
     def nearest(self, x: float, y: float, use: str = "start") -> Tuple[int, float]:
         """The node nearest to a place, the lowest of several, and its distance: metres if coordinates are degrees, else their own unit. `use`

@@ -13,7 +13,7 @@ import numpy
 from .. import _threads
 from .._engine import Road
 from .._library import NEVER
-from .._searches import Search
+from .._searches import LatestSearch, Search
 from .asked import Problem
 
 
@@ -46,6 +46,24 @@ class Work:
         self.test()
         found = self.search().pair(source, departure, target)
         return NEVER if found is None else found
+
+    def latest(self) -> LatestSearch:
+        """The thread's search for latest departures, made when it is first needed. The first of all turns the road round."""
+        if not hasattr(self.own, "latest"):
+            self.own.latest = LatestSearch(self.road)
+        return self.own.latest
+
+    def row_until(self, target: int, by: int) -> Any:
+        """The latest departures of all nodes."""
+        self.test()
+        into = numpy.empty(self.road.nodes, dtype=numpy.uint64)
+        self.latest().until(target, by, into)
+        return into
+
+    def pair_until(self, source: int, target: int, by: int) -> int:
+        """One latest departure."""
+        self.test()
+        return self.latest().pair(source, target, by)
 
     def walk(self, source: int, target: int, departure: int) -> Any:
         """One arrival, and the arcs of its walk, None if there is none."""

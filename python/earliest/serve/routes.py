@@ -147,18 +147,26 @@ def _line(ground: Ground, nodes: List[int]):
 
 def _latest(ground: Ground, asked: Asked, work: Work) -> Reply:
     sources, targets, by = _lists(asked, asked.given["arrivals"])
-
-    def one(source, target, by):
-        if work.pair(source, target, 0) > by:
-            return NEVER
-        low, high = 0, by + 1
-        while high - low > 1:
-            middle = (low + high) // 2
-            low, high = (middle, high) if work.pair(source, target, middle) <= by else (low, middle)
-        return low
-
-    found = numpy.array([one(*it) for it in zip(sources, targets, by)], dtype=numpy.uint64)
+    found = numpy.array([work.pair_until(*it) for it in zip(sources, targets, by)], dtype=numpy.uint64)
     return Reply(lambda: {"sources": sources, "targets": targets, "arrivals": by, "departures": told(found)}, lambda: held(found))
+
+
+def _departures(ground: Ground, asked: Asked, work: Work) -> Reply:
+    nodes = asked.nodes
+    asked.fits(ground.road.nodes if nodes is None else len(nodes))
+    found = work.row_until(asked.target, asked.arrival)
+    found = found if nodes is None else found[nodes.astype(numpy.intp) - 1]
+
+    def as_json():
+        listed = {} if nodes is None else {"nodes": nodes.tolist()}
+        return {"target": asked.target, "arrival": asked.arrival, **listed, "departures": told(found)}
+
+    def as_geo():
+        listed = range(1, ground.road.nodes + 1) if nodes is None else nodes.tolist()
+        return [_feature("Point", _point(ground, node), node=node, departure=time, duration=None if time is None else asked.arrival - time)
+                for node, time in zip(listed, told(found)) if _is_placed(ground, node)]
+
+    return Reply(as_json, lambda: held(found), as_geo)
 
 
 def _matrix(ground: Ground, asked: Asked, work: Work) -> Reply:
@@ -223,7 +231,8 @@ def _isochrones(ground: Ground, asked: Asked, work: Work) -> Reply:
 
 def _network(ground: Ground, asked: Asked, work: Work) -> Reply:
     return Reply(lambda: {"nodes": ground.road.nodes, "arcs": ground.road.arcs, "per_second": ground.per_second, "horizon": HORIZON,
-                          "coordinates": ground.coordinates is not None, "degrees": ground.degrees, "names": ground.names is not None})
+                          "coordinates": ground.coordinates is not None, "degrees": ground.degrees, "names": ground.names is not None,
+                          "tiles": ground.tiles, "credit": ground.credit})
 
 
 def _coordinates(ground: Ground, asked: Asked, work: Work) -> Reply:
@@ -268,6 +277,9 @@ ROUTES = [
     Route("/v1/latest", "The latest departures of pairs that have to arrive by a time, null if no departure is in time. The binary form has a time for each pair.",
           [SOURCES, TARGETS, _p("arrivals", "times", True, "when each target has to be reached", "40000")], [JSON, BINARY], _latest,
           _object(sources=_number_array(WHOLE), targets=_number_array(WHOLE), arrivals=_number_array(TIME), departures=_number_array(LATER))),
+    Route("/v1/departures", "The latest departures from all nodes that are in time at one node, null if no departure is. The binary form has a time for each node.",
+          [_p("target", "node", True, "the node to be reached", "2"), _p("arrival", "time", True, "when it has to be reached", "40000"), NODES], [JSON, GEO, BINARY], _departures,
+          _object(target=WHOLE, arrival=TIME, departures=_number_array(LATER))),
     Route("/v1/matrix", "The earliest arrivals from each source at each node. The binary form has one row after the other.", [SOURCES, DEPARTURES, NODES], [JSON, BINARY], _matrix,
           _object(sources=_number_array(WHOLE), departures=_number_array(TIME), arrivals=_number_array(_number_array(LATER)))),
     Route("/v1/nearest", "The node nearest to a place, with the distance in metres if coordinates are degrees, else in their own unit. The binary form is the node.",
@@ -278,7 +290,8 @@ ROUTES = [
           [SOURCE, DEPARTURE, _p("band", "length", False, "the length of a band, an eighth of the longest time if it is not given", "600")], [JSON, GEO, BINARY], _isochrones,
           _object(source=WHOLE, departure=TIME, band=TIME, bands=_number_array({"type": "object"}), never=_number_array(WHOLE))),
     Route("/v1/network", "How large the network is, and what is known of it.", [], [JSON], _network,
-          _object(nodes=WHOLE, arcs=WHOLE, per_second={**WHOLE, "nullable": True}, horizon=WHOLE, coordinates={"type": "boolean"}, degrees={"type": "boolean"}, names={"type": "boolean"})),
+          _object(nodes=WHOLE, arcs=WHOLE, per_second={**WHOLE, "nullable": True}, horizon=WHOLE, coordinates={"type": "boolean"}, degrees={"type": "boolean"}, names={"type": "boolean"},
+                  tiles={"type": "string", "nullable": True}, credit={"type": "string", "nullable": True})),
     Route("/v1/network/coordinates", "The place of each node. The binary form has x and y as 64-bit floats.", [], [JSON, GEO, BINARY], _coordinates, _object(coordinates=_number_array(POINT))),
     Route("/v1/network/arcs", "The tail and the head of each arc. The binary form has both as unsigned 32 bits.", [], [JSON, BINARY], _arcs,
           _object(tails=_number_array(WHOLE), heads=_number_array(WHOLE))),

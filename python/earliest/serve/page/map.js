@@ -1,6 +1,6 @@
 "use strict";
-// The map: nodes and arcs on a canvas, coloured by how long after the departure a node is reached. Arrivals are pairs of unsigned 32 bits,
-// the low half first, as the service sends them; both halves full is "not reached".
+// The map: nodes and arcs on a canvas, coloured by how long after the departure a node is reached or, for latest departures, how long before the
+// arrival it is left. Times are pairs of unsigned 32 bits, the low half first, as the service sends them; both halves full is "never".
 
 // Cividis at 11 places (Nunez, Anderton, Renslow, 2018): readable with every sort of colour vision, and dark to light.
 const CIVIDIS = [[0, 34, 78], [8, 51, 112], [53, 69, 108], [79, 87, 108], [102, 105, 112], [125, 124, 120], [148, 142, 119], [174, 163, 113], [200, 184, 102], [229, 207, 82], [254, 232, 56]];
@@ -49,27 +49,67 @@ function rounded(length, perSecond) {
   return [1, 2, 5, 10].map((it) => it * power).find((it) => it >= length);
 }
 
+// Mercator's y of a latitude, in degrees of longitude at the equator; the projection of map tiles.
+const MOST_LATITUDE = 85.0511287798066;
+const mercator = (latitude) => (180 / Math.PI) * Math.atanh(Math.sin((Math.min(Math.max(latitude, -MOST_LATITUDE), MOST_LATITUDE) * Math.PI) / 180));
+
+// Map tiles below the roads, of 256 pixels each, from an address with {z}, {x} and {y}.
+class Tiles {
+  constructor(canvas, template, map) {
+    Object.assign(this, { canvas, template, map, images: new Map(), drawn: 0 });
+  }
+
+  // The image of a tile; it is drawn once it is there. The oldest of many are dropped.
+  image(zoom, x, y) {
+    const address = this.template.replace("{z}", zoom).replace("{x}", x).replace("{y}", y);
+    let found = this.images.get(address);
+    if (!found) {
+      found = new Image();
+      found.onload = () => this.map.draw();
+      found.src = address;
+      this.images.set(address, found);
+      if (this.images.size > 512) this.images.delete(this.images.keys().next().value);
+    }
+    return found;
+  }
+
+  paint() {
+    const { canvas, map } = this, context = canvas.getContext("2d");
+    canvas.width = map.canvas.width, canvas.height = map.canvas.height;
+    const zoom = Math.max(0, Math.min(19, Math.round(Math.log2((map.scale * 360) / (256 * map.ratio))))), count = 2 ** zoom, size = 360 / count;
+    const x = (pixel) => map.west + (pixel - map.left) / map.scale, y = (pixel) => map.south + (map.bottom - pixel) / map.scale;
+    const column = (pixel) => Math.floor((x(pixel) + 180) / size), row = (pixel) => Math.floor((180 - y(pixel)) / size);
+    this.drawn = 0;
+    for (let at = Math.max(0, row(0)); at <= Math.min(count - 1, row(canvas.height)); at++) for (let across = column(0); across <= column(canvas.width); across++) {
+      const image = this.image(zoom, ((across % count) + count) % count, at);
+      if (!image.complete || !image.naturalWidth) continue;
+      const left = map.left + (across * size - 180 - map.west) * map.scale, top = map.bottom - (180 - at * size - map.south) * map.scale;
+      context.drawImage(image, left, top, size * map.scale, size * map.scale);
+      this.drawn++;
+    }
+  }
+}
+
 class RoadMap {
   // `coordinates` has x and y of each node, NaN if there are none; `ends` tail and head of each arc.
   constructor(canvas, coordinates, ends, degrees) {
-    Object.assign(this, { canvas, coordinates, ends, nodes: coordinates.length / 2, arcs: ends.length / 2, arrivals: null, departure: 0, longest: 1, walk: [], source: 0, target: 0 });
+    Object.assign(this, { canvas, coordinates, ends, tiles: null, nodes: coordinates.length / 2, arcs: ends.length / 2, arrivals: null, departure: 0, until: false, longest: 1, walk: [], source: 0, target: 0 });
     this.context = canvas.getContext("2d");
     this.xs = new Float32Array(this.nodes);
     this.ys = new Float32Array(this.nodes);
     let west = Infinity, east = -Infinity, south = Infinity, north = -Infinity;
+    const upward = degrees ? mercator : (y) => y;
     for (let at = 0; at < this.nodes; at++) {
-      const x = coordinates[2 * at], y = coordinates[2 * at + 1];
+      const x = coordinates[2 * at], y = upward(coordinates[2 * at + 1]);
       if (Number.isNaN(x)) continue;
       west = Math.min(west, x), east = Math.max(east, x), south = Math.min(south, y), north = Math.max(north, y);
     }
-    // Degrees of longitude are shortened as at the middle latitude. Coordinates become floats from the south-west corner.
-    this.narrow = degrees ? Math.cos(((south + north) / 2) * (Math.PI / 180)) : 1;
+    // Coordinates become floats from the south-west corner.
     for (let at = 0; at < this.nodes; at++) {
-      this.xs[at] = (coordinates[2 * at] - west) * this.narrow;
-      this.ys[at] = coordinates[2 * at + 1] - south;
+      this.xs[at] = coordinates[2 * at] - west;
+      this.ys[at] = upward(coordinates[2 * at + 1]) - south;
     }
-    this.width = (east - west) * this.narrow;
-    this.height = north - south;
+    Object.assign(this, { west, south, width: east - west, height: north - south });
     this.fill();
     this.resize();
   }
@@ -151,15 +191,23 @@ class RoadMap {
     return found;
   }
 
-  // The shade of a node: -1 if it is not reached or no source is chosen.
-  shade(node) {
-    const arrival = this.arrivals ? this.arrivals[node] : -1;
-    return arrival < 0 ? -1 : Math.min(SHADES - 1, Math.floor(((arrival - this.departure) / this.longest) * SHADES));
+  // The time between the one that was asked for and a node's: -1 for never, or if nothing was asked yet.
+  span(node) {
+    const time = this.arrivals ? this.arrivals[node] : -1;
+    return time < 0 ? -1 : this.until ? this.departure - time : time - this.departure;
   }
 
-  show(arrivals, departure) {
-    this.arrivals = arrivals;
-    this.departure = departure;
+  // The shade of a node: -1 for never.
+  shade(node) {
+    const span = this.span(node);
+    return span < 0 ? -1 : Math.min(SHADES - 1, Math.floor((span / this.longest) * SHADES));
+  }
+
+  // Shows arrivals after a departure or, with `until`, latest departures before an arrival.
+  show(times, clock, until = false) {
+    this.arrivals = times;
+    this.departure = clock;
+    this.until = until;
     this.draw();
   }
 
@@ -181,7 +229,8 @@ class RoadMap {
     const { context, canvas } = this, began = performance.now(), [west, east, south, north] = this.sight();
     context.setTransform(1, 0, 0, 1, 0, 0);
     context.fillStyle = "#fff";
-    context.fillRect(0, 0, canvas.width, canvas.height);
+    if (this.tiles) this.tiles.paint(), context.clearRect(0, 0, canvas.width, canvas.height);
+    else context.fillRect(0, 0, canvas.width, canvas.height);
     let count = 0;
     const nodes = [];
     for (let row = south; row <= north; row++) {
@@ -270,10 +319,10 @@ class RoadMap {
 }
 
 // A legend: the bar of colours with times below it, and grey.
-function legend(place, longest, perSecond) {
+function legend(place, longest, perSecond, until = false) {
   const bar = document.createElement("div"), marks = document.createElement("div"), never = document.createElement("div"), head = document.createElement("div");
   const [unit, name] = !perSecond ? [1, "the network's unit"] : longest >= 7200 * perSecond ? [3600 * perSecond, "hours"] : [60 * perSecond, "minutes"];
-  head.textContent = `Time after the departure, in ${name}`;
+  head.textContent = until ? `Time before the arrival, in ${name}` : `Time after the departure, in ${name}`;
   bar.className = "bar";
   const picture = document.createElement("canvas");
   picture.width = SHADES, picture.height = 1;
@@ -288,13 +337,13 @@ function legend(place, longest, perSecond) {
   }
   const grey = document.createElement("span");
   grey.className = "grey";
-  never.append(grey, " not reached (thin lines)");
+  never.append(grey, until ? " no departure in time (thin lines)" : " not reached (thin lines)");
   place.replaceChildren(head, bar, marks, never);
 }
 
-// The longest time for the legend: a round number that 98 of 100 nodes are reached within.
-function longestOf(arrivals, departure, perSecond) {
-  const spans = arrivals.filter((it) => it >= 0).map((it) => it - departure).sort();
+// The longest time for the legend: a round number that the spans of 98 of 100 nodes are within.
+function longestOf(times, clock, perSecond, until = false) {
+  const spans = times.filter((it) => it >= 0).map((it) => (until ? clock - it : it - clock)).sort();
   return rounded(spans.length ? spans[Math.min(spans.length - 1, Math.floor(spans.length * 0.98))] : 1, perSecond);
 }
 
