@@ -1,7 +1,6 @@
 -- Two calls with the same answer sent one report.
-use Rattle.std.proofs.Common.{◌≡◌, ℕ, List, ◌++◌, length, refl, ap, sym, ◌∙◌, subst}
-use Rattle.std.specs.Prelude.{IfSome, Option, Some, None, option_map, unwrap_or}
-use Rattle.std.specs.Io.KnownBytes.{Appends}
+use Rattle.std.proofs.Common.{◌≡◌, ℕ, List, length, refl, ap, sym, subst}
+use Rattle.std.specs.Prelude.{Option, Some, None, option_map, unwrap_or}
 use Rattle.std.proofs.lemmas.Option.{none-some}
 use Rattle.ea_bytes.specs.Device.{Seen}
 use Rattle.ea_bytes.specs.Text.{field_lines}
@@ -10,7 +9,6 @@ use Rattle.ea_input.specs.Pairs.{DenotesPairs}
 use Rattle.ea_input.specs.Times.{DenotesTimes}
 use Rattle.ea_load.specs.Files.{AreExtras, Extras, IsAll, IsAllIfThere, IsFoundIn}
 use Rattle.ea_load.specs.Given.{AreGiven, Denotes, Given}
-use Rattle.earliest.specs.Fronts.{totals_text}
 use Rattle.ea_load.specs.Asked.{Files, tp_had}
 use Rattle.earliest.specs.SameBytes.{AnsweredPairsAgree, AnsweredRunsAgree, Answering, AnswersPairs, AnswersRun, DenoteExtras, DenotesOptional, HadTexts, IsPairReport, IsRunReport, Sends, Texts, Wanted, wanted_by}
 use Rattle.earliest.proofs.OneReport.{pairs_have_one_report, runs_have_one_report}

@@ -1,5 +1,5 @@
 -- What the files of times and of nodes hold.
-use Rattle.std.proofs.Common.{◌≡◌, ℕ, List, length, ◌≤◌, sym, subst}
+use Rattle.std.proofs.Common.{◌≡◌, ℕ, List, length, sym, subst}
 use Rattle.std.specs.Prelude.{IfSome, Option, Some, None}
 use Rattle.ea_bytes.specs.Device.{Seen}
 use Rattle.ea_bytes.specs.Text.{field_lines}

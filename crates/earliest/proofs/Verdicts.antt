@@ -1,5 +1,5 @@
 -- The outcomes of checking a report.
-use Rattle.std.proofs.Common.{◌≡◌, ℕ, List, refl, subst, inl}
+use Rattle.std.proofs.Common.{◌≡◌, ℕ, List, refl, inl}
 use Rattle.std.specs.Prelude.{Result}
 use Rattle.ea_road.specs.Queries.{Asking}
 use Rattle.ea_load.specs.declared.road.Road.{Road}

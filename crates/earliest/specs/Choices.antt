@@ -1,6 +1,6 @@
 -- Which search a problem gets, by what was asked, the number of processors, and the size. No
 -- byte of a report depends on it; its time does.
-use Rattle.std.specs.Prelude.{ℕ, ◌*◌, ◌/◌, Bool, Option, Some, None, min, max, if◌then◌else◌, is_some, nat_le, nat_lt, ◌==◌, ◌&&◌, ◌||◌, not, unwrap_or}
+use Rattle.std.specs.Prelude.{ℕ, ◌*◌, ◌^◌, ◌/◌, ◌-◌, Bool, Option, Some, None, min, max, if◌then◌else◌, is_some, nat_le, nat_lt, ◌==◌, ◌&&◌, ◌||◌, not, unwrap_or}
 use Rattle.ea_base.specs.declared.limits.TheConstants.{MOST_AT_ONCE, MOST_TURNS, MOST_WORKERS}
 use Rattle.ea_engine.specs.declared.settings.Settings.{Settings}
 use Rattle.ea_options.specs.Limits.{counted_workers}

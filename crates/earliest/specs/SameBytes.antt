@@ -7,7 +7,6 @@ use Rattle.ea_bytes.specs.Text.{field_lines}
 use Rattle.ea_input.specs.Sources.{DenotesSources}
 use Rattle.ea_input.specs.Pairs.{DenotesPairs}
 use Rattle.ea_input.specs.Times.{DenotesTimes}
-use Rattle.ea_road.specs.Queries.{Asking}
 use Rattle.ea_road.specs.Turned.{directed_roads}
 use Rattle.ea_load.specs.Files.{Extras}
 use Rattle.ea_load.specs.Given.{Given, Denotes, roads_of, times_in}

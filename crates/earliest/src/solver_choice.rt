@@ -75,7 +75,7 @@ fn processors_if<H: Threads>(rt: &H, decides: bool) -> Option<usize>
 /// else one for each processor.
 pub(crate) fn threads_at_once<H: Threads>(rt: &H, options: &RunOptions) -> usize
     requires { AreOptions options.now }
-    ensures { (1 ≤ result) × (result ≤ MOST_AT_ONCE) }
+    ensures limits { (1 ≤ result) × (result ≤ MOST_AT_ONCE) }
     ensures chosen { (processors : Option ℕ) × (result ≡ at_once_on processors options.now) }
 {
     at_once(processors(rt), options)
@@ -148,12 +148,7 @@ fn workers_asked(processors: Option<usize>, workers: u32, nodes: u32) -> u32
 /// The number of workers that search a problem without statistics, on many nodes: those that are asked for or, if the
 /// program may choose, one for each processor if that is faster. `is_alone` says that the program chooses one: walks or
 /// a single target are asked for.
-fn workers_by(
-    processors: Option<usize>,
-    workers: Option<u64>,
-    nodes: u32,
-    is_alone: bool,
-) -> u32
+fn workers_by(processors: Option<usize>, workers: Option<u64>, nodes: u32, is_alone: bool) -> u32
     requires processors { IfSome processors (λ count. 1 ≤ count) }
     requires workers { IfSome workers (λ count. (1 ≤ count) × (count ≤ MOST_WORKERS)) }
     ensures limits { (1 ≤ result) × (result ≤ MOST_WORKERS) }
@@ -172,12 +167,7 @@ fn workers_by(
 
 /// The number of workers that search a problem on this number of nodes; `is_pair` says that a single target is asked.
 /// With statistics, those that are counted. One means the search of one thread.
-fn workers_for(
-    processors: Option<usize>,
-    nodes: u32,
-    is_pair: bool,
-    options: &RunOptions,
-) -> u32
+fn workers_for(processors: Option<usize>, nodes: u32, is_pair: bool, options: &RunOptions) -> u32
     requires options { AreOptions options.now }
     requires processors { IfSome processors (λ count. 1 ≤ count) }
     ensures limits { (1 ≤ result) × (result ≤ MOST_WORKERS) }

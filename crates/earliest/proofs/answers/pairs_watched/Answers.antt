@@ -5,13 +5,13 @@ use Rattle.ea_input.specs.Pairs.{DenotesPairs}
 use Rattle.ea_road.specs.Roads.{Roads}
 use Rattle.ea_load.specs.Asked.{AreSound, files_of, in_extras}
 use Rattle.ea_load.specs.Extra.{extras_in}
-use Rattle.ea_load.specs.Files.{extra_files, reading}
+use Rattle.ea_load.specs.Files.{reading}
 use Rattle.ea_load.specs.Posed.{AreProblems}
-use Rattle.ea_load.specs.Starts.{AreWithin, Plan, plan_of, pair_problems}
+use Rattle.ea_load.specs.Starts.{AreWithin, Plan, pair_problems}
 use Rattle.ea_load.proofs.Denoting.{pairs_are_nodes}
 use Rattle.ea_load.proofs.Outcomes.{all_read, answered, failed, files_failed, first_there, given_is_sound, road_there}
 use Rattle.ea_load.proofs.Posing.{pairs_are_posed, few_pairs, few_nodes}
-use Rattle.ea_report.specs.Asked.{Shape, chosen_by, shape_of}
+use Rattle.ea_report.specs.Asked.{Shape, shape_of}
 use Rattle.earliest.specs.Fronts.{shape_by}
 use Rattle.earliest.specs.Runs.{pair_asks, plan_by}
 use Rattle.earliest.proofs.Extras.{shown_for, extra_fault_for, extras_for, optional_files, schedule_has}

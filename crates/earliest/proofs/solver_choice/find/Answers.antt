@@ -1,6 +1,4 @@
-use Rattle.std.proofs.Common.{rules, of_calls, ◌≡◌, ℕ, subst, sym}
-use Rattle.ea_engine.specs.declared.worker.turn.Flow.TheVariants.{Go}
-use Rattle.ea_engine.specs.declared.worker.company.Member.{Member}
+use Rattle.std.proofs.Common.{rules, ℕ}
 use Rattle.ea_engine.specs.Companies.{idle_with, IsIdleFor, LeavesAs}
 use Rattle.ea_engine.proofs.Staying.{goes_on, go_stays, member_stays, stays_on}
 use Rattle.earliest.proofs.solver_choice.find.Goals as goal
