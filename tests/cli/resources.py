@@ -156,8 +156,35 @@ def hard_shapes(program, folder):
         yield grows(f"resources: {words} by default beside one thread", alone, default, 3)
 
 
+def peak(program, words, folder):
+    """The greatest memory of a run that ends well, in KiB."""
+    with subprocess.Popen([program, *words.split()], cwd=folder, stdin=subprocess.DEVNULL, stdout=subprocess.DEVNULL) as run:
+        _, status, usage = os.wait4(run.pid, 0)
+        run.returncode = os.waitstatus_to_exitcode(status)
+    if run.returncode:
+        raise RuntimeError(f"{words}: {run.returncode}")
+    return usage.ru_maxrss
+
+
+def layouts(program, folder):
+    """A grid numbered at random is laid out anew for sixteen problems, and not for one; numbered row by row it never is.
+    The copy shows in the memory."""
+    side, rng = 400, random.Random(9)
+    numbers = list(range(side * side))
+    pairs = [(at, at + step) for at in numbers for step in ([1] if at % side < side - 1 else []) + ([side] if at < side * (side - 1) else [])]
+    for name in ("rows", "random"):
+        if name == "random":
+            rng.shuffle(numbers)
+        arcs = (f"a {numbers[tail] + 1} {numbers[head] + 1} {1 + at % 97}\n" for at, pair in enumerate(pairs) for tail, head in (pair, pair[::-1]))
+        write(folder, f"{name}.gr", [f"p sp {side * side} {2 * len(pairs)}\n", *arcs])
+    write(folder, "sixteen.ss", ["p aux sp ss 16\n", *[f"s {1000 * at}\n" for at in range(1, 17)]])
+    for name, is_laid_out in (("rows", False), ("random", True)):
+        one, many = (peak(program, f"run {name}.gr {sources}.ss --at-once 1", folder) for sources in ("one", "sixteen"))
+        yield f"resources: a grid numbered {name}: laid out for sixteen problems", (many > 1.2 * one) == is_laid_out or (one, many), True
+
+
 def results(program):
     """Each measure with whether it holds, or its figures, and True."""
     with tempfile.TemporaryDirectory(prefix="resources-") as folder:
-        for part in (network, directions, slow_reader, long_walks, near_pairs, long_lines, many_steps, hard_shapes):
+        for part in (network, directions, slow_reader, long_walks, near_pairs, long_lines, many_steps, hard_shapes, layouts):
             yield from part(program, folder)
