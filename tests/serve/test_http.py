@@ -217,7 +217,7 @@ class Routes(unittest.TestCase):
         from earliest.serve import app
 
         class Empty:
-            road = None
+            road, host_of_tiles = None, ""
 
         service = app.Service(Empty(), None, 1, 1, True)
         routes = {it.canonical for it in service.app().router.resources()}

@@ -1,5 +1,5 @@
 //! Reports of problems that are searched at once: several threads make some while earlier ones are sent.
-ghost use Rattle.std.specs.Prelude.{◌≡◌, ◌≤◌, ◌<◌, ◌+◌, ◌-◌, ◌*◌, ◌^◌, ℕ, IfErr, IfOk, IfSome, OnOk, length};
+ghost use Rattle.std.specs.Prelude.{◌≡◌, ◌⊎◌, ◌≤◌, ◌<◌, ◌+◌, ◌-◌, ◌*◌, ◌^◌, ℕ, IfErr, IfOk, IfSome, OnOk, length};
 ghost use Rattle.ea_bytes.specs.Device.{GivesUp};
 ghost use Rattle.ea_base.specs.declared.limits.TheConstants.{MOST_AT_ONCE, MOST_NODES, MOST_STARTS};
 ghost use Rattle.ea_road.specs.Queries.{IsProblem};
@@ -9,6 +9,7 @@ ghost use Rattle.ea_batch.specs.Drafts.{AreDraftsAt, AreUnsent, CanSend, GoesOn,
 ghost use Rattle.ea_batch.specs.Sent.{AreCutShort, AreSent, IsSent, IsStoppedBy};
 ghost use Rattle.ea_batch.specs.Solved.{AreAidsOn, IsShown, Serves};
 ghost use Rattle.ea_report.specs.Asked.{shape_of};
+ghost use Rattle.ea_batch.specs.declared.parallel_reports.TheConstants.{KEPT, LINES_IN_PART, PARTS_AHEAD};
 
 use crate::draft::{Draft, Job, Plan, Span, memory_of_texts};
 use crate::hand_over::Asks;
@@ -55,7 +56,16 @@ const PARTS_AHEAD: usize = 2;
 /// and less is made ahead.
 fn plan_of(problems: usize, threads: usize, lines: usize, walks: bool) -> Plan
     requires { (1 ≤ threads) × (1 ≤ lines) × (threads ≤ 16) }
-    ensures { 0 < result.part }
+    ensures part { 0 < result.part }
+    // A part is one problem, or each thread gets four parts at least, of few lines.
+    ensures shared { (result.part ≡ 1) ⊎ ((result.part * (threads * 4) ≤ problems)
+        × (result.part * lines ≤ LINES_IN_PART)) }
+    // The texts of a part that are kept have KEPT bytes at most.
+    ensures kept { result.part * result.most ≤ KEPT }
+    // Each thread has a part ahead, and PARTS_AHEAD at most.
+    ensures ahead { (result.part * threads ≤ result.ahead)
+        × (result.ahead ≤ result.part * threads * PARTS_AHEAD) }
+    ensures room { result.room ≤ result.most }
 {
     let few = (problems / (threads * 4)).min(MOST_IN_PART).max(1);
     let part = (LINES_IN_PART / lines).max(1).min(few);
