@@ -198,17 +198,26 @@ def legend(sights, band, per_second, top):
     return lines, top + LINE * -(-len(entries) // across)
 
 
+def radius_of(view, count, roads):
+    """The radius of dots: as large as this many places leave room for, and at most half a usual road."""
+    radius = 0.36 * ((WIDTH - 2 * MARGIN) * view.height / max(count, 1)) ** 0.5
+    lengths = sorted(length for length in (math.dist(view.at(tail), view.at(head)) for tail, head in roads) if length)
+    if lengths:
+        radius = min(radius, 0.5 * lengths[len(lengths) // 2])
+    return max(1.0, min(9.0, radius))
+
+
 def draw(problem, known, arcs, shapes, band, per_second=None):
     """The picture."""
     sights = Sights(problem, known)
     band = sights.band(band, per_second)
     view = Map(known, shapes)
-    radius = max(1.0, min(9.0, 0.36 * ((WIDTH - 2 * MARGIN) * view.height / max(len(sights.rows), 1)) ** 0.5))
+    at = dict(zip(known.nodes, known.points))
+    radius = radius_of(view, len(sights.rows), [(at[tail], at[head]) for tail, head in arcs or () if tail in at and head in at])
     told, bottom = legend(sights, band, per_second, view.height + 8)
     height = bottom + 26
     lines = [f'<svg xmlns="http://www.w3.org/2000/svg" viewBox="0 0 {WIDTH} {height:.0f}" font-family="sans-serif" font-size="13">',
              f'<rect width="{WIDTH}" height="{height:.0f}" fill="#ffffff"/>']
-    at = dict(zip(known.nodes, known.points))
     if arcs:
         lines.append(path(view, (line_of(number, *ends, at, shapes) for number, ends in enumerate(arcs, 1) if ends[0] in at and ends[1] in at), "#d9d9d9", 1))
     dots = {}
