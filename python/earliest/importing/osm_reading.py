@@ -31,7 +31,8 @@ class Source:
         if reader == "pyosmium" and self.osmium is None:
             raise Refused("pyosmium isn't there; install it by `pip install osmium` or `apt-get install python3-pyosmium`")
         if self.osmium is None and not path.endswith(XML_ENDS):
-            raise Refused(f"{path}: only {', '.join(XML_ENDS[:1] + XML_ENDS[2:4])} can be read without pyosmium; install it by `pip install osmium` or `apt-get install python3-pyosmium`")
+            raise Refused(f"{path}: only {', '.join(XML_ENDS[:1] + XML_ENDS[2:4])} can be read without pyosmium; " + (
+                "leave --reader python out" if osmium_or_none() else "install it by `pip install osmium` or `apt-get install python3-pyosmium`"))
         self.reader = "pyosmium" if self.osmium else "the standard library"
 
     def ways_and_relations(self, way, relation):
