@@ -8,7 +8,8 @@ use Rattle.ea_road.specs.Labels.{label_of}
 use Rattle.ea_hierarchy.specs.declared.numbers.TheConstants.{NONE as NO_WALK}
 use Rattle.ea_hierarchy.specs.Bounds.{told}
 use Rattle.ea_goal.specs.Frontiers.{Opens, Waits}
-use Rattle.ea_goal.specs.Scans.{Falls, Offers}
+use Rattle.ea_goal.specs.Led.{IsBeyond}
+use Rattle.ea_goal.specs.Scans.{Falls, Offers, OpensNear}
 use Rattle.ea_goal.specs.declared.frontier.Entry.{Entry}
 
 pub same_or_not : (a b : ℕ) → (a ≡ b) ⊎ (a ≡ b → ⊥)
@@ -20,39 +21,64 @@ same_or_not a b = elim (leb_tells a b) [
   | inr more ↦ inr (λ same. omega (arith, more.1, same))
 ]
 
-pub falls_none : (bound : ℕ → ℕ) (table : List ℕ) (entries : List Entry) → Falls bound table entries table entries
-falls_none bound table entries = record {
+pub falls_none : (target : ℕ) (bound : ℕ → ℕ) (table : List ℕ) (entries : List Entry) → Falls target bound table entries table entries
+falls_none target bound table entries = record {
   count = refl;
   spent = omega arith;
   lower = λ node from. omega arith;
   kept = λ time node waits. waits;
+  keyed = λ are. are;
   fallen = λ node from falls some. absurd (omega (arith, falls));
 }
 
-pub falls_then : (bound : ℕ → ℕ) (table middle after : List ℕ) (entries between last : List Entry) → Falls bound table entries middle between → Falls bound middle between after last → Falls bound table entries after last
-falls_then bound table middle after entries between last one two = record {
+pub falls_then : (target : ℕ) (bound : ℕ → ℕ) (table middle after : List ℕ) (entries between last : List Entry) → 0 < target → Falls target bound table entries middle between → Falls target bound middle between after last → Falls target bound table entries after last
+falls_then target bound table middle after entries between last is_target one two = record {
   count = two.count ∙ one.count;
   spent = omega (arith, one.spent, two.spent);
   lower = λ node from. omega (arith, one.lower node from, two.lower node from);
   kept = λ time node waits. two.kept time node (one.kept time node waits);
+  keyed = λ are. two.keyed (one.keyed are);
   fallen = λ node from falls some. elim (leb_tells (label_of middle node) (label_of after node)) [
     | inl stays ↦
         let same : label_of middle node ≡ label_of after node = omega (arith, stays.1, two.lower node from) in
-        let waits = one.fallen node from (omega (arith, same, falls)) some in
-        subst (λ t. Waits last t node) same (two.kept (label_of middle node) node waits)
+        elim (one.fallen node from (omega (arith, same, falls)) some) [
+          | inl waits ↦ inl (subst (λ t. Waits last t node) same (two.kept (label_of middle node) node waits))
+          | inr far ↦ inr (omega (arith, far, same, two.lower target is_target))
+        ]
     | inr again ↦ two.fallen node from again.1 some
   ];
 }
 
-pub offers_none : (bound : ℕ → ℕ) (table : List ℕ) (entries : List Entry) (node time : ℕ) → label_of table node ≤ time → Offers bound table entries table entries node time
-offers_none bound table entries node time low = record {
-  falls = falls_none bound table entries;
+pub offers_none : (target : ℕ) (bound : ℕ → ℕ) (table : List ℕ) (entries : List Entry) (node time : ℕ) → label_of table node ≤ time → Offers target bound table entries table entries node time
+offers_none target bound table entries node time low = record {
+  falls = falls_none target bound table entries;
   here = low;
   labels = λ other from. inl refl;
   came = λ at other waits. inl waits;
 }
 
-module _ (bound : ℕ → ℕ) (table : List ℕ) (entries after : List Entry) (node time : ℕ) (from_one : 0 < node) (inside : node ≤ length table) (low : time < label_of table node) where
+-- a node is not opened
+module _ (last bound : ℕ) (entries : List Entry) (node time : ℕ) where
+  pub opens_none : (bound < NO_WALK → last < time + bound) → OpensNear last bound entries entries node time
+  opens_none far = record {
+    there = λ some. inr (far some);
+    kept = λ at other waits. waits;
+    came = λ at other waits. inl waits;
+    keyed = λ bounds same are. are;
+    long = omega arith;
+  }
+
+  -- a node is opened with a key
+  pub opens_with : (after : List Entry) (key : ℕ) → key ≤ time + bound → Opens entries after time node key → OpensNear last bound entries after node time
+  opens_with after key near opens = record {
+    there = λ some. inl opens.there;
+    kept = opens.kept;
+    came = λ at other waits. elim (opens.came at other waits) [ inl old ↦ inl old | inr is ↦ inr is.1 ];
+    keyed = λ bounds same are. opens.keyed bounds (omega (arith, near, same)) are;
+    long = omega (arith, opens.long);
+  }
+
+module _ (target : ℕ) (bound : ℕ → ℕ) (table : List ℕ) (entries after : List Entry) (node time : ℕ) (from_one : 0 < node) (inside : node ≤ length table) (low : time < label_of table node) where
   abbrev new : List ℕ
   new = set table (node - 1) time
 
@@ -79,40 +105,28 @@ module _ (bound : ℕ → ℕ) (table : List ℕ) (entries after : List Entry) (
     | inr differs ↦ inl (elsewhere other from differs)
   ]
 
-  -- the node is opened
-  pub offers_opened : Opens entries after time node → Offers bound table entries new after node time
-  offers_opened opens = record {
+  -- the label falls, and the node is opened if it is near
+  pub offers_near : OpensNear (label_of new target) (bound node) entries after node time → Offers target bound table entries new after node time
+  offers_near opens = record {
     falls = record {
       count = length-set table (node - 1) time;
       spent = omega (arith, spent_by, opens.long);
       lower = lower_all;
       kept = opens.kept;
+      keyed = opens.keyed bound refl;
       fallen = λ other from falls some. elim (labels_of other from) [
         | inl same ↦ absurd (omega (arith, same, falls))
-        | inr at ↦ subst (λ n. Waits after (label_of new n) n) (sym at.0) (subst (λ t. Waits after t node) (sym here) opens.there)
+        | inr at ↦
+            let close : bound node < NO_WALK = subst (λ n. bound n < NO_WALK) at.0 some in
+            elim (opens.there close) [
+              | inl waits ↦ inl (subst (λ n. Waits after (label_of new n) n) (sym at.0) (subst (λ t. Waits after t node) (sym here) waits))
+              | inr far ↦ inr (omega (arith, far, at.1, ap bound at.0))
+            ]
       ];
     };
     here = omega (arith, here);
     labels = labels_of;
-    came = λ at other waits. elim (opens.came at other waits) [ inl old ↦ inl old | inr is ↦ inr is.1 ];
-  }
-
-  -- no walk leads from the node to the target
-  pub offers_unreached : NO_WALK ≤ bound node → Offers bound table entries new entries node time
-  offers_unreached none = record {
-    falls = record {
-      count = length-set table (node - 1) time;
-      spent = omega (arith, spent_by);
-      lower = lower_all;
-      kept = λ at other waits. waits;
-      fallen = λ other from falls some. elim (labels_of other from) [
-        | inl same ↦ absurd (omega (arith, same, falls))
-        | inr at ↦ absurd (omega (arith, ap bound at.0, none, some))
-      ];
-    };
-    here = omega (arith, here);
-    labels = labels_of;
-    came = λ at other waits. inl waits;
+    came = opens.came;
   }
 
 -- there was no bound

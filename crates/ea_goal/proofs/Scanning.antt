@@ -9,20 +9,21 @@ use Rattle.ea_road.specs.Roads.{AreSideBySide, IsArc, IsNetwork, IsNode, Roads, 
 use Rattle.ea_road.specs.declared.arc.Arc.{Arc}
 use Rattle.ea_road.specs.declared.leaving_arc.LeavingArc.{LeavingArc}
 use Rattle.ea_road.proofs.ByTail.{place_beside}
+use Rattle.ea_goal.specs.Frontiers.{AreKeyed}
 use Rattle.ea_goal.specs.Scans.{Falls, Follows, Offers, Scans, ScansTo}
 use Rattle.ea_goal.specs.declared.frontier.Entry.{Entry}
 use Rattle.ea_goal.proofs.Offering.{falls_none, falls_then}
 
-module _ (answers : ℕ → ℕ → ℕ → ℕ → Type 0) (bound : ℕ → ℕ) (table : List ℕ) (entries : List Entry) (arc : Arc) (departure arrival : ℕ) (answer : answers arc.class arc.weight departure arrival) (one : (other : ℕ) → answers arc.class arc.weight departure other → arrival ≤ other) where
-  pub follows_late : HORIZON < arrival → Follows answers bound table entries table entries arc departure
+module _ (answers : ℕ → ℕ → ℕ → ℕ → Type 0) (target : ℕ) (bound : ℕ → ℕ) (table : List ℕ) (entries : List Entry) (arc : Arc) (departure arrival : ℕ) (answer : answers arc.class arc.weight departure arrival) (one : (other : ℕ) → answers arc.class arc.weight departure other → arrival ≤ other) where
+  pub follows_late : HORIZON < arrival → Follows answers target bound table entries table entries arc departure
   follows_late late = record {
-    falls = falls_none bound table entries;
+    falls = falls_none target bound table entries;
     passed = λ other is within. let low = one other is in absurd (omega (arith, late, low, within));
     labels = λ other from. inl refl;
     came = λ at other waits. inl waits;
   }
 
-  pub follows_offered : (new_table : List ℕ) (new_entries : List Entry) → arrival ≤ HORIZON → Offers bound table entries new_table new_entries arc.head arrival → Follows answers bound table entries new_table new_entries arc departure
+  pub follows_offered : (new_table : List ℕ) (new_entries : List Entry) → arrival ≤ HORIZON → Offers target bound table entries new_table new_entries arc.head arrival → Follows answers target bound table entries new_table new_entries arc departure
   follows_offered new_table new_entries within offers = record {
     falls = offers.falls;
     passed = λ other is in_time. let low = one other is in omega (arith, low, offers.here);
@@ -33,9 +34,18 @@ module _ (answers : ℕ → ℕ → ℕ → ℕ → Type 0) (bound : ℕ → ℕ
     came = offers.came;
   }
 
-pub scans_none : (roads : Roads) (answers : ℕ → ℕ → ℕ → ℕ → Type 0) (bound : ℕ → ℕ) (table : List ℕ) (entries : List Entry) (node departure : ℕ) (arcs : List LeavingArc) → ScansTo roads answers bound table entries table entries node departure arcs 0
-scans_none roads answers bound table entries node departure arcs = record {
-  falls = falls_none bound table entries;
+-- the head was reached before the departure
+pub follows_reached : (answers : ℕ → ℕ → ℕ → ℕ → Type 0) (target : ℕ) (bound : ℕ → ℕ) (table : List ℕ) (entries : List Entry) (arc : Arc) (departure : ℕ) → label_of table arc.head ≤ departure → ((arrival : ℕ) → answers arc.class arc.weight departure arrival → departure ≤ arrival) → Follows answers target bound table entries table entries arc departure
+follows_reached answers target bound table entries arc departure low not_before = record {
+  falls = falls_none target bound table entries;
+  passed = λ arrival is within. let after = not_before arrival is in omega (arith, low, after);
+  labels = λ other from. inl refl;
+  came = λ at other waits. inl waits;
+}
+
+pub scans_none : (roads : Roads) (answers : ℕ → ℕ → ℕ → ℕ → Type 0) (target : ℕ) (bound : ℕ → ℕ) (table : List ℕ) (entries : List Entry) (node departure : ℕ) (arcs : List LeavingArc) → ScansTo roads answers target bound table entries table entries node departure arcs 0
+scans_none roads answers target bound table entries node departure arcs = record {
+  falls = falls_none target bound table entries;
   passed = λ place arrival arc early. absurd (omega (arith, early));
   labels = λ other from. inl refl;
   came = λ at other waits. inl waits;
@@ -44,12 +54,12 @@ scans_none roads answers bound table entries node departure arcs = record {
 same_arc : (a b : LeavingArc) → ◌≡◌ {A = Option LeavingArc} (Some a) (Some b) → a ≡ b
 same_arc a b is = cc
 
-module _ (roads : Roads) (network : IsNetwork roads) (answers : ℕ → ℕ → ℕ → ℕ → Type 0) (bound : ℕ → ℕ) (node departure : ℕ) (arcs : List LeavingArc) (beside : AreSideBySide roads node (leaving roads node) arcs) where
+module _ (roads : Roads) (network : IsNetwork roads) (answers : ℕ → ℕ → ℕ → ℕ → Type 0) (target : ℕ) (bound : ℕ → ℕ) (is_target : 0 < target) (node departure : ℕ) (arcs : List LeavingArc) (beside : AreSideBySide roads node (leaving roads node) arcs) where
   pub scans_more : (table middle after : List ℕ) (entries between last : List Entry) (place number : ℕ) (here : LeavingArc) → slice_get arcs place ≡ Some here → IsArc roads number (with_tail here node)
-      → ScansTo roads answers bound table entries middle between node departure arcs place → Follows answers bound middle between after last (with_tail here node) departure
-      → ScansTo roads answers bound table entries after last node departure arcs (place + 1)
+      → ScansTo roads answers target bound table entries middle between node departure arcs place → Follows answers target bound middle between after last (with_tail here node) departure
+      → ScansTo roads answers target bound table entries after last node departure arcs (place + 1)
   scans_more table middle after entries between last place number here found is_arc so_far follows = record {
-    falls = falls_then bound table middle after entries between last so_far.falls follows.falls;
+    falls = falls_then target bound table middle after entries between last is_target so_far.falls follows.falls;
     passed = λ at arrival arc early at_place answer within. elim (leb_tells place at) [
       | inl this ↦
           let same_place : at ≡ place = omega (arith, this.1, early) in
@@ -77,7 +87,7 @@ module _ (roads : Roads) (network : IsNetwork roads) (answers : ℕ → ℕ → 
           let is = beside.each at arc at_place in
           follows.falls.lower arc.head (network.each_fits _ (with_tail arc node) is).head.from_one
 
-  pub scans_all : (table after : List ℕ) (entries last : List Entry) (to : ℕ) → length arcs ≤ to → ScansTo roads answers bound table entries after last node departure arcs to → Scans roads answers bound table entries after last node departure
+  pub scans_all : (table after : List ℕ) (entries last : List Entry) (to : ℕ) → length arcs ≤ to → ScansTo roads answers target bound table entries after last node departure arcs to → Scans roads answers target bound table entries after last node departure
   scans_all table after entries last to all so_far = record {
     falls = so_far.falls;
     passed = λ number arrival arc is_arc tail answer within.
@@ -92,34 +102,42 @@ module _ (roads : Roads) (network : IsNetwork roads) (answers : ℕ → ℕ → 
       none : LeavingArc
       none = record { head = 0; weight = 0; class = 0 }
 
-pub falls_alike : (bound other : ℕ → ℕ) (table after : List ℕ) (entries last : List Entry) → ((node : ℕ) → bound node ≡ other node) → Falls bound table entries after last → Falls other table entries after last
-falls_alike bound other table after entries last same falls = record {
+-- keys are at most labels and bounds together by the same bounds, too
+pub keyed_alike : (bound other : ℕ → ℕ) (entries : List Entry) → ((node : ℕ) → bound node ≡ other node) → AreKeyed bound entries → AreKeyed other entries
+keyed_alike bound other entries same are entry there = let low = are entry there in omega (arith, low, same entry.node)
+
+pub falls_alike : (target : ℕ) (bound other : ℕ → ℕ) (table after : List ℕ) (entries last : List Entry) → ((node : ℕ) → bound node ≡ other node) → Falls target bound table entries after last → Falls target other table entries after last
+falls_alike target bound other table after entries last same falls = record {
   count = falls.count;
   spent = falls.spent;
   lower = falls.lower;
   kept = falls.kept;
-  fallen = λ node from fell some. falls.fallen node from fell (omega (arith, same node, some));
+  keyed = λ are. keyed_alike bound other last same (falls.keyed (keyed_alike other bound entries (λ node. sym (same node)) are));
+  fallen = λ node from fell some. elim (falls.fallen node from fell (omega (arith, same node, some))) [
+    | inl waits ↦ inl waits
+    | inr far ↦ inr (omega (arith, far, same node))
+  ];
 }
 
-pub offers_alike : (bound other : ℕ → ℕ) (table after : List ℕ) (entries last : List Entry) (node time : ℕ) → ((place : ℕ) → bound place ≡ other place) → Offers bound table entries after last node time → Offers other table entries after last node time
-offers_alike bound other table after entries last node time same offers = record {
-  falls = falls_alike bound other table after entries last same offers.falls;
+pub offers_alike : (target : ℕ) (bound other : ℕ → ℕ) (table after : List ℕ) (entries last : List Entry) (node time : ℕ) → ((place : ℕ) → bound place ≡ other place) → Offers target bound table entries after last node time → Offers target other table entries after last node time
+offers_alike target bound other table after entries last node time same offers = record {
+  falls = falls_alike target bound other table after entries last same offers.falls;
   here = offers.here;
   labels = offers.labels;
   came = offers.came;
 }
 
-pub follows_alike : (answers : ℕ → ℕ → ℕ → ℕ → Type 0) (bound other : ℕ → ℕ) (table after : List ℕ) (entries last : List Entry) (arc : Arc) (departure : ℕ) → ((node : ℕ) → bound node ≡ other node) → Follows answers bound table entries after last arc departure → Follows answers other table entries after last arc departure
-follows_alike answers bound other table after entries last arc departure same follows = record {
-  falls = falls_alike bound other table after entries last same follows.falls;
+pub follows_alike : (answers : ℕ → ℕ → ℕ → ℕ → Type 0) (target : ℕ) (bound other : ℕ → ℕ) (table after : List ℕ) (entries last : List Entry) (arc : Arc) (departure : ℕ) → ((node : ℕ) → bound node ≡ other node) → Follows answers target bound table entries after last arc departure → Follows answers target other table entries after last arc departure
+follows_alike answers target bound other table after entries last arc departure same follows = record {
+  falls = falls_alike target bound other table after entries last same follows.falls;
   passed = follows.passed;
   labels = follows.labels;
   came = follows.came;
 }
 
-pub scans_alike : (roads : Roads) (answers : ℕ → ℕ → ℕ → ℕ → Type 0) (bound other : ℕ → ℕ) (table after : List ℕ) (entries last : List Entry) (node departure : ℕ) → ((place : ℕ) → bound place ≡ other place) → Scans roads answers bound table entries after last node departure → Scans roads answers other table entries after last node departure
-scans_alike roads answers bound other table after entries last node departure same scans = record {
-  falls = falls_alike bound other table after entries last same scans.falls;
+pub scans_alike : (roads : Roads) (answers : ℕ → ℕ → ℕ → ℕ → Type 0) (target : ℕ) (bound other : ℕ → ℕ) (table after : List ℕ) (entries last : List Entry) (node departure : ℕ) → ((place : ℕ) → bound place ≡ other place) → Scans roads answers target bound table entries after last node departure → Scans roads answers target other table entries after last node departure
+scans_alike roads answers target bound other table after entries last node departure same scans = record {
+  falls = falls_alike target bound other table after entries last same scans.falls;
   passed = scans.passed;
   labels = scans.labels;
   came = scans.came;

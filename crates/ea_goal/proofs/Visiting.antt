@@ -8,11 +8,12 @@ use Rattle.ea_road.specs.Labels.{Satisfies, label_of}
 use Rattle.ea_road.specs.Roads.{IsNetwork, IsNode, Roads}
 use Rattle.ea_road.proofs.Reached.{reaches_more}
 use Rattle.ea_hierarchy.specs.declared.numbers.TheConstants.{NONE as NO_WALK}
-use Rattle.ea_goal.specs.Frontiers.{Takes, Waits}
+use Rattle.ea_goal.specs.Frontiers.{AreKeyed, Takes, Waits}
 use Rattle.ea_goal.specs.Led.{IsBeyond, IsLed}
 use Rattle.ea_goal.specs.Scans.{Scans}
 use Rattle.ea_goal.specs.Visits.{AreOpenNodes, IsOpen, Leads, Visits}
 use Rattle.ea_goal.specs.declared.frontier.Entry.{Entry}
+use Rattle.ea_goal.proofs.Scanning.{keyed_alike}
 
 module _ (roads : Roads) (answers : ℕ → ℕ → ℕ → ℕ → Type 0) (target : ℕ) (bound : ℕ → ℕ) (table : List ℕ) (entries : List Entry) (entry : Entry) where
   -- the entry isn't needed
@@ -21,6 +22,7 @@ module _ (roads : Roads) (answers : ℕ → ℕ → ℕ → ℕ → Type 0) (tar
     count = refl;
     spent = omega arith;
     came = λ at other waits. inl waits;
+    keyed = λ are. are;
     led = λ sources are led. record {
       at_sources = led.at_sources;
       reached = led.reached;
@@ -39,12 +41,13 @@ module _ (roads : Roads) (answers : ℕ → ℕ → ℕ → ℕ → Type 0) (tar
   }
 
   -- its node was scanned
-  pub visits_scanned : (new_table : List ℕ) (new_entries : List Entry) → IsNetwork roads → IsNode roads.nodes target → IsNode roads.nodes entry.node → label_of table entry.node ≤ HORIZON → Scans roads answers bound table entries new_table new_entries entry.node (label_of table entry.node)
+  pub visits_scanned : (new_table : List ℕ) (new_entries : List Entry) → IsNetwork roads → IsNode roads.nodes target → IsNode roads.nodes entry.node → label_of table entry.node ≤ HORIZON → Scans roads answers target bound table entries new_table new_entries entry.node (label_of table entry.node)
       → Visits roads answers target bound table entries new_table new_entries entry
   visits_scanned new_table new_entries network is_target is_entry within scans = record {
     count = scans.falls.count;
     spent = scans.falls.spent;
     came = scans.came;
+    keyed = scans.falls.keyed;
     led = λ sources are led. record {
       at_sources = λ source among. omega (arith, lower source.node (are source among).from_one, led.at_sources source among);
       reached = λ node is_node some. elim (scans.labels node is_node.from_one) [
@@ -54,7 +57,10 @@ module _ (roads : Roads) (answers : ℕ → ℕ → ℕ → ℕ → Type 0) (tar
             reaches_more roads answers sources entry.node (label_of table entry.node) by.0 node (label_of new_table node) by.1 begin by.2 by.3 by.4 by.5 by.6
       ];
       settled = λ node is_node some near. elim (leb_tells (label_of table node) (label_of new_table node)) [
-        | inr fell ↦ inr (inr (scans.falls.fallen node is_node.from_one fell.1 near))
+        | inr fell ↦ elim (scans.falls.fallen node is_node.from_one fell.1 near) [
+          | inl waits ↦ inr (inr waits)
+          | inr far ↦ inr (inl far)
+        ]
         | inl stays ↦
             let same : label_of new_table node ≡ label_of table node = omega (arith, stays.1, lower node is_node.from_one) in
             elim (led.settled node is_node (λ none. some (same ∙ none)) near) [
@@ -80,8 +86,8 @@ module _ (roads : Roads) (answers : ℕ → ℕ → ℕ → ℕ → Type 0) (tar
           let at : label_of new_table node ≡ label_of table entry.node = same ∙ ap (label_of table) is in
           scans.passed number arrival arc is_arc (tail ∙ is) (subst (λ t. answers arc.class arc.weight t arrival) at answer) in_time
 
-pub leads_none : (roads : Roads) (answers : ℕ → ℕ → ℕ → ℕ → Type 0) (target : ℕ) (bound : ℕ → ℕ) (table : List ℕ) (entries : List Entry) → AreOpenNodes roads.nodes entries → Leads roads answers target bound table entries table entries
-leads_none roads answers target bound table entries nodes = record { count = refl; nodes = nodes; led = λ sources are led. led }
+pub leads_none : (roads : Roads) (answers : ℕ → ℕ → ℕ → ℕ → Type 0) (target : ℕ) (bound : ℕ → ℕ) (table : List ℕ) (entries : List Entry) → AreOpenNodes roads.nodes entries → AreKeyed bound entries → Leads roads answers target bound table entries table entries
+leads_none roads answers target bound table entries nodes keyed = record { count = refl; nodes = nodes; keyed = keyed; led = λ sources are led. led }
 
 -- the same bounds serve as well
 pub led_alike : (roads : Roads) (answers : ℕ → ℕ → ℕ → ℕ → Type 0) (target : ℕ) (sources : List Source) (one two label : ℕ → ℕ) (open_at : ℕ → ℕ → Type 0) → ((node : ℕ) → one node ≡ two node) → IsLed roads answers sources target one label open_at → IsLed roads answers sources target two label open_at
@@ -100,6 +106,7 @@ visits_alike roads answers target bound other table after entries last entry sam
   count = visits.count;
   spent = visits.spent;
   came = visits.came;
+  keyed = λ are. keyed_alike bound other last same (visits.keyed (keyed_alike other bound entries (λ node. sym (same node)) are));
   led = λ sources are led. led_alike roads answers target sources bound other (label_of after) (Waits last) same (visits.led sources are (led_alike roads answers target sources other bound (label_of table) (IsOpen entries entry) (λ node. sym (same node)) led));
 }
 
@@ -108,9 +115,10 @@ pub leads_more : (roads : Roads) (answers : ℕ → ℕ → ℕ → ℕ → Type
 leads_more roads answers target bound table middle after entries between taken last entry leads takes visits = record {
   count = visits.count ∙ leads.count;
   nodes = λ at node waits. elim (visits.came at node waits) [
-    | inl old ↦ leads.nodes at node (takes.fewer at node old)
+    | inl old ↦ leads.nodes at node (record { nearness = old.nearness; there = takes.fewer _ old.there })
     | inr is ↦ is
   ];
+  keyed = visits.keyed (λ other there. leads.keyed other (takes.fewer other there));
   led = λ sources are led.
       let before = leads.led sources are led in
       visits.led sources are (record {

@@ -4,3 +4,4 @@ pub mod Scans
 pub mod Visits
 pub mod Seeds
 pub mod Guides
+pub mod Potentials

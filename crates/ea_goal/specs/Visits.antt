@@ -6,7 +6,7 @@ use Rattle.ea_road.specs.Labels.{label_of}
 use Rattle.ea_road.specs.Roads.{IsNode, Roads}
 use Rattle.ea_search.specs.Listings.{AreLabelsListed, IsListed}
 use Rattle.ea_search.specs.declared.labels.table.Reached.{Reached}
-use Rattle.ea_goal.specs.Frontiers.{Waits}
+use Rattle.ea_goal.specs.Frontiers.{AreKeyed, Waits}
 use Rattle.ea_goal.specs.Led.{IsLed}
 use Rattle.ea_goal.specs.declared.frontier.Entry.{Entry}
 
@@ -23,6 +23,7 @@ pub record Visits (roads : Roads) (answers : ℕ → ℕ → ℕ → ℕ → Typ
   pub count : length new_table ≡ length table
   pub spent : sum new_table + length new_entries ≤ sum table + length entries
   pub came : (at other : ℕ) → Waits new_entries at other → Waits entries at other ⊎ IsNode roads.nodes other
+  pub keyed : AreKeyed bound entries → AreKeyed bound new_entries
   pub led : (sources : List Source) → AreSourceNodes roads.nodes sources → IsLed roads answers sources target bound (label_of table) (IsOpen entries entry)
       → IsLed roads answers sources target bound (label_of new_table) (Waits new_entries)
 
@@ -34,6 +35,7 @@ AreOpenNodes nodes entries = (at node : ℕ) → Waits entries at node → IsNod
 pub record Leads (roads : Roads) (answers : ℕ → ℕ → ℕ → ℕ → Type 0) (target : ℕ) (bound : ℕ → ℕ) (table : List ℕ) (entries : List Entry) (new_table : List ℕ) (new_entries : List Entry) : Type 0 where
   pub count : length new_table ≡ length table
   pub nodes : AreOpenNodes roads.nodes new_entries
+  pub keyed : AreKeyed bound new_entries
   pub led : (sources : List Source) → AreSourceNodes roads.nodes sources → IsLed roads answers sources target bound (label_of table) (Waits entries)
       → IsLed roads answers sources target bound (label_of new_table) (Waits new_entries)
 

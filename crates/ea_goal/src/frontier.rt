@@ -1,10 +1,18 @@
-//! The open nodes, the nearest to the target first.
-ghost use Rattle.std.specs.Prelude.{◌≡◌, ℕ, OnOk, MatchOption, [], length};
-ghost use Rattle.ea_goal.specs.Frontiers.{Opens, Takes};
+//! The open nodes: those on chains first, then the nearest to the target.
+ghost use Rattle.std.specs.Prelude.{◌≡◌, ◌≤◌, ◌+◌, ℕ, OnOk, MatchOption, [], length};
+ghost use Rattle.ea_base.specs.declared.limits.TheConstants.{HORIZON};
+ghost use Rattle.ea_goal.specs.Frontiers.{AreKeyed, Opens, Takes};
 
 use std::alloc::{AllocError, Global};
 use std::collections::BinaryHeap;
 use std::marker::Model;
+
+/// The greatest number of an entry.
+pub(crate) const FARTHEST: u64 = u64::MAX;
+
+/// So many nodes on chains are taken one after another, before a node is opened by its bound again. Else a search would
+/// follow a chain of a million nodes away from its target.
+const MOST_PASSED: u32 = 64;
 
 /// An open node: its label, and how far that and its bound are together below the greatest number. The heap
 /// gives the greatest first.
@@ -15,20 +23,24 @@ pub(crate) struct Entry {
     pub(crate) node: u32,
 }
 
-/// A heap of open nodes. In contracts it is the list of its entries, in no promised order.
+/// A heap of open nodes, and a stack of those that are on chains. In contracts it is the list of their entries, in no
+/// promised order.
 #[derive(Drop)]
 pub(crate) struct Frontier {
     heap: BinaryHeap<Entry>,
+    stack: Vec<Entry>,
+    /// How many entries of the stack were taken since the last of the heap.
+    passed: u32,
 }
 
 impl Model for Frontier {
-    ghost use Rattle.std.specs.Prelude.{List};
+    ghost use Rattle.std.specs.Prelude.{List, ◌++◌};
     ghost use Rattle.std.specs.BinaryHeap.{heap_items};
     ghost use Rattle.ea_goal.specs.declared.frontier.Entry.{Entry};
 
     ghost Value = { List Entry };
 
-    ghost view = { λ f. heap_items f.heap };
+    ghost view = { λ f. heap_items f.heap ++ f.stack.items };
 }
 
 impl Frontier {
@@ -38,6 +50,8 @@ impl Frontier {
     {
         Frontier {
             heap: BinaryHeap::new(alloc),
+            stack: Vec::new(alloc),
+            passed: 0,
         }
     }
 
@@ -46,19 +60,39 @@ impl Frontier {
         ensures { self.new ≡ [] }
     {
         self.heap.clear();
+        self.stack.clear();
+        self.passed = 0;
     }
 
     /// Opens a node with its label and its bound. An error comes only if memory was refused.
     pub(crate) fn open(&mut self, label: u64, bound: u32, node: u32) -> Result<(), AllocError>
-        ensures { OnOk result (Opens self.old self.new label node) }
+        requires { label ≤ HORIZON }
+        ensures { OnOk result (Opens self.old self.new label node (label + bound)) }
     {
-        let key = label.saturating_add(u64::from(bound));
+        let key = label + u64::from(bound);
         self.heap.push(Entry {
-            nearness: u64::MAX - key,
+            nearness: FARTHEST - key,
             label,
             node,
         })?;
         Ok(())
+    }
+
+    /// Opens a node on a chain with its label. An error comes only if memory was refused.
+    pub(crate) fn pass(&mut self, label: u64, node: u32) -> Result<(), AllocError>
+        ensures { OnOk result (Opens self.old self.new label node label) }
+    {
+        self.stack.push(Entry {
+            nearness: FARTHEST - label,
+            label,
+            node,
+        })?;
+        Ok(())
+    }
+
+    /// Whether nodes on chains may be passed through.
+    pub(crate) fn may_pass(&self) -> bool {
+        self.passed < MOST_PASSED
     }
 
     /// Takes the nearest open node.
@@ -66,6 +100,14 @@ impl Frontier {
         ensures { MatchOption result ((length self.old ≡ 0) × (self.new ≡ self.old))
             (Takes self.old self.new) }
     {
+        match self.stack.pop() {
+            Some(entry) => {
+                self.passed = self.passed.saturating_add(1);
+                return Some(entry);
+            }
+            None => {}
+        }
+        self.passed = 0;
         match self.heap.pop() {
             Some(entry) => Some(entry),
             None => None,

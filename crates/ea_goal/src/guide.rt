@@ -8,6 +8,7 @@ ghost use Rattle.ea_search.specs.Listings.{AreLabelsListed, IsListed};
 ghost use Rattle.ea_goal.specs.Led.{IsLedTo};
 
 use crate::frontier::Frontier;
+use crate::potential::Potential;
 use crate::search::Underway;
 use ea_hierarchy::laws::{bounds_are_below_each_walk, bounds_are_consistent};
 use ea_hierarchy::{Bounds, Prepared};
@@ -96,17 +97,23 @@ pub fn lead<T: TravelTimes>(
     bounds.begin(prepared, target);
     bounds_are_consistent(network, times, prepared, target, &bounds);
     bounds_are_below_each_walk(network, prepared, target, &bounds);
-    let mut underway = Underway { table, frontier };
-    let ended = underway.seek(
-        network,
-        times,
-        prepared,
-        &mut bounds,
-        query.sources(),
-        target,
-    );
+    let potential = Potential {
+        bounds,
+        is_begun: true,
+    };
+    let mut underway = Underway {
+        table,
+        frontier,
+        potential,
+    };
+    let ended = underway.seek(network, times, prepared, query.sources(), target);
     let is_found = ended.is_ok();
-    let Underway { table, frontier } = underway;
+    let Underway {
+        table,
+        frontier,
+        potential,
+    } = underway;
+    let Potential { bounds, .. } = potential;
     Led {
         guide: Guide {
             nodes,

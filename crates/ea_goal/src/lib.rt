@@ -3,6 +3,7 @@
 
 mod frontier;
 mod guide;
+mod potential;
 mod search;
 
 pub use guide::{Guide, Led, lead};

@@ -3,6 +3,7 @@
 
 mod bounds;
 mod cells;
+mod chains;
 mod cover;
 mod customize;
 pub mod laws;

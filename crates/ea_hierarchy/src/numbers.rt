@@ -14,17 +14,18 @@ pub const MOST: u32 = u32::MAX - 1;
 pub(crate) fn plus(first: u32, second: u32) -> u32
     ensures { result ≡ plus first second }
 {
+    // Most sums are those of two walks, so one test comes first.
+    let sum = u64::from(first) + u64::from(second);
+    if sum <= u64::from(MOST) {
+        return sum as u32;
+    }
     if first == NONE {
         return NONE;
     }
     if second == NONE {
         return NONE;
     }
-    if first > MOST - second {
-        MOST
-    } else {
-        first + second
-    }
+    MOST
 }
 
 /// A least travel time as a number of a walk.

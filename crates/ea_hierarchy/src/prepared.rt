@@ -4,6 +4,7 @@ ghost use Rattle.ea_hierarchy.specs.Growth.{AreJoined};
 ghost use Rattle.ea_hierarchy.specs.Hierarchies.{AreNumbers, AreRanks, AreUpward, IsHierarchy, rank_of};
 ghost use Rattle.ea_hierarchy.specs.Preparations.{IsPreparedFor, IsPreparedOver};
 
+use crate::chains::chains_of;
 use crate::cover::cover;
 use crate::customize::{Numbers, relax};
 use crate::numbers::NONE;
@@ -26,6 +27,8 @@ pub struct Prepared {
     pub(crate) ranks: Vec<u32>,
     pub(crate) upward: Upward,
     pub(crate) numbers: Numbers,
+    /// For each node whether it is on a chain.
+    chains: Vec<bool>,
 }
 
 impl Model for Prepared {
@@ -153,10 +156,12 @@ impl Prepared {
             return Err(Unprepared::NotWorth);
         };
         let numbers = numbers_for(alloc, network, times, &ranks, &upward)?;
+        let chains = chains_of(alloc, network)?;
         Ok(Prepared {
             ranks,
             upward,
             numbers,
+            chains,
         })
     }
 
@@ -177,6 +182,15 @@ impl Prepared {
         ensures { result ≡ length self.now.ranks }
     {
         self.ranks.len() as u32
+    }
+
+    /// Whether a node is on a chain: it has at most two neighbours, so a search may pass through it without a bound.
+    #[inline(always)]
+    pub fn is_on_chain(&self, node: u32) -> bool {
+        match self.chains.get((node as usize).wrapping_sub(1)) {
+            Some(is) => *is,
+            None => false,
+        }
     }
 
     /// For proofs: the upward arcs and their numbers are in order. Does nothing at run time.

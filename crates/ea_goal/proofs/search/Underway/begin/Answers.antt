@@ -3,7 +3,7 @@ use Rattle.std.specs.List.{IsAmong}
 use Rattle.std.proofs.lemmas.List.{get_or_default, length-replicate}
 use Rattle.ea_road.specs.declared.TheConstants.{NONE}
 use Rattle.ea_road.specs.declared.source.Source.{Source}
-use Rattle.ea_hierarchy.specs.Bounds.{bound_of}
+use Rattle.ea_goal.specs.Potentials.{potential_of}
 use Rattle.ea_goal.proofs.Reaching.{reached_none, reached_then}
 use Rattle.ea_goal.proofs.Scanning.{offers_alike}
 use Rattle.ea_goal.proofs.Seeding.{seeded_more, seeded_none}
@@ -19,24 +19,22 @@ pub loop-source-init : goal.loop-source-init
 loop-source-init c = record {
   reached = reached_none c.args.self.now.table;
   over = c.requires.over;
-  keeps = λ target are. are;
   same = λ other. refl;
-  seeded = seeded_none c.args.network.now.nodes c.args.sources.now (bound_of c.args.prepared.now c.args.bounds.now) c.args.self.now.table.labels.items c.args.self.now.frontier c.requires.labels c.requires.none;
+  seeded = seeded_none c.args.network.now.nodes c.args.sources.now c.args.target (potential_of c.args.prepared.now c.args.self.now.potential) c.args.self.now.table.labels.items c.args.self.now.frontier c.requires.labels c.requires.none;
 }
 
 pub loop-source-preserved : goal.loop-source-preserved
 loop-source-preserved c =
     let so_far = c.loop-source.invariant in
     let place = c.loop-source.source-index in
-    let bound : ℕ → ℕ = bound_of c.args.prepared.now c.args.bounds.now in
+    let bound : ℕ → ℕ = potential_of c.args.prepared.now c.args.self.now.potential in
     let source = get_or c.args.sources.now place none in
-    let alike = offers_alike (bound_of c.args.prepared.now c.loop-source.bounds) bound c.loop-source.self.table.labels.items c.offer.new.self.table.labels.items c.loop-source.self.frontier c.offer.new.self.frontier source.node source.departure so_far.same c.in_ok-offer.ensures.offers in
+    let alike = offers_alike c.args.target (potential_of c.args.prepared.now c.loop-source.self.potential) bound c.loop-source.self.table.labels.items c.offer.new.self.table.labels.items c.loop-source.self.frontier c.offer.new.self.frontier source.node source.departure so_far.same c.in_ok-offer.ensures.offers in
     record {
       reached = reached_then c.args.self.now.table c.loop-source.self.table c.offer.new.self.table so_far.reached c.offer.ensures.reached;
       over = c.in_ok-offer.ensures.over;
-      keeps = λ target are. c.in_ok-offer.ensures.keeps target (so_far.keeps target are);
       same = λ other. c.in_ok-offer.ensures.same other ∙ so_far.same other;
-      seeded = seeded_more c.args.network.now.nodes c.args.sources.now bound c.loop-source.self.table.labels.items c.offer.new.self.table.labels.items c.loop-source.self.frontier c.offer.new.self.frontier place none c.loop-source-test.true c.requires.sources alike so_far.seeded;
+      seeded = seeded_more c.args.network.now.nodes c.args.sources.now c.args.target bound c.loop-source.self.table.labels.items c.offer.new.self.table.labels.items c.loop-source.self.frontier c.offer.new.self.frontier place none c.loop-source-test.true c.requires.target.from_one c.requires.sources alike so_far.seeded;
     }
 
 pub offer-requires-clause-from_one : goal.offer-requires-clause-from_one
@@ -60,3 +58,9 @@ pub offer-requires-clause-time : goal.offer-requires-clause-time
 offer-requires-clause-time c =
     let start = c.requires.sources _ (among_at c.args.sources.now c.loop-source.source-index c.loop-source-test.true) in
     start.1
+
+pub offer-requires-clause-target : goal.offer-requires-clause-target
+offer-requires-clause-target c =
+    let count = c.loop-source.invariant.reached.count in
+    let nodes = ap (λ (xs : List ℕ). length xs) c.requires.labels ∙ length-replicate c.args.network.now.nodes NONE in
+    (c.requires.target.from_one, omega (arith, c.requires.target.to_last, count, nodes))

@@ -1,5 +1,5 @@
 use Rattle.std.proofs.Common.{ap, length, subst, sym, ◌∙◌, ℕ, List}
-use Rattle.ea_hierarchy.specs.Bounds.{bound_of}
+use Rattle.ea_goal.specs.Potentials.{potential_of}
 use Rattle.ea_goal.specs.Visits.{Leads}
 use Rattle.ea_goal.specs.declared.frontier.Entry.{Entry}
 use Rattle.ea_goal.proofs.Reaching.{reached_then}
@@ -7,23 +7,22 @@ use Rattle.ea_goal.proofs.Visiting.{leads_more, visits_alike}
 use Rattle.ea_goal.proofs.search.Underway.run.Goals as goal
 
 pub visit-requires-clause-node : goal.visit-requires-clause-node
-visit-requires-clause-node g c = c.loop-entry.invariant.leads.nodes c.in-Some.entry.label c.in-Some.entry.node c.in-Some.ensures.here
+visit-requires-clause-node g c = c.loop-entry.invariant.leads.nodes c.in-Some.entry.label c.in-Some.entry.node (record { nearness = c.in-Some.entry.nearness; there = c.in-Some.ensures.here })
 
 pub loop-entry-preserved : goal.loop-entry-preserved
 loop-entry-preserved g c =
     let roads = c.args.network.now in
     let answers = g.T.TravelTimes.answers c.args.times.now in
-    let bound : ℕ → ℕ = bound_of c.args.prepared.now c.args.bounds.now in
+    let bound : ℕ → ℕ = potential_of c.args.prepared.now c.args.self.now.potential in
     let so_far = c.loop-entry.invariant in
     let middle = c.loop-entry.self.table.labels.items in
     let after = c.visit.new.self.table.labels.items in
     let taken = c.take.new.self in
     let last = c.visit.new.self.frontier in
-    let visits = visits_alike roads answers c.args.target (bound_of c.args.prepared.now c.loop-entry.bounds) bound middle after taken last c.in-Some.entry so_far.same c.in_ok-visit.ensures.visits in
+    let visits = visits_alike roads answers c.args.target (potential_of c.args.prepared.now c.loop-entry.self.potential) bound middle after taken last c.in-Some.entry so_far.same c.in_ok-visit.ensures.visits in
     record {
       reached = reached_then c.args.self.now.table c.loop-entry.self.table c.visit.new.self.table so_far.reached c.visit.ensures.reached;
       over = c.in_ok-visit.ensures.over;
-      keeps = λ target are. c.in_ok-visit.ensures.keeps target (so_far.keeps target are);
       same = λ other. c.in_ok-visit.ensures.same other ∙ so_far.same other;
       leads = leads_more roads answers c.args.target bound c.args.self.now.table.labels.items middle after c.args.self.now.frontier c.loop-entry.self.frontier taken last c.in-Some.entry so_far.leads c.in-Some.ensures visits;
     }
@@ -32,7 +31,7 @@ pub returns-clause-ends : goal.returns-clause-ends
 returns-clause-ends g c =
     let roads = c.args.network.now in
     let answers = g.T.TravelTimes.answers c.args.times.now in
-    let bound : ℕ → ℕ = bound_of c.args.prepared.now c.args.bounds.now in
+    let bound : ℕ → ℕ = potential_of c.args.prepared.now c.args.self.now.potential in
     let none = c.in_default.ensures in
     record {
       leads = subst (λ (es : List Entry). Leads roads answers c.args.target bound c.args.self.now.table.labels.items c.args.self.now.frontier c.loop-entry.self.table.labels.items es) (sym none.1) c.loop-entry.invariant.leads;

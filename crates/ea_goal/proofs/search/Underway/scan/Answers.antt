@@ -4,7 +4,7 @@ use Rattle.ea_road.specs.Roads.{AreSideBySide, leaving, with_tail}
 use Rattle.ea_road.specs.declared.arc.Arc.{Arc}
 use Rattle.ea_road.specs.declared.leaving_arc.LeavingArc.{LeavingArc}
 use Rattle.ea_road.proofs.ByTail.{arc_beside}
-use Rattle.ea_hierarchy.specs.Bounds.{bound_of}
+use Rattle.ea_goal.specs.Potentials.{potential_of}
 use Rattle.ea_goal.specs.Scans.{Follows}
 use Rattle.ea_goal.proofs.Reaching.{reached_then}
 use Rattle.ea_goal.proofs.Scanning.{follows_alike, scans_all, scans_more}
@@ -22,7 +22,7 @@ pub loop-place-preserved : goal.loop-place-preserved
 loop-place-preserved g c =
     let roads = c.args.network.now in
     let answers = g.T.TravelTimes.answers c.args.times.now in
-    let bound : ℕ → ℕ = bound_of c.args.prepared.now c.args.bounds.now in
+    let bound : ℕ → ℕ = potential_of c.args.prepared.now c.args.self.now.potential in
     let arcs = c.leaving.result.arcs.now in
     let place = c.loop-place.place in
     let so_far = c.loop-place.invariant in
@@ -30,15 +30,14 @@ loop-place-preserved g c =
     let here : LeavingArc = get_or arcs place none in
     let found = slice_get-get_or arcs place none c.loop-place-test.true in
     let is = arc_beside roads c.args.node c.leaving.result.numbers.now arcs place none c.leaving.ensures.arcs c.loop-place-test.true in
-    let follows : Follows answers (bound_of c.args.prepared.now c.loop-place.bounds) c.loop-place.self.table.labels.items c.loop-place.self.frontier c.follow.new.self.table.labels.items c.follow.new.self.frontier (with_tail here c.args.node) c.args.departure =
-    subst (λ (a : Arc). Follows answers (bound_of c.args.prepared.now c.loop-place.bounds) c.loop-place.self.table.labels.items c.loop-place.self.frontier c.follow.new.self.table.labels.items c.follow.new.self.frontier a c.args.departure) c.with_tail-arc.ensures c.in_ok-follow.ensures.follows in
-    let alike = follows_alike answers (bound_of c.args.prepared.now c.loop-place.bounds) bound c.loop-place.self.table.labels.items c.follow.new.self.table.labels.items c.loop-place.self.frontier c.follow.new.self.frontier (with_tail here c.args.node) c.args.departure so_far.same follows in
+    let follows : Follows answers c.args.target (potential_of c.args.prepared.now c.loop-place.self.potential) c.loop-place.self.table.labels.items c.loop-place.self.frontier c.follow.new.self.table.labels.items c.follow.new.self.frontier (with_tail here c.args.node) c.args.departure =
+    subst (λ (a : Arc). Follows answers c.args.target (potential_of c.args.prepared.now c.loop-place.self.potential) c.loop-place.self.table.labels.items c.loop-place.self.frontier c.follow.new.self.table.labels.items c.follow.new.self.frontier a c.args.departure) c.with_tail-arc.ensures c.in_ok-follow.ensures.follows in
+    let alike = follows_alike answers c.args.target (potential_of c.args.prepared.now c.loop-place.self.potential) bound c.loop-place.self.table.labels.items c.follow.new.self.table.labels.items c.loop-place.self.frontier c.follow.new.self.frontier (with_tail here c.args.node) c.args.departure so_far.same follows in
     record {
       reached = reached_then c.args.self.now.table c.loop-place.self.table c.follow.new.self.table so_far.reached c.follow.ensures.reached;
       over = c.in_ok-follow.ensures.over;
-      keeps = λ target are. c.in_ok-follow.ensures.keeps target (so_far.keeps target are);
       same = λ other. c.in_ok-follow.ensures.same other ∙ so_far.same other;
-      scans = scans_more roads c.keeps_limits.ensures answers bound c.args.node c.args.departure arcs beside c.args.self.now.table.labels.items c.loop-place.self.table.labels.items c.follow.new.self.table.labels.items c.args.self.now.frontier c.loop-place.self.frontier c.follow.new.self.frontier place (get_or c.leaving.result.numbers.now place 0) here found is so_far.scans alike;
+      scans = scans_more roads c.keeps_limits.ensures answers c.args.target bound c.requires.target.from_one c.args.node c.args.departure arcs beside c.args.self.now.table.labels.items c.loop-place.self.table.labels.items c.follow.new.self.table.labels.items c.args.self.now.frontier c.loop-place.self.frontier c.follow.new.self.frontier place (get_or c.leaving.result.numbers.now place 0) here found is so_far.scans alike;
     }
 
 pub returns-clause-scans : goal.returns-clause-scans
@@ -46,7 +45,7 @@ returns-clause-scans g c =
     let roads = c.args.network.now in
     let arcs = c.leaving.result.arcs.now in
     let beside : AreSideBySide roads c.args.node (leaving roads c.args.node) arcs = subst (λ (xs : List ℕ). AreSideBySide roads c.args.node xs arcs) c.leaving.ensures.numbers c.leaving.ensures.arcs in
-    scans_all roads c.keeps_limits.ensures (g.T.TravelTimes.answers c.args.times.now) (bound_of c.args.prepared.now c.args.bounds.now) c.args.node c.args.departure arcs beside c.args.self.now.table.labels.items c.loop-place.self.table.labels.items c.args.self.now.frontier c.loop-place.self.frontier c.loop-place.place (omega arith) c.loop-place.invariant.scans
+    scans_all roads c.keeps_limits.ensures (g.T.TravelTimes.answers c.args.times.now) c.args.target (potential_of c.args.prepared.now c.args.self.now.potential) c.requires.target.from_one c.args.node c.args.departure arcs beside c.args.self.now.table.labels.items c.loop-place.self.table.labels.items c.args.self.now.frontier c.loop-place.self.frontier c.loop-place.place (omega arith) c.loop-place.invariant.scans
 
 pub returns-in_err-follow-clause-reached : goal.returns-in_err-follow-clause-reached
 returns-in_err-follow-clause-reached g c = reached_then c.args.self.now.table c.loop-place.self.table c.follow.new.self.table c.loop-place.invariant.reached c.follow.ensures.reached

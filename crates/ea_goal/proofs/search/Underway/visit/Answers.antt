@@ -1,50 +1,39 @@
 use Rattle.std.proofs.Common.{arith, subst, sym, ◌-◌, ◌∙◌, ℕ}
 use Rattle.ea_road.specs.Labels.{label_of}
-use Rattle.ea_hierarchy.specs.Bounds.{bound_of}
 use Rattle.ea_hierarchy.proofs.Finding.{read_at}
+use Rattle.ea_goal.specs.Potentials.{potential_of}
 use Rattle.ea_goal.specs.Scans.{Scans}
-use Rattle.ea_goal.proofs.Offering.{told_none, told_some}
-use Rattle.ea_goal.proofs.Scanning.{scans_alike}
 use Rattle.ea_goal.proofs.Visiting.{visits_none, visits_scanned}
 use Rattle.ea_goal.proofs.search.Underway.visit.Goals as goal
+
+pub returns-then-entry-index-clause-visits : goal.returns-then-entry-index-clause-visits
+returns-then-entry-index-clause-visits g c =
+    let table = c.args.self.now.table.labels.items in
+    let last = read_at table (c.args.target - 1) c.index.result.now (omega (arith, c.requires.target.from_one, c.requires.target.to_last, c.requires.table)) c.index.ensures in
+    visits_none c.args.network.now (g.T.TravelTimes.answers c.args.times.now) c.args.target (potential_of c.args.prepared.now c.args.self.now.potential) table c.args.self.now.frontier c.args.entry (λ at within some. omega (arith, at, last, c.requires.key, c.if-entry-index.true))
 
 pub returns-then-entry-label-clause-visits : goal.returns-then-entry-label-clause-visits
 returns-then-entry-label-clause-visits g c =
     let table = c.args.self.now.table.labels.items in
     let read = read_at table (c.args.entry.node - 1) c.index-label.result.now (omega (arith, c.requires.node.from_one, c.requires.node.to_last, c.requires.table)) c.index-label.ensures in
-    visits_none c.args.network.now (g.T.TravelTimes.answers c.args.times.now) c.args.target (bound_of c.args.prepared.now c.args.bounds.now) table c.args.self.now.frontier c.args.entry (λ at within some. absurd (c.if-entry-label.true (sym at ∙ read)))
+    visits_none c.args.network.now (g.T.TravelTimes.answers c.args.times.now) c.args.target (potential_of c.args.prepared.now c.args.self.now.potential) table c.args.self.now.frontier c.args.entry (λ at within some. absurd (c.if-entry-label.true (sym at ∙ read)))
 
 pub returns-then-label-gt-HORIZON-clause-visits : goal.returns-then-label-gt-HORIZON-clause-visits
 returns-then-label-gt-HORIZON-clause-visits g c =
     let table = c.args.self.now.table.labels.items in
     let read = read_at table (c.args.entry.node - 1) c.index-label.result.now (omega (arith, c.requires.node.from_one, c.requires.node.to_last, c.requires.table)) c.index-label.ensures in
-    visits_none c.args.network.now (g.T.TravelTimes.answers c.args.times.now) c.args.target (bound_of c.args.prepared.now c.args.bounds.now) table c.args.self.now.frontier c.args.entry (λ at within some. absurd (omega (arith, within, read, c.if-label-gt-HORIZON.true)))
-
-pub returns-in_default-clause-visits : goal.returns-in_default-clause-visits
-returns-in_default-clause-visits g c =
-    let table = c.args.self.now.table.labels.items in
-    let none = told_none (bound_of c.args.prepared.now c.args.bounds.now c.args.entry.node) (sym c.bound.ensures.bound ∙ c.in_default.is) in
-    visits_none c.args.network.now (g.T.TravelTimes.answers c.args.times.now) c.args.target (bound_of c.args.prepared.now c.args.bounds.now) table c.args.self.now.frontier c.args.entry (λ at within some. absurd (omega (arith, some, none)))
-
-pub returns-then-label-from-clause-visits : goal.returns-then-label-from-clause-visits
-returns-then-label-from-clause-visits g c =
-    let table = c.args.self.now.table.labels.items in
-    let read = read_at table (c.args.entry.node - 1) c.index-label.result.now (omega (arith, c.requires.node.from_one, c.requires.node.to_last, c.requires.table)) c.index-label.ensures in
-    let last = read_at table (c.args.target - 1) c.index.result.now (omega (arith, c.requires.target.from_one, c.requires.target.to_last, c.requires.table)) c.index.ensures in
-    let is = told_some (bound_of c.args.prepared.now c.args.bounds.now c.args.entry.node) c.in-Some.bound (sym c.bound.ensures.bound ∙ c.in-Some.is) in
-    visits_none c.args.network.now (g.T.TravelTimes.answers c.args.times.now) c.args.target (bound_of c.args.prepared.now c.args.bounds.now) table c.args.self.now.frontier c.args.entry (λ at within some. omega (arith, read, last, is, c.from.ensures, c.if-label-from.true))
+    visits_none c.args.network.now (g.T.TravelTimes.answers c.args.times.now) c.args.target (potential_of c.args.prepared.now c.args.self.now.potential) table c.args.self.now.frontier c.args.entry (λ at within some. absurd (omega (arith, within, read, c.if-label-gt-HORIZON.true)))
 
 pub returns-clause-visits : goal.returns-clause-visits
 returns-clause-visits g c =
     let roads = c.args.network.now in
     let answers = g.T.TravelTimes.answers c.args.times.now in
-    let bound : ℕ → ℕ = bound_of c.args.prepared.now c.args.bounds.now in
+    let bound : ℕ → ℕ = potential_of c.args.prepared.now c.args.self.now.potential in
     let table = c.args.self.now.table.labels.items in
     let entries = c.args.self.now.frontier in
     let after = c.scan.new.self.table.labels.items in
     let last = c.scan.new.self.frontier in
     let read = read_at table (c.args.entry.node - 1) c.index-label.result.now (omega (arith, c.requires.node.from_one, c.requires.node.to_last, c.requires.table)) c.index-label.ensures in
-    let scans : Scans roads answers (bound_of c.args.prepared.now c.bound.new.self) table entries after last c.args.entry.node (label_of table c.args.entry.node) =
-    subst (λ t. Scans roads answers (bound_of c.args.prepared.now c.bound.new.self) table entries after last c.args.entry.node t) (sym read) c.in_ok-scan.ensures.scans in
-    let alike = scans_alike roads answers (bound_of c.args.prepared.now c.bound.new.self) bound table after entries last c.args.entry.node (label_of table c.args.entry.node) c.bound.ensures.same scans in
-    visits_scanned roads answers c.args.target bound table entries c.args.entry after last c.keeps_limits.ensures c.requires.target c.requires.node (omega (arith, read, c.if-label-gt-HORIZON.false)) alike
+    let scans : Scans roads answers c.args.target bound table entries after last c.args.entry.node (label_of table c.args.entry.node) =
+    subst (λ t. Scans roads answers c.args.target bound table entries after last c.args.entry.node t) (sym read) c.in_ok-scan.ensures.scans in
+    visits_scanned roads answers c.args.target bound table entries c.args.entry after last c.keeps_limits.ensures c.requires.target c.requires.node (omega (arith, read, c.if-label-gt-HORIZON.false)) scans
