@@ -5,3 +5,4 @@ pub mod Visits
 pub mod Seeds
 pub mod Guides
 pub mod Potentials
+pub mod Reopened

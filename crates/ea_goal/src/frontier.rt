@@ -1,5 +1,5 @@
 //! The open nodes: those on chains first, then the nearest to the target.
-ghost use Rattle.std.specs.Prelude.{◌≡◌, ◌≤◌, ◌+◌, ℕ, OnOk, MatchOption, [], length};
+ghost use Rattle.std.specs.Prelude.{◌≡◌, ◌≤◌, ◌+◌, ℕ, OnOk, MatchOption, [], length, true};
 ghost use Rattle.ea_base.specs.declared.limits.TheConstants.{HORIZON};
 ghost use Rattle.ea_goal.specs.Frontiers.{AreKeyed, Opens, Takes};
 
@@ -62,6 +62,13 @@ impl Frontier {
         self.heap.clear();
         self.stack.clear();
         self.passed = 0;
+    }
+
+    /// Whether no node is open.
+    pub(crate) fn is_empty(&self) -> bool
+        ensures { result ≡ true → length self.now ≡ 0 }
+    {
+        self.heap.is_empty() && self.stack.is_empty()
     }
 
     /// Opens a node with its label and its bound. An error comes only if memory was refused.

@@ -10,7 +10,6 @@ ghost use Rattle.ea_goal.specs.Led.{IsLedTo};
 use crate::frontier::Frontier;
 use crate::potential::Potential;
 use crate::search::Underway;
-use ea_hierarchy::laws::{bounds_are_below_each_walk, bounds_are_consistent};
 use ea_hierarchy::{Bounds, Prepared};
 use ea_road::{Network, Query};
 use ea_search::Reached;
@@ -18,13 +17,15 @@ use ea_travel_times::TravelTimes;
 use std::alloc::{AllocError, Global};
 use std::marker::Model;
 
-/// The arrays of led searches beside labels: bounds, and a heap of open nodes. They are reused from search to
+/// The arrays of led searches beside labels: bounds, and heaps of open nodes. They are reused from search to
 /// search; several threads share one preparation. In contracts it is the number of nodes.
 #[derive(Drop)]
 pub struct Guide {
     nodes: u32,
     bounds: Bounds,
     frontier: Frontier,
+    spare: Frontier,
+    asked: u64,
 }
 
 impl Model for Guide {
@@ -49,7 +50,14 @@ impl Guide {
             nodes: prepared.nodes(),
             bounds,
             frontier: Frontier::new(alloc),
+            spare: Frontier::new(alloc),
+            asked: 0,
         })
+    }
+
+    /// How many bounds the last search asked for.
+    pub fn asked(&self) -> u64 {
+        self.asked
     }
 }
 
@@ -90,35 +98,39 @@ pub fn lead<T: TravelTimes>(
     prepared.keeps_order();
     let Guide {
         nodes,
-        mut bounds,
+        bounds,
         mut frontier,
+        mut spare,
+        ..
     } = guide;
     frontier.clear();
-    bounds.begin(prepared, target);
-    bounds_are_consistent(network, times, prepared, target, &bounds);
-    bounds_are_below_each_walk(network, prepared, target, &bounds);
-    let potential = Potential {
-        bounds,
-        is_begun: true,
-    };
+    let potential = Potential::zero(bounds);
     let mut underway = Underway {
         table,
         frontier,
         potential,
     };
-    let ended = underway.seek(network, times, prepared, query.sources(), target);
+    let ended = underway.seek(
+        network,
+        times,
+        prepared,
+        query.sources(),
+        target,
+        &mut spare,
+    );
     let is_found = ended.is_ok();
     let Underway {
         table,
         frontier,
-        potential,
+        potential: Potential { bounds, asked, .. },
     } = underway;
-    let Potential { bounds, .. } = potential;
     Led {
         guide: Guide {
             nodes,
             bounds,
             frontier,
+            spare,
+            asked,
         },
         table,
         is_found,

@@ -3,6 +3,7 @@
 
 mod frontier;
 mod guide;
+mod phases;
 mod potential;
 mod search;
 

@@ -1,6 +1,6 @@
 //! The bounds that lead a search.
-ghost use Rattle.std.specs.Prelude.{◌≡◌, ◌≤◌, ◌<◌, ℕ, length};
-ghost use Rattle.ea_hierarchy.specs.Bounds.{told};
+ghost use Rattle.std.specs.Prelude.{◌≡◌, ◌≤◌, ◌<◌, ℕ, length, true, false};
+ghost use Rattle.ea_hierarchy.specs.Bounds.{AreBoundsTo, IsRoomFor, told};
 ghost use Rattle.ea_goal.specs.Potentials.{IsPotentialOver, potential_of};
 
 use ea_hierarchy::{Bounds, Prepared};
@@ -10,9 +10,35 @@ use ea_hierarchy::{Bounds, Prepared};
 pub(crate) struct Potential {
     pub(crate) bounds: Bounds,
     pub(crate) is_begun: bool,
+    /// How many bounds were asked for since they were begun.
+    pub(crate) asked: u64,
 }
 
 impl Potential {
+    /// A bound of 0 for each node.
+    pub(crate) fn zero(bounds: Bounds) -> Potential
+        ensures bounds { result.bounds ≡ bounds }
+        ensures begun { result.is_begun ≡ false }
+    {
+        Potential {
+            bounds,
+            is_begun: false,
+            asked: 0,
+        }
+    }
+
+    /// Begins bounds to a target.
+    pub(crate) fn begin(&mut self, prepared: &Prepared, target: u32)
+        requires room { IsRoomFor prepared.now self.old.bounds }
+        requires from_one { 0 < target }
+        requires to_last { target ≤ length prepared.now.ranks }
+        ensures bounds { AreBoundsTo prepared.now target self.new.bounds }
+        ensures begun { self.new.is_begun ≡ true }
+    {
+        self.bounds.begin(prepared, target);
+        self.is_begun = true;
+    }
+
     /// The bound of the travel time from a node to the target; none if no walk leads there.
     pub(crate) fn bound(&mut self, prepared: &Prepared, node: u32) -> Option<u32>
         requires over { IsPotentialOver prepared.now self.old }
@@ -26,6 +52,7 @@ impl Potential {
         if !self.is_begun {
             return Some(0);
         }
+        self.asked = self.asked.wrapping_add(1);
         self.bounds.bound(prepared, node)
     }
 }

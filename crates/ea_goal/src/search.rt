@@ -1,23 +1,19 @@
-//! The search: labels fall along arcs from open nodes, the nearest to the target first.
-ghost use Rattle.std.specs.Prelude.{◌≡◌, ◌≢◌, ◌≤◌, ◌<◌, ◌+◌, ◌-◌, ℕ, OnOk, [], length, replicate, sum};
+//! Steps of the search: labels fall along arcs from open nodes, the nearest to the target first.
+ghost use Rattle.std.specs.Prelude.{◌≡◌, ◌≢◌, ◌≤◌, ◌<◌, ◌+◌, ◌-◌, ℕ, OnOk, length};
 ghost use Rattle.ea_base.specs.declared.limits.TheConstants.{HORIZON};
 ghost use Rattle.ea_hierarchy.specs.declared.numbers.TheConstants.{NONE as NO_WALK};
 ghost use Rattle.ea_road.specs.Roads.{IsArc, IsNode, top_class};
-ghost use Rattle.ea_road.specs.declared.TheConstants.{NONE};
 ghost use Rattle.ea_road.specs.Labels.{label_of};
-ghost use Rattle.ea_search.specs.Links.{AreStarts};
 ghost use Rattle.ea_goal.specs.Frontiers.{AreKeyed, IsKeyed};
-ghost use Rattle.ea_goal.specs.Led.{IsLed};
 ghost use Rattle.ea_goal.specs.Potentials.{IsPotentialOver, potential_of};
 ghost use Rattle.ea_goal.specs.Scans.{Follows, Offers, OpensNear, Scans};
-ghost use Rattle.ea_goal.specs.Seeds.{AreSeeded};
 ghost use Rattle.ea_goal.specs.Visits.{AreOpenNodes, Ends, KeepsReached, Visits};
 
 use crate::frontier::{Entry, FARTHEST, Frontier};
 use crate::potential::Potential;
 use ea_base::HORIZON;
 use ea_hierarchy::Prepared;
-use ea_road::{Arc, Network, Source};
+use ea_road::{Arc, Network};
 use ea_search::Reached;
 use ea_travel_times::TravelTimes;
 use std::alloc::AllocError;
@@ -33,7 +29,7 @@ pub(crate) struct Underway {
 impl Underway {
     /// Opens a node with its label, unless it is beyond the target or no walk leads from it to there. A node on a chain
     /// is passed through at once, without a bound. An error comes only if memory was refused.
-    fn open(
+    pub(crate) fn open(
         &mut self,
         prepared: &Prepared,
         target: u32,
@@ -175,15 +171,16 @@ impl Underway {
         Ok(())
     }
 
-    /// Leaves the arcs from a node that was open, unless its label fell since, or it is beyond the target.
-    fn visit<T: TravelTimes>(
+    /// Leaves the arcs from a node that was open, unless its label fell since, or it is beyond the target. Returns whether
+    /// it left them.
+    pub(crate) fn visit<T: TravelTimes>(
         &mut self,
         network: &Network,
         times: &T,
         prepared: &Prepared,
         target: u32,
         entry: Entry,
-    ) -> Result<(), AllocError>
+    ) -> Result<bool, AllocError>
         requires target { IsNode network.now.nodes target }
         requires node { IsNode network.now.nodes entry.node }
         requires classes { top_class network.now.arcs ≤ T.classes times.now }
@@ -201,17 +198,17 @@ impl Underway {
     {
         network.keeps_limits();
         if FARTHEST - entry.nearness > self.table.labels[target as usize - 1] {
-            return Ok(());
+            return Ok(false);
         }
         let label = self.table.labels[entry.node as usize - 1];
         if entry.label != label {
-            return Ok(());
+            return Ok(false);
         }
         if label > HORIZON {
-            return Ok(());
+            return Ok(false);
         }
         self.scan(network, times, prepared, target, entry.node, label)?;
-        Ok(())
+        Ok(true)
     }
 
     /// Visits open nodes until none is left.
@@ -240,62 +237,6 @@ impl Underway {
         while let Some(entry) = self.frontier.take() {
             self.visit(network, times, prepared, target, entry)?;
         }
-        Ok(())
-    }
-
-    /// Offers the sources their departures.
-    fn begin(
-        &mut self,
-        network: &Network,
-        prepared: &Prepared,
-        sources: &[Source],
-        target: u32,
-    ) -> Result<(), AllocError>
-        requires sources { AreStarts network.now.nodes sources.now }
-        requires target { IsNode network.now.nodes target }
-        requires labels { self.old.table.labels.items ≡ replicate network.now.nodes NONE }
-        requires none { self.old.frontier ≡ [] }
-        requires ranks { length prepared.now.ranks ≡ network.now.nodes }
-        requires over { IsPotentialOver prepared.now self.old.potential }
-        ensures over { IsPotentialOver prepared.now self.new.potential }
-        ensures same { (other : ℕ) → potential_of prepared.now self.new.potential other
-            ≡ potential_of prepared.now self.old.potential other }
-        ensures reached { KeepsReached self.old.table self.new.table }
-        ensures seeded { OnOk result (AreSeeded network.now.nodes sources.now target
-            (potential_of prepared.now self.old.potential) self.new.table.labels.items
-            self.new.frontier (length sources.now)) }
-    {
-        for source in sources {
-            self.offer(prepared, target, source.node, source.departure)?;
-        }
-        Ok(())
-    }
-
-    /// Searches from the sources until no node is open.
-    pub(crate) fn seek<T: TravelTimes>(
-        &mut self,
-        network: &Network,
-        times: &T,
-        prepared: &Prepared,
-        sources: &[Source],
-        target: u32,
-    ) -> Result<(), AllocError>
-        requires sources { AreStarts network.now.nodes sources.now }
-        requires target { IsNode network.now.nodes target }
-        requires classes { top_class network.now.arcs ≤ T.classes times.now }
-        requires labels { self.old.table.labels.items ≡ replicate network.now.nodes NONE }
-        requires none { self.old.frontier ≡ [] }
-        requires ranks { length prepared.now.ranks ≡ network.now.nodes }
-        requires over { IsPotentialOver prepared.now self.old.potential }
-        ensures over { IsPotentialOver prepared.now self.new.potential }
-        ensures reached { KeepsReached self.old.table self.new.table }
-        ensures led { OnOk result (IsLed network.now (T.answers times.now) sources.now target
-            (potential_of prepared.now self.old.potential) (label_of self.new.table.labels.items)
-            (λ time node. ⊥)) }
-    {
-        network.keeps_limits();
-        self.begin(network, prepared, sources, target)?;
-        self.run(network, times, prepared, target)?;
         Ok(())
     }
 }
