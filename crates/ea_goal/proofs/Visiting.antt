@@ -1,5 +1,5 @@
 -- An open node is visited.
-use Rattle.std.proofs.Common.{◌≡◌, ℕ, ◌<◌, ◌≤◌, inl, inr, refl, ap, sym, subst, ◌∙◌, arith, List}
+use Rattle.std.proofs.Common.{◌≡◌, ℕ, ◌+◌, ◌-◌, ◌<◌, ◌≤◌, inl, inr, refl, ap, sym, subst, ◌∙◌, arith, List}
 use Rattle.std.proofs.lemmas.Bool.Decides.{leb_tells}
 use Rattle.ea_base.specs.declared.limits.TheConstants.{HORIZON}
 use Rattle.ea_road.specs.declared.source.Source.{Source}
@@ -8,11 +8,12 @@ use Rattle.ea_road.specs.Labels.{Satisfies, label_of}
 use Rattle.ea_road.specs.Roads.{IsNetwork, IsNode, Roads}
 use Rattle.ea_road.proofs.Reached.{reaches_more}
 use Rattle.ea_hierarchy.specs.declared.numbers.TheConstants.{NONE as NO_WALK}
-use Rattle.ea_goal.specs.Frontiers.{AreKeyed, Takes, Waits}
+use Rattle.ea_goal.specs.Frontiers.{AreKeyed, Closes, Takes, Waits}
 use Rattle.ea_goal.specs.Led.{IsBeyond, IsLed}
 use Rattle.ea_goal.specs.Scans.{Scans}
 use Rattle.ea_goal.specs.Visits.{AreOpenNodes, IsOpen, Leads, Visits}
 use Rattle.ea_goal.specs.declared.frontier.Entry.{Entry}
+use Rattle.ea_goal.specs.declared.frontier.TheConstants.{FARTHEST}
 use Rattle.ea_goal.proofs.Scanning.{keyed_alike}
 
 module _ (roads : Roads) (answers : ℕ → ℕ → ℕ → ℕ → Type 0) (target : ℕ) (bound : ℕ → ℕ) (table : List ℕ) (entries : List Entry) (entry : Entry) where
@@ -36,6 +37,28 @@ module _ (roads : Roads) (answers : ℕ → ℕ → ℕ → ℕ → Type 0) (tar
             let within : label_of table entry.node ≤ HORIZON = omega (arith, reaches.within, ap (label_of table) taken.1) in
             let close : bound entry.node < NO_WALK = subst (λ n. bound n < NO_WALK) taken.1 near in
             inr (inl (subst (λ n. IsBeyond target bound (label_of table) n) (sym taken.1) (beyond at within close)))
+      ];
+    };
+  }
+
+  -- all are beyond the target
+  pub visits_beyond : (new_entries : List Entry) → FARTHEST - entry.nearness ≤ entry.label + bound entry.node → AreKeyed bound entries → label_of table target < FARTHEST - entry.nearness → Closes (label_of table target) entries new_entries → Visits roads answers target bound table entries table new_entries entry
+  visits_beyond new_entries key keys late closes = record {
+    count = refl;
+    spent = omega (arith, closes.long);
+    came = λ at other waits. inl (record { nearness = waits.nearness; there = closes.fewer _ waits.there });
+    keyed = λ are other there. are other (closes.fewer other there);
+    led = λ sources are led. record {
+      at_sources = led.at_sources;
+      reached = led.reached;
+      settled = λ node is_node some near. elim (led.settled node is_node some near) [
+        | inl satisfied ↦ inl satisfied
+        | inr (inl far) ↦ inr (inl far)
+        | inr (inr (inl waits)) ↦ elim (closes.rest _ waits.there) [
+          | inl there ↦ inr (inr (record { nearness = waits.nearness; there = there }))
+          | inr above ↦ let low = keys _ waits.there in inr (inl (omega (arith, above, low)))
+        ]
+        | inr (inr (inr taken)) ↦ inr (inl (omega (arith, late, key, taken.0, ap bound taken.1)))
       ];
     };
   }

@@ -1,5 +1,5 @@
 -- The open nodes of a search that is led by bounds.
-use Rattle.std.specs.Prelude.{◌≡◌, ◌⊎◌, ℕ, ◌+◌, ◌-◌, ◌≤◌, List, Contains, length}
+use Rattle.std.specs.Prelude.{◌≡◌, ◌⊎◌, ℕ, ◌+◌, ◌-◌, ◌<◌, ◌≤◌, List, Contains, length}
 use Rattle.ea_goal.specs.declared.frontier.Entry.{Entry}
 use Rattle.ea_goal.specs.declared.frontier.TheConstants.{FARTHEST}
 
@@ -29,3 +29,13 @@ pub record Takes (entries after : List Entry) (entry : Entry) : Type 0 where
   pub rest : (time other : ℕ) → Waits entries time other → Waits after time other ⊎ ((time ≡ entry.label) × (other ≡ entry.node))
   pub fewer : (other : Entry) → Contains after other → Contains entries other
   pub long : length after + 1 ≡ length entries
+
+-- The keys of all entries are above a label.
+abbrev pub AreBeyond : ℕ → List Entry → Type 0
+AreBeyond last entries = (entry : Entry) → Contains entries entry → last < FARTHEST - entry.nearness
+
+-- Entries whose keys are above a label are dropped.
+pub record Closes (last : ℕ) (entries after : List Entry) : Type 0 where
+  pub rest : (entry : Entry) → Contains entries entry → Contains after entry ⊎ (last < FARTHEST - entry.nearness)
+  pub fewer : (entry : Entry) → Contains after entry → Contains entries entry
+  pub long : length after ≤ length entries

@@ -1,7 +1,7 @@
 //! The open nodes: those on chains first, then the nearest to the target.
 ghost use Rattle.std.specs.Prelude.{◌≡◌, ◌≤◌, ◌+◌, ℕ, OnOk, MatchOption, [], length, true};
 ghost use Rattle.ea_base.specs.declared.limits.TheConstants.{HORIZON};
-ghost use Rattle.ea_goal.specs.Frontiers.{AreKeyed, Opens, Takes};
+ghost use Rattle.ea_goal.specs.Frontiers.{AreBeyond, Closes, Opens, Takes};
 
 use std::alloc::{AllocError, Global};
 use std::collections::BinaryHeap;
@@ -41,6 +41,18 @@ impl Model for Frontier {
     ghost Value = { List Entry };
 
     ghost view = { λ f. heap_items f.heap ++ f.stack.items };
+}
+
+/// Whether the keys of all entries are above a label.
+fn are_above(entries: &[Entry], last: u64) -> bool
+    ensures { result ≡ true → AreBeyond last entries.now }
+{
+    for entry in entries {
+        if FARTHEST - entry.nearness <= last {
+            return false;
+        }
+    }
+    true
 }
 
 impl Frontier {
@@ -100,6 +112,26 @@ impl Frontier {
     /// Whether nodes on chains may be passed through.
     pub(crate) fn may_pass(&self) -> bool {
         self.passed < MOST_PASSED
+    }
+
+    /// Whether the keys of all open nodes are above a label.
+    fn are_beyond(&self, last: u64) -> bool
+        ensures { result ≡ true → AreBeyond last self.now }
+    {
+        if !self.stack.is_empty() {
+            return false;
+        }
+        are_above(self.heap.as_slice(), last)
+    }
+
+    /// Leaves no node open if the keys of all are above a label. The least key comes first, so mostly one look says that
+    /// they aren't.
+    pub(crate) fn close(&mut self, last: u64)
+        ensures { Closes last self.old self.new }
+    {
+        if self.are_beyond(last) {
+            self.clear();
+        }
     }
 
     /// Takes the nearest open node.

@@ -188,6 +188,7 @@ impl Underway {
         requires ranks { length prepared.now.ranks ≡ network.now.nodes }
         requires over { IsPotentialOver prepared.now self.old.potential }
         requires key { IsKeyed (potential_of prepared.now self.old.potential) entry }
+        requires keys { AreKeyed (potential_of prepared.now self.old.potential) self.old.frontier }
         ensures over { IsPotentialOver prepared.now self.new.potential }
         ensures same { (other : ℕ) → potential_of prepared.now self.new.potential other
             ≡ potential_of prepared.now self.old.potential other }
@@ -197,7 +198,9 @@ impl Underway {
             self.old.frontier self.new.table.labels.items self.new.frontier entry) }
     {
         network.keeps_limits();
-        if FARTHEST - entry.nearness > self.table.labels[target as usize - 1] {
+        let last = self.table.labels[target as usize - 1];
+        if FARTHEST - entry.nearness > last {
+            self.frontier.close(last);
             return Ok(false);
         }
         let label = self.table.labels[entry.node as usize - 1];

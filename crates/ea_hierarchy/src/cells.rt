@@ -82,7 +82,9 @@ impl Cells {
         ensures lowers { LowersReach self.old.stamp self.old.list.items self.new.list.items
             rank reach }
     {
-        let reach = self.reach(rank).min(reach);
+        if self.reach(rank) <= reach {
+            return;
+        }
         self.list[rank as usize] = Cell {
             stamp: self.stamp,
             reach,

@@ -3,11 +3,16 @@ use Rattle.ea_goal.specs.Potentials.{potential_of}
 use Rattle.ea_goal.specs.Visits.{Leads}
 use Rattle.ea_goal.specs.declared.frontier.Entry.{Entry}
 use Rattle.ea_goal.proofs.Reaching.{reached_then}
+use Rattle.ea_goal.proofs.Scanning.{keyed_alike}
 use Rattle.ea_goal.proofs.Visiting.{leads_more, visits_alike}
 use Rattle.ea_goal.proofs.search.Underway.run.Goals as goal
 
 pub visit-requires-clause-node : goal.visit-requires-clause-node
 visit-requires-clause-node g c = c.loop-entry.invariant.leads.nodes c.in-Some.entry.label c.in-Some.entry.node (record { nearness = c.in-Some.entry.nearness; there = c.in-Some.ensures.here })
+
+pub visit-requires-clause-keys : goal.visit-requires-clause-keys
+visit-requires-clause-keys g c =
+    keyed_alike (potential_of c.args.prepared.now c.args.self.now.potential) (potential_of c.args.prepared.now c.loop-entry.self.potential) c.take.new.self (λ node. sym (c.loop-entry.invariant.same node)) (λ entry there. c.loop-entry.invariant.leads.keyed entry (c.in-Some.ensures.fewer entry there))
 
 pub loop-entry-preserved : goal.loop-entry-preserved
 loop-entry-preserved g c =

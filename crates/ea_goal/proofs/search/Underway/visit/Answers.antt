@@ -1,16 +1,18 @@
 use Rattle.std.proofs.Common.{arith, subst, sym, ◌-◌, ◌∙◌, ℕ}
 use Rattle.ea_road.specs.Labels.{label_of}
 use Rattle.ea_hierarchy.proofs.Finding.{read_at}
+use Rattle.ea_goal.specs.Frontiers.{Closes}
 use Rattle.ea_goal.specs.Potentials.{potential_of}
 use Rattle.ea_goal.specs.Scans.{Scans}
-use Rattle.ea_goal.proofs.Visiting.{visits_none, visits_scanned}
+use Rattle.ea_goal.proofs.Visiting.{visits_beyond, visits_none, visits_scanned}
 use Rattle.ea_goal.proofs.search.Underway.visit.Goals as goal
 
-pub returns-then-entry-index-clause-visits : goal.returns-then-entry-index-clause-visits
-returns-then-entry-index-clause-visits g c =
+pub returns-then-entry-last-clause-visits : goal.returns-then-entry-last-clause-visits
+returns-then-entry-last-clause-visits g c =
     let table = c.args.self.now.table.labels.items in
-    let last = read_at table (c.args.target - 1) c.index.result.now (omega (arith, c.requires.target.from_one, c.requires.target.to_last, c.requires.table)) c.index.ensures in
-    visits_none c.args.network.now (g.T.TravelTimes.answers c.args.times.now) c.args.target (potential_of c.args.prepared.now c.args.self.now.potential) table c.args.self.now.frontier c.args.entry (λ at within some. omega (arith, at, last, c.requires.key, c.if-entry-index.true))
+    let last = read_at table (c.args.target - 1) c.index-last.result.now (omega (arith, c.requires.target.from_one, c.requires.target.to_last, c.requires.table)) c.index-last.ensures in
+    let closes = subst (λ t. Closes t c.args.self.now.frontier c.close.new.self) (sym last) c.close.ensures in
+    visits_beyond c.args.network.now (g.T.TravelTimes.answers c.args.times.now) c.args.target (potential_of c.args.prepared.now c.args.self.now.potential) table c.args.self.now.frontier c.args.entry c.close.new.self c.requires.key c.requires.keys (omega (arith, last, c.if-entry-last.true)) closes
 
 pub returns-then-entry-label-clause-visits : goal.returns-then-entry-label-clause-visits
 returns-then-entry-label-clause-visits g c =
