@@ -1,0 +1,5 @@
+pub mod Opening
+pub mod Passing
+pub mod Ending
+pub mod Showing
+pub mod Answering

@@ -1,0 +1,47 @@
+use Rattle.std.proofs.Common.{arith, get_or, length, ◌<◌, ◌∙◌, ℕ, List, ap}
+use Rattle.std.specs.List.{IsAmong}
+use Rattle.std.proofs.lemmas.List.{get_or_default, length-replicate}
+use Rattle.ea_road.specs.declared.TheConstants.{NONE}
+use Rattle.ea_road.specs.declared.source.Source.{Source}
+use Rattle.ea_goal.proofs.Reaching.{reached_none, reached_then}
+use Rattle.ea_goal.proofs.Seeding.{seeded_more, seeded_none}
+use Rattle.ea_asked.specs.Open.{no_bound}
+use Rattle.ea_asked.proofs.search.Underway.begin.Goals as goal
+
+abbrev none : Source
+none = record { node = 0; departure = 0 }
+
+among_at : (sources : List Source) (place : ℕ) → place < length sources → IsAmong sources (get_or sources place none)
+among_at sources place inside = (place, (inside, get_or_default sources place none (get_or sources place none) inside))
+
+pub loop-source-init : goal.loop-source-init
+loop-source-init c = record {
+  reached = reached_none c.args.self.now.table;
+  seeded = seeded_none c.args.network.now.nodes c.args.sources.now no_bound c.args.self.now.table.labels.items c.args.self.now.frontier c.requires.labels c.requires.none;
+}
+
+pub loop-source-preserved : goal.loop-source-preserved
+loop-source-preserved c =
+    let so_far = c.loop-source.invariant in
+    let place = c.loop-source.source-index in
+    record {
+      reached = reached_then c.args.self.now.table c.loop-source.self.table c.offer.new.self.table so_far.reached c.offer.ensures.reached;
+      seeded = seeded_more c.args.network.now.nodes c.args.sources.now no_bound c.loop-source.self.table.labels.items c.offer.new.self.table.labels.items c.loop-source.self.frontier c.offer.new.self.frontier place none c.loop-source-test.true c.requires.sources c.in_ok-offer.ensures.offers so_far.seeded;
+    }
+
+pub offer-requires-clause-from_one : goal.offer-requires-clause-from_one
+offer-requires-clause-from_one c =
+    let start = c.requires.sources _ (among_at c.args.sources.now c.loop-source.source-index c.loop-source-test.true) in
+    start.0.from_one
+
+pub offer-requires-clause-in_table : goal.offer-requires-clause-in_table
+offer-requires-clause-in_table c =
+    let start = c.requires.sources _ (among_at c.args.sources.now c.loop-source.source-index c.loop-source-test.true) in
+    let count = c.loop-source.invariant.reached.count in
+    let nodes = ap (λ (xs : List ℕ). length xs) c.requires.labels ∙ length-replicate c.args.network.now.nodes NONE in
+    omega (arith, start.0.to_last, count, nodes)
+
+pub offer-requires-clause-time : goal.offer-requires-clause-time
+offer-requires-clause-time c =
+    let start = c.requires.sources _ (among_at c.args.sources.now c.loop-source.source-index c.loop-source-test.true) in
+    start.1

@@ -1,0 +1,32 @@
+-- What an answer says of some nodes. It says nothing of the others.
+use Rattle.std.specs.Prelude.{◌≡◌, ℕ, true, List, Some}
+use Rattle.ea_road.specs.Roads.{Roads, IsNode}
+use Rattle.ea_road.specs.Queries.{Asking}
+use Rattle.ea_road.specs.Arrivals.{Attains, IsLeast, IsLeastAt}
+use Rattle.ea_road.specs.Levels.{IsCanonical}
+use Rattle.ea_search.specs.Answers.{Answered, arrival_of, walk_of}
+
+-- For each of these nodes its least arrival; none exactly if no walk reaches it within the horizon.
+pub record HasArrivalsAt
+    (roads : Roads)
+    (answers : ℕ → ℕ → ℕ → ℕ → Type 0)
+    (query : Asking)
+    (asked : ℕ → Type 0)
+    (answer : Answered)
+    : Type 0 where
+  pub nodes : answer.nodes ≡ roads.nodes
+  pub target : answer.target ≡ query.target
+  pub least : (node : ℕ) → IsNode roads.nodes node → asked node → IsLeast roads answers query.sources node (arrival_of answer node)
+
+-- For each of these nodes that is reached, also its canonical walk over the least arrivals.
+pub record IsAnswerAt
+    (roads : Roads)
+    (answers : ℕ → ℕ → ℕ → ℕ → Type 0)
+    (query : Asking)
+    (asked : ℕ → Type 0)
+    (answer : Answered)
+    : Type 0 where
+  pub arrivals : HasArrivalsAt roads answers query asked answer
+  pub walks : answer.walks ≡ true
+  pub canonical : (node : ℕ) (walk : List ℕ) → IsNode roads.nodes node → asked node → walk_of answer node ≡ Some walk → IsCanonical roads answers query.sources (IsLeastAt roads answers query.sources) node walk
+  pub attains : (node time : ℕ) (walk : List ℕ) → IsNode roads.nodes node → asked node → arrival_of answer node ≡ Some time → walk_of answer node ≡ Some walk → Attains roads answers query.sources walk node time

@@ -1,0 +1,5 @@
+pub mod Asked
+pub mod Open
+pub mod Seeking
+pub mod Stores
+pub mod Blank

@@ -1,0 +1,11 @@
+//! Searches for some nodes, which end as soon as all of them are settled.
+#![tactic(auto)]
+
+mod arrays;
+mod asked_search;
+mod frontier;
+mod link_search;
+mod passed;
+mod search;
+
+pub use asked_search::AskedSearch;

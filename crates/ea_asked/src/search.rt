@@ -1,0 +1,208 @@
+//! The search: labels fall along arcs from open nodes, those with the least labels first.
+ghost use Rattle.std.specs.Prelude.{◌≡◌, ◌≤◌, ◌<◌, ℕ, All, MatchOption, OnOk, [], length, replicate};
+ghost use Rattle.ea_base.specs.declared.limits.TheConstants.{HORIZON};
+ghost use Rattle.ea_road.specs.Labels.{label_of};
+ghost use Rattle.ea_road.specs.Roads.{IsArc, IsNode, top_class};
+ghost use Rattle.ea_road.specs.declared.TheConstants.{NONE};
+ghost use Rattle.ea_search.specs.Links.{AreStarts};
+ghost use Rattle.ea_goal.specs.Frontiers.{Takes};
+ghost use Rattle.ea_goal.specs.Scans.{Follows, Offers, Scans};
+ghost use Rattle.ea_goal.specs.Seeds.{AreSeeded};
+ghost use Rattle.ea_goal.specs.Visits.{AreOpenNodes, KeepsReached};
+ghost use Rattle.ea_asked.specs.Open.{IsOver, met, no_bound};
+ghost use Rattle.ea_asked.specs.Seeking.{AreLedTo, EndsFor, IsPassed, VisitsFor};
+
+use crate::frontier::{Entry, Frontier};
+use crate::passed::Passed;
+use ea_base::HORIZON;
+use ea_road::{Arc, Network, Source};
+use ea_search::Reached;
+use ea_travel_times::TravelTimes;
+use std::alloc::AllocError;
+
+/// Labels by nodes with the reached nodes listed, and the nodes that are open.
+#[derive(Drop)]
+pub(crate) struct Underway {
+    pub(crate) table: Reached,
+    pub(crate) frontier: Frontier,
+}
+
+impl Underway {
+    /// Offers a node a time: if its label is above it, the label falls and the node is opened. An error comes
+    /// only if memory was refused.
+    fn offer(&mut self, node: u32, time: u64) -> Result<(), AllocError>
+        requires from_one { 0 < node }
+        requires in_table { node ≤ length self.old.table.labels.items }
+        requires time { time ≤ HORIZON }
+        ensures reached { KeepsReached self.old.table self.new.table }
+        ensures offers { OnOk result (Offers no_bound self.old.table.labels.items self.old.frontier
+            self.new.table.labels.items self.new.frontier node time) }
+    {
+        let slot = node as usize - 1;
+        if time >= self.table.labels[slot] {
+            return Ok(());
+        }
+        self.table.labels[slot] = time;
+        self.table.listed.add(node);
+        self.frontier.open(time, node)?;
+        Ok(())
+    }
+
+    /// Offers the head of an arc the arrival by it.
+    fn follow<T: TravelTimes>(
+        &mut self,
+        network: &Network,
+        times: &T,
+        arc: Arc,
+        departure: u64,
+    ) -> Result<(), AllocError>
+        requires arc { (number : ℕ) × IsArc network.now number arc }
+        requires classes { top_class network.now.arcs ≤ T.classes times.now }
+        requires departure { departure ≤ HORIZON }
+        requires table { length self.old.table.labels.items ≡ network.now.nodes }
+        ensures reached { KeepsReached self.old.table self.new.table }
+        ensures follows { OnOk result (Follows (T.answers times.now) no_bound
+            self.old.table.labels.items self.old.frontier
+            self.new.table.labels.items self.new.frontier arc departure) }
+    {
+        network.keeps_limits();
+        let arrival = times.arrive(arc.class, u64::from(arc.weight), departure);
+        if arrival > HORIZON {
+            return Ok(());
+        }
+        self.offer(arc.head, arrival)?;
+        Ok(())
+    }
+
+    /// Leaves the arcs from a node at a departure.
+    fn scan<T: TravelTimes>(
+        &mut self,
+        network: &Network,
+        times: &T,
+        node: u32,
+        departure: u64,
+    ) -> Result<(), AllocError>
+        requires node { IsNode network.now.nodes node }
+        requires classes { top_class network.now.arcs ≤ T.classes times.now }
+        requires departure { departure ≤ HORIZON }
+        requires table { length self.old.table.labels.items ≡ network.now.nodes }
+        ensures reached { KeepsReached self.old.table self.new.table }
+        ensures scans { OnOk result (Scans network.now (T.answers times.now) no_bound
+            self.old.table.labels.items self.old.frontier
+            self.new.table.labels.items self.new.frontier node departure) }
+    {
+        network.keeps_limits();
+        let arcs = network.leaving(node).arcs;
+        for place in 0..arcs.len() {
+            let arc = arcs[place].with_tail(node);
+            self.follow(network, times, arc, departure)?;
+        }
+        Ok(())
+    }
+
+    /// Leaves the arcs from a node that was open, unless its label fell since.
+    fn visit<T: TravelTimes>(
+        &mut self,
+        network: &Network,
+        times: &T,
+        entry: Entry,
+    ) -> Result<(), AllocError>
+        requires node { IsNode network.now.nodes entry.node }
+        requires classes { top_class network.now.arcs ≤ T.classes times.now }
+        requires table { length self.old.table.labels.items ≡ network.now.nodes }
+        ensures reached { KeepsReached self.old.table self.new.table }
+        ensures visits { OnOk result (VisitsFor network.now (T.answers times.now)
+            self.old.table.labels.items self.old.frontier
+            self.new.table.labels.items self.new.frontier (met entry)) }
+    {
+        network.keeps_limits();
+        let label = self.table.labels[entry.node as usize - 1];
+        if entry.label != label {
+            return Ok(());
+        }
+        if label > HORIZON {
+            return Ok(());
+        }
+        self.scan(network, times, entry.node, label)?;
+        Ok(())
+    }
+
+    /// Takes the open node with the least label; none if the labels of all asked nodes are below it.
+    fn next(&mut self, asked: &[u32], passed: &mut Passed) -> Option<Entry>
+        requires asked { All (IsNode (length self.old.table.labels.items)) asked.now }
+        requires passed { IsPassed self.old.table.labels.items asked.now passed.old }
+        ensures table { self.new.table ≡ self.old.table }
+        ensures passed { IsPassed self.new.table.labels.items asked.now passed.new }
+        ensures taken { MatchOption result ((self.new.frontier ≡ self.old.frontier)
+            × IsOver self.old.table.labels.items self.old.frontier asked.now)
+            (λ entry. Takes self.old.frontier self.new.frontier (met entry)) }
+    {
+        let least = self.frontier.least()?;
+        passed.pass(&self.table.labels, asked, least);
+        if passed.are_below(&self.table.labels, asked, least) {
+            return None;
+        }
+        self.frontier.take()
+    }
+
+    /// Visits open nodes until the labels of all asked nodes are below theirs.
+    fn run<T: TravelTimes>(
+        &mut self,
+        network: &Network,
+        times: &T,
+        asked: &[u32],
+    ) -> Result<(), AllocError>
+        requires asked { All (IsNode network.now.nodes) asked.now }
+        requires nodes { AreOpenNodes network.now.nodes self.old.frontier }
+        requires classes { top_class network.now.arcs ≤ T.classes times.now }
+        requires table { length self.old.table.labels.items ≡ network.now.nodes }
+        ensures reached { KeepsReached self.old.table self.new.table }
+        ensures ends { OnOk result (EndsFor network.now (T.answers times.now)
+            self.old.table.labels.items self.old.frontier
+            self.new.table.labels.items self.new.frontier asked.now) }
+    {
+        let mut passed = Passed::none(&self.table.labels, asked);
+        while let Some(entry) = self.next(asked, &mut passed) {
+            self.visit(network, times, entry)?;
+        }
+        Ok(())
+    }
+
+    /// Offers the sources their departures.
+    fn begin(&mut self, network: &Network, sources: &[Source]) -> Result<(), AllocError>
+        requires sources { AreStarts network.now.nodes sources.now }
+        requires labels { self.old.table.labels.items ≡ replicate network.now.nodes NONE }
+        requires none { self.old.frontier ≡ [] }
+        ensures reached { KeepsReached self.old.table self.new.table }
+        ensures seeded { OnOk result (AreSeeded network.now.nodes sources.now no_bound
+            self.new.table.labels.items self.new.frontier (length sources.now)) }
+    {
+        for source in sources {
+            self.offer(source.node, source.departure)?;
+        }
+        Ok(())
+    }
+
+    /// Searches from the sources until the asked nodes are settled.
+    pub(crate) fn seek<T: TravelTimes>(
+        &mut self,
+        network: &Network,
+        times: &T,
+        sources: &[Source],
+        asked: &[u32],
+    ) -> Result<(), AllocError>
+        requires sources { AreStarts network.now.nodes sources.now }
+        requires asked { All (IsNode network.now.nodes) asked.now }
+        requires classes { top_class network.now.arcs ≤ T.classes times.now }
+        requires labels { self.old.table.labels.items ≡ replicate network.now.nodes NONE }
+        requires none { self.old.frontier ≡ [] }
+        ensures reached { KeepsReached self.old.table self.new.table }
+        ensures led { OnOk result (AreLedTo network.now (T.answers times.now) sources.now asked.now
+            (label_of self.new.table.labels.items)) }
+    {
+        network.keeps_limits();
+        self.begin(network, sources)?;
+        self.run(network, times, asked)?;
+        Ok(())
+    }
+}
