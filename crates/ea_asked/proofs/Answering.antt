@@ -6,7 +6,7 @@ use Rattle.std.proofs.lemmas.List.Elements.{All-contains}
 use Rattle.ea_road.specs.declared.TheConstants.{NONE}
 use Rattle.ea_travel_times.specs.Answers.{IsFifo}
 use Rattle.ea_road.specs.Roads.{Roads, IsNode, IsNetwork}
-use Rattle.ea_road.specs.Queries.{Asking, IsAskedBy, IsProblem}
+use Rattle.ea_road.specs.Queries.{Asking, IsAsked, IsAskedBy, IsProblem}
 use Rattle.ea_road.specs.Arrivals.{IsLeast}
 use Rattle.ea_road.specs.Labels.{IsLabel, label_of, time_of}
 use Rattle.ea_search.specs.declared.link.Link.{Link}
@@ -23,21 +23,26 @@ use Rattle.ea_asked.specs.Asked.{HasArrivalsAt, IsAnswerAt}
 use Rattle.ea_asked.specs.Seeking.{AreLedTo}
 use Rattle.ea_asked.specs.Stores.{Shows}
 
--- an answer that is right at all nodes is right at some
-pub arrivals_at : (roads : Roads) (answers : ℕ → ℕ → ℕ → ℕ → Type 0) (query : Asking) (asked : ℕ → Type 0) (answer : Answered) → query.target ≡ None → HasArrivals roads answers query answer → HasArrivalsAt roads answers query asked answer
-arrivals_at roads answers query asked answer all has = record {
-  nodes = has.nodes;
-  target = has.target;
-  least = λ node is_node there. has.least node is_node (subst (λ t. IsAskedBy t node) (sym all) tt);
-}
+-- an answer that is right at all nodes that a query asks is right at some of them
+module _ (roads : Roads) (answers : ℕ → ℕ → ℕ → ℕ → Type 0) (query : Asking) (some : ℕ → Type 0) (are_asked : (node : ℕ) → some node → IsAsked query node) (answer : Answered) where
+  pub arrivals_at : HasArrivals roads answers query answer → HasArrivalsAt roads answers query some answer
+  arrivals_at has = record {
+    nodes = has.nodes;
+    target = has.target;
+    least = λ node is_node there. has.least node is_node (are_asked node there);
+  }
 
-pub answer_at : (roads : Roads) (answers : ℕ → ℕ → ℕ → ℕ → Type 0) (query : Asking) (asked : ℕ → Type 0) (answer : Answered) → query.target ≡ None → IsAnswer roads answers query answer → IsAnswerAt roads answers query asked answer
-answer_at roads answers query asked answer all is = record {
-  arrivals = arrivals_at roads answers query asked answer all is.arrivals;
-  walks = is.walks;
-  canonical = λ node walk is_node there. is.canonical node walk is_node (subst (λ t. IsAskedBy t node) (sym all) tt);
-  attains = λ node time walk is_node there. is.attains node time walk is_node (subst (λ t. IsAskedBy t node) (sym all) tt);
-}
+  pub answer_at : IsAnswer roads answers query answer → IsAnswerAt roads answers query some answer
+  answer_at is = record {
+    arrivals = arrivals_at is.arrivals;
+    walks = is.walks;
+    canonical = λ node walk is_node there. is.canonical node walk is_node (are_asked node there);
+    attains = λ node time walk is_node there. is.attains node time walk is_node (are_asked node there);
+  }
+
+-- all nodes are asked
+pub all_asked : (query : Asking) → query.target ≡ None → (node : ℕ) → IsAsked query node
+all_asked query all node = subst (λ t. IsAskedBy t node) (sym all) tt
 
 module _
     (roads : Roads)

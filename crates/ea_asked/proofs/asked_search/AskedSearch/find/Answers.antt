@@ -3,7 +3,7 @@ use Rattle.std.specs.Prelude.{IfOk, Ok, Err, Result}
 use Rattle.ea_search.specs.Answers.{IsAnswer}
 use Rattle.ea_search.specs.Listings.{Searched}
 use Rattle.ea_asked.specs.Asked.{IsAnswerAt}
-use Rattle.ea_asked.proofs.Answering.{answer_at, has_arrivals_at}
+use Rattle.ea_asked.proofs.Answering.{all_asked, answer_at, has_arrivals_at}
 use Rattle.ea_asked.proofs.asked_search.AskedSearch.find.Goals as goal
 
 -- what holds of a value holds of what follows
@@ -17,7 +17,7 @@ returns-then-not-is_found-clause-answer g c =
     let answers = g.T.TravelTimes.answers c.args.times.now in
     let query = c.args.query.now in
     let same = ap (λ (s : Searched). s.walks) c.self.view_is in
-    if_ok (λ search. c.self.inside.walks ≡ true → IsAnswer roads answers query search.answer) (λ search. c.args.self.walks ≡ true → IsAnswerAt roads answers query (Contains c.args.asked.now) search.answer) (λ search is walks. answer_at roads answers query (Contains c.args.asked.now) search.answer c.requires.all (is (same ∙ walks))) c.whole.result c.whole.ensures.answer
+    if_ok (λ search. c.self.inside.walks ≡ true → IsAnswer roads answers query search.answer) (λ search. c.args.self.walks ≡ true → IsAnswerAt roads answers query (Contains c.args.asked.now) search.answer) (λ search is walks. answer_at roads answers query (Contains c.args.asked.now) (λ node there. all_asked query c.requires.all node) search.answer (is (same ∙ walks))) c.whole.result c.whole.ensures.answer
 
 pub returns-else-walks-clause-arrivals : goal.returns-else-walks-clause-arrivals
 returns-else-walks-clause-arrivals g c =
