@@ -1,8 +1,6 @@
 use Rattle.std.proofs.lemmas.Result.{err_from_is_err_and}
 use Rattle.ea_batch.proofs.Going.{goes_further, goes_nowhere, stops_later}
-use Rattle.std.proofs.Common.{arith, subst}
-use Rattle.std.specs.Prelude.{IfSome}
-use Rattle.ea_batch.specs.Solved.{Serves}
+use Rattle.std.proofs.Common.{arith}
 use Rattle.ea_batch.proofs.parallel_reports.send_round.Goals as goal
 use Rattle.ea_batch.proofs.parallel_reports.send_round.Goals.{in-Some+in_ok-send_part-in-Some, in-None+else-not-help}
 
