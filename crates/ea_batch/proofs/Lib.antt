@@ -4,3 +4,4 @@ pub mod Counts
 pub mod Going
 pub mod Held
 pub mod Sent
+pub mod Showing

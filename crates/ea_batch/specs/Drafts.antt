@@ -15,7 +15,7 @@ use Rattle.ea_batch.specs.declared.progress.Progress.{Progress}
 use Rattle.ea_batch.specs.Sent.{AreCutShort, AreSent}
 use Rattle.ea_batch.specs.Reported.{IsReportOf}
 use Rattle.ea_report.specs.Asked.{Shape, shape_of}
-use Rattle.ea_batch.specs.Solved.{AnswersOn, AreAidsOn, ArrivesOn, IsShown, Serves, searched}
+use Rattle.ea_batch.specs.Solved.{AnswersAt, AreAidsOn, ArrivesAt, IsShown, Serves, searched}
 
 -- The problems are problems on the road, not too many, the nodes that are shown are its nodes, what searches use is
 -- of the road, and threads take several problems at once.
@@ -32,7 +32,7 @@ abbrev pub IsDraftOf : Shape → Road → Asking → Draft → Type 0
 IsDraftOf shape road query draft.Nothing = Unit {0}
 IsDraftOf shape road query (draft.Text text) = IsReportOf shape road.network (times_on road) query text.items
 IsDraftOf shape road query (draft.Answer search) =
-    Serves road.network shape.style.walks search × ArrivesOn road query (searched search).answer × (shape.style.walks ≡ true → AnswersOn road query (searched search).answer)
+    Serves road.network shape.style.walks search × ArrivesAt shape.chosen road query (searched search).answer × (shape.style.walks ≡ true → AnswersAt shape.chosen road query (searched search).answer)
 
 -- A draft of the problem with this number, from 0, if there is one.
 abbrev pub IsDraftAt : Shape → Road → List Asking → ℕ → Draft → Type 0

@@ -1,5 +1,5 @@
 -- The answer of a problem on a road.
-use Rattle.std.specs.Prelude.{◌≡◌, ◌≤◌, Bool, IfSome, length}
+use Rattle.std.specs.Prelude.{◌≡◌, ◌≤◌, ℕ, Bool, IfSome, List, Option, length}
 use Rattle.ea_base.specs.declared.limits.TheConstants.{MOST_STARTS}
 use Rattle.ea_road.specs.Queries.{Asking}
 use Rattle.ea_road.specs.Roads.{Roads}
@@ -14,6 +14,8 @@ use Rattle.ea_search.specs.Answers.{Answered, HasArrivals, IsAnswer}
 use Rattle.ea_search.specs.Listings.{Searched}
 use Rattle.ea_load.specs.Posed.{times_on}
 use Rattle.ea_report.specs.Asked.{AreChosen, Shape}
+use Rattle.ea_asked.specs.Asked.{HasArrivalsAt, IsAnswerAt}
+use Rattle.ea_batch.specs.Shown.{IsShownIn}
 
 -- The answer has the least arrivals of the query on the road.
 abbrev pub ArrivesOn : Road → Asking → Answered → Type 0
@@ -23,10 +25,19 @@ ArrivesOn road query answer = HasArrivals road.network (times_on road) query ans
 abbrev pub AnswersOn : Road → Asking → Answered → Type 0
 AnswersOn road query answer = IsAnswer road.network (times_on road) query answer
 
--- The arrays of a search, on the road as it was given or laid out.
+-- The answer has the least arrivals of the nodes that a report of the query shows, if these are chosen.
+abbrev pub ArrivesAt : Option (List ℕ) → Road → Asking → Answered → Type 0
+ArrivesAt chosen road query answer = HasArrivalsAt road.network (times_on road) query (IsShownIn chosen query) answer
+
+-- It also has their canonical walks.
+abbrev pub AnswersAt : Option (List ℕ) → Road → Asking → Answered → Type 0
+AnswersAt chosen road query answer = IsAnswerAt road.network (times_on road) query (IsShownIn chosen query) answer
+
+-- The arrays of a search, on the road as it was given or laid out, or for some nodes.
 abbrev pub searched : Searching → Searched
 searched (searching.Plain search) = search
 searched (searching.Laid search) = search
+searched (searching.Asked search) = search
 
 -- They fit the road's nodes, with room for walks if they are asked for.
 abbrev pub Serves : Roads → Bool → Searching → Type 0

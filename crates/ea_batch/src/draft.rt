@@ -95,7 +95,7 @@ fn make_draft(job: Job<'_>, query: &Query, last: &mut Option<Searching>) -> Draf
         shown,
         ..
     } = job;
-    let found = match search(alloc, road, aids, query, shown.style.walks, last.take()) {
+    let found = match search(alloc, road, aids, query, shown, last.take()) {
         Ok(found) => found,
         Err(_) => return Draft::Nothing,
     };

@@ -1,15 +1,20 @@
 //! Searches by one thread, one after another on the same arrays.
-ghost use Rattle.std.specs.Prelude.{◌≡◌, IfOk, IfSome, length, true};
+ghost use Rattle.std.specs.Prelude.{◌≡◌, All, IfOk, IfSome, None, Some, length, true};
 ghost use Rattle.ea_road.specs.Queries.{IsProblem};
+ghost use Rattle.ea_road.specs.Roads.{IsNode};
+ghost use Rattle.ea_report.specs.Asked.{chosen_by, shape_of};
 ghost use Rattle.ea_layout.specs.Orders.{LaysOut};
 ghost use Rattle.ea_search.specs.Listings.{Searched};
-ghost use Rattle.ea_batch.specs.Solved.{AnswersOn, AreAidsOn, ArrivesOn, IsPreparedOn, IsReady, Serves, searched};
+ghost use Rattle.ea_batch.specs.Solved.{AnswersAt, AnswersOn, AreAidsOn, ArrivesAt, ArrivesOn};
+ghost use Rattle.ea_batch.specs.Solved.{IsPreparedOn, IsReady, IsShown, Serves, searched};
 
 use crate::searching::{Aids, Searching};
+use ea_asked::AskedSearch;
 use ea_hierarchy::Prepared;
 use ea_layout::{LaidSearch, Layout};
 use ea_load::Road;
 use ea_paths::Search;
+use ea_report::ReportOptions;
 use ea_road::Query;
 use std::alloc::{AllocError, Global};
 
@@ -112,9 +117,54 @@ fn search_laid(
     }
 }
 
-/// Searches a problem on the arrays of the last search, if there was one, by what searches on the road may use.
-/// Returns the search with its answer.
-pub(crate) fn search(
+/// Arrays for searches for some nodes: the last ones, else new ones.
+fn asked_arrays(
+    alloc: Global,
+    road: &Road,
+    walks: bool,
+    last: Option<Searching>,
+) -> Result<AskedSearch, AllocError>
+    requires { IfSome last (Serves road.now.network walks) }
+    ensures { IfOk result (IsReady road.now.network walks) }
+{
+    let nodes = road.network.nodes();
+    match last {
+        Some(Searching::Asked(search)) => Ok(search),
+        _ => {
+            if walks {
+                AskedSearch::reserve(alloc, nodes)
+            } else {
+                AskedSearch::reserve_without_walks(alloc, nodes)
+            }
+        }
+    }
+}
+
+/// Searches a problem for the nodes that its report shows.
+fn search_asked(
+    alloc: Global,
+    road: &Road,
+    query: &Query,
+    asked: &[u32],
+    walks: bool,
+    last: Option<Searching>,
+) -> Result<AskedSearch, AllocError>
+    requires problem { IsProblem road.now.network
+        (length road.now.times.tables.list.items) query.now }
+    requires all { query.now.target ≡ None }
+    requires asked { All (IsNode road.now.network.nodes) asked.now }
+    requires serves { IfSome last (Serves road.now.network walks) }
+    ensures arrivals { IfOk result (λ search. ArrivesAt (Some asked.now) road.now query.now search.answer) }
+    ensures walks { IfOk result (λ search. walks ≡ true
+        → AnswersAt (Some asked.now) road.now query.now search.answer) }
+    ensures ready { IfOk result (IsReady road.now.network walks) }
+{
+    let search = asked_arrays(alloc, road, walks, last)?;
+    search.find(alloc, &road.network, &road.times, query, asked)
+}
+
+/// Searches a problem for all nodes or a target, by what searches on the road may use.
+fn search_whole(
     alloc: Global,
     road: &Road,
     aids: Aids<'_>,
@@ -140,5 +190,36 @@ pub(crate) fn search(
             let found = search_plain(alloc, road, aids.prepared, query, walks, last)?;
             Ok(Searching::Plain(found))
         }
+    }
+}
+
+/// Searches a problem on the arrays of the last search, if there was one: for the nodes that its report shows, if
+/// some are chosen; else by what searches on the road may use. Returns the search with its answer.
+pub(crate) fn search(
+    alloc: Global,
+    road: &Road,
+    aids: Aids<'_>,
+    query: &Query,
+    shown: ReportOptions<'_>,
+    last: Option<Searching>,
+) -> Result<Searching, AllocError>
+    requires problem { IsProblem road.now.network
+        (length road.now.times.tables.list.items) query.now }
+    requires shown { IsShown road.now.network (shape_of shown) }
+    requires serves { IfSome last (Serves road.now.network shown.style.walks) }
+    requires aids { AreAidsOn road.now aids }
+    ensures arrivals { IfOk result (λ search.
+        ArrivesAt (chosen_by shown.entry) road.now query.now (searched search).answer) }
+    ensures walks { IfOk result (λ search. shown.entry.style.walks ≡ true
+        → AnswersAt (chosen_by shown.entry) road.now query.now (searched search).answer) }
+    ensures serves { IfOk result (Serves road.now.network shown.entry.style.walks) }
+{
+    let walks = shown.style.walks;
+    match shown.nodes {
+        Some(asked) if query.target().is_none() => {
+            let found = search_asked(alloc, road, query, asked, walks, last)?;
+            Ok(Searching::Asked(found))
+        }
+        _ => search_whole(alloc, road, aids, query, walks, last),
     }
 }

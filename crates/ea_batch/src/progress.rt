@@ -5,8 +5,8 @@ ghost use Rattle.ea_road.specs.Queries.{IsProblem};
 ghost use Rattle.ea_load.specs.Faults;
 ghost use Rattle.ea_load.specs.Posed.{times_on};
 ghost use Rattle.ea_batch.specs.Sent.{IsSent, IsStoppedBy};
-ghost use Rattle.ea_batch.specs.Solved.{AnswersOn, AreAidsOn, ArrivesOn, IsShown, Serves};
-ghost use Rattle.ea_report.specs.Asked.{shape_of};
+ghost use Rattle.ea_batch.specs.Solved.{AnswersAt, AreAidsOn, ArrivesAt, IsShown, Serves};
+ghost use Rattle.ea_report.specs.Asked.{chosen_by, shape_of};
 
 use crate::one_search::search;
 use crate::searching::{Aids, Searching};
@@ -76,8 +76,9 @@ impl Progress<'_> {
         requires few { (length query.now.sources ≤ MOST_STARTS)
             × (road.now.network.nodes ≤ MOST_NODES) }
         requires room { self.old.written ≤ MOST_STARTS * 2 ^ 90 }
-        requires arrivals { ArrivesOn road.now query.now answer.now }
-        requires canonical { shown.style.walks ≡ true → AnswersOn road.now query.now answer.now }
+        requires arrivals { ArrivesAt (chosen_by shown) road.now query.now answer.now }
+        requires canonical { shown.style.walks ≡ true
+            → AnswersAt (chosen_by shown) road.now query.now answer.now }
         ensures ok { OnOk result (IsSent (shape_of shown.entry) road.now.network (times_on road.now) query.now
             (W.seen out.old) (W.seen out.new) self.old.written self.new.written) }
         ensures err { IfErr result (IsStoppedBy (shape_of shown.entry) road.now.network (times_on road.now) query.now
@@ -122,7 +123,7 @@ impl Progress<'_> {
         ensures aids { self.new.aids ≡ self.old.aids }
     {
         let last = self.search.take();
-        match search(alloc, road, self.aids, query, shown.style.walks, last) {
+        match search(alloc, road, self.aids, query, shown, last) {
             Ok(search) => {
                 self.write(alloc, road, query, search.answer(), shown, out)?;
                 self.search = Some(search);

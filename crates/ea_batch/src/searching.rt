@@ -2,6 +2,7 @@
 ghost use Rattle.std.specs.Prelude.{◌≡◌};
 ghost use Rattle.ea_batch.specs.Solved.{searched};
 
+use ea_asked::AskedSearch;
 use ea_hierarchy::Prepared;
 use ea_layout::{LaidSearch, Layout};
 use ea_paths::{Answer, Search};
@@ -13,6 +14,8 @@ pub enum Searching {
     Plain(Search),
     /// Of searches on the road laid out.
     Laid(LaidSearch),
+    /// Of searches for some nodes.
+    Asked(AskedSearch),
 }
 
 impl Searching {
@@ -23,6 +26,7 @@ impl Searching {
         match self {
             Searching::Plain(search) => search.answer(),
             Searching::Laid(search) => search.answer(),
+            Searching::Asked(search) => search.answer(),
         }
     }
 }

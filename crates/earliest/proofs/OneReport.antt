@@ -2,23 +2,26 @@
 use Rattle.std.proofs.Common.{◌≡◌, ◌==◌, ℕ, zero, suc, ◌<◌, Bool, true, false, List, [], ◌∷◌, ◌++◌, ◌^◌, length, get_or, refl, ap, ap₂, sym, ◌∙◌, arith, subst}
 use Rattle.std.specs.Prelude.{All, Option, Some, None, unwrap_or, if◌then◌else◌}
 use Rattle.std.specs.List.{flat_map}
+use Rattle.std.proofs.lemmas.List.Elements.{Contains-get_or}
 use Rattle.std.proofs.lemmas.Option.{none-some}
 use Rattle.ea_bytes.specs.Text.{field_lines}
 use Rattle.ea_road.specs.declared.TheConstants.{NONE}
 use Rattle.ea_road.specs.Roads.{Roads, IsNode}
-use Rattle.ea_road.specs.Queries.{Asking, IsAskedBy}
+use Rattle.ea_road.specs.Queries.{Asking}
 use Rattle.ea_road.specs.Arrivals.{IsLeastAt}
 use Rattle.ea_road.specs.Labels.{time_of, label_of}
 use Rattle.ea_road.proofs.Fixed.{one_least}
 use Rattle.ea_road.proofs.Canonical.{one_canonical}
-use Rattle.ea_search.specs.Answers.{Answered, HasArrivals, IsAnswer, arrival_of, walk_of}
+use Rattle.ea_search.specs.Answers.{Answered, arrival_of, walk_of}
 use Rattle.ea_search.specs.Links.{linked_walk}
 use Rattle.ea_base.specs.declared.direction.Direction.{Direction}
 use Rattle.ea_base.specs.declared.direction.Direction.TheVariants.{Forward, Turned}
 use Rattle.ea_report.specs.Asked.{AreChosen, Shape}
 use Rattle.ea_report.specs.Report.{asked_line, each_node, report_text, reported_node, reported_nodes, start_line, time_line, way_text}
 use Rattle.ea_report.specs.declared.style.Style.{Style}
+use Rattle.ea_asked.specs.Asked.{HasArrivalsAt, IsAnswerAt}
 use Rattle.ea_batch.specs.Reported.{IsReportOf, AreReported}
+use Rattle.ea_batch.specs.Shown.{IsShownIn, IsShownOf}
 use Rattle.ea_report.proofs.Problems.{all_text, target_text}
 use Rattle.ea_input.specs.Graph.{Graph, DenotesGraph}
 use Rattle.ea_input.specs.Table.{Table}
@@ -48,26 +51,26 @@ a_walk label time walk some = by (label == NONE) some where
   by true e = absurd (none-some time e)
   by false e = refl
 
-module _ (roads : Roads) (answers : ℕ → ℕ → ℕ → ℕ → Type 0) (query : Asking) (this that : Answered) (these : HasArrivals roads answers query this) (those : HasArrivals roads answers query that) where
-  same_arrival : (node : ℕ) → IsNode roads.nodes node → IsAskedBy query.target node → arrival_of this node ≡ arrival_of that node
-  same_arrival node is_node asked = one_least roads answers query node (arrival_of this node) (arrival_of that node) (these.least node is_node asked) (those.least node is_node asked)
+module _ (roads : Roads) (answers : ℕ → ℕ → ℕ → ℕ → Type 0) (query : Asking) (shown : ℕ → Type 0) (this that : Answered) (these : HasArrivalsAt roads answers query shown this) (those : HasArrivalsAt roads answers query shown that) where
+  same_arrival : (node : ℕ) → IsNode roads.nodes node → shown node → arrival_of this node ≡ arrival_of that node
+  same_arrival node is_node is = one_least roads answers query node (arrival_of this node) (arrival_of that node) (these.least node is_node is) (those.least node is_node is)
 
-  module _ (mine : IsAnswer roads answers query this) (yours : IsAnswer roads answers query that) where
-    same_walk : (node : ℕ) → IsNode roads.nodes node → IsAskedBy query.target node → walk_of this node ≡ walk_of that node
-    same_walk node is_node asked = by (arrival_of this node) refl where
+  module _ (mine : IsAnswerAt roads answers query shown this) (yours : IsAnswerAt roads answers query shown that) where
+    same_walk : (node : ℕ) → IsNode roads.nodes node → shown node → walk_of this node ≡ walk_of that node
+    same_walk node is_node is = by (arrival_of this node) refl where
       by : (arrival : Option ℕ) → arrival_of this node ≡ arrival → walk_of this node ≡ walk_of that node
-      by None none = no_walk (label_of this.labels node) (linked_walk this.links node) none ∙ sym (no_walk (label_of that.labels node) (linked_walk that.links node) (sym (same_arrival node is_node asked) ∙ none))
+      by None none = no_walk (label_of this.labels node) (linked_walk this.links node) none ∙ sym (no_walk (label_of that.labels node) (linked_walk that.links node) (sym (same_arrival node is_node is) ∙ none))
       by (Some time) some =
           let here = a_walk (label_of this.labels node) time (linked_walk this.links node) some in
-          let there = a_walk (label_of that.labels node) time (linked_walk that.links node) (sym (same_arrival node is_node asked) ∙ some) in
-          here ∙ ap Some (one_canonical roads answers query.sources (IsLeastAt roads answers query.sources) (mine.canonical node (linked_walk this.links node) is_node asked here) (yours.canonical node (linked_walk that.links node) is_node asked there)) ∙ sym there
+          let there = a_walk (label_of that.labels node) time (linked_walk that.links node) (sym (same_arrival node is_node is) ∙ some) in
+          here ∙ ap Some (one_canonical roads answers query.sources (IsLeastAt roads answers query.sources) (mine.canonical node (linked_walk this.links node) is_node is here) (yours.canonical node (linked_walk that.links node) is_node is there)) ∙ sym there
 
-  same_node : (style : Style) → (style.walks ≡ true → IsAnswer roads answers query this) → (style.walks ≡ true → IsAnswer roads answers query that) → (node : ℕ) → IsNode roads.nodes node → IsAskedBy query.target node → reported_node style this node ≡ reported_node style that node
-  same_node style mine yours node is_node asked = by style.walks refl where
+  same_node : (style : Style) → (style.walks ≡ true → IsAnswerAt roads answers query shown this) → (style.walks ≡ true → IsAnswerAt roads answers query shown that) → (node : ℕ) → IsNode roads.nodes node → shown node → reported_node style this node ≡ reported_node style that node
+  same_node style mine yours node is_node is = by style.walks refl where
     by : (walks : Bool) → style.walks ≡ walks
         → (time_line style.direction node (arrival_of this node) ++ (if walks then way_text style.direction node (walk_of this node) else [])) ≡ (time_line style.direction node (arrival_of that node) ++ (if walks then way_text style.direction node (walk_of that node) else []))
-    by false without = ap (λ arrival. time_line style.direction node arrival ++ []) (same_arrival node is_node asked)
-    by true with_walks = ap₂ (λ arrival walk. time_line style.direction node arrival ++ way_text style.direction node walk) (same_arrival node is_node asked) (same_walk (mine with_walks) (yours with_walks) node is_node asked)
+    by false without = ap (λ arrival. time_line style.direction node arrival ++ []) (same_arrival node is_node is)
+    by true with_walks = ap₂ (λ arrival walk. time_line style.direction node arrival ++ way_text style.direction node walk) (same_arrival node is_node is) (same_walk (mine with_walks) (yours with_walks) node is_node is)
 
 each_same : (f g : ℕ → List ℕ) (n : ℕ) → ((node : ℕ) → IsNode n node → f node ≡ g node) → each_node f n ≡ each_node g n
 each_same f g n same = up n (λ node is_node. is_node) where
@@ -82,22 +85,26 @@ chosen_same f g (node ∷ nodes) same = ap₂ (λ a b. a ++ b) (same 0 node (ome
 -- A problem has one report, if its target and the chosen nodes are nodes.
 one_problem : (shape : Shape) (roads : Roads) (answers : ℕ → ℕ → ℕ → ℕ → Type 0) (query : Asking) → ((node : ℕ) → query.target ≡ Some node → IsNode roads.nodes node) → AreChosen roads.nodes shape.chosen → (first second : List ℕ) → IsReportOf shape roads answers query first → IsReportOf shape roads answers query second → first ≡ second
 one_problem shape roads answers query inside chosen first second this that = this.says ∙ asked query.target refl ∙ sym that.says where
-  node_is : (node : ℕ) → IsNode roads.nodes node → IsAskedBy query.target node → reported_node shape.style this.answer node ≡ reported_node shape.style that.answer node
-  node_is = same_node roads answers query this.answer that.answer this.least that.least shape.style this.canonical that.canonical
+  node_is : (node : ℕ) → IsNode roads.nodes node → IsShownIn shape.chosen query node → reported_node shape.style this.answer node ≡ reported_node shape.style that.answer node
+  node_is = same_node roads answers query (IsShownIn shape.chosen query) this.answer that.answer this.least that.least shape.style this.canonical that.canonical
 
-  nodes_are : query.target ≡ None → (some : Option (List ℕ)) → AreChosen roads.nodes some → reported_nodes shape.style some roads.nodes this.answer ≡ reported_nodes shape.style some roads.nodes that.answer
-  nodes_are none None are = each_same (reported_node shape.style this.answer) (reported_node shape.style that.answer) roads.nodes (λ node is_node. node_is node is_node (subst (λ t. IsAskedBy t node) (sym none) tt))
-  nodes_are none (Some nodes) are =
-      chosen_same (reported_node shape.style this.answer) (reported_node shape.style that.answer) nodes (λ k d lt. node_is (get_or nodes k d) (are k d lt) (subst (λ t. IsAskedBy t (get_or nodes k d)) (sym none) tt))
+  is_shown : {some : Option (List ℕ)} → query.target ≡ None → shape.chosen ≡ some → (node : ℕ) → IsShownOf some None node → IsShownIn shape.chosen query node
+  is_shown {some} none same node is = subst (λ t. IsShownOf shape.chosen t node) (sym none) (subst (λ chosen. IsShownOf chosen None node) (sym same) is)
+
+  nodes_are : query.target ≡ None → (some : Option (List ℕ)) → shape.chosen ≡ some → AreChosen roads.nodes some → reported_nodes shape.style some roads.nodes this.answer ≡ reported_nodes shape.style some roads.nodes that.answer
+  nodes_are none None all are =
+      each_same (reported_node shape.style this.answer) (reported_node shape.style that.answer) roads.nodes (λ node is_node. node_is node is_node (is_shown none all node tt))
+  nodes_are none (Some nodes) some are =
+      chosen_same (reported_node shape.style this.answer) (reported_node shape.style that.answer) nodes (λ k d lt. node_is (get_or nodes k d) (are k d lt) (is_shown none some (get_or nodes k d) (Contains-get_or nodes k d lt)))
 
   asked : (target : Option ℕ) → query.target ≡ target → report_text shape.style shape.chosen roads.nodes query this.answer ≡ report_text shape.style shape.chosen roads.nodes query that.answer
   asked None none =
       sym (all_text shape.style shape.chosen roads.nodes query this.answer none)
-      ∙ ap (λ t. flat_map (start_line shape.style.direction) query.sources ++ t) (nodes_are none shape.chosen chosen)
+      ∙ ap (λ t. flat_map (start_line shape.style.direction) query.sources ++ t) (nodes_are none shape.chosen refl chosen)
       ∙ all_text shape.style shape.chosen roads.nodes query that.answer none
   asked (Some target) some =
       sym (target_text shape.style shape.chosen roads.nodes query this.answer target some)
-      ∙ ap (λ t. flat_map (asked_line shape.style.direction target) query.sources ++ t) (node_is target (inside target some) (subst (λ t. IsAskedBy t target) (sym some) refl))
+      ∙ ap (λ t. flat_map (asked_line shape.style.direction target) query.sources ++ t) (node_is target (inside target some) (subst (λ t. IsShownOf shape.chosen t target) (sym some) refl))
       ∙ target_text shape.style shape.chosen roads.nodes query that.answer target some
 
 -- The same for many problems.

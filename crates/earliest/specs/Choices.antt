@@ -40,9 +40,9 @@ workers_by processors None nodes is_alone = if nat_lt nodes MANY_NODES || is_alo
 
 -- The workers of a problem: with statistics those that are counted; on few nodes one.
 abbrev pub workers_for : Option ℕ → ℕ → Bool → RunOptions → ℕ
-workers_for processors nodes is_pair options =
+workers_for processors nodes is_few options =
     if options.stats then counted_workers options
-    else (if nat_lt nodes FEW_NODES then 1 else workers_by processors options.workers nodes (options.walks || is_pair))
+    else (if nat_lt nodes FEW_NODES then 1 else workers_by processors options.workers nodes (options.walks || is_few))
 
 -- The settings of this number of workers. Turns are limited if statistics are asked for, or if the option isn't the default.
 abbrev pub settings_for : RunOptions → ℕ → Settings

@@ -128,7 +128,11 @@ pub(crate) fn answer_watched<
     }
     let queries = run_queries(alloc, &files.sources, options.joint, schedule)?;
     let shown = shown_by(options, &extras);
-    let layout = layout_for(alloc, rt, &files.road, queries.len(), options);
+    // A search for chosen nodes reads less of the network than making a layout does.
+    let layout = match shown.nodes {
+        Some(_) => None,
+        None => layout_for(alloc, rt, &files.road, queries.len(), options),
+    };
     let aids = Aids {
         prepared: None,
         layout: layout.as_ref(),

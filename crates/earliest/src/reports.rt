@@ -138,7 +138,7 @@ impl Reports<'_> {
             (Serves road.now.network shown.entry.style.walks) }
         ensures aids { self.new.progress.aids ≡ self.old.progress.aids }
     {
-        let workers = workers_of(rt, road, query, options);
+        let workers = workers_of(rt, road, query, options, shown.nodes.is_some());
         if workers == 1 && !options.stats {
             return self.progress.report_alone(alloc, road, query, shown, out);
         }

@@ -1,5 +1,5 @@
 //! Choosing how a problem is searched: by workers or by the search of one thread.
-ghost use Rattle.std.specs.Prelude.{◌≡◌, ◌≤◌, ℕ, All, IfOk, IfSome, Option, is_some, length, replicate, true, vec_len};
+ghost use Rattle.std.specs.Prelude.{◌≡◌, ◌≤◌, ◌||◌, ℕ, All, IfOk, IfSome, Option, is_some, length, replicate, true, vec_len};
 ghost use Rattle.ea_base.specs.declared.limits.TheConstants.{MOST_AT_ONCE, MOST_STARTS, MOST_WORKERS};
 ghost use Rattle.ea_road.specs.Queries.{IsProblem};
 ghost use Rattle.ea_engine.specs.Companies.{idle_with, IsIdleFor, LeavesAs};
@@ -146,8 +146,8 @@ fn workers_asked(processors: Option<usize>, workers: u32, nodes: u32) -> u32
 }
 
 /// The number of workers that search a problem without statistics, on many nodes: those that are asked for or, if the
-/// program may choose, one for each processor if that is faster. `is_alone` says that the program chooses one: walks or
-/// a single target are asked for.
+/// program may choose, one for each processor if that is faster. `is_alone` says that the program chooses one: walks,
+/// a single target or some nodes are asked for.
 fn workers_by(processors: Option<usize>, workers: Option<u64>, nodes: u32, is_alone: bool) -> u32
     requires processors { IfSome processors (λ count. 1 ≤ count) }
     requires workers { IfSome workers (λ count. (1 ≤ count) × (count ≤ MOST_WORKERS)) }
@@ -165,13 +165,13 @@ fn workers_by(processors: Option<usize>, workers: Option<u64>, nodes: u32, is_al
     }
 }
 
-/// The number of workers that search a problem on this number of nodes; `is_pair` says that a single target is asked.
-/// With statistics, those that are counted. One means the search of one thread.
-fn workers_for(processors: Option<usize>, nodes: u32, is_pair: bool, options: &RunOptions) -> u32
+/// The number of workers that search a problem on this number of nodes; `is_few` says that only a target or chosen nodes
+/// are asked, and the search of one thread ends early. With statistics, those that are counted. One means that search.
+fn workers_for(processors: Option<usize>, nodes: u32, is_few: bool, options: &RunOptions) -> u32
     requires options { AreOptions options.now }
     requires processors { IfSome processors (λ count. 1 ≤ count) }
     ensures limits { (1 ≤ result) × (result ≤ MOST_WORKERS) }
-    ensures chosen { result ≡ workers_for processors nodes is_pair options.now }
+    ensures chosen { result ≡ workers_for processors nodes is_few options.now }
 {
     if options.stats {
         return options.counted_workers() as u32;
@@ -179,27 +179,28 @@ fn workers_for(processors: Option<usize>, nodes: u32, is_pair: bool, options: &R
     if nodes < FEW_NODES {
         return 1;
     }
-    let is_alone = options.walks || is_pair;
+    let is_alone = options.walks || is_few;
     workers_by(processors, options.workers, nodes, is_alone)
 }
 
-/// The number of workers that search a problem, by the number of processors.
+/// The number of workers that search a problem, by the number of processors; `is_chosen` says that nodes are chosen.
 pub(crate) fn workers_of<H: Threads>(
     rt: &H,
     road: &Road,
     query: &Query,
     options: &RunOptions,
+    is_chosen: bool,
 ) -> u32
     requires { AreOptions options.now }
     ensures some { (1 ≤ result) × (result ≤ MOST_WORKERS) }
     ensures counted { options.now.stats ≡ true → result ≡ counted_workers options.now }
     ensures chosen { (processors : Option ℕ) × (result ≡ workers_for processors
-        road.now.network.nodes (is_some query.now.target) options.now) }
+        road.now.network.nodes (is_some query.now.target || is_chosen) options.now) }
 {
     let nodes = road.network.nodes();
-    let is_pair = query.target().is_some();
+    let is_few = query.target().is_some() || is_chosen;
     let decides = !options.stats && nodes >= FEW_NODES && options.workers.unwrap_or(2) > 1;
-    workers_for(processors_if(rt, decides), nodes, is_pair, options)
+    workers_for(processors_if(rt, decides), nodes, is_few, options)
 }
 
 /// The budget of turns if none is asked for.
