@@ -1,9 +1,10 @@
 -- The open nodes of a search without bounds. Its rules are those of a search that is led by bounds, all of which are 0.
-use Rattle.std.specs.Prelude.{ℕ, ◌<◌, ◌≤◌, List, Contains}
+use Rattle.std.specs.Prelude.{ℕ, ◌-◌, ◌<◌, ◌≤◌, List, Contains}
 use Rattle.std.specs.Ordering.{nat_cmp, ordering_then}
 use Rattle.std.specs.declared.cmp.Ordering.{Ordering}
 use Rattle.ea_goal.specs.Frontiers.{Waits}
 use Rattle.ea_goal.specs.declared.frontier.Entry.{Entry as Met}
+use Rattle.ea_road.specs.declared.TheConstants.{NONE}
 use Rattle.ea_road.specs.Labels.{label_of}
 use Rattle.ea_asked.specs.declared.frontier.Entry.{Entry}
 
@@ -11,9 +12,9 @@ use Rattle.ea_asked.specs.declared.frontier.Entry.{Entry}
 abbrev pub no_bound : ℕ → ℕ
 no_bound node = 0
 
--- An entry as those rules have it. They read its label and its node.
+-- An entry as those rules have it: its label is its key.
 abbrev pub met : Entry → Met
-met entry = record { nearness = 0; label = entry.label; node = entry.node }
+met entry = record { nearness = NONE - entry.label; label = entry.label; node = entry.node }
 
 -- The order of entries: by label, then by node.
 abbrev pub entry_order : Entry → Entry → Ordering

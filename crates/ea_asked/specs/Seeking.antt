@@ -1,10 +1,14 @@
 -- What a search for some nodes does, and what it leaves.
 use Rattle.std.specs.Prelude.{ℕ, ◌+◌, ◌<◌, ◌≤◌, List, Contains, length, slice_index, sum}
 use Rattle.ea_goal.specs.Led.{IsLedTo}
+use Rattle.ea_goal.specs.Scans.{Follows, Offers, Scans, ScansTo}
+use Rattle.ea_goal.specs.Seeds.{AreSeeded}
 use Rattle.ea_goal.specs.Visits.{AreOpenNodes, Leads, Visits}
 use Rattle.ea_goal.specs.declared.frontier.Entry.{Entry as Met}
 use Rattle.ea_road.specs.Labels.{label_of}
 use Rattle.ea_road.specs.Roads.{IsNode, Roads}
+use Rattle.ea_road.specs.declared.arc.Arc.{Arc}
+use Rattle.ea_road.specs.declared.leaving_arc.LeavingArc.{LeavingArc}
 use Rattle.ea_road.specs.declared.source.Source.{Source}
 use Rattle.ea_asked.specs.Open.{IsOver, no_bound}
 use Rattle.ea_asked.specs.declared.passed.Passed.{Passed}
@@ -13,6 +17,26 @@ use Rattle.ea_asked.specs.declared.passed.Passed.{Passed}
 pub record IsPassed (table asked : List ℕ) (passed : Passed) : Type 0 where
   pub inside : passed.count ≤ length asked
   pub below : (place : ℕ) → place < passed.count → label_of table (slice_index asked place) < passed.time
+
+-- Whichever node is the target: one node was offered a time.
+abbrev pub OffersFor : List ℕ → List Met → List ℕ → List Met → ℕ → ℕ → Type 0
+OffersFor table entries new_table new_entries node time = (target : ℕ) → 0 < target → Offers target no_bound table entries new_table new_entries node time
+
+-- An arc was left at a departure.
+abbrev pub FollowsFor : (ℕ → ℕ → ℕ → ℕ → Type 0) → List ℕ → List Met → List ℕ → List Met → Arc → ℕ → Type 0
+FollowsFor answers table entries new_table new_entries arc departure = (target : ℕ) → 0 < target → Follows answers target no_bound table entries new_table new_entries arc departure
+
+-- The first arcs from a node were left at a departure.
+abbrev pub ScansToFor : Roads → (ℕ → ℕ → ℕ → ℕ → Type 0) → List ℕ → List Met → List ℕ → List Met → ℕ → ℕ → List LeavingArc → ℕ → Type 0
+ScansToFor roads answers table entries new_table new_entries node departure arcs to = (target : ℕ) → 0 < target → ScansTo roads answers target no_bound table entries new_table new_entries node departure arcs to
+
+-- All of them were.
+abbrev pub ScansFor : Roads → (ℕ → ℕ → ℕ → ℕ → Type 0) → List ℕ → List Met → List ℕ → List Met → ℕ → ℕ → Type 0
+ScansFor roads answers table entries new_table new_entries node departure = (target : ℕ) → 0 < target → Scans roads answers target no_bound table entries new_table new_entries node departure
+
+-- The first sources were offered their departures.
+abbrev pub AreSeededFor : ℕ → List Source → List ℕ → List Met → ℕ → Type 0
+AreSeededFor nodes sources table entries count = (target : ℕ) → 0 < target → AreSeeded nodes sources target no_bound table entries count
 
 -- An open node was visited, whichever node is the target.
 pub record VisitsFor (roads : Roads) (answers : ℕ → ℕ → ℕ → ℕ → Type 0) (table : List ℕ) (entries : List Met) (new_table : List ℕ) (new_entries : List Met) (entry : Met) : Type 0 where

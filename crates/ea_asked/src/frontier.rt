@@ -53,7 +53,7 @@ impl Frontier {
 
     /// Opens a node with its label. An error comes only if memory was refused.
     pub(crate) fn open(&mut self, label: u64, node: u32) -> Result<(), AllocError>
-        ensures { OnOk result (Opens self.old self.new label node) }
+        ensures { OnOk result (Opens self.old self.new label node label) }
     {
         self.heap.push(Reverse(Entry { label, node }))?;
         Ok(())

@@ -5,12 +5,10 @@ ghost use Rattle.ea_road.specs.Labels.{label_of};
 ghost use Rattle.ea_road.specs.Roads.{IsArc, IsNode, top_class};
 ghost use Rattle.ea_road.specs.declared.TheConstants.{NONE};
 ghost use Rattle.ea_search.specs.Links.{AreStarts};
-ghost use Rattle.ea_goal.specs.Frontiers.{Takes};
-ghost use Rattle.ea_goal.specs.Scans.{Follows, Offers, Scans};
-ghost use Rattle.ea_goal.specs.Seeds.{AreSeeded};
+ghost use Rattle.ea_goal.specs.Frontiers.{AreKeyed, Takes};
 ghost use Rattle.ea_goal.specs.Visits.{AreOpenNodes, KeepsReached};
 ghost use Rattle.ea_asked.specs.Open.{IsOver, met, no_bound};
-ghost use Rattle.ea_asked.specs.Seeking.{AreLedTo, EndsFor, IsPassed, VisitsFor};
+ghost use Rattle.ea_asked.specs.Seeking.{AreLedTo, AreSeededFor, EndsFor, FollowsFor, IsPassed, OffersFor, ScansFor, VisitsFor};
 
 use crate::frontier::{Entry, Frontier};
 use crate::passed::Passed;
@@ -35,7 +33,7 @@ impl Underway {
         requires in_table { node ≤ length self.old.table.labels.items }
         requires time { time ≤ HORIZON }
         ensures reached { KeepsReached self.old.table self.new.table }
-        ensures offers { OnOk result (Offers no_bound self.old.table.labels.items self.old.frontier
+        ensures offers { OnOk result (OffersFor self.old.table.labels.items self.old.frontier
             self.new.table.labels.items self.new.frontier node time) }
     {
         let slot = node as usize - 1;
@@ -61,7 +59,7 @@ impl Underway {
         requires departure { departure ≤ HORIZON }
         requires table { length self.old.table.labels.items ≡ network.now.nodes }
         ensures reached { KeepsReached self.old.table self.new.table }
-        ensures follows { OnOk result (Follows (T.answers times.now) no_bound
+        ensures follows { OnOk result (FollowsFor (T.answers times.now)
             self.old.table.labels.items self.old.frontier
             self.new.table.labels.items self.new.frontier arc departure) }
     {
@@ -87,7 +85,7 @@ impl Underway {
         requires departure { departure ≤ HORIZON }
         requires table { length self.old.table.labels.items ≡ network.now.nodes }
         ensures reached { KeepsReached self.old.table self.new.table }
-        ensures scans { OnOk result (Scans network.now (T.answers times.now) no_bound
+        ensures scans { OnOk result (ScansFor network.now (T.answers times.now)
             self.old.table.labels.items self.old.frontier
             self.new.table.labels.items self.new.frontier node departure) }
     {
@@ -154,6 +152,7 @@ impl Underway {
     ) -> Result<(), AllocError>
         requires asked { All (IsNode network.now.nodes) asked.now }
         requires nodes { AreOpenNodes network.now.nodes self.old.frontier }
+        requires keyed { AreKeyed no_bound self.old.frontier }
         requires classes { top_class network.now.arcs ≤ T.classes times.now }
         requires table { length self.old.table.labels.items ≡ network.now.nodes }
         ensures reached { KeepsReached self.old.table self.new.table }
@@ -174,7 +173,7 @@ impl Underway {
         requires labels { self.old.table.labels.items ≡ replicate network.now.nodes NONE }
         requires none { self.old.frontier ≡ [] }
         ensures reached { KeepsReached self.old.table self.new.table }
-        ensures seeded { OnOk result (AreSeeded network.now.nodes sources.now no_bound
+        ensures seeded { OnOk result (AreSeededFor network.now.nodes sources.now
             self.new.table.labels.items self.new.frontier (length sources.now)) }
     {
         for source in sources {

@@ -1,8 +1,9 @@
-use Rattle.std.proofs.Common.{arith, get_or, length, ◌<◌, ◌∙◌, ℕ, List, ap}
+use Rattle.std.proofs.Common.{arith, get_or, length, ◌<◌, ◌≡◌, ◌∙◌, ℕ, List, ap, subst}
 use Rattle.std.specs.List.{IsAmong}
 use Rattle.std.proofs.lemmas.List.{get_or_default, length-replicate}
 use Rattle.ea_road.specs.declared.TheConstants.{NONE}
 use Rattle.ea_road.specs.declared.source.Source.{Source}
+use Rattle.ea_goal.specs.Seeds.{AreSeeded}
 use Rattle.ea_goal.proofs.Reaching.{reached_none, reached_then}
 use Rattle.ea_goal.proofs.Seeding.{seeded_more, seeded_none}
 use Rattle.ea_asked.specs.Open.{no_bound}
@@ -17,7 +18,7 @@ among_at sources place inside = (place, (inside, get_or_default sources place no
 pub loop-source-init : goal.loop-source-init
 loop-source-init c = record {
   reached = reached_none c.args.self.now.table;
-  seeded = seeded_none c.args.network.now.nodes c.args.sources.now no_bound c.args.self.now.table.labels.items c.args.self.now.frontier c.requires.labels c.requires.none;
+  seeded = λ target from. seeded_none c.args.network.now.nodes c.args.sources.now target no_bound c.args.self.now.table.labels.items c.args.self.now.frontier c.requires.labels c.requires.none;
 }
 
 pub loop-source-preserved : goal.loop-source-preserved
@@ -26,7 +27,7 @@ loop-source-preserved c =
     let place = c.loop-source.source-index in
     record {
       reached = reached_then c.args.self.now.table c.loop-source.self.table c.offer.new.self.table so_far.reached c.offer.ensures.reached;
-      seeded = seeded_more c.args.network.now.nodes c.args.sources.now no_bound c.loop-source.self.table.labels.items c.offer.new.self.table.labels.items c.loop-source.self.frontier c.offer.new.self.frontier place none c.loop-source-test.true c.requires.sources c.in_ok-offer.ensures.offers so_far.seeded;
+      seeded = λ target from. seeded_more c.args.network.now.nodes c.args.sources.now target no_bound c.loop-source.self.table.labels.items c.offer.new.self.table.labels.items c.loop-source.self.frontier c.offer.new.self.frontier place none c.loop-source-test.true from c.requires.sources (c.in_ok-offer.ensures.offers target from) (so_far.seeded target from);
     }
 
 pub offer-requires-clause-from_one : goal.offer-requires-clause-from_one
@@ -45,3 +46,8 @@ pub offer-requires-clause-time : goal.offer-requires-clause-time
 offer-requires-clause-time c =
     let start = c.requires.sources _ (among_at c.args.sources.now c.loop-source.source-index c.loop-source-test.true) in
     start.1
+
+pub returns-clause-seeded : goal.returns-clause-seeded
+returns-clause-seeded c = λ target from.
+    let all : c.loop-source.source-index ≡ length c.args.sources.now = omega (arith, c.loop-source-test.false, c.loop-source.auto.source-index-end) in
+    subst (λ k. AreSeeded c.args.network.now.nodes c.args.sources.now target no_bound c.loop-source.self.table.labels.items c.loop-source.self.frontier k) all (c.loop-source.invariant.seeded target from)

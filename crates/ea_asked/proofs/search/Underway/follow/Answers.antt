@@ -16,7 +16,7 @@ returns-then-arrival-gt-HORIZON-clause-follows g c =
     let fifo = g.met.T.TravelTimes.fifo c.args.times.now in
     let question = is_question c.args.network.now (g.T.TravelTimes.classes c.args.times.now) c.requires.arc.0 c.args.departure arc c.keeps_limits.ensures c.requires.classes c.requires.arc.1 c.requires.departure in
     let answer = rw c.from.ensures at c.arrive-arrival.ensures in
-    follows_late answers no_bound c.args.self.now.table.labels.items c.args.self.now.frontier arc c.args.departure c.arrive-arrival.result answer (λ other is. fifo.in_order arc.class arc.weight c.args.departure c.args.departure c.arrive-arrival.result other question question answer is (omega arith)) c.if-arrival-gt-HORIZON.true
+    λ target from. follows_late answers target no_bound c.args.self.now.table.labels.items c.args.self.now.frontier arc c.args.departure c.arrive-arrival.result answer (λ other is. fifo.in_order arc.class arc.weight c.args.departure c.args.departure c.arrive-arrival.result other question question answer is (omega arith)) c.if-arrival-gt-HORIZON.true
 
 pub returns-clause-follows : goal.returns-clause-follows
 returns-clause-follows g c =
@@ -25,4 +25,4 @@ returns-clause-follows g c =
     let fifo = g.met.T.TravelTimes.fifo c.args.times.now in
     let question = is_question c.args.network.now (g.T.TravelTimes.classes c.args.times.now) c.requires.arc.0 c.args.departure arc c.keeps_limits.ensures c.requires.classes c.requires.arc.1 c.requires.departure in
     let answer = rw c.from.ensures at c.arrive-arrival.ensures in
-    follows_offered answers no_bound c.args.self.now.table.labels.items c.args.self.now.frontier arc c.args.departure c.arrive-arrival.result answer (λ other is. fifo.in_order arc.class arc.weight c.args.departure c.args.departure c.arrive-arrival.result other question question answer is (omega arith)) c.offer.new.self.table.labels.items c.offer.new.self.frontier c.if-arrival-gt-HORIZON.false c.in_ok-offer.ensures.offers
+    λ target from. follows_offered answers target no_bound c.args.self.now.table.labels.items c.args.self.now.frontier arc c.args.departure c.arrive-arrival.result answer (λ other is. fifo.in_order arc.class arc.weight c.args.departure c.args.departure c.arrive-arrival.result other question question answer is (omega arith)) c.offer.new.self.table.labels.items c.offer.new.self.frontier c.if-arrival-gt-HORIZON.false (c.in_ok-offer.ensures.offers target from)

@@ -1,16 +1,24 @@
-use Rattle.std.proofs.Common.{subst, sym, List}
+use Rattle.std.proofs.Common.{rules, subst, sym, List, ◌-◌}
 use Rattle.ea_goal.specs.declared.frontier.Entry.{Entry as Met}
 use Rattle.ea_goal.specs.Visits.{KeepsReached}
-use Rattle.ea_goal.proofs.Reaching.{reached_then}
+use Rattle.ea_road.specs.declared.TheConstants.{NONE}
+use Rattle.ea_goal.proofs.Reaching.{reached_none, reached_then}
 use Rattle.ea_search.specs.declared.labels.table.Reached.{Reached}
 use Rattle.ea_asked.specs.Open.{met}
 use Rattle.ea_asked.specs.Seeking.{EndsFor, LeadsFor}
-use Rattle.ea_asked.proofs.Ending.{one_more_visited}
+use Rattle.ea_asked.proofs.Ending.{none_visited, one_more_visited}
 use Rattle.ea_asked.proofs.Passing.{passed_lower}
 use Rattle.ea_asked.proofs.search.Underway.run.Goals as goal
 
 pub visit-requires-clause-node : goal.visit-requires-clause-node
-visit-requires-clause-node g c = c.loop-entry.invariant.leads.nodes c.in-Some.entry.label c.in-Some.entry.node c.in-Some.ensures.taken.here
+visit-requires-clause-node g c = c.loop-entry.invariant.leads.nodes c.in-Some.entry.label c.in-Some.entry.node (record { nearness = NONE - c.in-Some.entry.label; there = c.in-Some.ensures.taken.here })
+
+pub loop-entry-init : goal.loop-entry-init
+loop-entry-init g c = record {
+  reached = reached_none c.args.self.now.table;
+  leads = none_visited c.args.network.now (g.T.TravelTimes.answers c.args.times.now) c.args.self.now.table.labels.items c.args.self.now.frontier c.requires.nodes c.requires.keyed;
+  passed = search rules;
+}
 
 pub loop-entry-preserved : goal.loop-entry-preserved
 loop-entry-preserved g c =

@@ -4,10 +4,10 @@ use Rattle.ea_road.specs.Roads.{AreSideBySide, leaving, with_tail}
 use Rattle.ea_road.specs.declared.arc.Arc.{Arc}
 use Rattle.ea_road.specs.declared.leaving_arc.LeavingArc.{LeavingArc}
 use Rattle.ea_road.proofs.ByTail.{arc_beside}
-use Rattle.ea_goal.specs.Scans.{Follows}
 use Rattle.ea_goal.proofs.Reaching.{reached_none, reached_then}
 use Rattle.ea_goal.proofs.Scanning.{scans_all, scans_more, scans_none}
 use Rattle.ea_asked.specs.Open.{no_bound}
+use Rattle.ea_asked.specs.Seeking.{FollowsFor}
 use Rattle.ea_asked.proofs.search.Underway.scan.Goals as goal
 
 abbrev none : LeavingArc
@@ -16,7 +16,7 @@ none = record { head = 0; weight = 0; class = 0 }
 pub loop-place-init : goal.loop-place-init
 loop-place-init g c = record {
   reached = reached_none c.args.self.now.table;
-  scans = scans_none c.args.network.now (g.T.TravelTimes.answers c.args.times.now) no_bound c.args.self.now.table.labels.items c.args.self.now.frontier c.args.node c.args.departure c.leaving.result.arcs.now;
+  scans = λ target from. scans_none c.args.network.now (g.T.TravelTimes.answers c.args.times.now) target no_bound c.args.self.now.table.labels.items c.args.self.now.frontier c.args.node c.args.departure c.leaving.result.arcs.now;
 }
 
 pub follow-requires-clause-arc : goal.follow-requires-clause-arc
@@ -35,11 +35,11 @@ loop-place-preserved g c =
     let here : LeavingArc = get_or arcs place none in
     let found = slice_get-get_or arcs place none c.loop-place-test.true in
     let is = arc_beside roads c.args.node c.leaving.result.numbers.now arcs place none c.leaving.ensures.arcs c.loop-place-test.true in
-    let follows : Follows answers no_bound c.loop-place.self.table.labels.items c.loop-place.self.frontier c.follow.new.self.table.labels.items c.follow.new.self.frontier (with_tail here c.args.node) c.args.departure =
-    subst (λ (a : Arc). Follows answers no_bound c.loop-place.self.table.labels.items c.loop-place.self.frontier c.follow.new.self.table.labels.items c.follow.new.self.frontier a c.args.departure) c.with_tail-arc.ensures c.in_ok-follow.ensures.follows in
+    let follows : FollowsFor answers c.loop-place.self.table.labels.items c.loop-place.self.frontier c.follow.new.self.table.labels.items c.follow.new.self.frontier (with_tail here c.args.node) c.args.departure =
+    subst (λ (a : Arc). FollowsFor answers c.loop-place.self.table.labels.items c.loop-place.self.frontier c.follow.new.self.table.labels.items c.follow.new.self.frontier a c.args.departure) c.with_tail-arc.ensures c.in_ok-follow.ensures.follows in
     record {
       reached = reached_then c.args.self.now.table c.loop-place.self.table c.follow.new.self.table so_far.reached c.follow.ensures.reached;
-      scans = scans_more roads c.keeps_limits.ensures answers no_bound c.args.node c.args.departure arcs beside c.args.self.now.table.labels.items c.loop-place.self.table.labels.items c.follow.new.self.table.labels.items c.args.self.now.frontier c.loop-place.self.frontier c.follow.new.self.frontier place (get_or c.leaving.result.numbers.now place 0) here found is so_far.scans follows;
+      scans = λ target from. scans_more roads c.keeps_limits.ensures answers target no_bound from c.args.node c.args.departure arcs beside c.args.self.now.table.labels.items c.loop-place.self.table.labels.items c.follow.new.self.table.labels.items c.args.self.now.frontier c.loop-place.self.frontier c.follow.new.self.frontier place (get_or c.leaving.result.numbers.now place 0) here found is (so_far.scans target from) (follows target from);
     }
 
 pub returns-clause-scans : goal.returns-clause-scans
@@ -47,7 +47,7 @@ returns-clause-scans g c =
     let roads = c.args.network.now in
     let arcs = c.leaving.result.arcs.now in
     let beside : AreSideBySide roads c.args.node (leaving roads c.args.node) arcs = subst (λ (xs : List ℕ). AreSideBySide roads c.args.node xs arcs) c.leaving.ensures.numbers c.leaving.ensures.arcs in
-    scans_all roads c.keeps_limits.ensures (g.T.TravelTimes.answers c.args.times.now) no_bound c.args.node c.args.departure arcs beside c.args.self.now.table.labels.items c.loop-place.self.table.labels.items c.args.self.now.frontier c.loop-place.self.frontier c.loop-place.place (omega arith) c.loop-place.invariant.scans
+    λ target from. scans_all roads c.keeps_limits.ensures (g.T.TravelTimes.answers c.args.times.now) target no_bound from c.args.node c.args.departure arcs beside c.args.self.now.table.labels.items c.loop-place.self.table.labels.items c.args.self.now.frontier c.loop-place.self.frontier c.loop-place.place (omega arith) (c.loop-place.invariant.scans target from)
 
 pub returns-in_err-follow-clause-reached : goal.returns-in_err-follow-clause-reached
 returns-in_err-follow-clause-reached g c = reached_then c.args.self.now.table c.loop-place.self.table c.follow.new.self.table c.loop-place.invariant.reached c.follow.ensures.reached

@@ -1,7 +1,14 @@
 use Rattle.std.proofs.lemmas.List.Elements.{All-contains}
 use Rattle.ea_road.specs.Roads.{IsNode}
+use Rattle.std.proofs.Common.{arith}
 use Rattle.ea_asked.proofs.Ending.{led_to_each}
 use Rattle.ea_asked.proofs.search.Underway.seek.Goals as goal
+
+pub run-requires-clause-nodes : goal.run-requires-clause-nodes
+run-requires-clause-nodes g c = (c.in_ok-begin.ensures.seeded 1 (omega arith)).are_nodes
+
+pub run-requires-clause-keyed : goal.run-requires-clause-keyed
+run-requires-clause-keyed g c = (c.in_ok-begin.ensures.seeded 1 (omega arith)).keyed
 
 pub returns-clause-led : goal.returns-clause-led
 returns-clause-led g c =

@@ -1,8 +1,8 @@
 use Rattle.std.proofs.Common.{arith, subst, sym, ◌-◌, ◌∙◌}
 use Rattle.ea_road.specs.Labels.{label_of}
 use Rattle.ea_hierarchy.proofs.Finding.{read_at}
-use Rattle.ea_goal.specs.Scans.{Scans}
-use Rattle.ea_asked.specs.Open.{met, no_bound}
+use Rattle.ea_asked.specs.Open.{met}
+use Rattle.ea_asked.specs.Seeking.{ScansFor}
 use Rattle.ea_asked.proofs.Ending.{visits_fresh, visits_stale}
 use Rattle.ea_asked.proofs.search.Underway.visit.Goals as goal
 
@@ -27,6 +27,6 @@ returns-clause-visits g c =
     let after = c.scan.new.self.table.labels.items in
     let last = c.scan.new.self.frontier in
     let read = read_at table (c.args.entry.node - 1) c.index-label.result.now (omega (arith, c.requires.node.from_one, c.requires.node.to_last, c.requires.table)) c.index-label.ensures in
-    let scans : Scans roads answers no_bound table entries after last c.args.entry.node (label_of table c.args.entry.node) =
-    subst (λ t. Scans roads answers no_bound table entries after last c.args.entry.node t) (sym read) c.in_ok-scan.ensures.scans in
+    let scans : ScansFor roads answers table entries after last c.args.entry.node (label_of table c.args.entry.node) =
+    subst (λ t. ScansFor roads answers table entries after last c.args.entry.node t) (sym read) c.in_ok-scan.ensures.scans in
     visits_fresh roads answers table entries (met c.args.entry) after last c.keeps_limits.ensures c.requires.node (omega (arith, read, c.if-label-gt-HORIZON.false)) scans
