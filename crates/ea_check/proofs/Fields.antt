@@ -55,7 +55,7 @@ pub fields_line : (word : List ℕ) (fields : List (List ℕ)) → IsField word 
 fields_line word fields is are = ap (filter (λ part. nat_lt 0 (length part))) (split_all word fields is.clear are) ∙ all_some (word ∷ fields) (is, are)
 
 -- digits are clear
-digits_clear : (ds : List ℕ) → all_ascii_digits ds ≡ true → Clear ds
+pub digits_clear : (ds : List ℕ) → all_ascii_digits ds ≡ true → Clear ds
 digits_clear [] digits = tt
 digits_clear (d ∷ ds) digits = digit_clear d (digits_clear ds (and_right (is_ascii_digit d) (all_ascii_digits ds) digits)) (and_left (is_ascii_digit d) (all_ascii_digits ds) digits)
   where

@@ -1,5 +1,5 @@
 -- What kept lines say, as more are kept and as walks are read.
-use Rattle.std.proofs.Common.{◌≡◌, ◌∙◌, refl, ℕ, zero, suc, ◌+◌, ◌-◌, ◌<◌, ◌≤◌, List, [], ◌∷◌, ◌++◌, length, take, drop, replicate, get_or, inl, inr, min, arith, ap, sym, subst, append_assoc, length-append, length-drop}
+use Rattle.std.proofs.Common.{◌≡◌, ◌∙◌, refl, ℕ, zero, suc, ◌+◌, ◌-◌, ◌<◌, ◌≤◌, List, [], ◌∷◌, ◌++◌, length, take, drop, replicate, get_or, inl, inr, min, arith, ap, sym, subst, append_assoc, append-nil, length-append, length-drop}
 use Rattle.std.proofs.Math.Seq.{take-length, drop-append_seam, drop-nil, take-nil}
 use Rattle.std.proofs.lemmas.List.{drop-append-le, length-map, length-reverse, take-append-le}
 use Rattle.std.specs.Prelude.{Option, Some, None, slice_get}
@@ -14,6 +14,7 @@ use Rattle.ea_check.specs.declared.form.walk_reader.WalkReader.{WalkReader}
 use Rattle.ea_check.specs.WalksLeft.{IsAtNode, ReadsNext}
 use Rattle.ea_check.specs.Verdicts.{Said, IsSaid, WrittenWalk, times_of}
 use Rattle.ea_check.proofs.SharedTexts.{own_alone, drop_drop as drops}
+use Rattle.ea_check.specs.Runs.{numbers, saids}
 use Rattle.ea_check.specs.Views.{AreKept, IsLastText, Keeps, KeepsTime, KeepsWalk, arcs_kept, last_from, own_count, said_from, said_kept}
 
 -- ---- the times and the numbers of lines
@@ -225,6 +226,39 @@ module _ (old new : Kept) (are : AreKept old) (line time : ℕ) where
               ∙ ap (λ n. said_from [] (old.own.items ++ kept.own) padded old.lines.items old.table.items ++ record { line = line; time = time; walk = Some (record { line = n; arcs = arcs }) } ∷ []) kept.number
               ∙ ap (λ (ss : List Said). ss ++ record { line = line; time = time; walk = Some (record { line = number; arcs = arcs }) } ∷ []) (said_more [] old.own.items kept.own padded old.lines.items old.table.items enough ∙ pad_said [] old.own.items old.walks.items pads old.lines.items old.table.items));
         }
+
+-- ---- what is kept after more nodes without walks
+
+pub numbers_more : (number count : ℕ) → numbers number (count + 1) ≡ numbers number count ++ (number + count) ∷ []
+numbers_more number zero = ap (λ n. n ∷ []) (omega arith)
+numbers_more number (suc count) =
+    let next : suc count + 1 ≡ suc (count + 1) = omega arith in
+    ap (numbers number) next ∙ ap (λ (ns : List ℕ). number ∷ ns) (numbers_more (number + 1) count) ∙ ap (λ n. number ∷ (numbers (number + 1) count ++ n ∷ [])) (omega arith)
+
+said_run : (last own : List ℕ) (walks : List (Option KeptWalk)) (lines times : List ℕ) (number : ℕ) (more : List ℕ) → length walks ≤ length lines → length times ≡ length lines → said_from last own walks (lines ++ numbers number (length more)) (times ++ more) ≡ said_from last own walks lines times ++ saids number more
+said_run last own walks lines times number [] few sizes = rw (append-nil, append-nil, append-nil) refl
+said_run last own walks lines times number (time ∷ more) few sizes =
+    let here : Said = record { line = number; time = time; walk = None } in
+    ap (λ (ls : List ℕ). said_from last own walks ls (times ++ time ∷ more)) (sym (append_assoc lines (number ∷ []) (numbers (number + 1) (length more))))
+    ∙ ap (λ (ts : List ℕ). said_from last own walks ((lines ++ number ∷ []) ++ numbers (number + 1) (length more)) ts) (sym (append_assoc times (time ∷ []) more))
+    ∙ said_run last own walks (lines ++ number ∷ []) (times ++ time ∷ []) (number + 1) more (omega (arith, length-append lines (number ∷ []))) (omega (arith, length-append lines (number ∷ []), length-append times (time ∷ [])))
+    ∙ ap (λ (ss : List Said). ss ++ saids (number + 1) more) (said_none last own walks lines times number time few sizes)
+    ∙ append_assoc (said_from last own walks lines times) (here ∷ []) (saids (number + 1) more)
+
+numbers_length : (number count : ℕ) → length (numbers number count) ≡ count
+numbers_length number zero = refl
+numbers_length number (suc count) = let rest = numbers_length (number + 1) count in omega (arith, rest)
+
+pub keeps_run : (old new : Kept) (number : ℕ) (times : List ℕ) → AreKept old → new.lines.items ≡ old.lines.items ++ numbers number (length times) → new.table.items ≡ old.table.items ++ times → new.walks.items ≡ old.walks.items → new.own.items ≡ old.own.items → new.text.items ≡ old.text.items → new.way ≡ old.way → Keeps (said_kept old ++ saids number times) new
+keeps_run old new number times are lines table walks own text way = record {
+  are = record {
+    times = omega (arith, ap (λ (xs : List ℕ). length xs) table, ap (λ (xs : List ℕ). length xs) lines, length-append old.table.items times, length-append old.lines.items (numbers number (length times)), numbers_length number (length times), are.times);
+    few = omega (arith, are.few, ap (λ (xs : List ℕ). length xs) lines, length-append old.lines.items (numbers number (length times)), ap (λ (ws : List (Option KeptWalk)). length ws) walks);
+    own = ap own_count walks ∙ are.own ∙ ap (λ (xs : List ℕ). length xs) (sym own);
+    last = rw (own, walks, text, way) are.last;
+  };
+  view = rw (own, walks, lines, table) (said_run [] old.own.items old.walks.items old.lines.items old.table.items number times are.few are.times);
+}
 
 -- what a walk shares with the last one
 pub own_after : (way : Direction) (text : List ℕ) (kept : Kept) (other : List ℕ) (start end : ℕ) → IsLastText way kept other → IsOwnPart way text (arcs_in way other) start end → IsOwnPart way text (arcs_in kept.way kept.text.items) start end

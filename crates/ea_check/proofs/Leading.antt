@@ -30,7 +30,7 @@ no_blank_so_far (b ∷ bs) (suc i) h e (suc k) below = no_blank_so_far bs i (ome
 small_is_itself : (n : ℕ) → n < 2 ^ 32 → arc_number n ≡ n
 small_is_itself n small = ap (λ t. cond t n 0) (lt-ltb n (2 ^ 32) small)
 
-rest_of : (text : List ℕ) (i : ℕ) → i < length text → take (length text - (i + 1)) (drop (i + 1) text) ≡ drop (suc i) text
+pub rest_of : (text : List ℕ) (i : ℕ) → i < length text → take (length text - (i + 1)) (drop (i + 1) text) ≡ drop (suc i) text
 rest_of text i inside = rw add-one (grind (arith, common_steps))
 
 -- Digits to the first blank are the number that a line begins with.

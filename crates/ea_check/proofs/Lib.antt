@@ -28,3 +28,5 @@ pub mod Onward
 pub mod Streaming
 pub mod Stopping
 pub mod Streamed
+pub mod Runs
+pub mod Ahead

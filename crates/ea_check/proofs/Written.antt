@@ -62,7 +62,7 @@ no_return (b ∷ bs) (suc place) plain = no_return bs place plain.2
 kept : (bs : List ℕ) → Plain bs → strip_carriage_return bs ≡ bs
 kept bs plain = ap (λ t. cond t (take (length bs - 1) bs) bs) (ne_eqb (get_or bs (length bs - 1) 0) 13 (no_return bs (length bs - 1) plain))
 
-line_cut : (word : List ℕ) (fields : List (List ℕ)) (rest : List ℕ) → IsField word → AreFields fields → field_lines (line word fields ++ rest) ≡ (word ∷ fields) ∷ field_lines rest
+pub line_cut : (word : List ℕ) (fields : List (List ℕ)) (rest : List ℕ) → IsField word → AreFields fields → field_lines (line word fields ++ rest) ≡ (word ∷ fields) ∷ field_lines rest
 line_cut word fields rest is are =
     let body : List ℕ = word ++ flat_map spaced fields in
     let plain = plain_more word (flat_map spaced fields) (plain_of word is.clear) (plain_fields fields are) in
@@ -82,7 +82,7 @@ word_field b feed return blank = record { clear = (feed, return, blank, tt); som
 s_field : IsField (codes "s")
 s_field = word_field 115 (λ same. omega arith) (λ same. omega arith) refl
 
-d_field : IsField (codes "d")
+pub d_field : IsField (codes "d")
 d_field = word_field 100 (λ same. omega arith) (λ same. omega arith) refl
 
 w_field : IsField (codes "w")

@@ -17,3 +17,5 @@ pub mod Stops
 pub mod Supported
 pub mod Paths
 pub mod Passing
+pub mod Runs
+pub mod Ahead

@@ -73,10 +73,18 @@ fn check_lines<T: TravelTimes, R: ByteIn, V: Watch>(
 {
     let nodes = network.nodes();
     let mut reported = Reported::new(alloc);
+    let mut times_ahead = Vec::new(alloc);
     let mut verdict = Ok(());
     let mut done = 0;
     for query in queries {
-        read_problem(lines, device, nodes, query.sources(), &mut reported)?;
+        read_problem(
+            lines,
+            device,
+            nodes,
+            query.sources(),
+            &mut times_ahead,
+            &mut reported,
+        )?;
         verdict = check_next(verdict, alloc, network, times, query, &reported);
         done += 1;
         watch.checked(nodes as usize, reported.walks());

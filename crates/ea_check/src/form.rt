@@ -4,6 +4,7 @@ pub mod kept;
 pub mod leading_number;
 pub mod line_form;
 pub mod number_count;
+pub mod plain_lines;
 pub mod problem;
 pub mod report_lines;
 pub mod reported;

@@ -1,7 +1,8 @@
 //! How the lines on the nodes of one problem are kept.
-ghost use Rattle.std.specs.Prelude.{◌≡◌, ◌-◌, ◌≤◌, ◌++◌, ◌∷◌, [], IfErr, None, OnOk, Some, length, replicate};
+ghost use Rattle.std.specs.Prelude.{◌≡◌, ◌+◌, ◌-◌, ◌<◌, ◌≤◌, ◌^◌, ◌++◌, ◌∷◌, [], IfErr, None, OnOk, Some, length, replicate};
 ghost use Rattle.ea_bytes.specs.Text.{fields_of};
 ghost use Rattle.ea_check.specs.declared.fault.CheckFault.TheVariants.{OutOfMemory};
+ghost use Rattle.ea_check.specs.Runs.{numbers, saids};
 ghost use Rattle.ea_check.specs.Shared.{IsOwnPart, arcs_in};
 ghost use Rattle.ea_check.specs.Views.{AreKept, HasCount, IsLastText, Keeps, KeepsTime, KeepsWalk, arcs_said, said_kept, said_of, walk_of};
 
@@ -164,6 +165,30 @@ fn keep_time(kept: &mut Kept, line: u64, time: u64) -> Result<(), CheckFault>
 {
     kept.lines.push(line)?;
     kept.table.push(time)?;
+    Ok(())
+}
+
+/// Keeps this many numbers of lines, from this one on.
+fn keep_numbers(lines: &mut Vec<u64>, number: u64, count: usize) -> Result<(), CheckFault>
+    requires { number + count < 2 ^ 64 }
+    ensures kept { OnOk result (lines.new.items ≡ lines.old.items ++ numbers number count) }
+    ensures refused { IfErr result (λ fault. fault ≡ OutOfMemory) }
+{
+    for place in 0..count {
+        lines.push(number + place as u64)?;
+    }
+    Ok(())
+}
+
+/// Keeps the times of the next nodes, which have no walks. Their lines follow each other from this one on.
+pub(crate) fn keep_run(kept: &mut Kept, number: u64, times: &[u64]) -> Result<(), CheckFault>
+    requires kept { AreKept kept.old }
+    requires numbers { number + length times.now < 2 ^ 64 }
+    ensures kept { OnOk result (Keeps (said_kept kept.old ++ saids number times.now) kept.new) }
+    ensures refused { IfErr result (λ fault. fault ≡ OutOfMemory) }
+{
+    keep_numbers(&mut kept.lines, number, times.len())?;
+    kept.table.extend_from_slice(times)?;
     Ok(())
 }
 

@@ -60,7 +60,7 @@ fn none_word(way: Direction) -> &'static [u8]
 }
 
 /// The time in a report of a time of the network that was searched, and the other way round.
-fn told(way: Direction, time: u64) -> u64
+pub(crate) fn told(way: Direction, time: u64) -> u64
     requires { time ≤ HORIZON }
     ensures { result ≡ told_time way time }
 {

@@ -1,10 +1,12 @@
 //! The lines of a problem.
-ghost use Rattle.std.specs.Prelude.{◌≡◌, ◌+◌, ◌<◌, ◌≤◌, ◌^◌, ◌++◌, ◌∷◌, [], MatchResult, None, OnOk, length};
+ghost use Rattle.std.specs.Prelude.{◌≡◌, ◌⊎◌, ◌+◌, ◌<◌, ◌≤◌, ◌^◌, ◌++◌, ◌∷◌, [], IfOk, MatchResult, None, OnOk, length};
 ghost use Rattle.std.specs.List.{IsAmong};
 ghost use Rattle.ea_base.specs.declared.limits.TheConstants.{HORIZON};
 ghost use Rattle.ea_road.specs.declared.source.Source.{Source};
 ghost use Rattle.ea_check.specs.declared.fault.CheckFault.TheVariants.{OutOfMemory};
 ghost use Rattle.ea_check.specs.declared.form.stop.Stop.TheVariants.{Report};
+ghost use Rattle.ea_check.specs.Ahead.{ReadsAhead};
+ghost use Rattle.ea_check.specs.Runs.{saids};
 ghost use Rattle.ea_check.specs.Reads.{NodeWrong, NodesWrong, ProblemWrong, ReadsProblem, ReadsSources, SourcesWrong, WalkWrong};
 ghost use Rattle.ea_check.specs.Problems.{ReadsOneMore, ReadsWalkOf, ReadsAllNodes};
 ghost use Rattle.ea_check.specs.Stops.{IsStop};
@@ -150,11 +152,68 @@ fn read_node<R: ByteIn>(
     read_walk(lines, device, node, number, time, reported)
 }
 
-/// Reads the lines of all nodes, in place of what was reported before.
+/// Keeps the times of a node and of those that follow it, which have no walks. Their lines follow each other
+/// from this one on.
+fn keep_times(
+    number: u64,
+    time: u64,
+    times: &[u64],
+    reported: &mut Reported,
+) -> Result<(), Stop>
+    requires { number + length times.now + 1 < 2 ^ 64 }
+    ensures { MatchResult result
+        (λ _. reported.new ≡ reported.old ++ saids number (time ∷ times.now))
+        (λ stop. stop ≡ Report OutOfMemory) }
+{
+    keep_time(number, time, reported)?;
+    reported.extend(number + 1, times)?;
+    Ok(())
+}
+
+/// Reads the lines of nodes from this one on, up to that before the last, as far as they are plain and in the
+/// block. Returns their number.
+fn read_ahead<R: ByteIn>(
+    lines: &mut ReportLines,
+    device: &mut R,
+    node: u32,
+    last: u32,
+    times: &mut Vec<u64>,
+    reported: &mut Reported,
+) -> Result<u32, Stop>
+    requires sound { IsSound lines.old }
+    ensures sound { OnOk result (IsSound lines.new) }
+    ensures few { IfOk result (λ count. count ≡ 0 ⊎ (node + count ≤ last)) }
+    ensures read { MatchResult result
+        (λ count. ReadsAhead node count reported.old reported.new
+        (R.seen device.old) lines.old (R.seen device.new) lines.new)
+        (IsStop (NodeWrong node)
+        (R.seen device.old) lines.old (R.seen device.new) lines.new) }
+{
+    if node >= last {
+        return Ok(0);
+    }
+    let Some(bytes) = lines.look_ahead(node + 1, last, times) else {
+        return Ok(0);
+    };
+    let Some(line) = lines.line() else {
+        return Ok(0);
+    };
+    let number = line.number;
+    let Some(time) = time_said(line.way, line.text, node) else {
+        return Ok(0);
+    };
+    keep_times(number, time, times, reported)?;
+    lines.pass(bytes, times.len());
+    lines.find(device)?;
+    Ok(times.len() as u32 + 1)
+}
+
+/// Reads the lines of all nodes, in place of what was reported before. What `times` has is forgotten.
 fn read_nodes<R: ByteIn>(
     lines: &mut ReportLines,
     device: &mut R,
     nodes: u32,
+    times: &mut Vec<u64>,
     reported: &mut Reported,
 ) -> Result<(), Stop>
     requires sound { IsSound lines.old }
@@ -167,18 +226,22 @@ fn read_nodes<R: ByteIn>(
         (R.seen device.old) lines.old (R.seen device.new) lines.new) }
 {
     reported.begin(nodes as usize)?;
-    for node in 1..nodes + 1 {
-        read_node(lines, device, node, reported)?;
+    let mut node = 1;
+    'nodes: while node <= nodes {
+        let ahead = read_ahead(lines, device, node, nodes, times, reported)?;
+        read_node(lines, device, node + ahead, reported)?;
+        node += ahead + 1;
     }
     Ok(())
 }
 
-/// Reads the lines of a problem, in place of what was reported before.
+/// Reads the lines of a problem, in place of what was reported before. What `times` has is forgotten.
 pub(crate) fn read_problem<R: ByteIn>(
     lines: &mut ReportLines,
     device: &mut R,
     nodes: u32,
     sources: &[Source],
+    times: &mut Vec<u64>,
     reported: &mut Reported,
 ) -> Result<(), Stop>
     requires departures { (source : Source) → IsAmong sources.now source
@@ -193,5 +256,5 @@ pub(crate) fn read_problem<R: ByteIn>(
         (R.seen device.old) lines.old (R.seen device.new) lines.new) }
 {
     read_sources(lines, device, sources)?;
-    read_nodes(lines, device, nodes, reported)
+    read_nodes(lines, device, nodes, times, reported)
 }

@@ -1,10 +1,12 @@
 //! The lines of a report, found one after another as the bytes of its device come.
-ghost use Rattle.std.specs.Prelude.{◌≡◌, ◌+◌, ◌<◌, ◌≤◌, ◌↔◌, ◌∷◌, [], IfErr, IfOk, IsTrue, MatchOption, None, OnOk, Some, drop, false, length, take, true};
+ghost use Rattle.std.specs.Prelude.{◌≡◌, ◌+◌, ◌<◌, ◌≤◌, ◌↔◌, ◌∷◌, [], IfErr, IfOk, IfSome, IsTrue, MatchOption, None, OnOk, Some, drop, false, length, take, true};
 ghost use Rattle.std.specs.Str.Lines.{strip_carriage_return};
 ghost use Rattle.ea_bytes.specs.Taking.{HasRoom, IsStopped, StopsTaking};
 ghost use Rattle.ea_bytes.specs.Text.{fields_of, is_silent, lines_of};
+ghost use Rattle.ea_check.specs.Ahead.{HasPassed, IsAhead};
 ghost use Rattle.ea_check.specs.Streams.{Begins, BeginsWithLine, FindsLine, HasLast, IsReady, IsSound, IsUnread, Leads, Skips, TakesLine, behind, last_of, line_of, most_bytes, rest_of, size_left, spoken};
 
+use crate::form::plain_lines::take_times;
 use ea_base::Direction;
 use ea_bytes::{Blocks, ByteIn, ReadFault, first_field, is_comment, without_return};
 use memchr::memchr;
@@ -214,6 +216,29 @@ impl ReportLines {
         }
         self.take(left, left);
         Ok(true)
+    }
+
+    /// Replaces `times` by those in the plain lines that follow the one that was found, from that of the node
+    /// `first` on and up to that of the node `last`, without the last of these lines. Returns how many bytes
+    /// they have; none if no such line follows.
+    pub(crate) fn look_ahead(&self, first: u32, last: u32, times: &mut Vec<u64>) -> Option<usize>
+        requires ready { IsReady self.now }
+        ensures ahead { IfSome result (λ bytes. IsAhead self.now first times.new.items bytes) }
+        ensures few { IfSome result (λ _. first + length times.new.items ≤ last) }
+    {
+        take_times(self.way, self.rest(), first, last, times)
+    }
+
+    /// Passes lines: this many bytes of the block that were not read.
+    pub(crate) fn pass(&mut self, bytes: usize, lines: usize)
+        requires ready { IsReady self.old }
+        requires within { bytes ≤ length (rest_of self.old) }
+        requires lines { lines ≤ bytes }
+        ensures ready { IsReady self.new }
+        ensures passed { HasPassed bytes lines self.old self.new }
+    {
+        self.start += bytes;
+        self.count += lines as u64;
     }
 
     /// Finds the next line that is neither blank nor a comment.

@@ -1,13 +1,14 @@
 //! A report's lines on one problem.
-ghost use Rattle.std.specs.Prelude.{◌≡◌, ◌≤◌, ◌++◌, ◌∷◌, [], ℕ, IfErr, IsTrue, None, OnOk, length};
+ghost use Rattle.std.specs.Prelude.{◌≡◌, ◌+◌, ◌<◌, ◌≤◌, ◌^◌, ◌++◌, ◌∷◌, [], ℕ, IfErr, IsTrue, None, OnOk, length};
 ghost use Rattle.ea_road.specs.Roads.{IsNode};
 ghost use Rattle.ea_check.specs.declared.fault.CheckFault.TheVariants.{OutOfMemory};
+ghost use Rattle.ea_check.specs.Runs.{saids};
 ghost use Rattle.ea_check.specs.Verdicts.{IsSaid, Said, reported_time, times_of};
 ghost use Rattle.ea_check.specs.Views.{HasCount, said_of};
 ghost use Rattle.ea_check.specs.WalksLeft.{IsAtNode};
 
 use crate::fault::CheckFault;
-use crate::form::kept::{Kept, SaidLine, keep};
+use crate::form::kept::{Kept, SaidLine, keep, keep_run};
 use crate::form::walk_reader::WalkReader;
 use std::alloc::Global;
 use std::marker::Model;
@@ -59,6 +60,20 @@ impl Reported {
         ensures refused { IfErr result (λ fault. fault ≡ OutOfMemory) }
     {
         if let Err(fault) = keep(&mut self.kept, said) {
+            self.kept.clear();
+            return Err(fault);
+        }
+        Ok(())
+    }
+
+    /// Keeps the times of the next nodes, which have no walks. Their lines follow each other from this one on.
+    /// After a refusal no line is kept.
+    pub(crate) fn extend(&mut self, number: u64, times: &[u64]) -> Result<(), CheckFault>
+        requires { number + length times.now < 2 ^ 64 }
+        ensures kept { OnOk result (self.new ≡ self.old ++ saids number times.now) }
+        ensures refused { IfErr result (λ fault. fault ≡ OutOfMemory) }
+    {
+        if let Err(fault) = keep_run(&mut self.kept, number, times) {
             self.kept.clear();
             return Err(fault);
         }

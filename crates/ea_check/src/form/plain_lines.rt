@@ -1,0 +1,101 @@
+//! The `d` lines of nodes in their plain form, one after another: a word, single spaces, digits, a line feed
+//! and nothing else.
+ghost use Rattle.std.specs.Prelude.{◌≡◌, ◌+◌, ◌<◌, ◌≤◌, ◌∷◌, IfSome, drop, length, take};
+ghost use Rattle.ea_check.specs.Runs.{BeginsWithNoWalk, IsRun, NumberThen, TakesTime};
+
+use crate::form::line_form::told;
+use ea_base::{Direction, HORIZON};
+
+/// From this value on one more digit may not fit into 64 bits.
+const LARGE: u64 = 1 << 58;
+
+/// The number that a text begins with, if this byte ends it and it is not very large, and the bytes after
+/// that byte.
+#[inline(always)]
+fn number_before(text: &[u8], stop: u8) -> Option<(u64, &[u8])>
+    ensures { IfSome result (λ x. NumberThen text.entry.now stop x.0 x.1.now) }
+{
+    let mut value: u64 = 0;
+    for (i, b) in text.iter().enumerate() {
+        if !b.is_ascii_digit() {
+            if i == 0 || *b != stop {
+                return None;
+            }
+            return Some((value, &text[i + 1..]));
+        }
+        if value >= LARGE {
+            return None;
+        }
+        value = value * 10 + u64::from(*b - b'0');
+    }
+    None
+}
+
+/// The bytes after the word of a node's line and a space, if a text begins with these.
+#[inline(always)]
+fn after_word(text: &[u8]) -> Option<&[u8]>
+    ensures { IfSome result (λ rest. text.entry.now ≡ 100 ∷ 32 ∷ rest.now) }
+{
+    match text {
+        [b'd', b' ', rest @ ..] => Some(rest),
+        _ => None,
+    }
+}
+
+/// The time in a node's line at the front of a text, if the line is plain, and how many bytes the line has.
+#[inline(always)]
+fn first_time(way: Direction, text: &[u8], node: u64) -> Option<(u64, usize)>
+    ensures { IfSome result (λ x. TakesTime way node x.0 text.now x.1) }
+{
+    let Some(numbers) = after_word(text) else {
+        return None;
+    };
+    let Some((place, rest)) = number_before(numbers, b' ') else {
+        return None;
+    };
+    let Some((time, rest)) = number_before(rest, b'\n') else {
+        return None;
+    };
+    if place != node || time > HORIZON {
+        return None;
+    }
+    Some((told(way, time), text.len() - rest.len()))
+}
+
+/// Replaces `times` by those in the plain lines at the front of a text, from that of the node `first` on and
+/// up to that of the node `last`, without the last of these lines. Returns how many bytes they have; none if
+/// the text doesn't begin with such a line.
+pub(crate) fn take_times(
+    way: Direction,
+    text: &[u8],
+    first: u32,
+    last: u32,
+    times: &mut Vec<u64>,
+) -> Option<usize>
+    ensures inside { IfSome result (λ bytes. bytes < length text.now) }
+    ensures run { IfSome result (λ bytes. IsRun way first times.new.items (take bytes text.now)) }
+    ensures quiet { IfSome result (λ bytes. BeginsWithNoWalk way (drop bytes text.now)) }
+    ensures few { IfSome result (λ _. first + length times.new.items ≤ last) }
+{
+    times.clear();
+    if first > last {
+        return None;
+    }
+    let Some((mut time, mut size)) = first_time(way, text, u64::from(first)) else {
+        return None;
+    };
+    let mut bytes = 0;
+    'lines: while times.len() < (last - first) as usize {
+        let node = u64::from(first) + times.len() as u64 + 1;
+        let Some((next, len)) = first_time(way, &text[bytes + size..], node) else {
+            break;
+        };
+        let Ok(()) = times.push(time) else {
+            break;
+        };
+        bytes += size;
+        time = next;
+        size = len;
+    }
+    Some(bytes)
+}
