@@ -39,8 +39,8 @@ none_ahead node kept seen lines room = record {
 }
 
 -- The numbers of lines that are read ahead fit.
-pub few_ahead : (lines : ReportLines) (node : ℕ) (times : List ℕ) (bytes : ℕ) → IsReady lines → IsAhead lines node times bytes → (lines.count + length times + 1 < 2 ^ 64) × (length times ≤ bytes) × (bytes ≤ length (rest_of lines))
-few_ahead lines node times bytes ready is =
+pub few_ahead : (lines : ReportLines) (node last : ℕ) (times : List ℕ) (bytes : ℕ) → IsReady lines → IsAhead lines node last times bytes → (lines.count + length times + 1 < 2 ^ 64) × (length times ≤ bytes) × (bytes ≤ length (rest_of lines))
+few_ahead lines node last times bytes ready is =
     let long = length-take bytes (rest_of lines) in
     let whole = length-drop lines.start lines.block.items in
     (omega (arith, is.inside, is.run.few, long, whole, ready.few, ready.inside), omega (arith, is.inside, is.run.few, long), omega (arith, is.inside))
@@ -49,8 +49,8 @@ few_ahead lines node times bytes ready is =
 abbrev pub Passes : Direction → List (List (List ℕ)) → List ℕ → List ℕ → Type 0
 Passes way lines text middle = (field_lines text ≡ lines ++ field_lines middle) × ((number : ℕ) → NoWalkNext (spoken_from way number (field_lines middle)))
 
-pub passes_ahead : (seen : Seen) (before mid : ReportLines) (node : ℕ) (times : List ℕ) (bytes count : ℕ) → HasRoom mid.blocks → (is : IsAhead before node times bytes) → HasPassed bytes count before mid → Leads (Passes before.way is.run.lines) seen before seen mid
-passes_ahead seen before mid node times bytes count room is passed =
+pub passes_ahead : (seen : Seen) (before mid : ReportLines) (node last : ℕ) (times : List ℕ) (bytes count : ℕ) → HasRoom mid.blocks → (is : IsAhead before node last times bytes) → HasPassed bytes count before mid → Leads (Passes before.way is.run.lines) seen before seen mid
+passes_ahead seen before mid node last times bytes count room is passed =
     leads_here (Passes before.way is.run.lines) seen before mid room passed.blocks passed.ended
     (λ later none.
     let text = rest_of before in

@@ -30,3 +30,4 @@ pub mod Stopping
 pub mod Streamed
 pub mod Runs
 pub mod Ahead
+pub mod Pieces

@@ -73,31 +73,32 @@ takes_time way node place time told text behind between rest bytes begins first 
 pub no_run : (way : Direction) (node : ℕ) → IsRun way node [] []
 no_run way node = record { lines = []; reads = λ more. refl; say = tt; few = omega arith }
 
-say_more : (way : Direction) (node : ℕ) (times : List ℕ) (time : ℕ) (lines more : List (List (List ℕ))) → SayTimes way node times lines → SayTimes way (node + length times) (time ∷ []) more → SayTimes way node (times ++ time ∷ []) (lines ++ more)
-say_more way node [] time [] more here there = subst (λ n. SayTimes way n (time ∷ []) more) (omega arith) there
-say_more way node [] time (fields ∷ lines) more here there = absurd here
-say_more way node (first ∷ times) time [] more here there = absurd here
-say_more way node (first ∷ times) time (fields ∷ lines) more here there =
-    (here.0, say_more way (node + 1) times time lines more here.1 (subst (λ n. SayTimes way n (time ∷ []) more) (omega arith) there))
+say_both : (way : Direction) (node : ℕ) (times more : List ℕ) (lines others : List (List (List ℕ))) → SayTimes way node times lines → SayTimes way (node + length times) more others → SayTimes way node (times ++ more) (lines ++ others)
+say_both way node [] more [] others here there = subst (λ n. SayTimes way n more others) (omega arith) there
+say_both way node [] more (fields ∷ lines) others here there = absurd here
+say_both way node (first ∷ times) more [] others here there = absurd here
+say_both way node (first ∷ times) more (fields ∷ lines) others here there =
+    (here.0, say_both way (node + 1) times more lines others here.1 (subst (λ n. SayTimes way n more others) (omega arith) there))
 
-pub run_more : (way : Direction) (node : ℕ) (times : List ℕ) (time : ℕ) (front back : List ℕ) → IsRun way node times front → IsRun way (node + length times) (time ∷ []) back → IsRun way node (times ++ time ∷ []) (front ++ back)
-run_more way node times time front back here there = record {
+-- Lines, and those that follow them.
+pub run_both : (way : Direction) (node : ℕ) (times more front back : List ℕ) → IsRun way node times front → IsRun way (node + length times) more back → IsRun way node (times ++ more) (front ++ back)
+run_both way node times more front back here there = record {
   lines = here.lines ++ there.lines;
-  reads = λ more.
-      ap field_lines (append_assoc front back more) ∙ here.reads (back ++ more) ∙ ap (λ (ls : List (List (List ℕ))). here.lines ++ ls) (there.reads more) ∙ sym (append_assoc here.lines there.lines (field_lines more));
-  say = say_more way node times time here.lines there.lines here.say there.say;
-  few = omega (arith, here.few, there.few, length-append times (time ∷ []), length-append front back);
+  reads = λ rest.
+      ap field_lines (append_assoc front back rest) ∙ here.reads (back ++ rest) ∙ ap (λ (ls : List (List (List ℕ))). here.lines ++ ls) (there.reads rest) ∙ sym (append_assoc here.lines there.lines (field_lines rest));
+  say = say_both way node times more here.lines there.lines here.say there.say;
+  few = omega (arith, here.few, there.few, length-append times more, length-append front back);
 }
+
+pub take_both : (n m : ℕ) (xs : List ℕ) → take n xs ++ take m (drop n xs) ≡ take (n + m) xs
+take_both n m xs =
+    ap (λ (l : List ℕ). l ++ take m (drop n xs)) (sym (take-take n (n + m) xs (omega arith))) ∙ ap (λ (l : List ℕ). take n (take (n + m) xs) ++ l) (sym (drop-take n m xs)) ∙ take-append-drop n (take (n + m) xs)
 
 -- One more line at the front of what is left of a text.
 pub run_on : (way : Direction) (node : ℕ) (old new : List ℕ) (time : ℕ) (text : List ℕ) (bytes size : ℕ) → new ≡ old ++ time ∷ [] → IsRun way node old (take bytes text) → TakesTime way (node + length old) time (drop bytes text) size → IsRun way node new (take (bytes + size) text)
 run_on way node old new time text bytes size pushed run here =
     let joined : take bytes text ++ take size (drop bytes text) ≡ take (bytes + size) text = take_both bytes size text in
-    subst (IsRun way node new) joined (subst (λ (ts : List ℕ). IsRun way node ts (take bytes text ++ take size (drop bytes text))) (sym pushed) (run_more way node old time (take bytes text) (take size (drop bytes text)) run here.run))
-  where
-    take_both : (n m : ℕ) (xs : List ℕ) → take n xs ++ take m (drop n xs) ≡ take (n + m) xs
-    take_both n m xs =
-        ap (λ (l : List ℕ). l ++ take m (drop n xs)) (sym (take-take n (n + m) xs (omega arith))) ∙ ap (λ (l : List ℕ). take n (take (n + m) xs) ++ l) (sym (drop-take n m xs)) ∙ take-append-drop n (take (n + m) xs)
+    subst (IsRun way node new) joined (subst (λ (ts : List ℕ). IsRun way node ts (take bytes text ++ take size (drop bytes text))) (sym pushed) (run_both way node old (time ∷ []) (take bytes text) (take size (drop bytes text)) run here.run))
 
 -- What is left of a text, as a slice of it.
 pub rest_takes : (way : Direction) (node next time : ℕ) (text : List ℕ) (bytes size : ℕ) → next ≡ node → TakesTime way next time (take (length text - bytes) (drop bytes text)) size → TakesTime way node time (drop bytes text) size

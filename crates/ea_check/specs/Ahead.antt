@@ -1,17 +1,15 @@
 -- Lines of nodes that are read ahead of the line that was found.
-use Rattle.std.specs.Prelude.{◌≡◌, ℕ, ◌+◌, ◌<◌, List, ◌++◌, length, take, drop}
+use Rattle.std.specs.Prelude.{◌≡◌, ℕ, ◌+◌, List, ◌++◌, length, drop}
 use Rattle.ea_bytes.specs.Device.{Seen}
 use Rattle.ea_check.specs.declared.form.report_lines.ReportLines.{ReportLines}
 use Rattle.ea_check.specs.Reads.{ReadsNodes}
-use Rattle.ea_check.specs.Runs.{BeginsWithNoWalk, IsRun}
+use Rattle.ea_check.specs.Pieces.{AreIn}
 use Rattle.ea_check.specs.Streams.{LeadsTo, rest_of}
 use Rattle.ea_check.specs.Verdicts.{Said}
 
 -- The first bytes that were not read are lines that say the times of nodes, from this one on. No walk follows.
-pub record IsAhead (lines : ReportLines) (node : ℕ) (times : List ℕ) (bytes : ℕ) : Type 0 where
-  pub inside : bytes < length (rest_of lines)
-  pub run : IsRun lines.way node times (take bytes (rest_of lines))
-  pub quiet : BeginsWithNoWalk lines.way (drop bytes (rest_of lines))
+abbrev pub IsAhead : ReportLines → ℕ → ℕ → List ℕ → ℕ → Type 0
+IsAhead lines first last times bytes = AreIn lines.way (rest_of lines) last times (record { first = first; bytes = bytes })
 
 -- This many bytes of the block were read, this many lines, and none was found.
 pub record HasPassed (bytes count : ℕ) (old new : ReportLines) : Type 0 where

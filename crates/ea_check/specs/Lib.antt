@@ -19,3 +19,4 @@ pub mod Paths
 pub mod Passing
 pub mod Runs
 pub mod Ahead
+pub mod Pieces

@@ -12,17 +12,20 @@ ghost use Rattle.ea_check.specs.Streams.{IsSound, IsWholeText, most_bytes};
 ghost use Rattle.ea_check.specs.Verdicts.{IsTask, IsVerdict, IsWellFormed};
 
 use crate::fault::CheckFault;
+use crate::form::ahead::Ahead;
 use crate::form::problem::read_problem;
 use crate::form::report_lines::ReportLines;
 use crate::form::reported::Reported;
 use crate::form::stop::Stop;
 use crate::judge::verdict::judge;
+use crate::team::{Alone, Several, Team};
 use crate::text_in::TextIn;
 use ea_base::{Direction, Silent, Watch};
 use ea_bytes::{ByteIn, ReadFault};
 use ea_road::{Network, Query, is_problem};
 use ea_travel_times::TravelTimes;
 use std::alloc::Global;
+use std::thread::Threads;
 
 /// The first fault of the problems read so far, of which this is the last.
 fn check_next<T: TravelTimes>(
@@ -57,8 +60,9 @@ pub fn is_checkable(network: &Network, classes: usize, queries: &[Query]) -> boo
 }
 
 /// The first fault of the lines of a report's problems.
-fn check_lines<T: TravelTimes, R: ByteIn, V: Watch>(
+fn check_lines<C: Team, T: TravelTimes, R: ByteIn, V: Watch>(
     alloc: Global,
+    team: &C,
     network: &Network,
     times: &T,
     queries: &[Query],
@@ -66,6 +70,7 @@ fn check_lines<T: TravelTimes, R: ByteIn, V: Watch>(
     device: &mut R,
     watch: &mut V,
 ) -> Result<(), Stop>
+    requires can { C.can_start team.now }
     requires checkable { AreCheckable network.now (T.classes times.now) queries.now }
     requires sound { IsSound lines.old }
     ensures { JudgesTo (IsChecked network.now (T.answers times.now) (sources_of queries.now))
@@ -73,16 +78,17 @@ fn check_lines<T: TravelTimes, R: ByteIn, V: Watch>(
 {
     let nodes = network.nodes();
     let mut reported = Reported::new(alloc);
-    let mut times_ahead = Vec::new(alloc);
+    let mut ahead = Ahead::new(alloc, team.size())?;
     let mut verdict = Ok(());
     let mut done = 0;
     for query in queries {
         read_problem(
+            team,
             lines,
             device,
             nodes,
             query.sources(),
-            &mut times_ahead,
+            &mut ahead,
             &mut reported,
         )?;
         verdict = check_next(verdict, alloc, network, times, query, &reported);
@@ -128,9 +134,12 @@ fn verdict_of(judged: Result<(), Stop>) -> Result<Result<(), CheckFault>, ReadFa
 /// interrupted for the 1,001st time; with `OutOfMemory` if memory for a block or a line was refused; with
 /// `TooLarge` if it has more than 2^64 - 1 bytes. Refused memory for a problem is a `CheckFault`.
 ///
+/// Several threads read plain lines and judge problems, if there are several; the verdict doesn't depend on them.
+///
 /// Takes time in proportion to the report, and to the network for each query.
-pub fn check_stream<T: TravelTimes, R: ByteIn, V: Watch>(
+pub fn check_stream<H: Threads + Sync, T: TravelTimes, R: ByteIn, V: Watch>(
     alloc: Global,
+    team: &Several<'_, H>,
     network: &Network,
     times: &T,
     queries: &[Query],
@@ -144,8 +153,29 @@ pub fn check_stream<T: TravelTimes, R: ByteIn, V: Watch>(
     ensures end { OnOk result (IsAtEnd (R.seen report.new).bytes) }
     ensures fault { IfErr result (IsStopped most_bytes (R.seen report.old) (R.seen report.new)) }
 {
-    let mut lines = ReportLines::open(alloc, way, report)?;
-    let judged = check_lines(alloc, network, times, queries, &mut lines, report, watch);
+    check_by(alloc, team, network, times, queries, way, report, watch)
+}
+
+/// Like `check_stream`, by those who work on the report.
+fn check_by<C: Team, T: TravelTimes, R: ByteIn, V: Watch>(
+    alloc: Global,
+    team: &C,
+    network: &Network,
+    times: &T,
+    queries: &[Query],
+    way: Direction,
+    report: &mut R,
+    watch: &mut V,
+) -> Result<Result<(), CheckFault>, ReadFault>
+    requires can { C.can_start team.now }
+    requires checkable { AreCheckable network.now (T.classes times.now) queries.now }
+    ensures checked { IfOk result (λ verdict. HasVerdict way network.now (T.answers times.now)
+        (sources_of queries.now) (R.seen report.old) (R.seen report.new) verdict) }
+    ensures end { OnOk result (IsAtEnd (R.seen report.new).bytes) }
+    ensures fault { IfErr result (IsStopped most_bytes (R.seen report.old) (R.seen report.new)) }
+{
+    let mut lines = ReportLines::open(alloc, way, team.size(), report)?;
+    let judged = check_lines(alloc, team, network, times, queries, &mut lines, report, watch);
     let verdict = verdict_of(judged)?;
     lines.skip_rest(report)?;
     Ok(verdict)
@@ -160,7 +190,7 @@ pub fn skip_report<R: ByteIn>(alloc: Global, report: &mut R) -> Result<(), ReadF
     ensures end { OnOk result (IsAtEnd (R.seen report.new).bytes) }
     ensures fault { IfErr result (IsStopped most_bytes (R.seen report.old) (R.seen report.new)) }
 {
-    let mut lines = ReportLines::unread(alloc, Direction::Forward)?;
+    let mut lines = ReportLines::unread(alloc, Direction::Forward, 1)?;
     lines.skip_rest(report)
 }
 
@@ -194,7 +224,7 @@ pub fn check_watched<T: TravelTimes, V: Watch>(
 {
     let mut device = TextIn::new(report);
     let way = Direction::Forward;
-    match check_stream(alloc, network, times, queries, way, &mut device, watch) {
+    match check_by(alloc, &Alone, network, times, queries, way, &mut device, watch) {
         Ok(verdict) => verdict,
         // A text in memory can be read, and has fewer than 2^64 bytes.
         Err(_) => Err(CheckFault::OutOfMemory),

@@ -1,5 +1,6 @@
 //! The form of a report: the order of its lines, and what each says.
 
+pub mod ahead;
 pub mod kept;
 pub mod leading_number;
 pub mod line_form;
@@ -8,6 +9,7 @@ pub mod plain_lines;
 pub mod problem;
 pub mod report_lines;
 pub mod reported;
+pub mod run;
 pub mod shared_text;
 pub mod stop;
 pub mod walk_arcs;

@@ -6,7 +6,9 @@ mod fault;
 mod form;
 mod judge;
 pub mod laws;
+mod team;
 mod text_in;
 
 pub use checking::{check, check_stream, check_watched, is_checkable, skip_report};
 pub use fault::CheckFault;
+pub use team::Several;

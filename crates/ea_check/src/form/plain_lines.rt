@@ -4,7 +4,7 @@ ghost use Rattle.std.specs.Prelude.{◌≡◌, ◌+◌, ◌<◌, ◌≤◌, ◌�
 ghost use Rattle.ea_check.specs.Runs.{BeginsWithNoWalk, IsRun, NumberThen, TakesTime};
 
 use crate::form::line_form::told;
-use ea_base::{Direction, HORIZON};
+use ea_base::{Direction, HORIZON, MOST_NODES};
 
 /// From this value on one more digit may not fit into 64 bits.
 const LARGE: u64 = 1 << 58;
@@ -44,7 +44,7 @@ fn after_word(text: &[u8]) -> Option<&[u8]>
 
 /// The time in a node's line at the front of a text, if the line is plain, and how many bytes the line has.
 #[inline(always)]
-fn first_time(way: Direction, text: &[u8], node: u64) -> Option<(u64, usize)>
+pub(crate) fn first_time(way: Direction, text: &[u8], node: u64) -> Option<(u64, usize)>
     ensures { IfSome result (λ x. TakesTime way node x.0 text.now x.1) }
 {
     let Some(numbers) = after_word(text) else {
@@ -60,6 +60,16 @@ fn first_time(way: Direction, text: &[u8], node: u64) -> Option<(u64, usize)>
         return None;
     }
     Some((told(way, time), text.len() - rest.len()))
+}
+
+/// The node that the line at the front of a text names, if the line begins like a plain one.
+pub(crate) fn leading_node(text: &[u8]) -> Option<u32> {
+    let (node, _) = number_before(after_word(text)?, b' ')?;
+    if node <= u64::from(MOST_NODES) {
+        Some(node as u32)
+    } else {
+        None
+    }
 }
 
 /// Replaces `times` by those in the plain lines at the front of a text, from that of the node `first` on and

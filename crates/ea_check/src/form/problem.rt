@@ -13,11 +13,13 @@ ghost use Rattle.ea_check.specs.Stops.{IsStop};
 ghost use Rattle.ea_check.specs.Streams.{IsSound, LeadsTo};
 
 use crate::fault::CheckFault;
+use crate::form::ahead::Ahead;
 use crate::form::kept::{SaidLine, WalkLine};
 use crate::form::line_form::{is_walk_line, says_source, says_walk, time_said};
 use crate::form::report_lines::ReportLines;
 use crate::form::reported::Reported;
 use crate::form::stop::Stop;
+use crate::team::Team;
 use ea_bytes::ByteIn;
 use ea_road::{NONE, Source};
 
@@ -172,14 +174,16 @@ fn keep_times(
 
 /// Reads the lines of nodes from this one on, up to that before the last, as far as they are plain and in the
 /// block. Returns their number.
-fn read_ahead<R: ByteIn>(
+fn read_ahead<C: Team, R: ByteIn>(
+    team: &C,
     lines: &mut ReportLines,
     device: &mut R,
     node: u32,
     last: u32,
-    times: &mut Vec<u64>,
+    ahead: &mut Ahead,
     reported: &mut Reported,
 ) -> Result<u32, Stop>
+    requires can { C.can_start team.now }
     requires sound { IsSound lines.old }
     ensures sound { OnOk result (IsSound lines.new) }
     ensures few { IfOk result (λ count. count ≡ 0 ⊎ (node + count ≤ last)) }
@@ -192,7 +196,7 @@ fn read_ahead<R: ByteIn>(
     if node >= last {
         return Ok(0);
     }
-    let Some(bytes) = lines.look_ahead(node + 1, last, times) else {
+    let Some(bytes) = lines.look_ahead(team, node + 1, last, ahead) else {
         return Ok(0);
     };
     let Some(line) = lines.line() else {
@@ -202,20 +206,23 @@ fn read_ahead<R: ByteIn>(
     let Some(time) = time_said(line.way, line.text, node) else {
         return Ok(0);
     };
-    keep_times(number, time, times, reported)?;
-    lines.pass(bytes, times.len());
+    keep_times(number, time, &ahead.times, reported)?;
+    lines.pass(bytes, ahead.times.len());
     lines.find(device)?;
-    Ok(times.len() as u32 + 1)
+    Ok(ahead.times.len() as u32 + 1)
 }
 
-/// Reads the lines of all nodes, in place of what was reported before. What `times` has is forgotten.
-fn read_nodes<R: ByteIn>(
+/// Reads the lines of all nodes, in place of what was reported before. The times of `ahead` are
+/// forgotten.
+fn read_nodes<C: Team, R: ByteIn>(
+    team: &C,
     lines: &mut ReportLines,
     device: &mut R,
     nodes: u32,
-    times: &mut Vec<u64>,
+    ahead: &mut Ahead,
     reported: &mut Reported,
 ) -> Result<(), Stop>
+    requires can { C.can_start team.now }
     requires sound { IsSound lines.old }
     requires nodes { nodes + 1 < 2 ^ 32 }
     ensures sound { OnOk result (IsSound lines.new) }
@@ -228,22 +235,25 @@ fn read_nodes<R: ByteIn>(
     reported.begin(nodes as usize)?;
     let mut node = 1;
     'nodes: while node <= nodes {
-        let ahead = read_ahead(lines, device, node, nodes, times, reported)?;
-        read_node(lines, device, node + ahead, reported)?;
-        node += ahead + 1;
+        let count = read_ahead(team, lines, device, node, nodes, ahead, reported)?;
+        read_node(lines, device, node + count, reported)?;
+        node += count + 1;
     }
     Ok(())
 }
 
-/// Reads the lines of a problem, in place of what was reported before. What `times` has is forgotten.
-pub(crate) fn read_problem<R: ByteIn>(
+/// Reads the lines of a problem, in place of what was reported before. The times of `ahead` are
+/// forgotten.
+pub(crate) fn read_problem<C: Team, R: ByteIn>(
+    team: &C,
     lines: &mut ReportLines,
     device: &mut R,
     nodes: u32,
     sources: &[Source],
-    times: &mut Vec<u64>,
+    ahead: &mut Ahead,
     reported: &mut Reported,
 ) -> Result<(), Stop>
+    requires can { C.can_start team.now }
     requires departures { (source : Source) → IsAmong sources.now source
         → source.departure ≤ HORIZON }
     requires sound { IsSound lines.old }
@@ -256,5 +266,5 @@ pub(crate) fn read_problem<R: ByteIn>(
         (R.seen device.old) lines.old (R.seen device.new) lines.new) }
 {
     read_sources(lines, device, sources)?;
-    read_nodes(lines, device, nodes, times, reported)
+    read_nodes(team, lines, device, nodes, ahead, reported)
 }

@@ -6,7 +6,8 @@ ghost use Rattle.ea_bytes.specs.Text.{fields_of, is_silent, lines_of};
 ghost use Rattle.ea_check.specs.Ahead.{HasPassed, IsAhead};
 ghost use Rattle.ea_check.specs.Streams.{Begins, BeginsWithLine, FindsLine, HasLast, IsReady, IsSound, IsUnread, Leads, Skips, TakesLine, behind, last_of, line_of, most_bytes, rest_of, size_left, spoken};
 
-use crate::form::plain_lines::take_times;
+use crate::form::ahead::{Ahead, take_ahead};
+use crate::team::Team;
 use ea_base::Direction;
 use ea_bytes::{Blocks, ByteIn, ReadFault, first_field, is_comment, without_return};
 use memchr::memchr;
@@ -32,6 +33,8 @@ pub(crate) struct ReportLines {
     pub block: Vec<u8>,
     /// The bytes of the block before this place were read.
     pub start: usize,
+    /// A block is filled up to at least this length.
+    pub least: usize,
     /// Room for the next block.
     pub spare: Vec<u8>,
     /// Whether the block has the last byte of the device.
@@ -48,6 +51,14 @@ pub(crate) struct ReportLines {
 
 /// The least length of a block that is filled; the last one of a device may be shorter.
 const BLOCK: usize = 262_144;
+
+/// The same for several threads.
+const LARGE_BLOCK: usize = 4_194_304;
+
+/// The least length of a block for this many threads.
+fn least_block(threads: usize) -> usize {
+    if threads > 1 { LARGE_BLOCK } else { BLOCK }
+}
 
 /// Whether a line is neither blank nor a comment.
 fn speaks(text: &[u8]) -> bool
@@ -69,8 +80,12 @@ fn line_end(text: &[u8]) -> Option<usize>
 }
 
 impl ReportLines {
-    /// The lines of a device that was not read yet.
-    pub(crate) fn unread(alloc: Global, way: Direction) -> Result<ReportLines, AllocError>
+    /// The lines of a device that was not read yet. Blocks are larger for several threads.
+    pub(crate) fn unread(
+        alloc: Global,
+        way: Direction,
+        threads: usize,
+    ) -> Result<ReportLines, AllocError>
         ensures { IfOk result (IsUnread way) }
     {
         Ok(ReportLines {
@@ -78,6 +93,7 @@ impl ReportLines {
             blocks: Blocks::new(alloc, u64::MAX)?,
             block: Vec::new(alloc),
             start: 0,
+            least: least_block(threads),
             spare: Vec::new(alloc),
             ended: false,
             count: 0,
@@ -91,6 +107,7 @@ impl ReportLines {
     pub(crate) fn open<R: ByteIn>(
         alloc: Global,
         way: Direction,
+        threads: usize,
         device: &mut R,
     ) -> Result<ReportLines, ReadFault>
         ensures sound { IfOk result IsSound }
@@ -99,7 +116,7 @@ impl ReportLines {
         ensures fault { IfErr result
             (IsStopped most_bytes (R.seen device.old) (R.seen device.new)) }
     {
-        let mut lines = ReportLines::unread(alloc, way)?;
+        let mut lines = ReportLines::unread(alloc, way, threads)?;
         lines.find(device)?;
         Ok(lines)
     }
@@ -155,7 +172,7 @@ impl ReportLines {
     {
         self.spare.clear();
         self.spare.extend_from_slice(&self.block[self.start..])?;
-        let size = self.spare.len().saturating_mul(2).max(BLOCK);
+        let size = self.spare.len().saturating_mul(2).max(self.least).max(BLOCK);
         self.ended = self.blocks.fill(device, &mut self.spare, size)?;
         mem::swap(&mut self.block, &mut self.spare);
         self.start = 0;
@@ -218,15 +235,21 @@ impl ReportLines {
         Ok(true)
     }
 
-    /// Replaces `times` by those in the plain lines that follow the one that was found, from that of the node
-    /// `first` on and up to that of the node `last`, without the last of these lines. Returns how many bytes
-    /// they have; none if no such line follows.
-    pub(crate) fn look_ahead(&self, first: u32, last: u32, times: &mut Vec<u64>) -> Option<usize>
+    /// Replaces the times of `ahead` by those in the plain lines that follow the one that was found, from that of
+    /// the node `first` on and up to that of the node `last`, without the last of these lines. Returns how many
+    /// bytes they have; none if no such line follows.
+    pub(crate) fn look_ahead<C: Team>(
+        &self,
+        team: &C,
+        first: u32,
+        last: u32,
+        ahead: &mut Ahead,
+    ) -> Option<usize>
+        requires can { C.can_start team.now }
         requires ready { IsReady self.now }
-        ensures ahead { IfSome result (λ bytes. IsAhead self.now first times.new.items bytes) }
-        ensures few { IfSome result (λ _. first + length times.new.items ≤ last) }
+        ensures { IfSome result (λ bytes. IsAhead self.now first last ahead.new.times.items bytes) }
     {
-        take_times(self.way, self.rest(), first, last, times)
+        take_ahead(team, self.way, self.rest(), first, last, ahead)
     }
 
     /// Passes lines: this many bytes of the block that were not read.

@@ -1,25 +1,27 @@
-use Rattle.std.proofs.Common.{◌+◌, ◌++◌, List, [], arith, drop, refl, subst}
+use Rattle.std.proofs.Common.{◌+◌, ◌++◌, List, [], arith, drop, refl, subst, sym}
 use Rattle.std.proofs.lemmas.Result.{err_from_is_err_and}
 use Rattle.std.specs.Prelude.{Ok, Err, Result}
 use Rattle.ea_road.specs.declared.source.Source.{Source}
 use Rattle.ea_road.specs.Queries.{Asking}
 use Rattle.ea_check.specs.declared.fault.CheckFault.{CheckFault}
 use Rattle.ea_check.specs.declared.fault.CheckFault.TheVariants.{BadLine}
+use Rattle.ea_check.specs.declared.form.stop.Stop.TheVariants.{Report}
 use Rattle.ea_check.specs.Checked.{IsChecked, sources_of}
+use Rattle.ea_check.specs.Judging.{JudgesTo}
 use Rattle.ea_check.specs.Reads.{ProblemWrong, ReadsProblem, ReportWrong}
 use Rattle.ea_check.specs.Streams.{ahead, behind, line_of, rest_of, spoken}
 use Rattle.ea_check.proofs.Composing.{formed_of, form_too_long, wrong_checked, wrong_here, wrong_more, small_queries, no_query_left, next_query}
 use Rattle.ea_check.proofs.Onward.{Onward, ProblemsLeft, onward_end, onward_more}
 use Rattle.ea_check.proofs.Reading.{wrong_more as fault_more}
 use Rattle.ea_check.proofs.Right.{task_of, faultless_right}
-use Rattle.ea_check.proofs.Stopping.{then_lines}
+use Rattle.ea_check.proofs.Stopping.{lines_here, then_lines}
 use Rattle.ea_check.proofs.Streamed.{ahead_in_order, judged_behind}
 use Rattle.ea_check.proofs.Streaming.{leads_also}
 use Rattle.ea_check.proofs.checking.check_lines.Goals as goal
 
 pub returns-in_err-read_problem : goal.returns-in_err-read_problem
 returns-in_err-read_problem g c =
-    let p = err_from_is_err_and c.from_residual.result c.from_residual.ensures.1 in
+    let p = err_from_is_err_and c.from_residual-in_err-read_problem.result c.from_residual-in_err-read_problem.ensures.1 in
     let roads = c.args.network.now in
     let answers = g.T.TravelTimes.answers c.args.times.now in
     let queries = sources_of c.args.queries.now in
@@ -41,6 +43,17 @@ pub check_next-verdict-requires-clause-formed : goal.check_next-verdict-requires
 check_next-verdict-requires-clause-formed g c =
     let read = rw (c.nodes-nodes.ensures.nodes, c.sources.ensures.sources) at c.in_ok-read_problem.ensures.read in
     formed_of (read.holds [] (λ ended. refl)) (ahead_in_order c.loop-query.lines (rest_of c.loop-query.lines ++ (read.got ++ [])) c.loop-query.invariant.sound)
+
+pub loop-query-init : goal.loop-query-init
+loop-query-init g c =
+    let roads = c.args.network.now in
+    let answers = g.T.TravelTimes.answers c.args.times.now in
+    let queries = sources_of c.args.queries.now in
+    record {
+      done = refl;
+      sound = c.requires.sound;
+      leads = lines_here (ProblemsLeft roads answers queries queries (Ok tt)) _ c.args.lines.now c.requires.sound.ready.room (λ text. record { wrong = λ number wrong. wrong; onward = λ result form checked. checked });
+    }
 
 pub loop-query-preserved : goal.loop-query-preserved
 loop-query-preserved g c =
@@ -113,3 +126,10 @@ pub read_problem-requires-clause-departures : goal.read_problem-requires-clause-
 read_problem-requires-clause-departures g c =
     let task = task_of c.args.network.now (g.T.TravelTimes.classes c.args.times.now) c.query-item.result c.nodes-nodes.ensures.network (c.requires.checkable c.query-item.result (c.loop-query.query-index, (c.loop-query-test.true, c.query-item.is))).0 in
     rw c.sources.ensures.sources (λ source among. (task.starts source among).1)
+
+pub returns-in_err-ahead : goal.returns-in_err-ahead
+returns-in_err-ahead g c =
+    let p = err_from_is_err_and c.from_residual.result c.from_residual.ensures.1 in
+    let lines = c.args.lines.now in
+    let seen = g.R.Device.seen c.args.device.now in
+    rw (p.1, p.2) (subst (λ (fault : CheckFault). JudgesTo (IsChecked c.args.network.now (g.T.TravelTimes.answers c.args.times.now) (sources_of c.args.queries.now)) seen lines seen lines (Err (Report fault))) (sym c.in_err-ahead.ensures) (lines_here (λ text next. Unit {0}) seen lines c.requires.sound.ready.room (λ text. tt)))

@@ -42,23 +42,23 @@ returns-clause-read g c =
     let mid = c.pass.new.self in
     let after = c.find.new.self in
     let node = c.args.node in
-    let times = c.look_ahead.new.times.items in
-    let is = c.in-Some.ensures.ahead in
+    let times = c.look_ahead.new.ahead.times.items in
+    let is = c.in-Some.ensures in
     let passed = c.pass.ensures.passed in
-    let size : c.len.result ≡ length times = omega (arith, c.len.ensures, c.look_ahead.new.times.ok.0) in
+    let size : c.len.result ≡ length times = omega (arith, c.len.ensures, c.look_ahead.new.ahead.times.ok.0) in
     let line = c.in-Some-line.line in
     let time = c.in-Some-time_said.time in
     let said = saids line.number (time ∷ times) in
     record {
       said = said;
       grown = c.in_ok-keep_times.ensures ∙ ap (λ (ts : List ℕ). c.args.reported.now ++ saids line.number (time ∷ ts)) c.deref.ensures.value;
-      many = omega (arith, saids_length line.number (time ∷ times), c.len-2.ensures, c.look_ahead.new.times.ok.0);
+      many = omega (arith, saids_length line.number (time ∷ times), c.len-2.ensures, c.look_ahead.new.ahead.times.ok.0);
       read = leads_on (Passes before.way is.run.lines) (FindsLine mid after) (λ text next. ReadsNodes node said (ahead before text) (ahead after next))
           (λ text middle next passes found. reads_ahead before mid after (line_of line) node time times is.run.lines c.in-Some-line.ensures c.in-Some-time_said.ensures is.run.say passed.way (passed.counted ∙ ap (λ n. before.count + n) size) text middle next passes found) _ (g.R.Device.seen c.args.device.now) (g.R.Device.seen c.find.new.device) before mid after
-          (passes_ahead _ before mid (node + 1) times c.in-Some.bytes _ c.pass.ensures.ready.room is passed) c.in_ok-find.ensures.found;
+          (passes_ahead _ before mid (node + 1) c.args.last times c.in-Some.bytes _ c.pass.ensures.ready.room is passed) c.in_ok-find.ensures.found;
     }
 
 pub keep_times-requires : goal.keep_times-requires
 keep_times-requires g c =
-    let fits = few_ahead c.args.lines.now (c.args.node + 1) c.look_ahead.new.times.items c.in-Some.bytes c.requires.sound.ready c.in-Some.ensures.ahead in
-    omega (arith, fits.0, found_number c.args.lines.now (line_of c.in-Some-line.line) c.in-Some-line.ensures, c.deref.ensures.len, c.look_ahead.new.times.ok.0)
+    let fits = few_ahead c.args.lines.now (c.args.node + 1) c.args.last c.look_ahead.new.ahead.times.items c.in-Some.bytes c.requires.sound.ready c.in-Some.ensures in
+    omega (arith, fits.0, found_number c.args.lines.now (line_of c.in-Some-line.line) c.in-Some-line.ensures, c.deref.ensures.len, c.look_ahead.new.ahead.times.ok.0)

@@ -7,7 +7,7 @@ use Rattle.ea_check.specs.Checked.{IsChecked, sources_of}
 use Rattle.ea_check.specs.Judging.{JudgesTo}
 use Rattle.ea_check.specs.Streams.{ahead, most_bytes}
 use Rattle.ea_check.proofs.Streamed.{verdict_leads, whole_checked, whole_stops}
-use Rattle.ea_check.proofs.checking.check_stream.Goals as goal
+use Rattle.ea_check.proofs.checking.check_by.Goals as goal
 
 pub returns-in_err-verdict-clause-fault : goal.returns-in_err-verdict-clause-fault
 returns-in_err-verdict-clause-fault g c =
