@@ -137,7 +137,7 @@ fn verdict_of(judged: Result<(), Stop>) -> Result<Result<(), CheckFault>, ReadFa
 /// Several threads read plain lines and judge problems, if there are several; the verdict doesn't depend on them.
 ///
 /// Takes time in proportion to the report, and to the network for each query.
-pub fn check_stream<H: Threads + Sync, T: TravelTimes, R: ByteIn, V: Watch>(
+pub fn check_stream<H: Threads + Sync, T: TravelTimes + Sync, R: ByteIn, V: Watch>(
     alloc: Global,
     team: &Several<'_, H>,
     network: &Network,

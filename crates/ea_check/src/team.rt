@@ -49,6 +49,12 @@ pub struct Several<'a, H: Threads + Sync> {
     pub threads: usize,
 }
 
+impl<'a, H: Threads + Sync> Drop for Several<'a, H> {
+    fn drop(self) {
+        let Several { rt: _, threads: _ } = self;
+    }
+}
+
 impl<'a, H: Threads + Sync> Team for Several<'a, H> {
     ghost use denote.Param.Send.{IsSync};
 

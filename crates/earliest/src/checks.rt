@@ -10,18 +10,31 @@ ghost use Rattle.earliest.specs.Checks.{HasReport, IsJudged, IsReportFault, IsUn
 use crate::answers::schedule_by;
 use ea_base::{Direction, Silent, Watch};
 use ea_bytes::ByteIn;
-use ea_check::{CheckFault, check_stream};
+use ea_check::{CheckFault, Several, check_stream};
 use ea_load::{
     AnswerFault, FileFault, FileWord, OptionalFiles, Road, departures_fit, read_extras,
-    read_fault_of, read_run, run_queries,
+    read_fault_of, read_run_by, run_queries,
 };
 use ea_options::RunOptions;
 use ea_road::Query;
 use std::alloc::Global;
+use std::thread::{Threads, available_parallelism};
+
+/// The most threads that check a report.
+const MOST_CHECKERS: usize = 16;
+
+/// The number of threads that check a report: one for each processor, or one if the processors can't be counted.
+fn checkers<H: Threads>(rt: &H) -> usize {
+    match available_parallelism(rt) {
+        Ok(processors) => processors.get().min(MOST_CHECKERS),
+        Err(_) => 1,
+    }
+}
 
 /// The verdict on a report of these searches, which run in a direction.
-fn judge<R: ByteIn, V: Watch>(
+fn judge<H: Threads + Sync, R: ByteIn, V: Watch>(
     alloc: Global,
+    rt: &H,
     road: &Road,
     queries: &[Query],
     way: Direction,
@@ -34,8 +47,13 @@ fn judge<R: ByteIn, V: Watch>(
         (sources_of queries.now) (reading R.seen report.old report.new)) }
     ensures fault { IfErr result (IsReportFault (reading R.seen report.old report.new)) }
 {
+    let team = Several {
+        rt,
+        threads: checkers(rt),
+    };
     match check_stream(
         alloc,
+        &team,
         &road.network,
         &road.times,
         queries,
@@ -59,8 +77,9 @@ fn judge<R: ByteIn, V: Watch>(
 /// Fails with `Read` or `Input` for the first fault of the files in their order, and with `BadOption` for a
 /// departure above 2^48 - 1 if no file has a fault. `OutOfMemory` means that memory was refused while files
 /// were read, the report among them; for the check itself it is a `CheckFault`.
-pub fn check_report<G: ByteIn, S: ByteIn, T: ByteIn, R: ByteIn>(
+pub fn check_report<H: Threads + Sync, G: ByteIn, S: ByteIn, T: ByteIn, R: ByteIn>(
     alloc: Global,
+    rt: &H,
     gr: &mut G,
     ss: &mut S,
     others: &mut OptionalFiles<T>,
@@ -77,12 +96,20 @@ pub fn check_report<G: ByteIn, S: ByteIn, T: ByteIn, R: ByteIn>(
         (reading S.seen ss.old ss.new) T.seen others.old others.new)
         (reading R.seen report.old report.new)) }
 {
-    check_watched(alloc, gr, ss, others, options, report, &mut Silent)
+    check_watched(alloc, rt, gr, ss, others, options, report, &mut Silent)
 }
 
 /// Like `check_report`; calls a watch after each problem.
-pub(crate) fn check_watched<G: ByteIn, S: ByteIn, T: ByteIn, R: ByteIn, V: Watch>(
+pub(crate) fn check_watched<
+    H: Threads + Sync,
+    G: ByteIn,
+    S: ByteIn,
+    T: ByteIn,
+    R: ByteIn,
+    V: Watch,
+>(
     alloc: Global,
+    rt: &H,
     gr: &mut G,
     ss: &mut S,
     others: &mut OptionalFiles<T>,
@@ -100,7 +127,7 @@ pub(crate) fn check_watched<G: ByteIn, S: ByteIn, T: ByteIn, R: ByteIn, V: Watch
         (reading S.seen ss.old ss.new) T.seen others.old others.new)
         (reading R.seen report.old report.new)) }
 {
-    let files = read_run(alloc, gr, ss, &mut others.tp, options.direction)?;
+    let files = read_run_by(alloc, rt, gr, ss, &mut others.tp, options.direction)?;
     let extras = read_extras(
         alloc,
         &mut others.times,
@@ -113,6 +140,7 @@ pub(crate) fn check_watched<G: ByteIn, S: ByteIn, T: ByteIn, R: ByteIn, V: Watch
         // The report's own fault comes before.
         let _ = judge(
             alloc,
+            rt,
             &files.road,
             &[],
             options.direction,
@@ -124,6 +152,7 @@ pub(crate) fn check_watched<G: ByteIn, S: ByteIn, T: ByteIn, R: ByteIn, V: Watch
     let queries = run_queries(alloc, &files.sources, options.joint, schedule)?;
     let verdict = judge(
         alloc,
+        rt,
         &files.road,
         &queries,
         options.direction,

@@ -91,6 +91,7 @@ pub fn perform<H: Threads + Sync, R: ByteIn, W: ByteOut, V: Watch>(
                 Some(report) => {
                     match check_watched(
                         alloc,
+                        rt,
                         gr,
                         &mut files.starts,
                         &mut files.others,
