@@ -5,7 +5,9 @@ mod arrays;
 mod asked_search;
 mod frontier;
 mod link_search;
+mod nodes;
 mod passed;
 mod search;
 
 pub use asked_search::AskedSearch;
+pub use nodes::are_nodes;
