@@ -31,3 +31,4 @@ pub mod Streamed
 pub mod Runs
 pub mod Ahead
 pub mod Pieces
+pub mod Parts

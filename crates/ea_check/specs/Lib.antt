@@ -20,3 +20,5 @@ pub mod Passing
 pub mod Runs
 pub mod Ahead
 pub mod Pieces
+pub mod Parts
+pub mod Judges

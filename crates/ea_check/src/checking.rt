@@ -8,6 +8,9 @@ ghost use Rattle.ea_check.specs.Checked.{IsChecked, sources_of, AreCheckable};
 ghost use Rattle.ea_check.specs.declared.form.stop.Stop.TheVariants.{Device};
 ghost use Rattle.ea_check.specs.Form.{lines_of_report};
 ghost use Rattle.ea_check.specs.Judging.{HasVerdict, JudgesTo, judged_as};
+ghost use denote.Param.Send.{IsSync};
+ghost use Rattle.ea_check.specs.Judges.{JudgesBy};
+ghost use Rattle.ea_check.specs.Parts.{AreAllJudged, AreFewParts};
 ghost use Rattle.ea_check.specs.Streams.{IsSound, IsWholeText, most_bytes};
 ghost use Rattle.ea_check.specs.Verdicts.{IsTask, IsVerdict, IsWellFormed};
 
@@ -17,7 +20,8 @@ use crate::form::problem::read_problem;
 use crate::form::report_lines::ReportLines;
 use crate::form::reported::Reported;
 use crate::form::stop::Stop;
-use crate::judge::verdict::judge;
+use crate::judge::part::{Part, cut_arcs};
+use crate::judge::verdict::{judge, judge_parts, judge_parts_by};
 use crate::team::{Alone, Several, Team};
 use crate::text_in::TextIn;
 use ea_base::{Direction, Silent, Watch};
@@ -28,22 +32,28 @@ use std::alloc::Global;
 use std::thread::Threads;
 
 /// The first fault of the problems read so far, of which this is the last.
-fn check_next<T: TravelTimes>(
+fn check_next<J: Fn(&Query, &Reported, u32, &mut [Part]), T: TravelTimes>(
     before: Result<(), CheckFault>,
     alloc: Global,
+    judging: &J,
     network: &Network,
     times: &T,
     query: &Query,
     reported: &Reported,
+    parts: &mut [Part],
 ) -> Result<(), CheckFault>
+    requires judging { JudgesBy J.Fn judging.now network.now (T.answers times.now)
+        (T.classes times.now) }
     requires task { IsTask network.now (T.classes times.now) query.now.sources }
     requires formed { IsWellFormed network.now.nodes reported.now }
-    ensures { MatchResult before
+    requires parts { AreFewParts network.now parts.old }
+    ensures verdict { MatchResult before
         (λ _. IsVerdict network.now (T.answers times.now) query.now.sources reported.now result)
         (λ fault. result ≡ Err fault) }
+    ensures parts { AreFewParts network.now parts.new }
 {
     before?;
-    judge(alloc, network, times, query, reported)
+    judge(alloc, judging, network, times, query, reported, parts)
 }
 
 /// Whether queries can be checked on a network with travel times of classes up to the greatest: each is a
@@ -60,9 +70,16 @@ pub fn is_checkable(network: &Network, classes: usize, queries: &[Query]) -> boo
 }
 
 /// The first fault of the lines of a report's problems.
-fn check_lines<C: Team, T: TravelTimes, R: ByteIn, V: Watch>(
+fn check_lines<
+    C: Team,
+    J: Fn(&Query, &Reported, u32, &mut [Part]),
+    T: TravelTimes,
+    R: ByteIn,
+    V: Watch,
+>(
     alloc: Global,
     team: &C,
+    judging: &J,
     network: &Network,
     times: &T,
     queries: &[Query],
@@ -71,6 +88,8 @@ fn check_lines<C: Team, T: TravelTimes, R: ByteIn, V: Watch>(
     watch: &mut V,
 ) -> Result<(), Stop>
     requires can { C.can_start team.now }
+    requires judging { JudgesBy J.Fn judging.now network.now (T.answers times.now)
+        (T.classes times.now) }
     requires checkable { AreCheckable network.now (T.classes times.now) queries.now }
     requires sound { IsSound lines.old }
     ensures { JudgesTo (IsChecked network.now (T.answers times.now) (sources_of queries.now))
@@ -79,6 +98,8 @@ fn check_lines<C: Team, T: TravelTimes, R: ByteIn, V: Watch>(
     let nodes = network.nodes();
     let mut reported = Reported::new(alloc);
     let mut ahead = Ahead::new(alloc, team.size())?;
+    let mut cut = cut_arcs(alloc, network, team.size())?;
+    let parts = cut.as_mut_slice();
     let mut verdict = Ok(());
     let mut done = 0;
     for query in queries {
@@ -91,7 +112,9 @@ fn check_lines<C: Team, T: TravelTimes, R: ByteIn, V: Watch>(
             &mut ahead,
             &mut reported,
         )?;
-        verdict = check_next(verdict, alloc, network, times, query, &reported);
+        verdict = check_next(
+            verdict, alloc, judging, network, times, query, &reported, parts,
+        );
         done += 1;
         watch.checked(nodes as usize, reported.walks());
         watch.did(done, queries.len());
@@ -153,13 +176,28 @@ pub fn check_stream<H: Threads + Sync, T: TravelTimes + Sync, R: ByteIn, V: Watc
     ensures end { OnOk result (IsAtEnd (R.seen report.new).bytes) }
     ensures fault { IfErr result (IsStopped most_bytes (R.seen report.old) (R.seen report.new)) }
 {
-    check_by(alloc, team, network, times, queries, way, report, watch)
+    let rt = team.rt;
+    let judging = |query: &Query, reported: &Reported, above: u32, parts: &mut [Part]|
+        requires { IsSync H.row × IsSync T.row
+            × IsTask network.now (T.classes times.now) query.now.sources
+            × IsWellFormed network.now.nodes reported.now × AreFewParts network.now parts.now }
+        ensures { AreAllJudged network.entry.now (T.answers times.entry.now) query.entry.now.sources
+            reported.entry.now above parts.entry.now parts.exit.now }
+    { judge_parts_by(rt, network, times, query, reported, above, parts) };
+    check_by(alloc, team, &judging, network, times, queries, way, report, watch)
 }
 
 /// Like `check_stream`, by those who work on the report.
-fn check_by<C: Team, T: TravelTimes, R: ByteIn, V: Watch>(
+fn check_by<
+    C: Team,
+    J: Fn(&Query, &Reported, u32, &mut [Part]),
+    T: TravelTimes,
+    R: ByteIn,
+    V: Watch,
+>(
     alloc: Global,
     team: &C,
+    judging: &J,
     network: &Network,
     times: &T,
     queries: &[Query],
@@ -168,6 +206,8 @@ fn check_by<C: Team, T: TravelTimes, R: ByteIn, V: Watch>(
     watch: &mut V,
 ) -> Result<Result<(), CheckFault>, ReadFault>
     requires can { C.can_start team.now }
+    requires judging { JudgesBy J.Fn judging.now network.now (T.answers times.now)
+        (T.classes times.now) }
     requires checkable { AreCheckable network.now (T.classes times.now) queries.now }
     ensures checked { IfOk result (λ verdict. HasVerdict way network.now (T.answers times.now)
         (sources_of queries.now) (R.seen report.old) (R.seen report.new) verdict) }
@@ -175,7 +215,9 @@ fn check_by<C: Team, T: TravelTimes, R: ByteIn, V: Watch>(
     ensures fault { IfErr result (IsStopped most_bytes (R.seen report.old) (R.seen report.new)) }
 {
     let mut lines = ReportLines::open(alloc, way, team.size(), report)?;
-    let judged = check_lines(alloc, team, network, times, queries, &mut lines, report, watch);
+    let judged = check_lines(
+        alloc, team, judging, network, times, queries, &mut lines, report, watch,
+    );
     let verdict = verdict_of(judged)?;
     lines.skip_rest(report)?;
     Ok(verdict)
@@ -224,7 +266,15 @@ pub fn check_watched<T: TravelTimes, V: Watch>(
 {
     let mut device = TextIn::new(report);
     let way = Direction::Forward;
-    match check_by(alloc, &Alone, network, times, queries, way, &mut device, watch) {
+    let judging = |query: &Query, reported: &Reported, above: u32, parts: &mut [Part]|
+        requires { IsTask network.now (T.classes times.now) query.now.sources
+            × IsWellFormed network.now.nodes reported.now × AreFewParts network.now parts.now }
+        ensures { AreAllJudged network.entry.now (T.answers times.entry.now) query.entry.now.sources
+            reported.entry.now above parts.entry.now parts.exit.now }
+    { judge_parts(network, times, query, reported, above, parts) };
+    match check_by(
+        alloc, &Alone, &judging, network, times, queries, way, &mut device, watch,
+    ) {
         Ok(verdict) => verdict,
         // A text in memory can be read, and has fewer than 2^64 bytes.
         Err(_) => Err(CheckFault::OutOfMemory),

@@ -41,7 +41,7 @@ fn judge<H: Threads + Sync, R: ByteIn, V: Watch>(
     report: &mut R,
     watch: &mut V,
 ) -> Result<Result<(), CheckFault>, FileFault>
-    requires { AreCheckable road.now.network
+    requires checkable { AreCheckable road.now.network
         (length road.now.times.tables.list.items) queries.now }
     ensures judged { IfOk result (HasReport way road.now.network (times_on road.now)
         (sources_of queries.now) (reading R.seen report.old report.new)) }

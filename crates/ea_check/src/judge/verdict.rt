@@ -1,5 +1,5 @@
 //! The fault of a report of one problem whose form is right.
-ghost use Rattle.std.specs.Prelude.{◌≡◌, ◌+◌, ◌≤◌, ◌<◌, ◌⊎◌, ℕ, MatchOption, OnOk, length};
+ghost use Rattle.std.specs.Prelude.{◌≡◌, ◌+◌, ◌≤◌, ◌<◌, ◌⊎◌, ℕ, MatchOption, OnOk, false, length, replicate};
 ghost use Rattle.std.specs.List.{IsAmong};
 ghost use Rattle.ea_base.specs.declared.limits.TheConstants.{HORIZON};
 ghost use Rattle.ea_road.specs.declared.arc.Arc.{Arc};
@@ -8,6 +8,8 @@ ghost use Rattle.ea_search.specs.Links.{AreLinks};
 ghost use Rattle.ea_check.specs.Starts.{AreOrdered};
 ghost use Rattle.ea_check.specs.Nodes.{IsFirstOther, IsOtherAt};
 ghost use Rattle.ea_check.specs.Supported.{AreSupported};
+ghost use Rattle.ea_check.specs.Judges.{JudgesBy};
+ghost use Rattle.ea_check.specs.Parts.{AreFewParts, AreJudged, IsJudged, IsPart, IsRange, PassedIn};
 ghost use Rattle.ea_check.specs.Passing.{HasPassed};
 ghost use Rattle.ea_check.specs.WalksLeft.{IsAtNode};
 ghost use Rattle.ea_check.specs.Verdicts.{AreUnimproved, Improves, IsFirst, IsNotLeast, IsReported, IsTask, IsVerdict, IsWellFormed, reported_time};
@@ -15,14 +17,17 @@ ghost use Rattle.ea_check.specs.Verdicts.{AreUnimproved, Improves, IsFirst, IsNo
 use crate::fault::CheckFault;
 use crate::form::reported::Reported;
 use crate::judge::canonical_walk::{Compared, Path};
+use crate::judge::part::{ArcRange, Part, gather_marks, lowest_of};
 use crate::judge::support::{are_all_marked, mark, unmarked};
 use crate::judge::walk_sources::{attains, ordered_sources};
 use ea_base::HORIZON;
+use ea_fork_join::for_each_mut;
 use ea_paths::find_links;
 use ea_road::{NONE, Network, Query, Source};
 use ea_search::{Link, NO_LEVEL, Open};
 use ea_travel_times::TravelTimes;
 use std::alloc::Global;
+use std::thread::Threads;
 
 /// The number of a node's `w` line that is not the canonical walk, if the node's lines are attained.
 /// Otherwise the first that is not attained.
@@ -158,20 +163,127 @@ fn lower_by_arc<T: TravelTimes>(
     lowest
 }
 
+/// The lowest node whose reported time an arc of a range improves, or `above` if no lower one is. Marks the nodes
+/// whose times such an arc supports.
+fn lowest_in_range<T: TravelTimes>(
+    network: &Network,
+    times: &T,
+    query: &Query,
+    reported: &Reported,
+    arcs: ArcRange,
+    above: u32,
+    marks: &mut [bool],
+) -> u32
+    requires task { IsTask network.now (T.classes times.now) query.now.sources }
+    requires formed { IsWellFormed network.now.nodes reported.now }
+    requires range { IsRange network.now arcs }
+    requires marks { AreSupported network.now
+        (T.answers times.now) query.now.sources reported.now marks.old }
+    ensures found { (result ≡ above)
+        ⊎ Improves network.now (T.answers times.now) query.now.sources
+        (reported_time reported.now) result }
+    ensures passed { PassedIn network.now (T.answers times.now) reported.now arcs result }
+    ensures marks { AreSupported network.now
+        (T.answers times.now) query.now.sources reported.now marks.new }
+{
+    let mut lowest = above;
+    for number in arcs.from..arcs.to {
+        lowest = lower_by_arc(network, times, query, reported, number, lowest, marks);
+    }
+    lowest
+}
+
+/// Takes marks away.
+fn unmark(marks: &mut [bool])
+    ensures { marks.new ≡ replicate (length marks.old) false }
+{
+    marks.fill(false);
+}
+
+/// Judges a part of the arcs, given a node above all that are looked for.
+pub(crate) fn judge_part<T: TravelTimes>(
+    network: &Network,
+    times: &T,
+    query: &Query,
+    reported: &Reported,
+    above: u32,
+    part: &mut Part,
+)
+    requires task { IsTask network.now (T.classes times.now) query.now.sources }
+    requires formed { IsWellFormed network.now.nodes reported.now }
+    requires part { IsPart network.now part.old }
+    ensures { IsJudged network.now (T.answers times.now) query.now.sources reported.now above
+        part.old part.new }
+{
+    unmark(&mut part.marks);
+    let marks = part.marks.as_mut_slice();
+    part.lowest = lowest_in_range(network, times, query, reported, part.arcs, above, marks);
+}
+
+/// Judges each part of the arcs.
+pub(crate) fn judge_parts<T: TravelTimes>(
+    network: &Network,
+    times: &T,
+    query: &Query,
+    reported: &Reported,
+    above: u32,
+    parts: &mut [Part],
+)
+    requires task { IsTask network.now (T.classes times.now) query.now.sources }
+    requires formed { IsWellFormed network.now.nodes reported.now }
+    requires parts { AreFewParts network.now parts.old }
+    ensures { AreJudged network.now (T.answers times.now) query.now.sources reported.now above
+        parts.old parts.new }
+{
+    for part in parts.iter_mut() {
+        judge_part(network, times, query, reported, above, part);
+    }
+}
+
+/// Judges each part of the arcs in a separate thread if one can be started.
+pub(crate) fn judge_parts_by<H: Threads + Sync, T: TravelTimes + Sync>(
+    rt: &H,
+    network: &Network,
+    times: &T,
+    query: &Query,
+    reported: &Reported,
+    above: u32,
+    parts: &mut [Part],
+)
+    requires task { IsTask network.now (T.classes times.now) query.now.sources }
+    requires formed { IsWellFormed network.now.nodes reported.now }
+    requires parts { AreFewParts network.now parts.old }
+    ensures { AreJudged network.now (T.answers times.now) query.now.sources reported.now above
+        parts.old parts.new }
+{
+    let judging = |_place: usize, part: &mut Part|
+        requires { IsTask network.now (T.classes times.now) query.now.sources
+            × IsWellFormed network.now.nodes reported.now × IsPart network.now part.now }
+        ensures { IsJudged network.entry.now (T.answers times.entry.now) query.entry.now.sources
+            reported.entry.now above part.entry.now part.exit.now }
+    { judge_part(network, times, query, reported, above, part) };
+    for_each_mut(rt, parts, &judging);
+}
+
 /// The lowest node whose reported time an arc improves, or `above` if no lower one is. Marks the nodes whose
 /// times an arc supports.
-fn lowest_by_arcs<T: TravelTimes>(
+fn lowest_by_arcs<J: Fn(&Query, &Reported, u32, &mut [Part]), T: TravelTimes>(
+    judging: &J,
     network: &Network,
     times: &T,
     query: &Query,
     reported: &Reported,
     above: u32,
     marks: &mut [bool],
+    parts: &mut [Part],
 ) -> u32
+    requires judging { JudgesBy J.Fn judging.now network.now (T.answers times.now)
+        (T.classes times.now) }
     requires task { IsTask network.now (T.classes times.now) query.now.sources }
     requires formed { IsWellFormed network.now.nodes reported.now }
     requires marks { AreSupported network.now
         (T.answers times.now) query.now.sources reported.now marks.old }
+    requires parts { AreFewParts network.now parts.old }
     ensures lower { result ≤ above }
     ensures found { (result ≡ above)
         ⊎ Improves network.now (T.answers times.now) query.now.sources
@@ -182,12 +294,11 @@ fn lowest_by_arcs<T: TravelTimes>(
         → arrival ≤ HORIZON → arrival < reported_time reported.now arc.head → result ≤ arc.head }
     ensures marks { AreSupported network.now
         (T.answers times.now) query.now.sources reported.now marks.new }
+    ensures parts { AreFewParts network.now parts.new }
 {
-    let mut lowest = above;
-    for number in 1..network.arcs().len() as u32 + 1 {
-        lowest = lower_by_arc(network, times, query, reported, number, lowest, marks);
-    }
-    lowest
+    judging(query, reported, above, parts);
+    gather_marks(parts, marks);
+    lowest_of(parts, above)
 }
 
 /// The lower of a node and a source's node, if the source improves the node's reported time. Marks the node if
@@ -257,27 +368,35 @@ fn lowest_by_sources<T: TravelTimes>(
 }
 
 /// The first `d` line that a source or an arc improves. Marks nodes whose times are supported.
-fn first_not_least<T: TravelTimes>(
+fn first_not_least<J: Fn(&Query, &Reported, u32, &mut [Part]), T: TravelTimes>(
+    judging: &J,
     network: &Network,
     times: &T,
     query: &Query,
     reported: &Reported,
     marks: &mut [bool],
+    parts: &mut [Part],
 ) -> Option<u64>
+    requires judging { JudgesBy J.Fn judging.now network.now (T.answers times.now)
+        (T.classes times.now) }
     requires task { IsTask network.now (T.classes times.now) query.now.sources }
     requires formed { IsWellFormed network.now.nodes reported.now }
     requires marks { AreSupported network.now
         (T.answers times.now) query.now.sources reported.now marks.old }
+    requires parts { AreFewParts network.now parts.old }
     ensures least { MatchOption result
         (AreUnimproved network.now (T.answers times.now) query.now.sources reported.now)
         (λ line. IsFirst (IsNotLeast network.now
         (T.answers times.now) query.now.sources reported.now) line) }
     ensures marks { AreSupported network.now
         (T.answers times.now) query.now.sources reported.now marks.new }
+    ensures parts { AreFewParts network.now parts.new }
 {
     let above = network.nodes() + 1;
     let by_sources = lowest_by_sources(network, times, query, reported, above, marks);
-    let lowest = lowest_by_arcs(network, times, query, reported, by_sources, marks);
+    let lowest = lowest_by_arcs(
+        judging, network, times, query, reported, by_sources, marks, parts,
+    );
     if lowest == above {
         None
     } else {
@@ -311,19 +430,28 @@ fn first_by_marks<T: TravelTimes>(
 }
 
 /// The fault of a report's lines on one problem.
-pub(crate) fn judge<T: TravelTimes>(
+pub(crate) fn judge<J: Fn(&Query, &Reported, u32, &mut [Part]), T: TravelTimes>(
     alloc: Global,
+    judging: &J,
     network: &Network,
     times: &T,
     query: &Query,
     reported: &Reported,
+    parts: &mut [Part],
 ) -> Result<(), CheckFault>
+    requires judging { JudgesBy J.Fn judging.now network.now (T.answers times.now)
+        (T.classes times.now) }
     requires task { IsTask network.now (T.classes times.now) query.now.sources }
     requires formed { IsWellFormed network.now.nodes reported.now }
-    ensures { IsVerdict network.now (T.answers times.now) query.now.sources reported.now result }
+    requires parts { AreFewParts network.now parts.old }
+    ensures verdict { IsVerdict network.now
+        (T.answers times.now) query.now.sources reported.now result }
+    ensures parts { AreFewParts network.now parts.new }
 {
     let mut marks = unmarked(alloc, network.nodes() as usize)?;
-    let not_least = first_not_least(network, times, query, reported, &mut marks);
+    let not_least = first_not_least(
+        judging, network, times, query, reported, &mut marks, parts,
+    );
     if let Some(line) = first_by_marks(alloc, network, times, query, reported, &marks)? {
         return Err(CheckFault::NotCanonical(line));
     }

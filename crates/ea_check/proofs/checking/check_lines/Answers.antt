@@ -1,4 +1,4 @@
-use Rattle.std.proofs.Common.{◌+◌, ◌++◌, List, [], arith, drop, refl, subst, sym}
+use Rattle.std.proofs.Common.{◌+◌, ◌++◌, List, [], ap, arith, drop, length, refl, subst, sym}
 use Rattle.std.proofs.lemmas.Result.{err_from_is_err_and}
 use Rattle.std.specs.Prelude.{Ok, Err, Result}
 use Rattle.ea_road.specs.declared.source.Source.{Source}
@@ -7,7 +7,9 @@ use Rattle.ea_check.specs.declared.fault.CheckFault.{CheckFault}
 use Rattle.ea_check.specs.declared.fault.CheckFault.TheVariants.{BadLine}
 use Rattle.ea_check.specs.declared.form.stop.Stop.TheVariants.{Report}
 use Rattle.ea_check.specs.Checked.{IsChecked, sources_of}
+use Rattle.ea_check.specs.declared.judge.part.Part.{Part}
 use Rattle.ea_check.specs.Judging.{JudgesTo}
+use Rattle.ea_check.specs.Parts.{AreParts}
 use Rattle.ea_check.specs.Reads.{ProblemWrong, ReadsProblem, ReportWrong}
 use Rattle.ea_check.specs.Streams.{ahead, behind, line_of, rest_of, spoken}
 use Rattle.ea_check.proofs.Composing.{formed_of, form_too_long, wrong_checked, wrong_here, wrong_more, small_queries, no_query_left, next_query}
@@ -52,6 +54,7 @@ loop-query-init g c =
     record {
       done = refl;
       sound = c.requires.sound;
+      parts = (subst (AreParts roads) (sym c.as_mut_slice-parts.ensures.value) c.in_ok-cut.ensures.parts, omega (arith, ap (λ (ps : List Part). length ps) c.as_mut_slice-parts.ensures.value, c.in_ok-cut.ensures.few, c.size-2.ensures));
       leads = lines_here (ProblemsLeft roads answers queries queries (Ok tt)) _ c.args.lines.now c.requires.sound.ready.room (λ text. record { wrong = λ number wrong. wrong; onward = λ result form checked. checked });
     }
 
@@ -72,10 +75,11 @@ loop-query-preserved g c =
     record {
       done = omega (arith, c.loop-query.invariant.done);
       sound = c.in_ok-read_problem.ensures.sound;
+      parts = c.check_next-verdict.ensures.parts;
       leads = then_lines (ProblemsLeft roads answers queries (sources_of (drop {A = Asking} place c.args.queries.now)) c.loop-query.verdict) (ReadsProblem roads.nodes query.sources reported) (ProblemsLeft roads answers queries (sources_of (drop {A = Asking} (place + 1) c.args.queries.now)) c.check_next-verdict.result)
           (λ lines middle next left here. record {
             wrong = wrong_more roads.nodes c.args.queries.now place query c.loop-query-test.true c.query-item.is (ReportWrong roads.nodes queries lines) here left.wrong;
-            onward = onward_more roads answers queries lines (sources_of (drop (place + 1) c.args.queries.now)) next c.loop-query.verdict c.check_next-verdict.result here right c.check_next-verdict.ensures (subst (λ (qs : List (List Source)). Onward roads answers queries lines qs middle c.loop-query.verdict) next_is left.onward);
+            onward = onward_more roads answers queries lines (sources_of (drop (place + 1) c.args.queries.now)) next c.loop-query.verdict c.check_next-verdict.result here right c.check_next-verdict.ensures.verdict (subst (λ (qs : List (List Source)). Onward roads answers queries lines qs middle c.loop-query.verdict) next_is left.onward);
           })
           _ (g.R.Device.seen c.loop-query.device) _ c.args.lines.now c.loop-query.lines c.read_problem.new.lines c.loop-query.invariant.leads read;
     }
@@ -133,3 +137,10 @@ returns-in_err-ahead g c =
     let lines = c.args.lines.now in
     let seen = g.R.Device.seen c.args.device.now in
     rw (p.1, p.2) (subst (λ (fault : CheckFault). JudgesTo (IsChecked c.args.network.now (g.T.TravelTimes.answers c.args.times.now) (sources_of c.args.queries.now)) seen lines seen lines (Err (Report fault))) (sym c.in_err-ahead.ensures) (lines_here (λ text next. Unit {0}) seen lines c.requires.sound.ready.room (λ text. tt)))
+
+pub returns-in_err-cut : goal.returns-in_err-cut
+returns-in_err-cut g c =
+    let p = err_from_is_err_and c.from_residual-in_err-cut.result c.from_residual-in_err-cut.ensures.1 in
+    let lines = c.args.lines.now in
+    let seen = g.R.Device.seen c.args.device.now in
+    rw (p.1, p.2) (subst (λ (fault : CheckFault). JudgesTo (IsChecked c.args.network.now (g.T.TravelTimes.answers c.args.times.now) (sources_of c.args.queries.now)) seen lines seen lines (Err (Report fault))) (sym c.in_err-cut.ensures.refused) (lines_here (λ text next. Unit {0}) seen lines c.requires.sound.ready.room (λ text. tt)))

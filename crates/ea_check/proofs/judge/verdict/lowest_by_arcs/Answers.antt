@@ -1,19 +1,34 @@
-use Rattle.std.proofs.Common.{inl, inr, arith}
-use Rattle.std.proofs.lemmas.Bool.Decides.{eqb_tells}
-use Rattle.ea_check.specs.Verdicts.{Improves, reported_time}
-use Rattle.ea_check.proofs.Judged.{still_found}
+use Rattle.std.proofs.Common.{◌∙◌, arith, sym}
+use Rattle.ea_check.specs.Parts.{AreAllJudged}
+use Rattle.ea_check.proofs.Parts.{each_marked, found_in_parts, parts_after, passed_in_parts, supported_in_parts}
 use Rattle.ea_check.proofs.judge.verdict.lowest_by_arcs.Goals as goal
 
-pub loop-number-preserved : goal.loop-number-preserved
-loop-number-preserved g c =
-    let was = c.loop-number.invariant in
-    let now = c.lower_by_arc-lowest.ensures in
-    record {
-      lower = omega (arith, was.lower, now.lower);
-      found = still_found (Improves c.args.network.now (g.T.TravelTimes.answers c.args.times.now) c.args.query.now.sources (reported_time c.args.reported.now)) c.loop-number.lowest _ c.args.above was.found now.found;
-      passed = λ number arc arrival below is early answer fits sooner. elim (eqb_tells number c.loop-number.number) [
-        | inl same ↦ now.passed arc arrival (rw same.1 at is) early answer fits sooner
-        | inr other ↦ omega (arith, now.lower, was.passed number arc arrival (omega (arith, other.1)) is early answer fits sooner)
-      ];
-      marks = now.marks;
-    }
+pub gather_marks-requires : goal.gather_marks-requires
+gather_marks-requires g c =
+    let new = c.judging.new.arg5 in
+    let judged : AreAllJudged c.args.network.now (g.T.TravelTimes.answers c.args.times.now) c.args.query.now.sources c.args.reported.now c.args.above c.args.parts.now new = (c.requires.judging c.args.query c.args.reported c.args.above _ c.requires.task c.requires.formed c.requires.parts).1 _ c.judging.ensures in
+    λ place part inside. each_marked c.args.network.now _ c.args.query.now.sources c.args.reported.now c.args.above c.args.parts.now new judged.1 judged.0 place part inside ∙ sym c.requires.marks.each_node
+
+pub returns-clause-found : goal.returns-clause-found
+returns-clause-found g c =
+    let new = c.judging.new.arg5 in
+    let judged : AreAllJudged c.args.network.now (g.T.TravelTimes.answers c.args.times.now) c.args.query.now.sources c.args.reported.now c.args.above c.args.parts.now new = (c.requires.judging c.args.query c.args.reported c.args.above _ c.requires.task c.requires.formed c.requires.parts).1 _ c.judging.ensures in
+    found_in_parts c.args.network.now _ c.args.query.now.sources c.args.reported.now c.args.above c.args.parts.now new judged.1 judged.0 c.lowest_of.result c.lowest_of.ensures
+
+pub returns-clause-passed : goal.returns-clause-passed
+returns-clause-passed g c =
+    let new = c.judging.new.arg5 in
+    let judged : AreAllJudged c.args.network.now (g.T.TravelTimes.answers c.args.times.now) c.args.query.now.sources c.args.reported.now c.args.above c.args.parts.now new = (c.requires.judging c.args.query c.args.reported c.args.above _ c.requires.task c.requires.formed c.requires.parts).1 _ c.judging.ensures in
+    passed_in_parts c.args.network.now _ c.args.query.now.sources c.args.reported.now c.args.above c.args.parts.now new judged.1 judged.0 c.lowest_of.result c.lowest_of.ensures c.requires.parts.0
+
+pub returns-clause-marks : goal.returns-clause-marks
+returns-clause-marks g c =
+    let new = c.judging.new.arg5 in
+    let judged : AreAllJudged c.args.network.now (g.T.TravelTimes.answers c.args.times.now) c.args.query.now.sources c.args.reported.now c.args.above c.args.parts.now new = (c.requires.judging c.args.query c.args.reported c.args.above _ c.requires.task c.requires.formed c.requires.parts).1 _ c.judging.ensures in
+    supported_in_parts c.args.network.now _ c.args.query.now.sources c.args.reported.now c.args.above c.args.parts.now new judged.1 judged.0 c.args.marks.now c.gather_marks.new.marks c.requires.marks c.gather_marks.ensures
+
+pub returns-clause-parts : goal.returns-clause-parts
+returns-clause-parts g c =
+    let new = c.judging.new.arg5 in
+    let judged : AreAllJudged c.args.network.now (g.T.TravelTimes.answers c.args.times.now) c.args.query.now.sources c.args.reported.now c.args.above c.args.parts.now new = (c.requires.judging c.args.query c.args.reported c.args.above _ c.requires.task c.requires.formed c.requires.parts).1 _ c.judging.ensures in
+    (parts_after c.args.network.now _ c.args.query.now.sources c.args.reported.now c.args.above c.args.parts.now new judged.1 judged.0 c.requires.parts.0, omega (arith, judged.1, c.requires.parts.1))

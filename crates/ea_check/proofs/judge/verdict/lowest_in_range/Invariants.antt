@@ -4,12 +4,11 @@ use Rattle.ea_road.specs.declared.arc.Arc.{Arc}
 use Rattle.ea_road.specs.Roads.{IsArc}
 use Rattle.ea_check.specs.Supported.{AreSupported}
 use Rattle.ea_check.specs.Verdicts.{Improves, reported_time}
-use Rattle.ea_check.proofs.judge.verdict.lowest_by_arcs.Given as goal
+use Rattle.ea_check.proofs.judge.verdict.lowest_in_range.Given as goal
 
 abbrev pub invariant-loop-number : goal.invariant-loop-number
 invariant-loop-number g l = record {
-  lower : l.lowest ≤ l.above;
   found : (l.lowest ≡ l.above) ⊎ Improves l.network (g.T.TravelTimes.answers l.times) l.query.sources (reported_time l.reported) l.lowest;
-  passed : (number : ℕ) (arc : Arc) (arrival : ℕ) → number < l.number → IsArc l.network number arc → reported_time l.reported arc.tail ≤ HORIZON → g.T.TravelTimes.answers l.times arc.class arc.weight (reported_time l.reported arc.tail) arrival → arrival ≤ HORIZON → arrival < reported_time l.reported arc.head → l.lowest ≤ arc.head;
+  passed : (number : ℕ) (arc : Arc) (arrival : ℕ) → l.fn.arcs.from ≤ number → number < l.number → IsArc l.network number arc → reported_time l.reported arc.tail ≤ HORIZON → g.T.TravelTimes.answers l.times arc.class arc.weight (reported_time l.reported arc.tail) arrival → arrival ≤ HORIZON → arrival < reported_time l.reported arc.head → l.lowest ≤ arc.head;
   marks : AreSupported l.network (g.T.TravelTimes.answers l.times) l.query.sources l.reported l.marks;
 }

@@ -1,0 +1,25 @@
+-- Calls that judge the parts of a network's arcs.
+use Rattle.std.specs.Prelude.{ℕ, List}
+use denote.Ref.{Bor, MutBor}
+use denote.Param.Members.{Shared}
+use Rattle.ea_road.specs.Queries.{Asking}
+use Rattle.ea_road.specs.Roads.{Roads}
+use Rattle.ea_check.specs.declared.judge.part.Part.{Part}
+use Rattle.ea_check.specs.Parts.{AreFewParts, AreAllJudged}
+use Rattle.ea_check.specs.Verdicts.{Said, IsTask, IsWellFormed}
+
+-- What such a call is given.
+abbrev pub Given : Type 0
+Given = Bor Asking × (Bor (List Said) × (ℕ × (MutBor (List Part) × Unit {0})))
+
+-- And what it leaves.
+abbrev pub Left : Type 0
+Left = Unit {0} × (MutBor (List Part) × Unit {0})
+
+module _ {F : Type 0} (g : Shared F Given Left) (f : F) (roads : Roads) (answers : ℕ → ℕ → ℕ → ℕ → Type 0) (classes : ℕ) where
+  -- Whatever the problem and its reported times, the parts may be judged, and are judged then.
+  abbrev pub JudgesBy : Type 0
+  JudgesBy =
+      (query : Bor Asking) (reported : Bor (List Said)) (above : ℕ) (parts : MutBor (List Part)) → IsTask roads classes query.now.sources → IsWellFormed roads.nodes reported.now → AreFewParts roads parts.now
+      → g.pre f (query, (reported, (above, (parts, tt))))
+      × ((after : MutBor (List Part)) → g.post f (query, (reported, (above, (parts, tt)))) (tt, (after, tt)) → AreAllJudged roads answers query.now.sources reported.now above parts.now after.now)
