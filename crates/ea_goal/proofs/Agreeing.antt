@@ -1,5 +1,5 @@
 -- If two assignments of times agree at near nodes, so do their tight arcs, levels and canonical walks there.
-use Rattle.std.proofs.Common.{◌≡◌, ℕ, ◌≤◌, List, subst, sym}
+use Rattle.std.proofs.Common.{ℕ, ◌≤◌, List, subst, sym}
 use Rattle.std.specs.List.{IsAmong}
 use Rattle.ea_base.specs.declared.limits.TheConstants.{HORIZON}
 use Rattle.ea_road.specs.declared.arc.Arc.{Arc}

@@ -8,7 +8,6 @@ use Rattle.ea_road.specs.Labels.{label_of}
 use Rattle.ea_hierarchy.specs.declared.numbers.TheConstants.{NONE as NO_WALK}
 use Rattle.ea_hierarchy.specs.Bounds.{told}
 use Rattle.ea_goal.specs.Frontiers.{Opens, Waits}
-use Rattle.ea_goal.specs.Led.{IsBeyond}
 use Rattle.ea_goal.specs.Scans.{Falls, Offers, OpensNear}
 use Rattle.ea_goal.specs.declared.frontier.Entry.{Entry}
 

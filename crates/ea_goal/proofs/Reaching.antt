@@ -1,8 +1,8 @@
 -- Reached nodes are listed while labels fall.
-use Rattle.std.proofs.Common.{◌≡◌, ℕ, ◌-◌, ◌<◌, ◌≤◌, inl, inr, refl, ap, sym, subst, ◌∙◌, List, length, set}
+use Rattle.std.proofs.Common.{◌≡◌, ℕ, ◌-◌, ◌<◌, inl, inr, refl, ap, sym, subst, ◌∙◌, List, length, set}
 use Rattle.std.proofs.lemmas.Bool.{cases_eq}
 use Rattle.std.proofs.lemmas.List.{length-set}
-use Rattle.ea_search.specs.Listings.{AreLabelsListed, IsListed, KeepsListed}
+use Rattle.ea_search.specs.Listings.{IsListed, KeepsListed}
 use Rattle.ea_search.specs.Underway.{bound_of}
 use Rattle.ea_search.specs.declared.labels.table.Reached.{Reached}
 use Rattle.ea_search.proofs.Entries.{bound_of-set_other}

@@ -1,14 +1,13 @@
 -- Open nodes are opened again, by other bounds.
-use Rattle.std.proofs.Common.{◌≡◌, ℕ, ◌+◌, ◌<◌, ◌≤◌, ◌⊎◌, inl, inr, refl, ap, sym, subst, ◌∙◌, arith, List, [], ◌∷◌, length, Contains}
+use Rattle.std.proofs.Common.{◌≡◌, ℕ, ◌<◌, ◌≤◌, inl, inr, refl, ap, sym, subst, ◌∙◌, arith, List, [], ◌∷◌, length, Contains}
 use Rattle.ea_base.specs.declared.limits.TheConstants.{HORIZON}
-use Rattle.ea_road.specs.declared.arc.Arc.{Arc}
 use Rattle.ea_road.specs.declared.source.Source.{Source}
 use Rattle.ea_road.specs.Labels.{label_of}
-use Rattle.ea_road.specs.Roads.{IsArc, IsNetwork, IsNode, Roads, top_class}
+use Rattle.ea_road.specs.Roads.{IsNetwork, IsNode, Roads, top_class}
 use Rattle.ea_road.proofs.Arcs.{is_question}
 use Rattle.ea_travel_times.specs.Answers.{IsFifo}
 use Rattle.ea_hierarchy.specs.declared.numbers.TheConstants.{NONE as NO_WALK}
-use Rattle.ea_goal.specs.Frontiers.{AreKeyed, Takes, Waits}
+use Rattle.ea_goal.specs.Frontiers.{Takes, Waits}
 use Rattle.ea_goal.specs.Led.{AreConsistent, IsBeyond, IsLed}
 use Rattle.ea_goal.specs.Reopened.{Reopens, ReopensAll}
 use Rattle.ea_goal.specs.Scans.{OpensNear}

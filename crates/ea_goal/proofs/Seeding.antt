@@ -1,10 +1,8 @@
 -- The sources are offered their departures.
-use Rattle.std.proofs.Common.{◌≡◌, ℕ, ◌+◌, ◌-◌, ◌<◌, ◌≤◌, inl, inr, refl, ap, sym, subst, ◌∙◌, arith, List, [], length, replicate, get_or, Contains}
-use Rattle.std.specs.Prelude.{◌≢◌}
+use Rattle.std.proofs.Common.{◌≡◌, ℕ, ◌+◌, ◌-◌, ◌<◌, ◌≤◌, inl, inr, ap, sym, subst, ◌∙◌, arith, List, [], length, replicate, get_or, Contains}
 use Rattle.std.specs.List.{IsAmong}
-use Rattle.std.proofs.lemmas.Bool.Decides.{eqb_tells, leb_tells}
+use Rattle.std.proofs.lemmas.Bool.Decides.{leb_tells}
 use Rattle.std.proofs.lemmas.List.{get_or-replicate, get_or_default}
-use Rattle.ea_base.specs.declared.limits.TheConstants.{HORIZON}
 use Rattle.ea_road.specs.declared.TheConstants.{NONE}
 use Rattle.ea_road.specs.declared.source.Source.{Source}
 use Rattle.ea_road.specs.Arrivals.{Reaches}
@@ -12,7 +10,6 @@ use Rattle.ea_road.specs.Labels.{label_of}
 use Rattle.ea_road.specs.Roads.{IsNode, Roads}
 use Rattle.ea_road.proofs.Reached.{reaches_source}
 use Rattle.ea_search.specs.Links.{AreStarts}
-use Rattle.ea_hierarchy.specs.declared.numbers.TheConstants.{NONE as NO_WALK}
 use Rattle.ea_goal.specs.Frontiers.{Waits}
 use Rattle.ea_goal.specs.Led.{IsLed}
 use Rattle.ea_goal.specs.Scans.{Offers}

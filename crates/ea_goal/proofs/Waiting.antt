@@ -2,7 +2,7 @@
 use Rattle.std.proofs.Common.{◌≡◌, ℕ, zero, suc, ◌+◌, ◌-◌, ◌≤◌, ◌⊎◌, inl, inr, refl, ap, sym, subst, arith, List, [], ◌∷◌, ◌++◌, append_assoc, length, Contains}
 use Rattle.std.specs.List.Sorted.{IsPermutation}
 use Rattle.std.proofs.lemmas.List.Sorted.{Contains-permutation, IsPermutation-append_comm, IsPermutation-sym}
-use Rattle.ea_goal.specs.Frontiers.{AreKeyed, IsKeyed, Opens, Takes, Waits}
+use Rattle.ea_goal.specs.Frontiers.{IsKeyed, Opens, Takes}
 use Rattle.ea_goal.specs.declared.frontier.Entry.{Entry}
 use Rattle.ea_goal.specs.declared.frontier.TheConstants.{FARTHEST}
 

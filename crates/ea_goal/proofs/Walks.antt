@@ -1,7 +1,7 @@
 -- What a led search leaves gives the target's canonical walk.
-use Rattle.std.proofs.Common.{◌≡◌, ◌∙◌, refl, ℕ, ◌+◌, ◌<◌, ◌≤◌, inl, inr, List, arith, ap, subst, sym}
-use Rattle.std.proofs.lemmas.Bool.Decides.{eqb_tells, leb_tells}
-use Rattle.std.specs.Prelude.{◌≢◌, ◌==◌, if◌then◌else◌, Option, Some, None}
+use Rattle.std.proofs.Common.{refl, ℕ, ◌+◌, ◌<◌, ◌≤◌, inl, inr, List, arith, subst}
+use Rattle.std.proofs.lemmas.Bool.Decides.{leb_tells}
+use Rattle.std.specs.Prelude.{◌≢◌, Option, Some, None}
 use Rattle.std.specs.List.{IsAmong}
 use Rattle.ea_base.specs.declared.limits.TheConstants.{HORIZON}
 use Rattle.ea_road.specs.declared.TheConstants.{NONE}
@@ -19,7 +19,7 @@ use Rattle.ea_road.proofs.Rooted.{chain_to}
 use Rattle.ea_road.proofs.Walked.{labels_are_times, least_are_times}
 use Rattle.ea_travel_times.specs.Answers.{IsFifo}
 use Rattle.ea_hierarchy.specs.declared.numbers.TheConstants.{NONE as NO_WALK}
-use Rattle.ea_goal.specs.Led.{AreConsistent, IsLed, IsLedTo}
+use Rattle.ea_goal.specs.Led.{IsLedTo}
 use Rattle.ea_goal.proofs.Agreeing.{SaysNear, canonical_there, chain_there}
 use Rattle.ea_goal.proofs.Least.{label_le, target_label_is_least}
 

@@ -26,7 +26,7 @@ use std::alloc::AllocError;
 use std::mem;
 
 /// So many nodes are scanned before bounds are begun: a near target is then found without the way up the tree.
-const NEAR: u32 = 1024;
+const NEAR: u32 = 512;
 
 impl Underway {
     /// Offers the sources their departures.

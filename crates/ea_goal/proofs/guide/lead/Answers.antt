@@ -1,8 +1,6 @@
-use Rattle.std.proofs.Common.{ap, ◌≡◌, ◌≢◌, ◌∙◌, ℕ, List}
-use Rattle.std.proofs.lemmas.List.{get_or-replicate}
+use Rattle.std.proofs.Common.{ap, ◌∙◌, ℕ, List}
 use Rattle.ea_search.specs.Underway.{bound_of}
 use Rattle.ea_search.proofs.Entries.{bound_of-none}
-use Rattle.ea_road.specs.declared.TheConstants.{NONE}
 use Rattle.ea_goal.proofs.guide.lead.Goals as goal
 
 pub seek-ended-requires-clause-sources : goal.seek-ended-requires-clause-sources

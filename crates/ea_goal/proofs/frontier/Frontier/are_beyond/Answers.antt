@@ -1,8 +1,7 @@
-use Rattle.std.proofs.Common.{ap, arith, inl, inr, subst, sym, ◌-◌, ◌<◌, ◌∙◌, ◌≡◌, ◌++◌, List, Contains, length, eqb-true, vec_len}
+use Rattle.std.proofs.Common.{arith, inl, inr, subst, sym, ◌++◌, List, Contains, eqb-true, vec_len}
 use Rattle.std.proofs.lemmas.List.Elements.{Contains-append_cases}
 use Rattle.ea_goal.specs.Frontiers.{AreBeyond}
 use Rattle.ea_goal.specs.declared.frontier.Entry.{Entry}
-use Rattle.ea_goal.specs.declared.frontier.TheConstants.{FARTHEST}
 use Rattle.ea_goal.proofs.frontier.Frontier.are_beyond.Goals as goal
 
 pub returns : goal.returns

@@ -1,4 +1,4 @@
-use Rattle.std.proofs.Common.{arith, subst, List, ◌∷◌, ◌++◌, ◌+◌, length}
+use Rattle.std.proofs.Common.{arith, subst, List, ◌++◌, ◌+◌}
 use Rattle.std.proofs.lemmas.List.{length-append}
 use Rattle.std.proofs.lemmas.List.Sorted.{IsPermutation-append_left}
 use Rattle.ea_goal.specs.Frontiers.{Opens}

@@ -1,5 +1,4 @@
-use Rattle.std.proofs.Common.{arith, subst, sym, List, [], ◌∷◌, ◌++◌, ◌-◌, length}
-use Rattle.std.specs.List.Sorted.{IsPermutation}
+use Rattle.std.proofs.Common.{arith, subst, sym, List, [], ◌∷◌, ◌++◌, ◌-◌}
 use Rattle.std.proofs.lemmas.List.{length-append}
 use Rattle.ea_goal.specs.Frontiers.{Opens}
 use Rattle.ea_goal.specs.declared.frontier.Entry.{Entry}

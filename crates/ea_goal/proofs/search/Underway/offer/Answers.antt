@@ -1,4 +1,4 @@
-use Rattle.std.proofs.Common.{arith, refl, sym, subst, ◌<◌, ◌-◌, ◌∙◌, List, ℕ, set}
+use Rattle.std.proofs.Common.{arith, refl, sym, subst, ◌<◌, ◌-◌, List, ℕ, set}
 use Rattle.ea_road.specs.Labels.{label_of}
 use Rattle.ea_search.specs.declared.labels.table.Reached.{Reached}
 use Rattle.ea_hierarchy.proofs.Finding.{read_at}

@@ -1,4 +1,4 @@
-use Rattle.std.proofs.Common.{arith, sym, ◌-◌, ◌∙◌, ◌<◌, ◌+◌}
+use Rattle.std.proofs.Common.{arith, sym, ◌-◌, ◌∙◌, ◌+◌}
 use Rattle.ea_road.specs.Labels.{label_of}
 use Rattle.ea_hierarchy.proofs.Finding.{read_at}
 use Rattle.ea_goal.specs.Potentials.{potential_of}

@@ -1,7 +1,7 @@
-use Rattle.std.proofs.Common.{arith, ap, refl, sym, subst, ◌∙◌, ◌≡◌, ℕ, List, length, Contains}
+use Rattle.std.proofs.Common.{arith, ap, refl, subst, ◌∙◌, ℕ, List, length, Contains}
 use Rattle.ea_search.specs.declared.labels.table.Reached.{Reached}
 use Rattle.ea_goal.specs.Potentials.{potential_of}
-use Rattle.ea_goal.specs.Reopened.{Reopens, ReopensAll}
+use Rattle.ea_goal.specs.Reopened.{Reopens}
 use Rattle.ea_goal.specs.Visits.{AreOpenNodes}
 use Rattle.ea_road.specs.Roads.{IsNode}
 use Rattle.ea_goal.specs.declared.frontier.Entry.{Entry}

@@ -1,7 +1,5 @@
-use Rattle.std.proofs.Common.{sym, subst, ◌∙◌, ℕ, List}
+use Rattle.std.proofs.Common.{sym, ◌∙◌, ℕ}
 use Rattle.ea_goal.specs.Potentials.{potential_of}
-use Rattle.ea_goal.specs.Visits.{Leads}
-use Rattle.ea_goal.specs.declared.frontier.Entry.{Entry}
 use Rattle.ea_goal.proofs.Reaching.{reached_then}
 use Rattle.ea_goal.proofs.Scanning.{keyed_alike}
 use Rattle.ea_goal.proofs.Visiting.{leads_more, visits_alike}
