@@ -2,6 +2,8 @@
 #![tactic(auto)]
 
 #[cfg(test)]
+mod asked;
+#[cfg(test)]
 mod bounds;
 #[cfg(test)]
 mod orders;
@@ -9,3 +11,5 @@ mod orders;
 mod pairs;
 #[cfg(test)]
 mod random;
+#[cfg(test)]
+mod streets;

@@ -1,11 +1,12 @@
 //! Arrivals and walks of pairs by searches that are led by bounds, compared with those of plain searches.
-ghost use Rattle.std.specs.Prelude.{IfSome, length};
+ghost use Rattle.std.specs.Prelude.{IfSome, length, ◌<◌};
 ghost use Rattle.ea_hierarchy.specs.Preparations.{IsPreparedFor};
 ghost use Rattle.ea_road.specs.Queries.{IsProblem};
 ghost use Rattle.ea_travel_times.specs.StepLists.{steps_in};
 ghost use Rattle.ea_travel_times.specs.TimetableLists.{TimetablesAnswer};
 
 use crate::random::{number_to, random_network, times_of_all_kinds};
+use crate::streets::{Plan, streets};
 use ea_base::HORIZON;
 use ea_hierarchy::{Prepared, Unprepared};
 use ea_paths::{Answer, Search, solve_alone};
@@ -71,6 +72,27 @@ struct Pair {
     target: u32,
 }
 
+/// A departure by chance: mostly early, sometimes shortly before the horizon.
+fn random_departure<R: Rng>(words: &mut R) -> u64 {
+    let number = u64::from(number_to(words, 100));
+    if number_to(words, 10) == 1 {
+        HORIZON.saturating_sub(number)
+    } else {
+        number
+    }
+}
+
+/// A target by chance, every second time near the source's number, as in one street.
+fn random_target<R: Rng>(words: &mut R, source: u32, nodes: u32) -> u32
+    ensures { 0 < result }
+{
+    if number_to(words, 2) == 1 {
+        return number_to(words, nodes);
+    }
+    let near = source.saturating_add(number_to(words, 5)).saturating_sub(3);
+    near.min(nodes).max(1)
+}
+
 /// A pair by chance; none if its nodes aren't in the network.
 fn random_pair<R: Rng>(words: &mut R, network: &Network, times: &Timetables) -> Option<Pair>
     ensures { IfSome result (λ pair. IsProblem network.now (length times.now.list.items) pair.query) }
@@ -78,9 +100,9 @@ fn random_pair<R: Rng>(words: &mut R, network: &Network, times: &Timetables) -> 
     let nodes = network.nodes();
     let start = Source {
         node: number_to(words, nodes),
-        departure: u64::from(number_to(words, 100)),
+        departure: random_departure(words),
     };
-    let target = number_to(words, nodes);
+    let target = random_target(words, start.node, nodes);
     if start.departure > HORIZON {
         return None;
     }
@@ -177,6 +199,45 @@ fn in_random(
         }
     }
     Ok(count)
+}
+
+/// Searches pairs in grids of streets with oddities, so large that some are led by bounds.
+fn in_streets(alloc: Global, seed: u64, longest: u32, walks: bool) -> Result<Count, Unprepared> {
+    let mut words = Xoshiro256PlusPlus::seed_from_u64(seed);
+    let mut count = Count {
+        pairs: 0,
+        reached: 0,
+        differ: 0,
+    };
+    let plan = Plan {
+        side: 16,
+        longest,
+        classes: 7,
+        odd: true,
+    };
+    let Some(times) = times_of_all_kinds(alloc)? else {
+        return Ok(count);
+    };
+    for _ in 0..5 {
+        if let Some(network) = streets(alloc, &mut words, plan)? {
+            search_pairs(alloc, &network, &times, &mut words, walks, &mut count)?;
+        }
+    }
+    Ok(count)
+}
+
+#[test]
+fn pairs_of_long_streets(rt: HostRuntime) -> Result<(), Fail> {
+    let count = in_streets(rt.alloc(), 9, 40, false).map_err(|_| "prepared")?;
+    assert_alike(&rt, count, 100);
+    Ok(())
+}
+
+#[test]
+fn walks_over_streets(rt: HostRuntime) -> Result<(), Fail> {
+    let count = in_streets(rt.alloc(), 10, 16, true).map_err(|_| "prepared")?;
+    assert_alike(&rt, count, 100);
+    Ok(())
 }
 
 #[test]
