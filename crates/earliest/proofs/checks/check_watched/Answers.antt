@@ -126,7 +126,7 @@ returns-in_err-queries-clause-unjudged g c =
     rw (p.1, p.2) (refl, inr (all_read (run_asks o) files given.0 found.sources.items extras sound, (refl, omega arith)))
 
 pub judge-requires-2-clause-checkable : goal.judge-requires-2-clause-checkable
-judge-requires-2-clause-checkable g c =
+judge-requires-2-clause-checkable g c κs within_call =
     let o = c.args.options.now in
     let given = c.in_ok-files.ensures.given in
     let found = c.in_ok-files.files in
