@@ -11,6 +11,7 @@ use earliest::{
 use std::alloc::Global;
 use std::io::{self, Error, ErrorKind, Read, Write};
 use std::test::Fail;
+use std::thread::Threads;
 
 const FOUR_NODES: &[u8] = b"p sp 4 5\na 1 2 7\na 1 3 2\na 3 2 3\na 2 4 1\na 3 4 9\n";
 
@@ -56,45 +57,53 @@ impl Read for Failing {
 }
 
 /// The verdict on a report of four-nodes.
-fn said_of(alloc: Global, report: &[u8]) -> Result<Result<(), CheckFault>, AnswerFault> {
+fn said_of<H: Threads + Sync>(
+    alloc: Global,
+    rt: &H,
+    report: &[u8],
+) -> Result<Result<(), CheckFault>, AnswerFault> {
     let mut gr = StdIn::new(FOUR_NODES);
     let mut ss = StdIn::new(SOURCE);
     let mut others: OptionalFiles<StdIn<&[u8]>> = OptionalFiles::only_tp(None);
     let mut report = StdIn::new(report);
     let options = options_from(0, 0);
-    check_report(alloc, &mut gr, &mut ss, &mut others, &options, &mut report)
+    check_report(alloc, rt, &mut gr, &mut ss, &mut others, &options, &mut report)
 }
 
 #[test]
 fn check_verdicts(rt: HostRuntime) {
     let alloc = rt.alloc();
-    assert_eq!(rt; said_of(alloc, REPORT), Ok(Ok(())));
+    assert_eq!(rt; said_of(alloc, &rt, REPORT), Ok(Ok(())));
     let late = b"s 1 0\nd 1 0\nd 2 5\nd 3 2\nd 4 7\n";
-    assert_eq!(rt; said_of(alloc, late), Ok(Err(CheckFault::NotAttained(5))));
+    assert_eq!(rt; said_of(alloc, &rt, late), Ok(Err(CheckFault::NotAttained(5))));
     let early = b"s 1 0\nd 1 0\nd 2 5\nd 3 2\nd 4 5\n";
-    assert_eq!(rt; said_of(alloc, early), Ok(Err(CheckFault::NotAttained(5))));
+    assert_eq!(rt; said_of(alloc, &rt, early), Ok(Err(CheckFault::NotAttained(5))));
     let not_least = b"s 1 0\nd 1 0\nd 2 7\nd 3 2\nd 4 8\n";
-    assert_eq!(rt; said_of(alloc, not_least), Ok(Err(CheckFault::NotLeast(3))));
+    assert_eq!(rt; said_of(alloc, &rt, not_least), Ok(Err(CheckFault::NotLeast(3))));
     let unreached = b"s 1 0\nd 1 0\nd 2 5\nd 3 2\nd 4 inf\n";
-    assert_eq!(rt; said_of(alloc, unreached), Ok(Err(CheckFault::NotLeast(5))));
+    assert_eq!(rt; said_of(alloc, &rt, unreached), Ok(Err(CheckFault::NotLeast(5))));
     let short = b"s 1 0\nd 1 0\nd 2 5\nd 4 6\n";
-    assert_eq!(rt; said_of(alloc, short), Ok(Err(CheckFault::BadLine(4))));
+    assert_eq!(rt; said_of(alloc, &rt, short), Ok(Err(CheckFault::BadLine(4))));
 }
 
 #[test]
 fn check_form(rt: HostRuntime) {
     let alloc = rt.alloc();
-    assert_eq!(rt; said_of(alloc, b""), Ok(Err(CheckFault::BadLine(0))));
+    assert_eq!(rt; said_of(alloc, &rt, b""), Ok(Err(CheckFault::BadLine(0))));
     let more = b"s 1 0\nd 1 0\nd 2 5\nd 3 2\nd 4 6\ns 1 0\n";
-    assert_eq!(rt; said_of(alloc, more), Ok(Err(CheckFault::BadLine(6))));
+    assert_eq!(rt; said_of(alloc, &rt, more), Ok(Err(CheckFault::BadLine(6))));
     let beyond = b"s 1 0\nd 1 0\nd 2 281474976710656\nd 3 2\nd 4 6\n";
-    assert_eq!(rt; said_of(alloc, beyond), Ok(Err(CheckFault::BadLine(3))));
+    assert_eq!(rt; said_of(alloc, &rt, beyond), Ok(Err(CheckFault::BadLine(3))));
     let walk = b"s 1 0\nd 1 0\nd 2 5\nd 3 2\nw 3 1 1\nd 4 6\n";
-    assert_eq!(rt; said_of(alloc, walk), Ok(Err(CheckFault::NotAttained(5))));
+    assert_eq!(rt; said_of(alloc, &rt, walk), Ok(Err(CheckFault::NotAttained(5))));
 }
 
 /// The verdict on a report of two-ways-to-fifteen, departing at 1.
-fn said_of_fifteen(alloc: Global, report: &[u8]) -> Result<Result<(), CheckFault>, AnswerFault> {
+fn said_of_fifteen<H: Threads + Sync>(
+    alloc: Global,
+    rt: &H,
+    report: &[u8],
+) -> Result<Result<(), CheckFault>, AnswerFault> {
     let mut gr = StdIn::new(b"p sp 4 4\na 1 2 4\na 1 3 1\na 3 2 1\na 2 4 5\n".as_slice());
     let mut ss = StdIn::new(SOURCE);
     let mut others = OptionalFiles::only_tp(Some(StdIn::new(
@@ -102,7 +111,7 @@ fn said_of_fifteen(alloc: Global, report: &[u8]) -> Result<Result<(), CheckFault
     )));
     let mut report = StdIn::new(report);
     let options = options_from(1, 0);
-    check_report(alloc, &mut gr, &mut ss, &mut others, &options, &mut report)
+    check_report(alloc, rt, &mut gr, &mut ss, &mut others, &options, &mut report)
 }
 
 #[test]
@@ -110,11 +119,11 @@ fn check_canonical(rt: HostRuntime) {
     let alloc = rt.alloc();
     let other = b"s 1 1\nd 1 1\nd 2 3\nd 3 2\nd 4 15\nw 4 2 1 4\n";
     assert_eq!(rt;
-        said_of_fifteen(alloc, other),
+        said_of_fifteen(alloc, &rt, other),
         Ok(Err(CheckFault::NotCanonical(6)))
     );
     let canonical = b"s 1 1\nd 1 1\nd 2 3\nd 3 2\nd 4 15\nw 4 3 2 3 4\n";
-    assert_eq!(rt; said_of_fifteen(alloc, canonical), Ok(Ok(())));
+    assert_eq!(rt; said_of_fifteen(alloc, &rt, canonical), Ok(Ok(())));
 }
 
 #[test]
@@ -131,14 +140,14 @@ fn check_faults_come_in_order(rt: HostRuntime) {
     let mut others: OptionalFiles<StdIn<&[u8]>> = OptionalFiles::only_tp(None);
     let mut failing = StdIn::new(Failing);
     assert_eq!(rt;
-        check_report(alloc, &mut gr, &mut ss, &mut others, &late, &mut failing),
+        check_report(alloc, &rt, &mut gr, &mut ss, &mut others, &late, &mut failing),
         Err(unread)
     );
     let mut gr = StdIn::new(FOUR_NODES);
     let mut ss = StdIn::new(TWO_SOURCES);
     let mut report = StdIn::new(REPORT);
     assert_eq!(rt;
-        check_report(alloc, &mut gr, &mut ss, &mut others, &late, &mut report),
+        check_report(alloc, &rt, &mut gr, &mut ss, &mut others, &late, &mut report),
         Err(AnswerFault::BadOption)
     );
     let mut gr = StdIn::new(b"p max 4 5\n".as_slice());
@@ -152,7 +161,7 @@ fn check_faults_come_in_order(rt: HostRuntime) {
         },
     };
     assert_eq!(rt;
-        check_report(alloc, &mut gr, &mut ss, &mut others, &late, &mut failing),
+        check_report(alloc, &rt, &mut gr, &mut ss, &mut others, &late, &mut failing),
         Err(bad)
     );
 }

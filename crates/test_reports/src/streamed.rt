@@ -9,6 +9,7 @@ use ea_travel_times::{Timetables, Turned};
 use std::alloc::{AllocError, Global};
 use std::io::{self, Error, ErrorKind, Read};
 use std::test::Fail;
+use std::thread::Threads;
 use test_support::networks::{FOUR_NODES, Row, network_of, query_of, times_of};
 
 /// A reader of std that gives a text in pieces after this many interruptions, and fails when this many bytes
@@ -51,8 +52,14 @@ fn in_pieces(text: &[u8], piece: usize) -> Device<'_> {
 /// The checker's answer; none if the problem can't be checked.
 type Said = Option<Result<Result<(), CheckFault>, ReadFault>>;
 
+/// The answer of one thread, if four threads have the same.
+fn same(one: Said, four: Said) -> Said {
+    if one == four { one } else { None }
+}
+
 /// The checker's answer on the report of earliest arrivals of a device.
-fn forward(
+fn forward<H: Threads + Sync>(
+    rt: &H,
     alloc: Global,
     network: &Network,
     times: &Timetables,
@@ -62,22 +69,24 @@ fn forward(
     if !is_checkable(network, times.classes(), queries) {
         return None;
     }
-    let mut reader = StdIn::new(device);
     let way = Direction::Forward;
-    Some(check_stream(
-        alloc,
-        network,
-        times,
-        queries,
-        way,
-        &mut reader,
-        &mut Silent,
-    ))
+    let one = Several { rt, threads: 1 };
+    let mut reader = StdIn::new(device);
+    let by_one = check_stream(
+        alloc, &one, network, times, queries, way, &mut reader, &mut Silent,
+    );
+    let four = Several { rt, threads: 4 };
+    let mut reader = StdIn::new(device);
+    let by_four = check_stream(
+        alloc, &four, network, times, queries, way, &mut reader, &mut Silent,
+    );
+    same(Some(by_one), Some(by_four))
 }
 
 /// The checker's answer on the report of latest departures of a device, for a network and queries that are
 /// turned round.
-fn turned(
+fn turned<H: Threads + Sync>(
+    rt: &H,
     alloc: Global,
     network: &Network,
     times: &Timetables,
@@ -88,17 +97,18 @@ fn turned(
         return None;
     }
     let times = Turned::of(times);
-    let mut reader = StdIn::new(device);
     let way = Direction::Turned;
-    Some(check_stream(
-        alloc,
-        network,
-        &times,
-        queries,
-        way,
-        &mut reader,
-        &mut Silent,
-    ))
+    let one = Several { rt, threads: 1 };
+    let mut reader = StdIn::new(device);
+    let by_one = check_stream(
+        alloc, &one, network, &times, queries, way, &mut reader, &mut Silent,
+    );
+    let four = Several { rt, threads: 4 };
+    let mut reader = StdIn::new(device);
+    let by_four = check_stream(
+        alloc, &four, network, &times, queries, way, &mut reader, &mut Silent,
+    );
+    same(Some(by_one), Some(by_four))
 }
 
 /// One query of all nodes from these sources; none if they don't fit.
@@ -112,7 +122,7 @@ fn one_query(alloc: Global, sources: &[(u32, u64)]) -> Result<Option<Vec<Query>>
 }
 
 /// The checker's answer on a report on four nodes, from node 1 at 0.
-fn of_four(alloc: Global, device: Device<'_>) -> Result<Said, AllocError> {
+fn of_four<H: Threads + Sync>(rt: &H, alloc: Global, device: Device<'_>) -> Result<Said, AllocError> {
     let Some(queries) = one_query(alloc, &[(1, 0)])? else {
         return Ok(None);
     };
@@ -120,11 +130,11 @@ fn of_four(alloc: Global, device: Device<'_>) -> Result<Said, AllocError> {
         return Ok(None);
     };
     let times = times_of(alloc, 10)?;
-    Ok(forward(alloc, &network, &times, &queries, device))
+    Ok(forward(rt, alloc, &network, &times, &queries, device))
 }
 
 /// The checker's answer on a report of latest departures on these arcs, to node 4 by this time.
-fn to_four(alloc: Global, rows: &[Row], by: u64, device: Device<'_>) -> Result<Said, AllocError> {
+fn to_four<H: Threads + Sync>(rt: &H, alloc: Global, rows: &[Row], by: u64, device: Device<'_>) -> Result<Said, AllocError> {
     let Some(queries) = one_query(alloc, &[(4, HORIZON.saturating_sub(by))])? else {
         return Ok(None);
     };
@@ -133,7 +143,7 @@ fn to_four(alloc: Global, rows: &[Row], by: u64, device: Device<'_>) -> Result<S
     };
     let times = times_of(alloc, 10)?;
     let network = network.turned(alloc)?;
-    Ok(turned(alloc, &network, &times, &queries, device))
+    Ok(turned(rt, alloc, &network, &times, &queries, device))
 }
 
 /// A report, and the checker's verdict.
@@ -158,9 +168,9 @@ const REPORTS: [Case; 9] = [
 ];
 
 /// The first of the reports that has another verdict if it comes in pieces of this size.
-fn wrong_piece(alloc: Global, piece: usize) -> Result<Option<usize>, AllocError> {
+fn wrong_piece<H: Threads + Sync>(rt: &H, alloc: Global, piece: usize) -> Result<Option<usize>, AllocError> {
     for (place, (report, wanted)) in REPORTS.iter().enumerate() {
-        if of_four(alloc, in_pieces(report, piece))? != Some(Ok(*wanted)) {
+        if of_four(rt, alloc, in_pieces(report, piece))? != Some(Ok(*wanted)) {
             return Ok(Some(place));
         }
     }
@@ -170,7 +180,7 @@ fn wrong_piece(alloc: Global, piece: usize) -> Result<Option<usize>, AllocError>
 #[test]
 fn pieces_of_each_size(rt: HostRuntime) -> Result<(), Fail> {
     for piece in 1..50 {
-        assert_none_wrong(&rt, wrong_piece(rt.alloc(), piece)?);
+        assert_none_wrong(&rt, wrong_piece(&rt, rt.alloc(), piece)?);
     }
     Ok(())
 }
@@ -187,7 +197,8 @@ fn after_comment(alloc: Global, report: &[u8]) -> Result<Vec<u8>, AllocError> {
 }
 
 /// The first number of bytes of a report after which a block can't end without another verdict.
-fn wrong_cut(
+fn wrong_cut<H: Threads + Sync>(
+    rt: &H,
     alloc: Global,
     report: &[u8],
     wanted: Result<(), CheckFault>,
@@ -197,7 +208,7 @@ fn wrong_cut(
         let Some(shorter) = text.get(bytes..) else {
             return Ok(Some(bytes));
         };
-        if of_four(alloc, in_pieces(shorter, BLOCK))? != Some(Ok(wanted)) {
+        if of_four(rt, alloc, in_pieces(shorter, BLOCK))? != Some(Ok(wanted)) {
             return Ok(Some(bytes));
         }
     }
@@ -209,8 +220,8 @@ fn blocks_that_end_at_each_byte(rt: HostRuntime) -> Result<(), Fail> {
     let alloc = rt.alloc();
     let right = b"s 1 0\nd 1 0\nd 2 5\nw 2 2 2 3\r\nd 3 2\nd 4 6";
     let wrong = b"s 1 0\nd 1 0\n\nd 2 5\nw 2 2 3 2\nd 3 2\nd 4 6\n";
-    assert_none_wrong(&rt, wrong_cut(alloc, right, Ok(()))?);
-    assert_none_wrong(&rt, wrong_cut(alloc, wrong, Err(NotAttained(6)))?);
+    assert_none_wrong(&rt, wrong_cut(&rt, alloc, right, Ok(()))?);
+    assert_none_wrong(&rt, wrong_cut(&rt, alloc, wrong, Err(NotAttained(6)))?);
     Ok(())
 }
 
@@ -231,19 +242,19 @@ fn line_of_several_blocks(rt: HostRuntime) -> Result<(), Fail> {
     assert_that(
         &rt,
         "right",
-        of_four(alloc, in_pieces(&right, BLOCK))? == Some(Ok(Ok(()))),
+        of_four(&rt, alloc, in_pieces(&right, BLOCK))? == Some(Ok(Ok(()))),
     );
     assert_that(
         &rt,
         "wrong",
-        of_four(alloc, in_pieces(&wrong, BLOCK))? == Some(Ok(Err(NotAttained(4)))),
+        of_four(&rt, alloc, in_pieces(&wrong, BLOCK))? == Some(Ok(Err(NotAttained(4)))),
     );
     Ok(())
 }
 
 /// The first of the reports that has a verdict although its device, after 1,000 interruptions, fails with this
 /// many bytes left.
-fn unfailed(alloc: Global, left: usize) -> Result<Option<usize>, AllocError> {
+fn unfailed<H: Threads + Sync>(rt: &H, alloc: Global, left: usize) -> Result<Option<usize>, AllocError> {
     for (place, (report, _)) in REPORTS.iter().enumerate() {
         let device = Device {
             text: report,
@@ -251,7 +262,7 @@ fn unfailed(alloc: Global, left: usize) -> Result<Option<usize>, AllocError> {
             interruptions: 1000,
             fails_at: Some(left.min(report.len())),
         };
-        if of_four(alloc, device)? != Some(Err(ReadFault::ReadFailed)) {
+        if of_four(rt, alloc, device)? != Some(Err(ReadFault::ReadFailed)) {
             return Ok(Some(place));
         }
     }
@@ -261,7 +272,7 @@ fn unfailed(alloc: Global, left: usize) -> Result<Option<usize>, AllocError> {
 #[test]
 fn failures_come_before_verdicts(rt: HostRuntime) -> Result<(), Fail> {
     for left in 0..40 {
-        assert_none_wrong(&rt, unfailed(rt.alloc(), left)?);
+        assert_none_wrong(&rt, unfailed(&rt, rt.alloc(), left)?);
     }
     Ok(())
 }
@@ -274,7 +285,7 @@ fn one_interruption_too_many(rt: HostRuntime) -> Result<(), Fail> {
         interruptions: 1001,
         fails_at: None,
     };
-    let said = of_four(rt.alloc(), device)?;
+    let said = of_four(&rt, rt.alloc(), device)?;
     assert_that(&rt, "read failed", said == Some(Err(ReadFault::ReadFailed)));
     Ok(())
 }
@@ -347,14 +358,15 @@ const BY_FIVE: [Case; 2] = [
 ];
 
 /// The first of the reports of latest departures to node 4 that has another verdict.
-fn wrong_to_four(
+fn wrong_to_four<H: Threads + Sync>(
+    rt: &H,
     alloc: Global,
     rows: &[Row],
     by: u64,
     cases: &[Case],
 ) -> Result<Option<usize>, AllocError> {
     for (place, (report, wanted)) in cases.iter().enumerate() {
-        if to_four(alloc, rows, by, in_pieces(report, 5))? != Some(Ok(*wanted)) {
+        if to_four(rt, alloc, rows, by, in_pieces(report, 5))? != Some(Ok(*wanted)) {
             return Ok(Some(place));
         }
     }
@@ -363,8 +375,8 @@ fn wrong_to_four(
 
 #[test]
 fn latest_departures(rt: HostRuntime) -> Result<(), Fail> {
-    assert_none_wrong(&rt, wrong_to_four(rt.alloc(), &FOUR_NODES, 6, &BY_SIX)?);
-    assert_none_wrong(&rt, wrong_to_four(rt.alloc(), &FOUR_NODES, 5, &BY_FIVE)?);
+    assert_none_wrong(&rt, wrong_to_four(&rt, rt.alloc(), &FOUR_NODES, 6, &BY_SIX)?);
+    assert_none_wrong(&rt, wrong_to_four(&rt, rt.alloc(), &FOUR_NODES, 5, &BY_FIVE)?);
     Ok(())
 }
 
@@ -385,6 +397,6 @@ const BY_TWO: [Case; 3] = [
 
 #[test]
 fn latest_canonical(rt: HostRuntime) -> Result<(), Fail> {
-    assert_none_wrong(&rt, wrong_to_four(rt.alloc(), &TWO_WAYS, 2, &BY_TWO)?);
+    assert_none_wrong(&rt, wrong_to_four(&rt, rt.alloc(), &TWO_WAYS, 2, &BY_TWO)?);
     Ok(())
 }

@@ -49,19 +49,32 @@ fn push_part(
     Ok(())
 }
 
-/// Cuts a network's arcs into this number of parts of about the same size.
+/// Fewer arcs are one part.
+const MANY_ARCS: usize = 65_536;
+
+/// The number of parts of this many arcs.
+fn parts_of(arcs: usize, most: usize) -> usize
+    requires { 1 ≤ most }
+    ensures { (1 ≤ result) × (result ≤ most) }
+{
+    if arcs < MANY_ARCS { 1 } else { most }
+}
+
+/// Cuts a network's arcs into at most this number of parts of about the same size.
 pub(crate) fn cut_arcs(
     alloc: Global,
     network: &Network,
-    count: usize,
+    most: usize,
 ) -> Result<Vec<Part>, CheckFault>
-    requires { (1 ≤ count) × (count ≤ MOST_THREADS) }
+    requires { (1 ≤ most) × (most ≤ MOST_THREADS) }
     ensures parts { IfOk result (λ parts. AreParts network.now parts.items) }
-    ensures few { IfOk result (λ parts. length parts.items ≤ count) }
+    ensures few { IfOk result (λ parts. length parts.items ≤ most) }
     ensures refused { IfErr result (λ fault. fault ≡ OutOfMemory) }
 {
     let mut parts = Vec::new(alloc);
-    let end = network.arcs().len() as u32 + 1;
+    let arcs = network.arcs().len();
+    let count = parts_of(arcs, most);
+    let end = arcs as u32 + 1;
     let size = end / (count as u32) + 1;
     let mut from: u32 = 1;
     for _ in 1..count {

@@ -7,8 +7,8 @@ pub loop-preserved : goal.loop-preserved
 loop-preserved c =
     let was = c.loop.invariant in
     let pushed = c.in_ok-push_part.ensures.pushed in
-    let some : 0 < c.min-to.result = omega (arith, c.min-to.ensures, c.saturating_add.ensures, was.from_one, c.len.ensures) in
-    let low : c.min-to.result ≤ length c.args.network.now.arcs + 1 = omega (arith, c.min-to.ensures, c.len.ensures, ap (λ l. length l) c.arcs.ensures.arcs) in
+    let some : 0 < c.min-to.result = omega (arith, c.min-to.ensures, c.saturating_add.ensures, was.from_one, c.len-arcs.ensures) in
+    let low : c.min-to.result ≤ length c.args.network.now.arcs + 1 = omega (arith, c.min-to.ensures, c.len-arcs.ensures, ap (λ l. length l) c.arcs.ensures.arcs) in
     let here = is_part c.args.network.now pushed.0 c.loop.from c.min-to.result pushed.2 was.from_one low pushed.3 in
     record {
       from_one = some;
@@ -22,9 +22,9 @@ pub returns-clause-parts : goal.returns-clause-parts
 returns-clause-parts c =
     let was = c.loop.invariant in
     let pushed = c.in_ok-push_part-2.ensures.pushed in
-    let end : c.len.result + 1 ≡ length c.args.network.now.arcs + 1 = omega (arith, c.len.ensures, ap (λ l. length l) c.arcs.ensures.arcs) in
-    let here = is_part c.args.network.now pushed.0 c.loop.from (c.len.result + 1) pushed.2 was.from_one (omega (arith, end)) pushed.3 in
+    let end : c.len-arcs.result + 1 ≡ length c.args.network.now.arcs + 1 = omega (arith, c.len-arcs.ensures, ap (λ l. length l) c.arcs.ensures.arcs) in
+    let here = is_part c.args.network.now pushed.0 c.loop.from (c.len-arcs.result + 1) pushed.2 was.from_one (omega (arith, end)) pushed.3 in
     record {
       each = each_more c.loop.parts.items _ pushed.0 pushed.1 c.args.network.now was.each here;
-      cover = λ number from to. cover_more c.loop.parts.items _ pushed.0 pushed.1 c.loop.from (c.len.result + 1) was.cover pushed.2 number from (omega (arith, to, end));
+      cover = λ number from to. cover_more c.loop.parts.items _ pushed.0 pushed.1 c.loop.from (c.len-arcs.result + 1) was.cover pushed.2 number from (omega (arith, to, end));
     }
