@@ -83,8 +83,8 @@ module _ (parts : List Part) (count above lowest next : ℕ) (here : Part) (insi
   pub found_more : next ≡ min lowest here.lowest → (lowest ≡ above) ⊎ ((place : ℕ) × (place < count) × ((part : Part) → (get_or parts place part).lowest ≡ lowest)) → (next ≡ above) ⊎ ((place : ℕ) × (place < count + 1) × ((part : Part) → (get_or parts place part).lowest ≡ next))
   found_more least found = elim (leb_tells lowest here.lowest) [
     | inl low ↦
-      let stays : next ≡ lowest = omega (arith, least, low.1) in
-      elim found [ inl none ↦ inl (stays ∙ none) | inr some ↦ inr (some.0, omega (arith, some.1), λ part. some.2 part ∙ sym stays) ]
+        let stays : next ≡ lowest = omega (arith, least, low.1) in
+        elim found [ inl none ↦ inl (stays ∙ none) | inr some ↦ inr (some.0, omega (arith, some.1), λ part. some.2 part ∙ sym stays) ]
     | inr high ↦ inr (count, omega arith, λ part. same part ∙ sym (omega (arith, least, high.1)))
   ]
 
@@ -134,12 +134,12 @@ module _ (roads : Roads) (answers : ℕ → ℕ → ℕ → ℕ → Type 0) (sou
   found_in_parts lowest is = elim is.found [
     | inl none ↦ inl none
     | inr some ↦
-      let part = some_part new some.0 some.1 in
-      let here = judged_at some.0 part some.1 in
-      elim here.found [
-        | inl none ↦ inl (sym (some.2 part) ∙ none)
-        | inr improves ↦ inr (subst (Improves roads answers sources label) (some.2 part) improves)
-      ]
+        let part = some_part new some.0 some.1 in
+        let here = judged_at some.0 part some.1 in
+        elim here.found [
+          | inl none ↦ inl (sym (some.2 part) ∙ none)
+          | inr improves ↦ inr (subst (Improves roads answers sources label) (some.2 part) improves)
+        ]
   ]
 
   pub passed_in_parts : (lowest : ℕ) → IsLowest new above lowest → AreParts roads old → (number : ℕ) (arc : Arc) (arrival : ℕ) → IsArc roads number arc → label arc.tail ≤ HORIZON → answers arc.class arc.weight (label arc.tail) arrival → arrival ≤ HORIZON → arrival < label arc.head → lowest ≤ arc.head
@@ -161,9 +161,9 @@ module _ (roads : Roads) (answers : ℕ → ℕ → ℕ → ℕ → Type 0) (sou
     each = λ node some marked. elim (gathers.only node marked) [
       | inl old_mark ↦ are.each node some old_mark
       | inr is_in ↦
-        let part = some_part new is_in.place is_in.inside in
-        let here = judged_at is_in.place part is_in.inside in
-        let supported = here.marks in
-        supported.each node some (is_in.marked part)
+          let part = some_part new is_in.place is_in.inside in
+          let here = judged_at is_in.place part is_in.inside in
+          let supported = here.marks in
+          supported.each node some (is_in.marked part)
     ];
   }

@@ -34,7 +34,7 @@ pub found_in : (way : Direction) (text : List ℕ) (from size last : ℕ) (times
 found_in way text from size last times None are = tt
 found_in way text from size last times (Some found) are = are_in_all way (drop from text) size last times found are
 
--- The lines of a part, behind a line that ends where the part begins.
+-- The lines of a part, behind a line that ends at its first byte.
 pub joined : (way : Direction) (text : List ℕ) (last : ℕ) (before found : Found) (times more new : List ℕ) (time size node from : ℕ) → AreIn way text last times before → AreIn way (drop from text) last more found
     → TakesTime way node time (take (length text - before.bytes) (drop before.bytes text)) size → node ≡ before.first + length times → before.bytes + size ≡ from → node + 1 ≡ found.first → new ≡ (times ++ time ∷ []) ++ more
     → AreIn way text last new (record { first = before.first; bytes = from + found.bytes })

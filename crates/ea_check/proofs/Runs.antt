@@ -40,7 +40,7 @@ number_then text stop i value some inside stops digits is =
 digit_field : (text : List ℕ) (stop value : ℕ) (rest : List ℕ) (is : NumberThen text stop value rest) → IsField is.field
 digit_field text stop value rest is = record { clear = digits_clear is.field is.digits; some = is.some }
 
--- A time is told twice: each gives the other.
+-- A time of the file and one of the search: each gives the other.
 told_back : (way : Direction) (time told : ℕ) → told ≤ HORIZON → time ≡ told_time way told → (told ≡ told_time way time) × (time ≤ HORIZON)
 told_back Forward time told low is = (sym is, omega arith)
 told_back Turned time told low is = (omega arith, omega arith)

@@ -184,7 +184,9 @@ pub fn check_stream<H: Threads + Sync, T: TravelTimes + Sync, R: ByteIn, V: Watc
         ensures { AreAllJudged network.entry.now (T.answers times.entry.now) query.entry.now.sources
             reported.entry.now above parts.entry.now parts.exit.now }
     { judge_parts_by(rt, network, times, query, reported, above, parts) };
-    check_by(alloc, team, &judging, network, times, queries, way, report, watch)
+    check_by(
+        alloc, team, &judging, network, times, queries, way, report, watch,
+    )
 }
 
 /// Like `check_stream`, by those who work on the report.
@@ -273,7 +275,15 @@ pub fn check_watched<T: TravelTimes, V: Watch>(
             reported.entry.now above parts.entry.now parts.exit.now }
     { judge_parts(network, times, query, reported, above, parts) };
     match check_by(
-        alloc, &Alone, &judging, network, times, queries, way, &mut device, watch,
+        alloc,
+        &Alone,
+        &judging,
+        network,
+        times,
+        queries,
+        way,
+        &mut device,
+        watch,
     ) {
         Ok(verdict) => verdict,
         // A text in memory can be read, and has fewer than 2^64 bytes.

@@ -10,7 +10,7 @@ use std::marker::Model;
 /// The greatest number of an entry.
 pub(crate) const FARTHEST: u64 = u64::MAX;
 
-/// So many nodes on chains are taken one after another, before a node is opened by its bound again. Else a search would
+/// The most nodes on chains that are taken one after another, before a node is taken by its bound again. Else a search would
 /// follow a chain of a million nodes away from its target.
 const MOST_PASSED: u32 = 64;
 

@@ -25,7 +25,7 @@ use ea_travel_times::TravelTimes;
 use std::alloc::AllocError;
 use std::mem;
 
-/// So many nodes are scanned before bounds are begun: a near target is then found without the way up the tree.
+/// The number of nodes that are scanned before bounds are begun: a near target is then found without the way up the tree.
 const NEAR: u32 = 512;
 
 impl Underway {
@@ -142,7 +142,7 @@ impl Underway {
         Ok(())
     }
 
-    /// Goes on with bounds from what was searched without.
+    /// Continues with bounds from what was searched without.
     fn lead_on<T: TravelTimes>(
         &mut self,
         network: &Network,

@@ -21,6 +21,7 @@ const NEAR: usize = 32_768;
 
 /// The least and the most bytes of a run, about.
 const LEAST_PART: usize = 32_768;
+
 const MOST_PART: usize = 1_048_576;
 
 /// Texts of fewer bytes are read by the calling thread alone.

@@ -156,12 +156,7 @@ fn read_node<R: ByteIn>(
 
 /// Keeps the times of a node and of those that follow it, which have no walks. Their lines follow each other
 /// from this one on.
-fn keep_times(
-    number: u64,
-    time: u64,
-    times: &[u64],
-    reported: &mut Reported,
-) -> Result<(), Stop>
+fn keep_times(number: u64, time: u64, times: &[u64], reported: &mut Reported) -> Result<(), Stop>
     requires { number + length times.now + 1 < 2 ^ 64 }
     ensures { MatchResult result
         (λ _. reported.new ≡ reported.old ++ saids number (time ∷ times.now))

@@ -172,7 +172,12 @@ impl ReportLines {
     {
         self.spare.clear();
         self.spare.extend_from_slice(&self.block[self.start..])?;
-        let size = self.spare.len().saturating_mul(2).max(self.least).max(BLOCK);
+        let size = self
+            .spare
+            .len()
+            .saturating_mul(2)
+            .max(self.least)
+            .max(BLOCK);
         self.ended = self.blocks.fill(device, &mut self.spare, size)?;
         mem::swap(&mut self.block, &mut self.spare);
         self.start = 0;

@@ -60,7 +60,7 @@ pub(crate) fn read_run(way: Direction, text: &[u8], last: u32, run: &mut Run)
 }
 
 /// Appends the lines of a run to those that were read before it in a text, if they follow each other: the last
-/// line before it, which was not counted yet, ends where the run begins. Returns how many bytes the lines have.
+/// line before it, which was not counted yet, ends at the run's first byte. Returns how many bytes the lines have.
 fn join_run(
     way: Direction,
     text: &[u8],

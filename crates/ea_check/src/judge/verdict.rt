@@ -449,9 +449,7 @@ pub(crate) fn judge<J: Fn(&Query, &Reported, u32, &mut [Part]), T: TravelTimes>(
     ensures parts { AreFewParts network.now parts.new }
 {
     let mut marks = unmarked(alloc, network.nodes() as usize)?;
-    let not_least = first_not_least(
-        judging, network, times, query, reported, &mut marks, parts,
-    );
+    let not_least = first_not_least(judging, network, times, query, reported, &mut marks, parts);
     if let Some(line) = first_by_marks(alloc, network, times, query, reported, &marks)? {
         return Err(CheckFault::NotCanonical(line));
     }

@@ -25,7 +25,7 @@ returns-in_err-read_node-clause-read g c =
     let here = node + c.in_ok-count.count in
     let low : here ≤ nodes = omega (arith, c.in_ok-count.ensures.few, c.nodes-test.true) in
     let left = then_lines (NodesLeft node nodes kept) (ReadsNodes node ahead.said) (NodesLeft here nodes more)
-        (λ lines middle next left reads. nodes_ahead node nodes c.in_ok-count.count kept more ahead.said lines middle next ahead.grown ahead.many left reads) _ (g.R.Device.seen c.nodes.device) _ c.args.lines.now c.nodes.lines c.read_ahead.new.lines c.nodes.invariant.leads ahead.read in
+    (λ lines middle next left reads. nodes_ahead node nodes c.in_ok-count.count kept more ahead.said lines middle next ahead.grown ahead.many left reads) _ (g.R.Device.seen c.nodes.device) _ c.args.lines.now c.nodes.lines c.read_ahead.new.lines c.nodes.invariant.leads ahead.read in
     rw (p.1, p.2) (stop_behind (NodesLeft here nodes more) (NodeWrong here) (NodesWrong 1 nodes)
     (λ lines next left number wrong. node_wrong here nodes more lines next left low number wrong) _ (g.R.Device.seen c.read_ahead.new.device) _ c.args.lines.now c.read_ahead.new.lines c.read_node.new.lines _ left c.in_err-read_node.ensures.read)
 
@@ -42,7 +42,7 @@ nodes-preserved g c =
     let next_node : here + 1 ≡ node + (c.in_ok-count.count + 1) = omega arith in
     let low : here ≤ nodes = omega (arith, c.in_ok-count.ensures.few, c.nodes-test.true) in
     let left = then_lines (NodesLeft node nodes kept) (ReadsNodes node ahead.said) (NodesLeft here nodes more)
-        (λ lines middle next left reads. nodes_ahead node nodes c.in_ok-count.count kept more ahead.said lines middle next ahead.grown ahead.many left reads) _ (g.R.Device.seen c.nodes.device) _ c.args.lines.now c.nodes.lines c.read_ahead.new.lines c.nodes.invariant.leads ahead.read in
+    (λ lines middle next left reads. nodes_ahead node nodes c.in_ok-count.count kept more ahead.said lines middle next ahead.grown ahead.many left reads) _ (g.R.Device.seen c.nodes.device) _ c.args.lines.now c.nodes.lines c.read_ahead.new.lines c.nodes.invariant.leads ahead.read in
     record {
       sound = c.in_ok-read_node.ensures.sound;
       each_node = omega (arith, ap (λ (l : List Said). length l) ahead.grown, length-append kept ahead.said, ahead.many, ap (λ (l : List Said). length l) read.grown, length-append more (read.said ∷ []), c.nodes.invariant.each_node);
