@@ -65,6 +65,40 @@ def grid(side, words):
     return [(tail, head, weight * 7 + 1) for tail, head, weight in both_ways(streets, words)]
 
 
+def streets(side, longest, words):
+    """A grid of crossings whose streets have up to so many nodes inside, some of them one-way, parallel or loops."""
+    arcs, last = [], side * side
+
+    def join(low, high):
+        arcs.extend(both_ways([(low, high)], words)[words.random() < 0.05:])
+        if words.random() < 0.05:
+            arcs.append((low, words.choice((low, high)), words.randint(0, 9)))
+
+    for node in range(1, side * side + 1):
+        for end in ([node + 1] if node % side else []) + ([node + side] if node + side <= side * side else []):
+            inside = range(last + 1, last + 1 + words.randint(0, longest))
+            last += len(inside)
+            for low, high in zip([node, *inside], [*inside, end]):
+                join(low, high)
+    return last, arcs
+
+
+def along_streets(program, folder):
+    """Nodes inside streets are followed at once, and far targets are led by bounds: the same bytes as without."""
+    words = random.Random(12)
+    for longest in (0, 3, 40):
+        nodes, arcs = streets(16, longest, words)
+        text = travel_times.some_text(words, len(arcs))
+        while travel_times.read(text, len(arcs))[0] is None:
+            text = travel_times.some_text(words, len(arcs))
+        write(folder, "gr", graph(nodes, arcs))
+        write(folder, "tp", [text])
+        write(folder, "p2p", pairs(words, nodes, 100))
+        for options in ("", "--walks", "--tp tp --walks", "--arrive 9000 --tp tp --walks", "--depart 7 --gap 3 --at-once 3"):
+            without, over = (ran(program, f"pairs gr p2p {options} --prepare {word}", folder) for word in ("no", "yes"))
+            yield f"prepared streets of {longest}, {options}", (over[0], over == without, len(over[1]) > 500), (0, True, True)
+
+
 def at_random(program, folder, count=25):
     """Random networks with all kinds of travel times: each option of `pairs` with a preparation and without."""
     words = random.Random(20261129)
@@ -146,7 +180,7 @@ def results(program):
     """All of these: name, result, expected result."""
     program = os.path.abspath(program)
     found = []
-    for part in (at_random, of_shapes, in_less_time, numbered_at_random):
+    for part in (at_random, along_streets, of_shapes, in_less_time, numbered_at_random):
         with tempfile.TemporaryDirectory() as folder:
             found += list(part(program, folder))
     return found

@@ -69,9 +69,7 @@ fn asked_in_streets(
         return Ok(None);
     }
     let prepared = Prepared::of(alloc, &network, &times)?;
-    Ok(asked_between(
-        alloc, &network, &times, &prepared, 1, target,
-    )?)
+    Ok(asked_between(alloc, &network, &times, &prepared, 1, target)?)
 }
 
 #[test]

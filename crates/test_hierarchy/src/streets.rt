@@ -36,11 +36,7 @@ fn join<R: Rng>(
     high: u32,
     arcs: &mut Vec<Arc>,
 ) -> Result<(), AllocError> {
-    let chance = if plan.odd {
-        number_to(words, 24)
-    } else {
-        24
-    };
+    let chance = if plan.odd { number_to(words, 24) } else { 24 };
     if chance > 1 {
         arcs.push(arc_between(words, plan, low, high))?;
     }
@@ -95,7 +91,13 @@ pub fn streets<R: Rng>(
             last = street(words, plan, (node, node.saturating_add(1)), last, &mut arcs)?;
         }
         if node <= crossings - plan.side.min(crossings) {
-            last = street(words, plan, (node, node.saturating_add(plan.side)), last, &mut arcs)?;
+            last = street(
+                words,
+                plan,
+                (node, node.saturating_add(plan.side)),
+                last,
+                &mut arcs,
+            )?;
         }
     }
     if !Network::fits(last, &arcs) {
