@@ -11,6 +11,7 @@ import tempfile
 from concurrent.futures import ThreadPoolExecutor
 
 sys.dont_write_bytecode = True
+import asked
 import at_once
 import commuter_network
 import documents
@@ -155,6 +156,7 @@ def run_each(program):
     results += travel_times.results(program)
     results += latest.results(program)
     results += prepared.results(program)
+    results += asked.results(program)
     results += commuter_network.results(program)
     results += at_once.results(program)
     results += threads.results(program)
