@@ -1,10 +1,10 @@
-"""Times searches of pairs over a prepared road beside a program by hand in C++, in turns.
+"""Times searches of pairs over a prepared road beside a program in plain C++, in turns.
 
     python3 bench/prepared_turns.py [SCRATCH [GRAPH PAIRS [ROUNDS]]]
 
 Without a graph it makes a road-like network of 10^6 nodes and 300 far pairs. Both programs are built, run in turns on the
 same files, and have to reach all targets at the same times. It prints, in microseconds a pair, the least, the middle and the
-greatest of the rounds, and the middle beside that by hand.
+greatest of the rounds, and the middle beside that of C++.
 """
 import os
 import random

@@ -66,7 +66,7 @@ def grid(side, words):
 
 
 def streets(side, longest, words):
-    """A grid of crossings whose streets have up to so many nodes inside, some of them one-way, parallel or loops."""
+    """A grid of crossings whose streets have up to `longest` nodes inside, some of them one-way, parallel or loops."""
     arcs, last = [], side * side
 
     def join(low, high):
