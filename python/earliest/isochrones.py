@@ -4,7 +4,8 @@
     python3 -m earliest.isochrones report town.nodes.csv --graph town.gr --shapes town.shapes.csv --write arcs --out town.geojson
 
 REPORT is a report of `earliest run`; CO a coordinates file of the 9th DIMACS Challenge (`v NODE X Y`) or the NAME.nodes.csv of an importer.
-A colour tells how long after the source's departure a node is reached, in bands of T time units; a node that isn't reached is grey. With
+A colour tells how long after the source's departure a node is reached, in bands of T time units; a node that isn't reached is grey. Of a report
+of latest departures (`--arrive`) it tells how long before the target's time a node has to be left. With
 --graph the roads are drawn too, and the unit of time is taken from the graph's first comment. If the report has walks, the roads that they
 take stand out: they are the tree of shortest paths. --problem K takes the K-th problem of the report (from 1). The map goes to FILE, or to
 standard output.
@@ -75,30 +76,40 @@ def shapes_of(file):
 
 
 class Problem:
-    """A problem of a report: its sources with their departures, the arrival at each node, and the arcs of all walks."""
+    """A problem of a report: its sources with their departures, the arrival at each node, and the arcs of all walks. Of latest departures
+    (`is_turned`) the sources are the targets with the times by which they have to be reached, and an arrival is a node's departure."""
 
     def __init__(self):
-        self.sources, self.arrivals, self.arcs = [], {}, set()
+        self.sources, self.arrivals, self.arcs, self.is_turned = [], {}, set(), False
 
     @property
     def start(self):
-        return min(departure for _, departure in self.sources)
+        times = [time for _, time in self.sources]
+        return max(times) if self.is_turned else min(times)
+
+    def span(self, times):
+        """The time between the start and the first of some arrivals or, turned round, the last of some departures; None if there are none."""
+        known = [time for time in times if time is not None]
+        if not known:
+            return None
+        return self.start - max(known) if self.is_turned else min(known) - self.start
 
 
 def problem_of(file, wanted):
-    """One problem of a report, counted from 1. A problem begins with the first `s` line after a line of another sort."""
+    """One problem of a report, counted from 1. A problem begins with the first `s` or `t` line after a line of another sort."""
     count, before, problem = 0, "", Problem()
     for number, fields in fields_of(file):
-        if fields[0] == "s" and before != "s":
+        if fields[0] in ("s", "t") and before != fields[0]:
             count += 1
         before = fields[0]
         if count != wanted:
             continue
-        if fields[0] == "s" and len(fields) == 3:
+        if fields[0] in ("s", "t") and len(fields) == 3:
+            problem.is_turned = fields[0] == "t"
             problem.sources.append(tuple(numbers(file, number, fields[1:3])))
         elif fields[0] == "d" and len(fields) == 3:
             node = numbers(file, number, fields[1:2])[0]
-            problem.arrivals[node] = None if fields[2] == "inf" else numbers(file, number, fields[2:])[0]
+            problem.arrivals[node] = None if fields[2] == ("none" if problem.is_turned else "inf") else numbers(file, number, fields[2:])[0]
         elif fields[0] == "w":
             problem.arcs.update(numbers(file, number, fields[3:]))
         else:
@@ -113,7 +124,7 @@ class Sights:
     that is split are one place, reached when the first of them is; nodes on board and after a turn aren't places of their own."""
 
     def __init__(self, problem, known):
-        self.known, self.start = known, problem.start
+        self.known, self.start, self.is_turned = known, problem.start, problem.is_turned
         groups = {}
         for place, node in enumerate(known.nodes):
             if known.uses and known.uses[place] in ("ride", "turn"):
@@ -122,11 +133,11 @@ class Sights:
             groups.setdefault(key, []).append(place)
         self.rows = []
         for members in groups.values():
-            times = [problem.arrivals.get(known.nodes[place]) for place in members]
-            reached = [time for time in times if time is not None]
-            if reached and min(reached) < self.start:
-                raise Refused(f"node {known.nodes[members[0]]} is reached at {min(reached)} in the report, before the departure at {self.start}")
-            self.rows.append((known.nodes[members[0]], members[0], min(reached) - self.start if reached else None))
+            time = problem.span(problem.arrivals.get(known.nodes[place]) for place in members)
+            if time is not None and time < 0:
+                raise Refused(f"node {known.nodes[members[0]]} is left at {self.start - time} in the report, after {self.start}" if self.is_turned else
+                              f"node {known.nodes[members[0]]} is reached at {self.start + time} in the report, before the departure at {self.start}")
+            self.rows.append((known.nodes[members[0]], members[0], time))
         self.rows.sort()
         self.longest = max((time for _, _, time in self.rows if time is not None), default=0)
 
@@ -188,7 +199,7 @@ def legend(sights, band, per_second, top):
         text = span(step * band, (step + 1) * band, per_second)
         entries.append((COLOURS[step], f"{text} and more" if more else text))
     if any(time is None for _, _, time in sights.rows):
-        entries.append((GREY, "not reached"))
+        entries.append((GREY, "no departure in time" if sights.is_turned else "not reached"))
     column = max([94.0] + [SWATCH + LETTER * len(text) + 12 for _, text in entries])
     across = max(1, int((WIDTH - 2 * MARGIN) // column))
     lines = []
@@ -236,10 +247,16 @@ def draw(problem, known, arcs, shapes, band, per_second=None):
             lines.append(f'<circle cx="{x:.1f}" cy="{y:.1f}" r="{radius + 4:.1f}" fill="none" stroke="#d62728" stroke-width="3"/>')
     lines += told
     reached = sum(1 for _, _, time in sights.rows if time is not None)
-    unit = f"departure at {clock(sights.start, per_second)}" if per_second else f"time since the departure at {sights.start}, in the unit of the network"
-    lines.append(f'<text x="{MARGIN}" y="{bottom + 12:.0f}" fill="#555555">{unit}; {reached} of {len(sights.rows)} places are reached</text>')
+    lines.append(f'<text x="{MARGIN}" y="{bottom + 12:.0f}" fill="#555555">{told_start(sights, per_second)}; {reached} of {len(sights.rows)} places are {"in time" if sights.is_turned else "reached"}</text>')
     lines.append("</svg>")
     return "\n".join(line for line in lines if line) + "\n"
+
+
+def told_start(sights, per_second):
+    """What the colours count from."""
+    if per_second:
+        return f"{'time before the arrival by' if sights.is_turned else 'departure at'} {clock(sights.start, per_second)}"
+    return f"time {'before the arrival by' if sights.is_turned else 'since the departure at'} {sights.start}, in the unit of the network"
 
 
 def clock(time, per_second):
@@ -267,12 +284,15 @@ def node_features(problem, known, per_second):
     sights = Sights(problem, known)
     for node, place, time in sights.rows:
         x, y = known.points[place]
-        yield feature("Point", [round(x, 7), round(y, 7)], node=node, **({"id": known.ids[place]} if known.ids else {}), reached=time is not None,
-                      **times("arrival", None if time is None else sights.start + time, per_second), **times("after", time, per_second))
+        names = ("departure", "before") if sights.is_turned else ("arrival", "after")
+        at = None if time is None else sights.start - time if sights.is_turned else sights.start + time
+        yield feature("Point", [round(x, 7), round(y, 7)], node=node, **({"id": known.ids[place]} if known.ids else {}),
+                      **{"in_time" if sights.is_turned else "reached": time is not None}, **times(names[0], at, per_second), **times(names[1], time, per_second))
 
 
 def arc_features(problem, known, arcs, shapes, per_second):
-    """Arcs that can be left: when at the earliest, and when their head is reached (maybe over others)."""
+    """Arcs that can be left: when at the earliest, and when their head is reached (maybe over others). Of latest departures: when their ends
+    have to be left."""
     at = dict(zip(known.nodes, known.points))
     for number, (tail, head) in enumerate(arcs, 1):
         leaves, arrives = problem.arrivals.get(tail), problem.arrivals.get(head)
@@ -282,7 +302,7 @@ def arc_features(problem, known, arcs, shapes, per_second):
         if len(line) == 2 and line[0] == line[1]:
             continue
         yield feature("LineString", [[round(x, 7), round(y, 7)] for x, y in line], arc=number, on_walk=number in problem.arcs,
-                      **times("leaves", leaves, per_second), **times("head_arrival", arrives, per_second))
+                      **times("leaves", leaves, per_second), **times("head_leaves" if problem.is_turned else "head_arrival", arrives, per_second))
 
 
 def band_features(problem, known, arcs, shapes, band, reach, per_second):
@@ -310,7 +330,8 @@ def band_features(problem, known, arcs, shapes, band, reach, per_second):
         line = local(line_of(number, tail, head, at, shapes))
         if line[0] != line[-1] or len(line) > 2:
             key = min(tuple(line), tuple(reversed(line)))  # the two directions of a road are one line
-            ways[key] = min(ways.get(key, math.inf), max(leaves, arrives) - sights.start)
+            far = sights.start - min(leaves, arrives) if sights.is_turned else max(leaves, arrives) - sights.start
+            ways[key] = min(ways.get(key, math.inf), far)
     lines = [(time, LineString(line)) for line, time in ways.items()]
     if reach is None:
         reach = max(20.0, statistics.median(line.length for _, line in lines) / 2) if lines else 150.0
@@ -372,7 +393,7 @@ def command(words):
     per_second = given.units or (writing.unit_of(given.graph) if given.graph else None)
     arcs, shapes = arcs_of(given.graph) if given.graph else [], shapes_of(given.shapes) if given.shapes else {}
     if given.html:
-        written(given.html, [page(known, arcs, problem.sources, problem.arrivals, per_second)])
+        written(given.html, [page(known, arcs, problem, per_second)])
         return 0
     if given.write != "svg" and known.unit != "degrees":
         raise Refused(f"GeoJSON wants degrees, and {given.co} is " + ("in metres" if known.unit == "metres" else "in plain numbers; give --degrees if it is in millionths of a degree"))

@@ -16,23 +16,27 @@ from .importing.telling import Refused
 PAGE = os.path.join(os.path.dirname(os.path.abspath(__file__)), "serve", "page")
 
 
-def page(known: Places, arcs: Sequence[Tuple[int, int]], sources: List[Tuple[int, int]], arrivals: Dict[int, Optional[int]], per_second: Optional[int]) -> str:
-    """The text of the page: where nodes lie, the tail and head of each arc, the sources with their departures, the arrival at each node, None
-    if it isn't reached, and how many units of time a second has, None if nobody knows."""
+def page(known: Places, arcs: Sequence[Tuple[int, int]], problem: Any, per_second: Optional[int]) -> str:
+    """The text of the page: where nodes lie, the tail and head of each arc, a problem of a report, and how many units of time a second has, None if
+    nobody knows."""
+    sources: List[Tuple[int, int]] = problem.sources
+    arrivals: Dict[int, Optional[int]] = problem.arrivals
     nodes = max([*known.nodes, *arrivals, *(node for node, _ in sources), *(node for arc in arcs for node in arc)])
-    departure = min(time for _, time in sources)
+    departure = problem.start
     places, times = array.array("d", [float("nan")]) * (2 * nodes), array.array("Q", [NEVER]) * nodes
     for node, (x, y) in zip(known.nodes, known.points):
         places[2 * node - 2], places[2 * node - 1] = x, y
     for node, arrival in arrivals.items():
         if arrival is not None:
-            if arrival < departure:
-                raise Refused(f"node {node} is reached at {arrival} in the report, before the departure at {departure}")
+            if problem.span([arrival]) < 0:
+                raise Refused(f"node {node} is left at {arrival} in the report, after {departure}" if problem.is_turned else
+                              f"node {node} is reached at {arrival} in the report, before the departure at {departure}")
             times[node - 1] = arrival
     data = {"coordinates": packed(places), "arcs": packed(array.array("I", [node for arc in arcs for node in arc])), "arrivals": packed(times),
-            "departure": departure, "sources": [node for node, _ in sources], "degrees": known.unit == "degrees", "per_second": per_second}
+            "departure": departure, "until": problem.is_turned, "sources": [node for node, _ in sources], "degrees": known.unit == "degrees", "per_second": per_second}
     shown = ", ".join(str(node) for node, _ in sources[:5]) + (" and others" if len(sources) > 5 else "")
-    title = f"Earliest arrivals from node{'s' if len(sources) > 1 else ''} {shown}, departure {departure}"
+    named = f"node{'s' if len(sources) > 1 else ''} {shown}"
+    title = f"Latest departures for {named}, to be there by {departure}" if problem.is_turned else f"Earliest arrivals from {named}, departure {departure}"
     if per_second:
         seconds = departure // per_second
         title = f"{title} ({seconds // 3600}:{seconds // 60 % 60:02}:{seconds % 60:02})"

@@ -67,6 +67,32 @@ def _keeps(room, co):
     return os.path.exists(os.path.join(room, "home.tp"))
 
 
+def latest_departures(room):
+    """A report of latest departures as nodes, arcs and a picture, beside a plain reading of it; two targets at once count from the later time."""
+    points = [(8.0, 47.0), (8.01, 47.0), (8.0, 47.01), (8.01, 47.01)]
+    nodes = put(room, "four.nodes.csv", "node,id,longitude,latitude\n" + "".join(f"{node},n{node},{x},{y}\n" for node, (x, y) in enumerate(points, 1)))
+    graph = os.path.join(ROOT, "examples", "four-nodes.gr")
+    report = put(room, "late", "t 4 6\nd 1 0\nw 1 3 2 3 4\nd 2 5\nw 2 1 4\nd 3 2\nw 3 2 3 4\nd 4 6\nw 4 0\n")
+    def written(*words):
+        good("isochrones", *words, "--out", os.path.join(room, "drawn"))
+        return text(room, "drawn")
+
+    found = json.loads(written(report, nodes, "--write", "nodes"))["features"]
+    yield "latest departures of nodes", [(it["properties"]["in_time"], it["properties"]["departure"], it["properties"]["before"]) for it in found], [(True, 0, 6), (True, 5, 1), (True, 2, 4), (True, 6, 0)]
+    arcs = json.loads(written(report, nodes, "--graph", graph, "--write", "arcs"))["features"]
+    ends, times = [(1, 2), (1, 3), (3, 2), (2, 4), (3, 4)], {1: 0, 2: 5, 3: 2, 4: 6}
+    yield "latest departures at the ends of arcs", [(it["properties"]["arc"], it["properties"]["leaves"], it["properties"]["head_leaves"], it["properties"]["on_walk"]) for it in arcs], [
+        (number, times[tail], times[head], number in (2, 3, 4)) for number, (tail, head) in enumerate(ends, 1)]
+    two = put(room, "two", "t 2 10\nt 3 30\nd 1 29\nd 2 10\nd 3 30\nd 4 none\n")
+    found = json.loads(written(two, nodes, "--write", "nodes"))["features"]
+    yield "two targets, and a node that is never in time", [(it["properties"]["in_time"], it["properties"]["before"]) for it in found], [(True, 1), (True, 20), (True, 0), (False, None)]
+    drawn = written(two, nodes, "--units", "1")
+    yield "a picture of latest departures", [it in drawn for it in ("no departure in time", "time before the arrival by 0:00:30", "3 of 4 places are in time")], [True] * 3
+    for name, lines, part in (("a departure after the arrival", "t 4 6\nd 1 7\n", "left at 7 in the report, after 6"), ("inf in place of none", "t 4 6\nd 1 inf\n", "a number is wanted"), ("a pair", "t 1 4 6\nd 1 0\n", "not a line of a report")):
+        told = ran("isochrones", put(room, "bad", lines), nodes)
+        yield f"refused: {name}", (told.status, part in told.err), (1, True)
+
+
 def town(room):
     """The example town, its report with walks, and what the report says by plain reading."""
     good("osm", os.path.join(ROOT, "examples", "osm", "town.osm"), os.path.join(room, "town"), "--from", "10.0,50.001", "--keep-nodes")
@@ -224,4 +250,4 @@ def as_users_call_them(room):
     yield "python -m earliest.osm of the example", (told.returncode, told.stderr, b"written: town" in told.stdout, os.path.exists(os.path.join(room, "town.gr"))), (0, b"", True, True)
 
 
-CASES = (nearest_in_degrees, nearest_command, geojson_of_nodes_and_arcs, bands, legends, pictures, roads_in_the_picture, hostile, as_users_call_them)
+CASES = (nearest_in_degrees, nearest_command, geojson_of_nodes_and_arcs, bands, legends, pictures, roads_in_the_picture, latest_departures, hostile, as_users_call_them)

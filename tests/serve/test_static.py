@@ -9,7 +9,7 @@ import sys
 import tempfile
 import unittest
 
-from served import LONG, NEVER, commuter, example, needs, places, program
+from served import LONG, NEVER, commuter, commuter_until, example, needs, places, program
 
 
 def command(*words):
@@ -43,7 +43,22 @@ class Static(unittest.TestCase):
         with open(example("commuter.gr"), encoding="ascii") as file:
             ends = [int(it) for line in file if line.startswith("a ") for it in line.split()[1:3]]
         self.assertEqual(list(struct.unpack(f"<{len(ends)}I", read["arcs"])), ends)
-        self.assertEqual((data["departure"], data["sources"], data["per_second"], data["degrees"]), (29400, [225], 1, False))
+        self.assertEqual((data["departure"], data["until"], data["sources"], data["per_second"], data["degrees"]), (29400, False, [225], 1, False))
+
+    def test_latest_departures(self):
+        with tempfile.TemporaryDirectory(prefix="static-") as room:
+            targets, report, out = (os.path.join(room, it) for it in ("one.ss", "report", "out.html"))
+            with open(targets, "w", encoding="ascii") as file:
+                file.write("p aux sp ss 1\ns 236\n")
+            with open(report, "w", encoding="ascii") as file:
+                file.write(program("run", "commuter.gr", targets, "--tp", "commuter.tp", "--arrive", "30600"))
+            self.assertEqual(command(report, example("commuter.co"), "--html", out, "--units", "1"), (0, ""))
+            with open(out, encoding="utf-8") as file:
+                text = file.read()
+            data = json.loads(re.search(r'id="data">(.*?)</script>', text)[1])
+            times = [None if it == NEVER else it for it in struct.unpack("<300Q", base64.b64decode(data["arrivals"]))]
+            self.assertEqual((data["until"], data["departure"], data["sources"], times), (True, 30600, [236], commuter_until(236, 30600)))
+            self.assertIn("Latest departures for node 236, to be there by 30600 (8:30:00)", text)
 
     def test_one_file_without_other_hosts(self):
         self.assertNotRegex(self.text, r'(?:src|href)="(?!data:)|https?://|@import|url\(')
