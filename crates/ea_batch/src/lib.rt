@@ -13,4 +13,4 @@ mod sheet;
 
 pub use parallel_reports::{Watched, report_ahead};
 pub use progress::Progress;
-pub use searching::{Aids, Searching};
+pub use searching::{Aids, Searching, few_chosen};

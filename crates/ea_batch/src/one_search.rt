@@ -8,7 +8,7 @@ ghost use Rattle.ea_search.specs.Listings.{Searched};
 ghost use Rattle.ea_batch.specs.Solved.{AnswersAt, AnswersOn, AreAidsOn, ArrivesAt, ArrivesOn};
 ghost use Rattle.ea_batch.specs.Solved.{IsPreparedOn, IsReady, IsShown, Serves, searched};
 
-use crate::searching::{Aids, Searching};
+use crate::searching::{Aids, Searching, few_chosen};
 use ea_asked::AskedSearch;
 use ea_hierarchy::Prepared;
 use ea_layout::{LaidSearch, Layout};
@@ -194,7 +194,7 @@ fn search_whole(
 }
 
 /// Searches a problem on the arrays of the last search, if there was one: for the nodes that its report shows, if
-/// some are chosen; else by what searches on the road may use. Returns the search with its answer.
+/// few are chosen; else by what searches on the road may use. Returns the search with its answer.
 pub(crate) fn search(
     alloc: Global,
     road: &Road,
@@ -215,7 +215,7 @@ pub(crate) fn search(
     ensures serves { IfOk result (Serves road.now.network shown.entry.style.walks) }
 {
     let walks = shown.style.walks;
-    match shown.nodes {
+    match few_chosen(road.network.nodes(), shown) {
         Some(asked) if query.target().is_none() => {
             let found = search_asked(alloc, road, query, asked, walks, last)?;
             Ok(Searching::Asked(found))

@@ -1,11 +1,13 @@
 //! The arrays of searches by one thread, and what the searches may use.
-ghost use Rattle.std.specs.Prelude.{◌≡◌};
+ghost use Rattle.std.specs.Prelude.{◌≡◌, IfSome, Some};
 ghost use Rattle.ea_batch.specs.Solved.{searched};
+ghost use Rattle.ea_report.specs.Asked.{chosen_by};
 
 use ea_asked::AskedSearch;
 use ea_hierarchy::Prepared;
 use ea_layout::{LaidSearch, Layout};
 use ea_paths::{Answer, Search};
+use ea_report::ReportOptions;
 
 /// The arrays of searches by one thread, with the last answer.
 #[derive(Drop)]
@@ -38,4 +40,20 @@ pub struct Aids<'a> {
     pub prepared: Option<&'a Prepared>,
     /// A layout of its network.
     pub layout: Option<&'a Layout>,
+}
+
+/// Up to this number of chosen nodes are few in any network.
+const FEW: usize = 16;
+
+/// More than one node in this number are many: mostly some of them are far.
+const PART: usize = 64;
+
+/// The nodes that are searched for alone: those that are chosen for a report, if they are few.
+pub fn few_chosen<'a>(nodes: u32, shown: ReportOptions<'a>) -> Option<&'a [u32]>
+    ensures { IfSome result (λ asked. chosen_by shown.entry ≡ Some asked.now) }
+{
+    match shown.nodes {
+        Some(asked) if asked.len() <= (nodes as usize / PART).max(FEW) => Some(asked),
+        _ => None,
+    }
 }

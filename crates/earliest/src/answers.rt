@@ -13,7 +13,7 @@ ghost use Rattle.earliest.specs.Runs.{plan_by, run_asks, pair_asks};
 use crate::preparing::{layout_for, prepared_for};
 use crate::reports::report_all;
 use ea_base::{Silent, Watch};
-use ea_batch::{Aids, Watched};
+use ea_batch::{Aids, Watched, few_chosen};
 use ea_bytes::{ByteIn, ByteOut};
 use ea_load::{
     AnswerFault, ExtraLists, OptionalFiles, Schedule, departures_fit, pair_queries, read_extras,
@@ -128,8 +128,8 @@ pub(crate) fn answer_watched<
     }
     let queries = run_queries(alloc, &files.sources, options.joint, schedule)?;
     let shown = shown_by(options, &extras);
-    // A search for chosen nodes reads less of the network than making a layout does.
-    let layout = match shown.nodes {
+    // A search for a few nodes reads less of the network than making a layout does.
+    let layout = match few_chosen(files.road.network.nodes(), shown) {
         Some(_) => None,
         None => layout_for(alloc, rt, &files.road, queries.len(), options),
     };

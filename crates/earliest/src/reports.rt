@@ -20,7 +20,7 @@ ghost use Rattle.earliest.specs.Workers.{settings_by};
 use crate::solver_choice::{Found, find, goes_ahead, threads_at_once, workers_of};
 use crate::totals::{add_totals, no_totals};
 use ea_base::Watch;
-use ea_batch::{Aids, Progress, Watched, report_ahead};
+use ea_batch::{Aids, Progress, Watched, few_chosen, report_ahead};
 use ea_bytes::ByteOut;
 use ea_load::{AnswerFault, Road};
 use ea_options::RunOptions;
@@ -138,7 +138,8 @@ impl Reports<'_> {
             (Serves road.now.network shown.entry.style.walks) }
         ensures aids { self.new.progress.aids ≡ self.old.progress.aids }
     {
-        let workers = workers_of(rt, road, query, options, shown.nodes.is_some());
+        let are_few = few_chosen(road.network.nodes(), shown).is_some();
+        let workers = workers_of(rt, road, query, options, are_few);
         if workers == 1 && !options.stats {
             return self.progress.report_alone(alloc, road, query, shown, out);
         }

@@ -183,22 +183,22 @@ fn workers_for(processors: Option<usize>, nodes: u32, is_few: bool, options: &Ru
     workers_by(processors, options.workers, nodes, is_alone)
 }
 
-/// The number of workers that search a problem, by the number of processors; `is_chosen` says that nodes are chosen.
+/// The number of workers that search a problem, by the number of processors; `are_few` says that few nodes are chosen.
 pub(crate) fn workers_of<H: Threads>(
     rt: &H,
     road: &Road,
     query: &Query,
     options: &RunOptions,
-    is_chosen: bool,
+    are_few: bool,
 ) -> u32
     requires { AreOptions options.now }
     ensures some { (1 ≤ result) × (result ≤ MOST_WORKERS) }
     ensures counted { options.now.stats ≡ true → result ≡ counted_workers options.now }
     ensures chosen { (processors : Option ℕ) × (result ≡ workers_for processors
-        road.now.network.nodes (is_some query.now.target || is_chosen) options.now) }
+        road.now.network.nodes (is_some query.now.target || are_few) options.now) }
 {
     let nodes = road.network.nodes();
-    let is_few = query.target().is_some() || is_chosen;
+    let is_few = query.target().is_some() || are_few;
     let decides = !options.stats && nodes >= FEW_NODES && options.workers.unwrap_or(2) > 1;
     workers_for(processors_if(rt, decides), nodes, is_few, options)
 }
