@@ -10,15 +10,16 @@ use Rattle.ea_base.specs.declared.direction.Direction.TheVariants.{Forward, Turn
 use Rattle.ea_base.specs.declared.limits.TheConstants.{HORIZON}
 use Rattle.ea_bytes.specs.Text.{field_lines, is_comment, is_silent, number_of}
 use Rattle.ea_report.specs.Report.{line}
-use Rattle.ea_check.specs.Form.{IsWalkLine, Line, SaysTime, spoken_from, told_time}
+use Rattle.ea_road.specs.declared.TheConstants.{NONE}
+use Rattle.ea_check.specs.Form.{IsWalkLine, Line, SaysTime, none_word, spoken_from, told_time}
 use Rattle.ea_check.specs.Reads.{NoWalkNext, ReadsNode, ReadsNodes, no_more, one_more, without_walk}
-use Rattle.ea_check.specs.Runs.{BeginsWithNoWalk, IsRun, NumberThen, SayTimes, TakesTime, saids}
+use Rattle.ea_check.specs.Runs.{BeginsWithNoWalk, IsRun, NumberThen, SayTimes, TakesTime, TimeThen, saids}
 use Rattle.ea_check.specs.Verdicts.{Said}
 use Rattle.ea_check.proofs.Fields.{IsField, digits_clear}
 use Rattle.ea_check.proofs.Counting.{digits_are_number}
 use Rattle.ea_check.proofs.Leading.{rest_of as behind_byte}
 use Rattle.ea_check.proofs.Steps.{time_no_walk}
-use Rattle.ea_check.proofs.Written.{d_field, line_cut}
+use Rattle.ea_check.proofs.Written.{d_field, inf_field, line_cut}
 
 -- ---- one line
 
@@ -40,15 +41,23 @@ number_then text stop i value some inside stops digits is =
 digit_field : (text : List ℕ) (stop value : ℕ) (rest : List ℕ) (is : NumberThen text stop value rest) → IsField is.field
 digit_field text stop value rest is = record { clear = digits_clear is.field is.digits; some = is.some }
 
--- A time of the file and one of the search: each gives the other.
-told_back : (way : Direction) (time told : ℕ) → told ≤ HORIZON → time ≡ told_time way told → (told ≡ told_time way time) × (time ≤ HORIZON)
-told_back Forward time told low is = (sym is, omega arith)
-told_back Turned time told low is = (omega arith, omega arith)
+-- The word in place of a time.
+none_field : (way : Direction) → IsField (none_word way)
+none_field Forward = inf_field
+none_field Turned = record {
+  clear = ((λ same. omega arith), (λ same. omega arith), refl, ((λ same. omega arith), (λ same. omega arith), refl, ((λ same. omega arith), (λ same. omega arith), refl, ((λ same. omega arith), (λ same. omega arith), refl, tt))));
+  some = omega arith;
+}
 
--- A word, two numbers, single spaces and a line feed are a line of a node.
-pub takes_time : (way : Direction) (node place time told : ℕ) (text behind between rest : List ℕ) (bytes : ℕ) → text ≡ 100 ∷ 32 ∷ behind → NumberThen behind 32 place between → NumberThen between 10 told rest → place ≡ node → told ≤ HORIZON → time ≡ told_time way told → bytes ≡ length text - length rest → TakesTime way node time text bytes
-takes_time way node place time told text behind between rest bytes begins first second here low is size =
-    let back = told_back way time told low is in
+time_field : (way : Direction) (text : List ℕ) (time : ℕ) (rest : List ℕ) (is : TimeThen way text time rest) → IsField is.field
+time_field way text time rest is = elim is.plain [
+  | inl digits ↦ record { clear = digits_clear is.field digits; some = is.some }
+  | inr none ↦ subst IsField (sym none) (none_field way)
+]
+
+-- A word, a number, a time, single spaces and a line feed are a line of a node.
+pub takes_time : (way : Direction) (node place time : ℕ) (text behind between rest : List ℕ) (bytes : ℕ) → text ≡ 100 ∷ 32 ∷ behind → NumberThen behind 32 place between → TimeThen way between time rest → place ≡ node → bytes ≡ length text - length rest → TakesTime way node time text bytes
+takes_time way node place time text behind between rest bytes begins first second here size =
     let u = first.field in
     let v = second.field in
     let front : List ℕ = line (codes "d") (u ∷ v ∷ []) in
@@ -62,8 +71,8 @@ takes_time way node place time told text behind between rest bytes begins first 
       inside = omega arith;
       run = subst (IsRun way node (time ∷ [])) (sym taken) (record {
         lines = (codes "d" ∷ u ∷ v ∷ []) ∷ [];
-        reads = λ more. line_cut (codes "d") (u ∷ v ∷ []) more d_field (digit_field behind 32 place between first, (digit_field between 10 told rest second, tt));
-        say = ((refl, first.number ∙ ap (λ n. Some n) here, inr (second.number ∙ ap (λ n. Some n) back.0, back.1)), tt);
+        reads = λ more. line_cut (codes "d") (u ∷ v ∷ []) more d_field (digit_field behind 32 place between first, (time_field way between time rest second, tt));
+        say = ((refl, first.number ∙ ap (λ n. Some n) here, second.is_time), tt);
         few = omega arith;
       });
     }

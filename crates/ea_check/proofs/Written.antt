@@ -88,7 +88,7 @@ d_field = word_field 100 (λ same. omega arith) (λ same. omega arith) refl
 w_field : IsField (codes "w")
 w_field = word_field 119 (λ same. omega arith) (λ same. omega arith) refl
 
-inf_field : IsField (codes "inf")
+pub inf_field : IsField (codes "inf")
 inf_field = record {
   clear = ((λ same. omega arith), (λ same. omega arith), refl, ((λ same. omega arith), (λ same. omega arith), refl, ((λ same. omega arith), (λ same. omega arith), refl, tt)));
   some = omega arith;

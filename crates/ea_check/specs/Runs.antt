@@ -1,9 +1,9 @@
 -- Lines of nodes that have a `d` line alone, one after another.
-use Rattle.std.specs.Prelude.{◌≡◌, ℕ, zero, suc, ◌+◌, ◌<◌, ◌≤◌, true, List, [], ◌∷◌, ◌++◌, length, take, Some, None}
+use Rattle.std.specs.Prelude.{◌≡◌, ◌⊎◌, ℕ, zero, suc, ◌+◌, ◌<◌, ◌≤◌, true, List, [], ◌∷◌, ◌++◌, length, take, Some, None}
 use Rattle.std.specs.Str.{all_ascii_digits}
 use Rattle.ea_base.specs.declared.direction.Direction.{Direction}
 use Rattle.ea_bytes.specs.Text.{field_lines, number_of}
-use Rattle.ea_check.specs.Form.{SaysTime, spoken_from}
+use Rattle.ea_check.specs.Form.{IsTime, SaysTime, none_word, spoken_from}
 use Rattle.ea_check.specs.Reads.{NoWalkNext}
 use Rattle.ea_check.specs.Verdicts.{Said}
 
@@ -14,6 +14,14 @@ pub record NumberThen (text : List ℕ) (stop value : ℕ) (rest : List ℕ) : T
   pub digits : all_ascii_digits field ≡ true
   pub some : 0 < length field
   pub number : number_of field ≡ Some value
+
+-- A text begins with a time, or the word in its place, and a line feed, and the rest follows.
+pub record TimeThen (way : Direction) (text : List ℕ) (time : ℕ) (rest : List ℕ) : Type 0 where
+  pub field : List ℕ
+  pub cut : text ≡ field ++ 10 ∷ rest
+  pub plain : (all_ascii_digits field ≡ true) ⊎ (field ≡ none_word way)
+  pub some : 0 < length field
+  pub is_time : IsTime way field time
 
 -- The fields of lines say the times of nodes, from this one on.
 abbrev pub SayTimes : Direction → ℕ → List ℕ → List (List (List ℕ)) → Type 0

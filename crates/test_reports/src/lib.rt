@@ -6,6 +6,8 @@ mod asserts;
 #[cfg(test)]
 mod checked;
 #[cfg(test)]
+mod large;
+#[cfg(test)]
 mod ranks;
 #[cfg(test)]
 mod reports;

@@ -15,7 +15,7 @@ use test_support::networks::{FOUR_NODES, Row, network_of, query_of, times_of};
 /// A reader of std that gives a text in pieces after this many interruptions, and fails when this many bytes
 /// are left.
 #[derive(Clone, Copy, Drop)]
-struct Device<'a> {
+pub(crate) struct Device<'a> {
     text: &'a [u8],
     piece: usize,
     interruptions: u64,
@@ -40,7 +40,7 @@ impl Read for Device<'_> {
 }
 
 /// A device that gives a text in pieces of this many bytes.
-fn in_pieces(text: &[u8], piece: usize) -> Device<'_> {
+pub(crate) fn in_pieces(text: &[u8], piece: usize) -> Device<'_> {
     Device {
         text,
         piece,
@@ -50,7 +50,7 @@ fn in_pieces(text: &[u8], piece: usize) -> Device<'_> {
 }
 
 /// The checker's answer; none if the problem can't be checked.
-type Said = Option<Result<Result<(), CheckFault>, ReadFault>>;
+pub(crate) type Said = Option<Result<Result<(), CheckFault>, ReadFault>>;
 
 /// The answer of one thread, if four threads have the same.
 fn same(one: Said, four: Said) -> Said {
@@ -58,7 +58,7 @@ fn same(one: Said, four: Said) -> Said {
 }
 
 /// The checker's answer on the report of earliest arrivals of a device.
-fn forward<H: Threads + Sync>(
+pub(crate) fn forward<H: Threads + Sync>(
     rt: &H,
     alloc: Global,
     network: &Network,
@@ -112,7 +112,7 @@ fn turned<H: Threads + Sync>(
 }
 
 /// One query of all nodes from these sources; none if they don't fit.
-fn one_query(alloc: Global, sources: &[(u32, u64)]) -> Result<Option<Vec<Query>>, AllocError> {
+pub(crate) fn one_query(alloc: Global, sources: &[(u32, u64)]) -> Result<Option<Vec<Query>>, AllocError> {
     let Some(query) = query_of(alloc, sources)? else {
         return Ok(None);
     };

@@ -1,10 +1,12 @@
 //! The `d` lines of nodes in their plain form, one after another: a word, single spaces, digits, a line feed
 //! and nothing else.
-ghost use Rattle.std.specs.Prelude.{◌≡◌, ◌+◌, ◌<◌, ◌≤◌, ◌∷◌, IfSome, drop, length, take};
-ghost use Rattle.ea_check.specs.Runs.{BeginsWithNoWalk, IsRun, NumberThen, TakesTime};
+ghost use Rattle.std.specs.Prelude.{◌≡◌, ◌+◌, ◌<◌, ◌≤◌, ◌∷◌, ◌++◌, IfSome, drop, length, take};
+ghost use Rattle.ea_check.specs.Form.{none_word};
+ghost use Rattle.ea_check.specs.Runs.{BeginsWithNoWalk, IsRun, NumberThen, TakesTime, TimeThen};
 
 use crate::form::line_form::told;
 use ea_base::{Direction, HORIZON, MOST_NODES};
+use ea_road::NONE;
 
 /// From this value on one more digit may not fit into 64 bits.
 const LARGE: u64 = 1 << 58;
@@ -42,6 +44,38 @@ fn after_word(text: &[u8]) -> Option<&[u8]>
     }
 }
 
+/// The bytes after the word in place of a time and a line feed, if a text begins with these.
+#[inline(always)]
+fn after_none(way: Direction, text: &[u8]) -> Option<&[u8]>
+    ensures { IfSome result (λ rest. text.entry.now ≡ none_word way ++ 10 ∷ rest.now) }
+{
+    match way {
+        Direction::Forward => match text {
+            [b'i', b'n', b'f', b'\n', rest @ ..] => Some(rest),
+            _ => None,
+        },
+        Direction::Turned => match text {
+            [b'n', b'o', b'n', b'e', b'\n', rest @ ..] => Some(rest),
+            _ => None,
+        },
+    }
+}
+
+/// The time at the front of a text, or NONE for the word in its place, and the bytes after the line feed that
+/// ends it.
+#[inline(always)]
+fn time_before(way: Direction, text: &[u8]) -> Option<(u64, &[u8])>
+    ensures { IfSome result (λ x. TimeThen way text.entry.now x.0 x.1.now) }
+{
+    if let Some(rest) = after_none(way, text) {
+        return Some((NONE, rest));
+    }
+    match number_before(text, b'\n') {
+        Some((time, rest)) if time <= HORIZON => Some((told(way, time), rest)),
+        _ => None,
+    }
+}
+
 /// The time in a node's line at the front of a text, if the line is plain, and how many bytes the line has.
 #[inline(always)]
 pub(crate) fn first_time(way: Direction, text: &[u8], node: u64) -> Option<(u64, usize)>
@@ -53,13 +87,13 @@ pub(crate) fn first_time(way: Direction, text: &[u8], node: u64) -> Option<(u64,
     let Some((place, rest)) = number_before(numbers, b' ') else {
         return None;
     };
-    let Some((time, rest)) = number_before(rest, b'\n') else {
-        return None;
-    };
-    if place != node || time > HORIZON {
+    if place != node {
         return None;
     }
-    Some((told(way, time), text.len() - rest.len()))
+    match time_before(way, rest) {
+        Some((time, rest)) => Some((time, text.len() - rest.len())),
+        None => None,
+    }
 }
 
 /// The node that the line at the front of a text names, if the line begins like a plain one.
