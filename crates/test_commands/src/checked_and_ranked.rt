@@ -67,7 +67,15 @@ fn said_of<H: Threads + Sync>(
     let mut others: OptionalFiles<StdIn<&[u8]>> = OptionalFiles::only_tp(None);
     let mut report = StdIn::new(report);
     let options = options_from(0, 0);
-    check_report(alloc, rt, &mut gr, &mut ss, &mut others, &options, &mut report)
+    check_report(
+        alloc,
+        rt,
+        &mut gr,
+        &mut ss,
+        &mut others,
+        &options,
+        &mut report,
+    )
 }
 
 #[test]
@@ -75,13 +83,25 @@ fn check_verdicts(rt: HostRuntime) {
     let alloc = rt.alloc();
     assert_eq!(rt; said_of(alloc, &rt, REPORT), Ok(Ok(())));
     let late = b"s 1 0\nd 1 0\nd 2 5\nd 3 2\nd 4 7\n";
-    assert_eq!(rt; said_of(alloc, &rt, late), Ok(Err(CheckFault::NotAttained(5))));
+    assert_eq!(rt;
+        said_of(alloc, &rt, late),
+        Ok(Err(CheckFault::NotAttained(5)))
+    );
     let early = b"s 1 0\nd 1 0\nd 2 5\nd 3 2\nd 4 5\n";
-    assert_eq!(rt; said_of(alloc, &rt, early), Ok(Err(CheckFault::NotAttained(5))));
+    assert_eq!(rt;
+        said_of(alloc, &rt, early),
+        Ok(Err(CheckFault::NotAttained(5)))
+    );
     let not_least = b"s 1 0\nd 1 0\nd 2 7\nd 3 2\nd 4 8\n";
-    assert_eq!(rt; said_of(alloc, &rt, not_least), Ok(Err(CheckFault::NotLeast(3))));
+    assert_eq!(rt;
+        said_of(alloc, &rt, not_least),
+        Ok(Err(CheckFault::NotLeast(3)))
+    );
     let unreached = b"s 1 0\nd 1 0\nd 2 5\nd 3 2\nd 4 inf\n";
-    assert_eq!(rt; said_of(alloc, &rt, unreached), Ok(Err(CheckFault::NotLeast(5))));
+    assert_eq!(rt;
+        said_of(alloc, &rt, unreached),
+        Ok(Err(CheckFault::NotLeast(5)))
+    );
     let short = b"s 1 0\nd 1 0\nd 2 5\nd 4 6\n";
     assert_eq!(rt; said_of(alloc, &rt, short), Ok(Err(CheckFault::BadLine(4))));
 }
@@ -93,9 +113,15 @@ fn check_form(rt: HostRuntime) {
     let more = b"s 1 0\nd 1 0\nd 2 5\nd 3 2\nd 4 6\ns 1 0\n";
     assert_eq!(rt; said_of(alloc, &rt, more), Ok(Err(CheckFault::BadLine(6))));
     let beyond = b"s 1 0\nd 1 0\nd 2 281474976710656\nd 3 2\nd 4 6\n";
-    assert_eq!(rt; said_of(alloc, &rt, beyond), Ok(Err(CheckFault::BadLine(3))));
+    assert_eq!(rt;
+        said_of(alloc, &rt, beyond),
+        Ok(Err(CheckFault::BadLine(3)))
+    );
     let walk = b"s 1 0\nd 1 0\nd 2 5\nd 3 2\nw 3 1 1\nd 4 6\n";
-    assert_eq!(rt; said_of(alloc, &rt, walk), Ok(Err(CheckFault::NotAttained(5))));
+    assert_eq!(rt;
+        said_of(alloc, &rt, walk),
+        Ok(Err(CheckFault::NotAttained(5)))
+    );
 }
 
 /// The verdict on a report of two-ways-to-fifteen, departing at 1.
@@ -111,7 +137,15 @@ fn said_of_fifteen<H: Threads + Sync>(
     )));
     let mut report = StdIn::new(report);
     let options = options_from(1, 0);
-    check_report(alloc, rt, &mut gr, &mut ss, &mut others, &options, &mut report)
+    check_report(
+        alloc,
+        rt,
+        &mut gr,
+        &mut ss,
+        &mut others,
+        &options,
+        &mut report,
+    )
 }
 
 #[test]
@@ -140,14 +174,30 @@ fn check_faults_come_in_order(rt: HostRuntime) {
     let mut others: OptionalFiles<StdIn<&[u8]>> = OptionalFiles::only_tp(None);
     let mut failing = StdIn::new(Failing);
     assert_eq!(rt;
-        check_report(alloc, &rt, &mut gr, &mut ss, &mut others, &late, &mut failing),
+        check_report(
+            alloc,
+            &rt,
+            &mut gr,
+            &mut ss,
+            &mut others,
+            &late,
+            &mut failing
+        ),
         Err(unread)
     );
     let mut gr = StdIn::new(FOUR_NODES);
     let mut ss = StdIn::new(TWO_SOURCES);
     let mut report = StdIn::new(REPORT);
     assert_eq!(rt;
-        check_report(alloc, &rt, &mut gr, &mut ss, &mut others, &late, &mut report),
+        check_report(
+            alloc,
+            &rt,
+            &mut gr,
+            &mut ss,
+            &mut others,
+            &late,
+            &mut report
+        ),
         Err(AnswerFault::BadOption)
     );
     let mut gr = StdIn::new(b"p max 4 5\n".as_slice());
@@ -161,7 +211,15 @@ fn check_faults_come_in_order(rt: HostRuntime) {
         },
     };
     assert_eq!(rt;
-        check_report(alloc, &rt, &mut gr, &mut ss, &mut others, &late, &mut failing),
+        check_report(
+            alloc,
+            &rt,
+            &mut gr,
+            &mut ss,
+            &mut others,
+            &late,
+            &mut failing
+        ),
         Err(bad)
     );
 }

@@ -41,7 +41,15 @@ fn unreached_with<H: Threads + Sync>(
         held,
         piece: Some(piece),
     });
-    let verdict = check_report(alloc, rt, &mut gr, &mut ss, &mut others, &options, &mut report);
+    let verdict = check_report(
+        alloc,
+        rt,
+        &mut gr,
+        &mut ss,
+        &mut others,
+        &options,
+        &mut report,
+    );
     came_of(verdict, wanted)
 }
 
@@ -85,7 +93,15 @@ fn four_with<H: Threads + Sync>(alloc: Global, rt: &H, held: &mut Held, piece: V
     let mut others: OptionalFiles<StdIn<&[u8]>> = OptionalFiles::only_tp(None);
     let mut report = StdIn::new(b"s 1 0\nd 1 0\nd 2 5\nd 3 2\nd 4 6\n".as_slice());
     held.leave(piece);
-    match check_report(alloc, rt, &mut gr, &mut ss, &mut others, &options, &mut report) {
+    match check_report(
+        alloc,
+        rt,
+        &mut gr,
+        &mut ss,
+        &mut others,
+        &options,
+        &mut report,
+    ) {
         Err(AnswerFault::OutOfMemory { written: 0 }) => Came::Refused,
         verdict => came_of(verdict, Ok(())),
     }

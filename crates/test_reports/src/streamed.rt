@@ -73,12 +73,26 @@ pub(crate) fn forward<H: Threads + Sync>(
     let one = Several { rt, threads: 1 };
     let mut reader = StdIn::new(device);
     let by_one = check_stream(
-        alloc, &one, network, times, queries, way, &mut reader, &mut Silent,
+        alloc,
+        &one,
+        network,
+        times,
+        queries,
+        way,
+        &mut reader,
+        &mut Silent,
     );
     let four = Several { rt, threads: 4 };
     let mut reader = StdIn::new(device);
     let by_four = check_stream(
-        alloc, &four, network, times, queries, way, &mut reader, &mut Silent,
+        alloc,
+        &four,
+        network,
+        times,
+        queries,
+        way,
+        &mut reader,
+        &mut Silent,
     );
     same(Some(by_one), Some(by_four))
 }
@@ -101,18 +115,35 @@ fn turned<H: Threads + Sync>(
     let one = Several { rt, threads: 1 };
     let mut reader = StdIn::new(device);
     let by_one = check_stream(
-        alloc, &one, network, &times, queries, way, &mut reader, &mut Silent,
+        alloc,
+        &one,
+        network,
+        &times,
+        queries,
+        way,
+        &mut reader,
+        &mut Silent,
     );
     let four = Several { rt, threads: 4 };
     let mut reader = StdIn::new(device);
     let by_four = check_stream(
-        alloc, &four, network, &times, queries, way, &mut reader, &mut Silent,
+        alloc,
+        &four,
+        network,
+        &times,
+        queries,
+        way,
+        &mut reader,
+        &mut Silent,
     );
     same(Some(by_one), Some(by_four))
 }
 
 /// One query of all nodes from these sources; none if they don't fit.
-pub(crate) fn one_query(alloc: Global, sources: &[(u32, u64)]) -> Result<Option<Vec<Query>>, AllocError> {
+pub(crate) fn one_query(
+    alloc: Global,
+    sources: &[(u32, u64)],
+) -> Result<Option<Vec<Query>>, AllocError> {
     let Some(query) = query_of(alloc, sources)? else {
         return Ok(None);
     };
@@ -122,7 +153,11 @@ pub(crate) fn one_query(alloc: Global, sources: &[(u32, u64)]) -> Result<Option<
 }
 
 /// The checker's answer on a report on four nodes, from node 1 at 0.
-fn of_four<H: Threads + Sync>(rt: &H, alloc: Global, device: Device<'_>) -> Result<Said, AllocError> {
+fn of_four<H: Threads + Sync>(
+    rt: &H,
+    alloc: Global,
+    device: Device<'_>,
+) -> Result<Said, AllocError> {
     let Some(queries) = one_query(alloc, &[(1, 0)])? else {
         return Ok(None);
     };
@@ -134,7 +169,13 @@ fn of_four<H: Threads + Sync>(rt: &H, alloc: Global, device: Device<'_>) -> Resu
 }
 
 /// The checker's answer on a report of latest departures on these arcs, to node 4 by this time.
-fn to_four<H: Threads + Sync>(rt: &H, alloc: Global, rows: &[Row], by: u64, device: Device<'_>) -> Result<Said, AllocError> {
+fn to_four<H: Threads + Sync>(
+    rt: &H,
+    alloc: Global,
+    rows: &[Row],
+    by: u64,
+    device: Device<'_>,
+) -> Result<Said, AllocError> {
     let Some(queries) = one_query(alloc, &[(4, HORIZON.saturating_sub(by))])? else {
         return Ok(None);
     };
@@ -168,7 +209,11 @@ const REPORTS: [Case; 9] = [
 ];
 
 /// The first of the reports that has another verdict if it comes in pieces of this size.
-fn wrong_piece<H: Threads + Sync>(rt: &H, alloc: Global, piece: usize) -> Result<Option<usize>, AllocError> {
+fn wrong_piece<H: Threads + Sync>(
+    rt: &H,
+    alloc: Global,
+    piece: usize,
+) -> Result<Option<usize>, AllocError> {
     for (place, (report, wanted)) in REPORTS.iter().enumerate() {
         if of_four(rt, alloc, in_pieces(report, piece))? != Some(Ok(*wanted)) {
             return Ok(Some(place));
@@ -254,7 +299,11 @@ fn line_of_several_blocks(rt: HostRuntime) -> Result<(), Fail> {
 
 /// The first of the reports that has a verdict although its device, after 1,000 interruptions, fails with this
 /// many bytes left.
-fn unfailed<H: Threads + Sync>(rt: &H, alloc: Global, left: usize) -> Result<Option<usize>, AllocError> {
+fn unfailed<H: Threads + Sync>(
+    rt: &H,
+    alloc: Global,
+    left: usize,
+) -> Result<Option<usize>, AllocError> {
     for (place, (report, _)) in REPORTS.iter().enumerate() {
         let device = Device {
             text: report,
@@ -375,8 +424,14 @@ fn wrong_to_four<H: Threads + Sync>(
 
 #[test]
 fn latest_departures(rt: HostRuntime) -> Result<(), Fail> {
-    assert_none_wrong(&rt, wrong_to_four(&rt, rt.alloc(), &FOUR_NODES, 6, &BY_SIX)?);
-    assert_none_wrong(&rt, wrong_to_four(&rt, rt.alloc(), &FOUR_NODES, 5, &BY_FIVE)?);
+    assert_none_wrong(
+        &rt,
+        wrong_to_four(&rt, rt.alloc(), &FOUR_NODES, 6, &BY_SIX)?,
+    );
+    assert_none_wrong(
+        &rt,
+        wrong_to_four(&rt, rt.alloc(), &FOUR_NODES, 5, &BY_FIVE)?,
+    );
     Ok(())
 }
 
