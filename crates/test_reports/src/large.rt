@@ -11,7 +11,7 @@ use std::test::Fail;
 use std::thread::Threads;
 use test_support::networks::{network_of, times_of};
 
-/// So many that several threads read a report and judge the arcs.
+/// Enough that several threads read a report and judge the arcs.
 const NODES: u32 = 70_000;
 
 /// An arc from each node to the next.
