@@ -1,5 +1,5 @@
 -- Parts of a network's arcs, which are judged one beside another.
-use Rattle.std.proofs.Common.{◌≡◌, ◌∙◌, ◌⊎◌, inl, inr, refl, ℕ, zero, suc, ◌+◌, ◌-◌, ◌<◌, ◌≤◌, Bool, true, List, [], ◌∷◌, ◌++◌, length, get_or, min, arith, ap, sym, subst, length-append}
+use Rattle.std.proofs.Common.{◌≡◌, ◌∙◌, ◌⊎◌, inl, inr, refl, ℕ, zero, suc, ◌+◌, ◌-◌, ◌<◌, ◌≤◌, Bool, List, [], ◌∷◌, ◌++◌, length, get_or, min, arith, ap, sym, subst, length-append}
 use Rattle.std.proofs.lemmas.Bool.Decides.{eqb_tells, leb_tells}
 use Rattle.std.proofs.lemmas.List.{get_or_append_left}
 use Rattle.ea_base.specs.declared.limits.TheConstants.{HORIZON}
@@ -9,8 +9,8 @@ use Rattle.ea_road.specs.Roads.{Roads, IsArc}
 use Rattle.ea_road.proofs.Arcs.{arc_inside}
 use Rattle.ea_check.specs.declared.judge.part.ArcRange.{ArcRange}
 use Rattle.ea_check.specs.declared.judge.part.Part.{Part}
-use Rattle.ea_check.specs.Parts.{AreGathered, AreJudged, AreParts, IsInPart, IsJudged, IsLowest, IsMarkedIn, IsPart, IsRange}
-use Rattle.ea_check.specs.Supported.{AreSupported, IsMarked}
+use Rattle.ea_check.specs.Parts.{AreGathered, AreJudged, AreParts, IsInPart, IsJudged, IsLowest, IsPart, IsRange}
+use Rattle.ea_check.specs.Supported.{AreSupported}
 use Rattle.ea_check.specs.Verdicts.{Said, Improves, reported_time}
 
 -- ---- one more part

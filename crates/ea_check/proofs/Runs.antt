@@ -1,5 +1,5 @@
 -- Lines of nodes that have a `d` line alone, one after another.
-use Rattle.std.proofs.Common.{◌≡◌, ◌≢◌, ◌∙◌, refl, ℕ, zero, suc, ◌+◌, ◌-◌, ◌<◌, ◌≤◌, Bool, true, false, cond, List, [], ◌∷◌, ◌++◌, length, take, drop, get_or, arith, ap, sym, subst, append_assoc, append-nil, length-append, length-take, length-drop, inl, inr}
+use Rattle.std.proofs.Common.{◌≡◌, ◌∙◌, refl, ℕ, suc, ◌+◌, ◌-◌, ◌<◌, true, false, cond, List, [], ◌∷◌, ◌++◌, length, take, drop, get_or, arith, ap, sym, subst, append_assoc, append-nil, length-append, inl, inr}
 use Rattle.std.proofs.Math.Seq.{drop-cons}
 use Rattle.std.proofs.lemmas.List.{take-append-drop, take-take, drop-take, length-take-le, take_at, take_rest}
 use Rattle.std.specs.Prelude.{Some, None, codes}
@@ -7,11 +7,9 @@ use Rattle.std.specs.Str.{all_ascii_digits}
 use Rattle.std.specs.Str.Parse.{digits_value}
 use Rattle.ea_base.specs.declared.direction.Direction.{Direction}
 use Rattle.ea_base.specs.declared.direction.Direction.TheVariants.{Forward, Turned}
-use Rattle.ea_base.specs.declared.limits.TheConstants.{HORIZON}
-use Rattle.ea_bytes.specs.Text.{field_lines, is_comment, is_silent, number_of}
+use Rattle.ea_bytes.specs.Text.{field_lines, is_comment, is_silent}
 use Rattle.ea_report.specs.Report.{line}
-use Rattle.ea_road.specs.declared.TheConstants.{NONE}
-use Rattle.ea_check.specs.Form.{IsWalkLine, Line, SaysTime, none_word, spoken_from, told_time}
+use Rattle.ea_check.specs.Form.{Line, SaysTime, none_word, spoken_from}
 use Rattle.ea_check.specs.Reads.{NoWalkNext, ReadsNode, ReadsNodes, no_more, one_more, without_walk}
 use Rattle.ea_check.specs.Runs.{BeginsWithNoWalk, IsRun, NumberThen, SayTimes, TakesTime, TimeThen, saids}
 use Rattle.ea_check.specs.Verdicts.{Said}

@@ -1,4 +1,4 @@
-use Rattle.std.proofs.Common.{◌≡◌, ◌∙◌, ◌+◌, [], ℕ, List, ap, arith, drop, length, length-append, length-drop, ◌∷◌, sym, subst, take}
+use Rattle.std.proofs.Common.{◌≡◌, ◌∙◌, ◌+◌, [], ℕ, List, ap, arith, drop, length, length-append, length-drop, ◌∷◌, sym, subst}
 use Rattle.ea_check.specs.Runs.{IsRun, TakesTime}
 use Rattle.ea_check.proofs.Runs.{begins_with_time, no_run, rest_takes, run_on}
 use Rattle.ea_check.proofs.form.plain_lines.take_times.Goals as goal

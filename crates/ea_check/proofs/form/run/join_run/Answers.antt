@@ -1,7 +1,7 @@
-use Rattle.std.proofs.Common.{◌≡◌, ◌∙◌, List, ℕ, ◌++◌, ◌∷◌, [], ap, arith, subst}
+use Rattle.std.proofs.Common.{◌∙◌, List, ℕ, ◌++◌, ◌∷◌, [], ap, arith, subst}
 use Rattle.ea_check.specs.declared.form.run.Found.{Found}
-use Rattle.std.specs.Prelude.{Option, Some}
-use Rattle.ea_check.specs.Pieces.{AreFound, AreIn}
+use Rattle.std.specs.Prelude.{Option}
+use Rattle.ea_check.specs.Pieces.{AreFound}
 use Rattle.ea_check.proofs.Pieces.{joined}
 use Rattle.ea_check.proofs.form.run.join_run.Goals as goal
 

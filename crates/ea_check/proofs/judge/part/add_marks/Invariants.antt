@@ -1,4 +1,4 @@
-use Rattle.std.proofs.Common.{◌≡◌, ◌⊎◌, ℕ, ◌<◌, ◌≤◌, true, false, get_or}
+use Rattle.std.proofs.Common.{◌≡◌, ◌⊎◌, ℕ, true, false, get_or}
 use Rattle.ea_check.proofs.judge.part.add_marks.Given as goal
 
 abbrev pub invariant-loop-place : goal.invariant-loop-place

@@ -1,4 +1,4 @@
-use Rattle.std.proofs.Common.{◌∙◌, ◌+◌, ◌≡◌, ◌≤◌, ◌<◌, List, length, arith, ap, length-append, ◌∷◌, []}
+use Rattle.std.proofs.Common.{◌+◌, ◌≡◌, ◌≤◌, ◌<◌, List, length, arith, ap, length-append, ◌∷◌, []}
 use Rattle.ea_check.specs.declared.judge.part.Part.{Part}
 use Rattle.ea_check.proofs.Parts.{cover_more, each_more, is_part}
 use Rattle.ea_check.proofs.judge.part.cut_arcs.Goals as goal

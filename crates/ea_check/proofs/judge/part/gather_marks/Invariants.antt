@@ -1,5 +1,4 @@
-use Rattle.std.proofs.Common.{◌≡◌, ◌⊎◌, ℕ, ◌<◌, length}
-use Rattle.ea_check.specs.declared.judge.part.Part.{Part}
+use Rattle.std.proofs.Common.{◌⊎◌, ℕ}
 use Rattle.ea_check.specs.Supported.{IsMarked}
 use Rattle.ea_check.specs.Parts.{IsMarkedIn}
 use Rattle.ea_check.proofs.judge.part.gather_marks.Given as goal
