@@ -14,6 +14,7 @@ use ea_load::Road;
 use ea_options::RunOptions;
 use ea_road::Query;
 use ea_search::count_offers;
+use ea_travel_times::Turned;
 use std::alloc::Global;
 use std::thread::Threads;
 
@@ -60,8 +61,7 @@ fn mean_offers(alloc: Global, road: &Road, queries: &[Query]) -> Option<u64>
     Some(sum / SAMPLE as u64)
 }
 
-/// Whether a preparation pays for these pairs, by some searches that are measured. On a road that is turned
-/// round bounds are 0.
+/// Whether a preparation pays for these pairs, by some searches that are measured.
 fn is_worth<H: Threads>(
     alloc: Global,
     rt: &H,
@@ -76,12 +76,22 @@ fn is_worth<H: Threads>(
     if queries.len() < FEW_PAIRS || nodes < FEW_NODES {
         return false;
     }
-    if matches!(options.direction, Direction::Turned) {
-        return false;
-    }
     match mean_offers(alloc, road, queries) {
         Some(offers) => pays(queries.len(), offers, nodes, threads_at_once(rt, options)),
         None => false,
+    }
+}
+
+/// A preparation of a road that is turned round, if it can be made: of the turned travel times, whose least ones are those
+/// of the timetables.
+fn prepare_turned(alloc: Global, road: &Road, query: &Query) -> Option<Prepared>
+    requires posed { IsPosed road.now query.now }
+    requires turned { road.now.times.direction ≡ Direction.Turned }
+    ensures { IfSome result (IsPreparedOn road.now) }
+{
+    match Prepared::of(alloc, &road.network, &Turned::of(&road.times.tables)) {
+        Ok(prepared) => Some(prepared),
+        Err(_) => None,
     }
 }
 
@@ -90,9 +100,12 @@ fn prepare(alloc: Global, road: &Road, query: &Query) -> Option<Prepared>
     requires { IsPosed road.now query.now }
     ensures { IfSome result (IsPreparedOn road.now) }
 {
-    match Prepared::of(alloc, &road.network, &road.times) {
-        Ok(prepared) => Some(prepared),
-        Err(_) => None,
+    match road.times.direction {
+        Direction::Forward => match Prepared::of(alloc, &road.network, &road.times) {
+            Ok(prepared) => Some(prepared),
+            Err(_) => None,
+        },
+        Direction::Turned => prepare_turned(alloc, road, query),
     }
 }
 
