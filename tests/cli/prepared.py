@@ -143,9 +143,10 @@ def in_less_time(program, folder):
     words = random.Random(6)
     side = 300
     write(folder, "gr", graph(side * side, grid(side, words)))
-    write(folder, "p2p", pairs(words, side * side, 3_000))
-    runs = [processor_seconds(program, f"pairs gr p2p{options}", folder) for options in ("", " --prepare no")]
-    yield "far pairs by default", (runs[0][:2] == runs[1][:2], runs[0][0], runs[0][2] < runs[1][2] / 2), (True, 0, True)
+    write(folder, "p2p", pairs(words, side * side, 1_500))
+    for options in ("", " --arrive 2000000"):
+        runs = [processor_seconds(program, f"pairs gr p2p{options}{choice}", folder) for choice in ("", " --prepare no")]
+        yield f"far pairs by default,{options}", (runs[0][:2] == runs[1][:2], runs[0][0], runs[0][2] < runs[1][2] / 2), (True, 0, True)
     leaves = 100_000
     write(folder, "gr", graph(leaves + 1, [(1, node, 1) for node in range(2, leaves + 2)] + [(node, 1, 1) for node in range(2, leaves + 2)]))
     write(folder, "p2p", pairs(words, leaves, 10))
