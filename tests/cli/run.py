@@ -13,6 +13,7 @@ from concurrent.futures import ThreadPoolExecutor
 sys.dont_write_bytecode = True
 import asked
 import at_once
+import checking
 import commuter_network
 import documents
 import explained
@@ -160,6 +161,7 @@ def run_each(program):
     results += commuter_network.results(program)
     results += at_once.results(program)
     results += threads.results(program)
+    results += checking.results(program)
     results += scripts.results(program)
     results += terminal.results(program)
     results += documents.results(program)
