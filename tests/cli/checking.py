@@ -1,12 +1,12 @@
 """The check of large reports: the verdict is the same on one processor and on several, several threads read it
-where there are several processors, and thousands of small problems take the memory of one."""
+if there are several processors, and thousands of small problems take the memory of one."""
 import os
 import subprocess
 import tempfile
 import threading
 import time
 
-# A ring of so many nodes that several threads read a report, and so few that a check of it is quick.
+# A ring with enough nodes for several threads to read a report, and few enough for a quick check.
 NODES = 200_000
 PROBLEMS = 10_000
 # How much more memory thousands of problems may take than one, in KiB.
