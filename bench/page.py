@@ -14,7 +14,8 @@ OURS = "earliest"
 HEAD = """# How fast is it?
 
 This page and its pictures are written by `make bench` (`bench/page.py`) from `bench/results/*.csv`, which have each round of each
-program. `make bench SIZE=large` adds networks of 10^7 nodes.
+program. `make bench SIZE=large` adds networks of 10^7 nodes. The columns of the tables stand in
+[bench/README.md](../bench/README.md#columns).
 
 All programs of a table run in turns, one after the other, as often as its heading tells; in each round another one begins. A whole run
 reads the same files, solves the same problems and writes the same report into a file, and each report is compared byte for byte with the
