@@ -28,14 +28,14 @@ def trips_that_run(feed, asked, summary):
     """Trips of the routes that were asked, with their route and the days that they run on."""
     runs, span = services(feed, asked.first, asked.days, asked.back)
     names, kinds = {}, {}
-    for _, (route, kind, short, long) in feed.rows("routes.txt", ("route_id",), ("route_type", "route_short_name", "route_long_name")):
+    for _, (route, kind, short, long) in feed.rows("routes.txt"):
         names[route], kinds[route] = short or long or route, kind
     wanted, types = set(asked.routes or ()), set(asked.types or ())
     for name in wanted:
         if name not in names and name not in names.values():
             raise Refused(f"{feed.path} has no route {name!r}")
     numbers, trips, blocks = {}, [], 0
-    for line, (trip, route, service, sign, block) in feed.rows("trips.txt", ("trip_id", "route_id", "service_id"), ("trip_headsign", "block_id")):
+    for line, (trip, route, service, sign, block) in feed.rows("trips.txt"):
         if service not in runs:
             summary.leave("trips that don't run on the days asked")
             continue
@@ -60,7 +60,7 @@ def trips_that_run(feed, asked, summary):
 
 def frequencies_of(feed, numbers, summary):
     found = {}
-    for line, (trip, start, end, headway, exact) in feed.rows("frequencies.txt", ("trip_id", "start_time", "end_time", "headway_secs"), ("exact_times",)):
+    for line, (trip, start, end, headway, exact) in feed.rows("frequencies.txt"):
         if trip not in numbers:
             continue
         first, last = (feed.seconds("frequencies.txt", line, column, text) for column, text in (("start_time", start), ("end_time", end)))

@@ -14,6 +14,18 @@ from .telling import Refused
 WEEKDAYS = ("monday", "tuesday", "wednesday", "thursday", "friday", "saturday", "sunday")
 DAY = 86_400
 
+# The fields of GTFS that are read: of each file those without which a feed is refused, then the others.
+FIELDS = {
+    "calendar.txt": (("service_id", "start_date", "end_date"), WEEKDAYS),
+    "calendar_dates.txt": (("service_id", "date", "exception_type"), ()),
+    "frequencies.txt": (("trip_id", "start_time", "end_time", "headway_secs"), ("exact_times",)),
+    "routes.txt": (("route_id",), ("route_type", "route_short_name", "route_long_name")),
+    "stop_times.txt": (("trip_id", "stop_id", "stop_sequence"), ("arrival_time", "departure_time", "pickup_type", "drop_off_type", "shape_dist_traveled", "continuous_pickup", "continuous_drop_off")),
+    "stops.txt": (("stop_id",), ("stop_name", "stop_lat", "stop_lon", "location_type", "parent_station")),
+    "transfers.txt": (("from_stop_id", "to_stop_id"), ("transfer_type", "min_transfer_time", "from_route_id", "to_route_id", "from_trip_id", "to_trip_id")),
+    "trips.txt": (("trip_id", "route_id", "service_id"), ("trip_headsign", "block_id")),
+}
+
 
 class Feed:
     """The tables of a feed, row by row."""
@@ -42,10 +54,11 @@ class Feed:
         if not self.files & {"calendar.txt", "calendar_dates.txt"}:
             raise Refused(f"{path} is no GTFS feed: it has neither calendar.txt nor calendar_dates.txt")
 
-    def rows(self, name, wanted, optional=()):
-        """(line, values of the wanted and the optional columns) of each row; a missing optional value is ''."""
+    def rows(self, name):
+        """(line, values of its FIELDS) of each row of a file; a missing optional value is ''."""
         if name not in self.files:
             return
+        wanted, optional = FIELDS[name]
         try:
             binary = self.zip.open(self.folder + name) if self.zip else open(os.path.join(self.path, name), "rb")
             with binary, io.TextIOWrapper(binary, encoding="utf-8-sig", newline="") as text:
@@ -121,7 +134,7 @@ def services(feed, first, days, back):
     asked = [(number, first + datetime.timedelta(days=number)) for number in range(-back, days)]
     names = [(number, date.strftime("%Y%m%d"), WEEKDAYS[date.weekday()]) for number, date in asked]
     runs, spans = {}, []
-    for line, row in feed.rows("calendar.txt", ("service_id", "start_date", "end_date"), WEEKDAYS):
+    for line, row in feed.rows("calendar.txt"):
         service, start, end, week = row[0], row[1], row[2], dict(zip(WEEKDAYS, row[3:]))
         _day(feed, "calendar.txt", line, start)
         _day(feed, "calendar.txt", line, end)
@@ -129,7 +142,7 @@ def services(feed, first, days, back):
         for number, date, weekday in names:
             if start <= date <= end and week[weekday] == "1":
                 runs.setdefault(service, set()).add(number)
-    for line, (service, date, kind) in feed.rows("calendar_dates.txt", ("service_id", "date", "exception_type")):
+    for line, (service, date, kind) in feed.rows("calendar_dates.txt"):
         if kind not in ("1", "2"):
             raise feed.fault("calendar_dates.txt", line, f"exception_type is {kind!r}, and 1 or 2 is wanted")
         _day(feed, "calendar_dates.txt", line, date)
@@ -148,7 +161,7 @@ class Stops:
         self.number, self.children, self.by_name = {}, {}, {}
         self.outside = set()
         kinds = {"": "0"}
-        for line, (stop, name, latitude, longitude, kind, parent) in feed.rows("stops.txt", ("stop_id",), ("stop_name", "stop_lat", "stop_lon", "location_type", "parent_station")):
+        for line, (stop, name, latitude, longitude, kind, parent) in feed.rows("stops.txt"):
             if kinds.get(kind, kind) == "1":
                 self.children.setdefault(stop, [])
                 self.by_name.setdefault(name, []).append(stop)
@@ -198,8 +211,7 @@ class Calls:
         self.trip, self.sequence, self.stop = array("i"), array("q"), array("i")
         self.arrival, self.departure, self.bans, self.distance = array("i"), array("i"), bytearray(), array("d")
         unknown = set()
-        columns = ("trip_id", "stop_id", "stop_sequence"), ("arrival_time", "departure_time", "pickup_type", "drop_off_type", "shape_dist_traveled", "continuous_pickup", "continuous_drop_off")
-        for line, (trip, stop, sequence, arrival, departure, pickup, drop, distance, on, off) in feed.rows("stop_times.txt", *columns):
+        for line, (trip, stop, sequence, arrival, departure, pickup, drop, distance, on, off) in feed.rows("stop_times.txt"):
             number = trips.get(trip)
             if number is None:
                 continue

@@ -14,7 +14,7 @@ class Transfers:
         self.change = {stop: asked.change for stop in range(len(stops.ids))} if asked.change else {}
         self.ways = {}
         stations = {}
-        for line, (start, end, kind, least, *special) in feed.rows("transfers.txt", ("from_stop_id", "to_stop_id"), ("transfer_type", "min_transfer_time", "from_route_id", "to_route_id", "from_trip_id", "to_trip_id")):
+        for line, (start, end, kind, least, *special) in feed.rows("transfers.txt"):
             if any(special):
                 summary.leave("transfers for some routes or trips only", f"line {line}")
                 continue
