@@ -6,6 +6,8 @@ import tempfile
 import threading
 import time
 
+import memory
+
 # A ring with enough nodes for several threads to read a report, and few enough for a quick check.
 NODES = 200_000
 PROBLEMS = 10_000
@@ -29,12 +31,7 @@ def sources(count):
 
 def checked(program, folder, words, processors):
     """The status of a check on these processors, what it printed, and the most memory that it took."""
-    run = subprocess.Popen([program, "check", *words], cwd=folder, stdin=subprocess.DEVNULL, stdout=subprocess.PIPE, stderr=subprocess.STDOUT, preexec_fn=lambda: os.sched_setaffinity(0, processors))
-    said = run.stdout.read().decode()
-    run.stdout.close()
-    _, status, used = os.wait4(run.pid, 0)
-    run.returncode = os.waitstatus_to_exitcode(status)
-    return run.returncode, said, used.ru_maxrss
+    return memory.measured([program, "check", *words], folder, processors)
 
 
 def most_threads(program, folder, report, processors):

@@ -8,6 +8,8 @@ import subprocess
 import tempfile
 import time
 
+import memory
+
 NODES, ARCS = 300_000, 1_200_000
 WAIT = 4.0
 MEGABYTE = 2**20
@@ -158,12 +160,10 @@ def hard_shapes(program, folder):
 
 def peak(program, words, folder):
     """The greatest memory of a run that ends well, in KiB."""
-    with subprocess.Popen([program, *words.split()], cwd=folder, stdin=subprocess.DEVNULL, stdout=subprocess.DEVNULL) as run:
-        _, status, usage = os.wait4(run.pid, 0)
-        run.returncode = os.waitstatus_to_exitcode(status)
-    if run.returncode:
-        raise RuntimeError(f"{words}: {run.returncode}")
-    return usage.ru_maxrss
+    status, _, most = memory.measured([program, *words.split()], folder, stdout=subprocess.DEVNULL)
+    if status:
+        raise RuntimeError(f"{words}: {status}")
+    return most
 
 
 def layouts(program, folder):
