@@ -28,7 +28,7 @@ pub const MOST_STARTS: u32 = 1_000_000;
 /// The longest text that is read, in bytes: 2^33.
 pub const MOST_BYTES: u64 = 8_589_934_592;
 
-/// The most interruptions of a device that one call bears.
+/// The most interruptions that reading one file, or writing one problem, bears.
 pub const MOST_INTERRUPTIONS: u64 = 1000;
 
 /// The most workers of a run.

@@ -6,6 +6,7 @@ ghost use Rattle.ea_pool.specs.Solos.{lesser};
 use crate::shared::words::MOST_IN_POOL;
 use ea_base::LEAST_HEAPS;
 
+/// The first heap of a pop, by its first word. Of several workers most words draw a worker's own heaps (`Homing`).
 pub fn draw_first(heaps: usize, first: u64) -> usize
     requires { (LEAST_HEAPS ≤ heaps) × (heaps ≤ MOST_IN_POOL) }
     ensures draw { result ≡ first_draw heaps first }
@@ -14,6 +15,7 @@ pub fn draw_first(heaps: usize, first: u64) -> usize
     (first % heaps as u64) as usize
 }
 
+/// The second heap of a pop, another one. The pop takes from the one with the lesser word.
 pub fn draw_second(heaps: usize, first: u64, second: u64) -> usize
     requires { (LEAST_HEAPS ≤ heaps) × (heaps ≤ MOST_IN_POOL) }
     ensures draw { result ≡ second_draw heaps first second }
