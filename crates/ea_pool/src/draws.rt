@@ -6,7 +6,7 @@ ghost use Rattle.ea_pool.specs.Solos.{lesser};
 use crate::shared::words::MOST_IN_POOL;
 use ea_base::LEAST_HEAPS;
 
-/// The first heap of a pop, by its first word. Of several workers most words draw a worker's own heaps (`Homing`).
+/// The first heap of a pop, by its first word. Of several workers it is an own heap (`Homing`).
 pub fn draw_first(heaps: usize, first: u64) -> usize
     requires { (LEAST_HEAPS ≤ heaps) × (heaps ≤ MOST_IN_POOL) }
     ensures draw { result ≡ first_draw heaps first }
