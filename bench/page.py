@@ -46,7 +46,7 @@ PATTERNS = """## Traffic patterns beside plain weights
 The same network and source; middle times of the search alone, taken in the same rounds, and their ratio.
 """
 
-MANY = """## 64 problems, so many at once
+MANY = """## 64 problems, several at once
 
 64 sources, with timetables: `earliest run --at-once N --workers 1` beside N threads of programs by hand that take the next source each and
 write the reports in their order. Ratios are to the base with one thread.

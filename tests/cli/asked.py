@@ -3,8 +3,7 @@ import os
 import random
 import tempfile
 
-import travel_times
-from prepared import graph, grid, processor_seconds, ran, write
+from prepared import graph, grid, processor_seconds, ran, random_road, write
 
 SIDE = 400
 
@@ -37,15 +36,8 @@ def chosen(report, nodes):
 def at_random(program, folder, count=40):
     """Random networks with all kinds of travel times, and up to nine nodes, some of them again or out of reach."""
     words = random.Random(20261130)
-    done = 0
-    while done < count:
-        nodes, size = words.randint(1, 40), words.randint(0, 120)
-        text = travel_times.some_text(words, max(size, 1))
-        if travel_times.read(text, size)[0] is None:
-            continue
-        done += 1
-        write(folder, "gr", graph(nodes, [(words.randint(1, nodes), words.randint(1, nodes), words.randint(0, 9)) for _ in range(size)]))
-        write(folder, "tp", [text])
+    for done in range(1, count + 1):
+        nodes = random_road(words, folder)
         write(folder, "ss", sources([words.randint(1, nodes) for _ in range(words.randint(1, 6))]))
         some = [words.randint(1, nodes) for _ in range(words.randint(1, 9))]
         write(folder, "nodes", sources(some))

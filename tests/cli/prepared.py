@@ -99,19 +99,23 @@ def along_streets(program, folder):
             yield f"prepared streets of {longest}, {options}", (over[0], over == without, len(over[1]) > 500), (0, True, True)
 
 
+def random_road(words, folder):
+    """Writes a small random network and travel times of all kinds that fit it. Returns the number of nodes."""
+    while True:
+        nodes, size = words.randint(1, 40), words.randint(0, 120)
+        text = travel_times.some_text(words, max(size, 1))
+        if travel_times.read(text, size)[0] is not None:
+            break
+    write(folder, "gr", graph(nodes, [(words.randint(1, nodes), words.randint(1, nodes), words.randint(0, 9)) for _ in range(size)]))
+    write(folder, "tp", [text])
+    return nodes
+
+
 def at_random(program, folder, count=25):
     """Random networks with all kinds of travel times: each option of `pairs` with a preparation and without."""
     words = random.Random(20261129)
-    done = 0
-    while done < count:
-        nodes, size = words.randint(1, 40), words.randint(0, 120)
-        text = travel_times.some_text(words, max(size, 1))
-        if travel_times.read(text, size)[0] is None:
-            continue
-        done += 1
-        arcs = [(words.randint(1, nodes), words.randint(1, nodes), words.randint(0, 9)) for _ in range(size)]
-        write(folder, "gr", graph(nodes, arcs))
-        write(folder, "tp", [text])
+    for done in range(1, count + 1):
+        nodes = random_road(words, folder)
         write(folder, "p2p", pairs(words, nodes, 40))
         for options in ("", "--walks", "--arrive 60 --walks", "--depart 7 --gap 3 --at-once 3"):
             without, over = (ran(program, f"pairs gr p2p --tp tp {options} --prepare {word}", folder) for word in ("no", "yes"))
